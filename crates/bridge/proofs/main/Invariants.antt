@@ -1,0 +1,5 @@
+-- the ledger is the blank one that was made
+use Rattle.bridge.proofs.main.Given as goal
+
+abbrev pub ghosts-start : goal.ghosts-start
+ghosts-start a = record { name = a.blank.name; parts = a.blank.parts }

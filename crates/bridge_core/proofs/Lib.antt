@@ -1,0 +1,4 @@
+pub mod Files
+pub mod Segments
+pub mod Stops
+pub mod Told

@@ -1,0 +1,9 @@
+pub mod Answer
+pub mod Fault
+pub mod InMemory
+pub mod Names
+pub mod Outside
+pub mod Places
+pub mod Schedule
+pub mod Slurped
+pub mod Written

@@ -1,0 +1,41 @@
+-- A file that is written in pieces.
+use Rattle.std.specs.Prelude.{◌≡◌, ℕ, List, ◌++◌, length, take, min, Option}
+use Rattle.std.proofs.Common.{◌∙◌, arith}
+use Rattle.std.proofs.lemmas.List.{take-append-le, take_min}
+use Rattle.std.proofs.Math.Seq.{take-length}
+use Rattle.bridge_io.specs.Outside.{Files, put, Changes}
+use Rattle.bridge_io.specs.declared.file_writer.FileWriter.{FileWriter}
+
+-- the name of the file that is written
+abbrev pub target : FileWriter → List ℕ
+target writer = writer.name.now
+
+-- the bytes that are held back
+abbrev pub held : FileWriter → List ℕ
+held writer = writer.held.items
+
+-- Of the text that a writer stands behind a front is in its file, and the rest is held back. Every other file is as
+-- it was at first.
+pub record IsBehind (writer : FileWriter) (text : List ℕ) (first now : Option Files) : Type 0 where
+  pub front : List ℕ
+  pub whole : front ++ held writer ≡ text
+  pub files : Changes (put (target writer) front) first now
+
+-- A front of a text is in a name's file. Every other file is as it was at first.
+abbrev pub HasFront : List ℕ → List ℕ → Option Files → Option Files → Type 0
+HasFront name text first now = (n : ℕ) × Changes (put name (take n text)) first now
+
+-- a front of a text is one of a longer text
+pub front_of_more : (name text more : List ℕ) (first now : Option Files) → HasFront name text first now → HasFront name (text ++ more) first now
+front_of_more name text more first now (n, changes) =
+    let same : take (min n (length text)) (text ++ more) ≡ take n text = take-append-le (min n (length text)) text more (omega arith) ∙ take_min n text in
+    (min n (length text), rw same changes)
+
+-- the whole text is a front of itself
+pub front_of_all : (name text : List ℕ) (first now : Option Files) → Changes (put name text) first now → HasFront name text first now
+front_of_all name text first now changes = (length text, rw (take-length text) changes)
+
+-- a text that a writer stands behind has a front in the file
+pub front_of_behind : (writer : FileWriter) (text : List ℕ) (first now : Option Files) → IsBehind writer text first now → HasFront (target writer) text first now
+front_of_behind writer text first now behind =
+    rw (← behind.whole) (front_of_more (target writer) behind.front (held writer) first now (front_of_all (target writer) behind.front first now behind.files))

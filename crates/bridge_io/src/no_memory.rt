@@ -1,0 +1,20 @@
+// The one answer that any call may give which takes memory.
+use std::alloc::{AllocError, AllocFailed};
+use thiserror::Error;
+
+/// Memory is wanting. Nothing else is said by it.
+#[derive(Clone, Copy, Debug, PartialEq, Eq, Error)]
+#[error("out of memory")]
+pub struct NoMemory;
+
+impl From<AllocError> for NoMemory {
+    fn from(_: AllocError) -> NoMemory {
+        NoMemory
+    }
+}
+
+impl<T: Drop> From<AllocFailed<T>> for NoMemory {
+    fn from(_: AllocFailed<T>) -> NoMemory {
+        NoMemory
+    }
+}

@@ -1,0 +1,39 @@
+// Why a file isn't read whole.
+ghost use Rattle.std.specs.Prelude.{◌≡◌};
+ghost use Rattle.bridge_io.specs.declared.read_error.Slurp.TheVariants.{Memory};
+
+use crate::{Fail, NoMemory, Place};
+
+/// Why a file isn't there whole.
+#[derive(Clone, Copy, Debug, PartialEq, Eq)]
+pub enum Slurp {
+    /// The file has more bytes than the limit: the place of the first byte past it.
+    TooLong(Place),
+    /// The store has no file of this name.
+    Absent,
+    /// A read failed.
+    Fault,
+    /// Memory is wanting.
+    Memory,
+}
+
+impl From<Fail> for Slurp {
+    ghost use Rattle.bridge_io.specs.Slurped.{slurp_of};
+
+    ghost from_gives = { λ fail e. e ≡ slurp_of fail };
+
+    fn from(fail: Fail) -> Slurp {
+        match fail {
+            Fail::Failed => Slurp::Fault,
+            Fail::Memory => Slurp::Memory,
+        }
+    }
+}
+
+impl From<NoMemory> for Slurp {
+    ghost from_gives = { λ _ e. e ≡ Memory };
+
+    fn from(_: NoMemory) -> Slurp {
+        Slurp::Memory
+    }
+}

@@ -1,0 +1,4 @@
+pub mod Times
+pub mod Floors
+pub mod Roundings
+pub mod Printed

@@ -1,0 +1,11 @@
+use Rattle.std.proofs.Common.{sym, ◌∙◌, ap}
+use Rattle.exact_time.specs.Rounding.{differences}
+use Rattle.exact_time.specs.TimeOrder.{IsAtMost_refl}
+use Rattle.exact_time.proofs.Floors.{floor_in-difference_self}
+use Rattle.exact_time.proofs.Printed.{printed-whole, floors}
+use Rattle.exact_time.proofs.laws.whole_units_stay.Goals as goal
+
+pub returns : goal.returns
+returns c u s counts ends some is_s whole =
+    ap (λ n. differences n (floors u s ends)) (sym (floor_in-difference_self u s))
+    ∙ printed-whole u s s counts ends some is_s is_s (IsAtMost_refl s) whole

@@ -1,0 +1,13 @@
+use Rattle.std.proofs.Common.{sym}
+use Rattle.exact_time.specs.Tick.{time_of}
+use Rattle.exact_time.specs.TimeOrder.{IsAtMost_refl}
+use Rattle.exact_time.proofs.Floors.{floor_in-difference_self}
+use Rattle.exact_time.proofs.rounder.Rounder.new.Goals as goal
+
+pub invariant_of-result : goal.invariant_of-result
+invariant_of-result c = record {
+  low = c.requires.low;
+  high = c.requires.high;
+  begun = IsAtMost_refl (time_of c.args.first);
+  floor_is = sym (floor_in-difference_self c.args.unit (time_of c.args.first));
+}

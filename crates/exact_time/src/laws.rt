@@ -1,0 +1,44 @@
+//! Laws of the definitions that the contracts of this crate cite. The functions do nothing: what
+//! they ensure is the law.
+
+ghost use Rattle.exact_time.specs.Laws.{IsTransitive, IsTotal, IsExclusive, IsAntisymmetric, HasOneFloor, CallsArePrinted, CallsSum, CallsRise, SumsAreFloors, SumsStayNear, WholeUnitsStay, SamePrintAlike};
+
+/// Times are in one order, and two that are not apart in it are the same time.
+pub fn times_are_ordered()
+    ensures transitive { IsTransitive }
+    ensures total { IsTotal }
+    ensures exclusive { IsExclusive }
+    ensures antisymmetric { IsAntisymmetric }
+{}
+
+/// The floor of a time that is not negative is the greatest whole number of units that is not above
+/// it, and nothing else is.
+pub fn each_time_has_one_floor()
+    ensures { HasOneFloor }
+{}
+
+/// The numbers that a `Rounder` gives from its first call on, whatever the calls, are the printed
+/// durations of segments with these ends. They sum to what it has printed in all, and the ends rise,
+/// as the other laws ask.
+pub fn calls_are_printed()
+    ensures numbers { CallsArePrinted }
+    ensures sums { CallsSum }
+    ensures ends { CallsRise }
+{}
+
+/// The first `k + 1` printed durations sum to the time from the first segment's start to the end of
+/// segment `k`, rounded down: never above the exact time, and less than one unit below it.
+pub fn sums_are_floors()
+    ensures exact { SumsAreFloors }
+    ensures near { SumsStayNear }
+{}
+
+/// Where each duration is a whole number of units, it is printed as it is.
+pub fn whole_units_stay()
+    ensures { WholeUnitsStay }
+{}
+
+/// What is printed depends on the times, and not on the fractions that they are written as.
+pub fn same_times_print_alike()
+    ensures { SamePrintAlike }
+{}

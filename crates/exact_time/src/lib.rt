@@ -1,0 +1,28 @@
+//! Exact times: fractions of seconds, their order, and durations rounded down without drift.
+//!
+//! A time is a whole number of ticks over a whole number of ticks per second. Nothing here is
+//! floating point, nothing allocates, and every call answers on every argument that its conditions
+//! allow.
+#![tactic(auto)]
+
+mod digits;
+mod floor;
+mod laws;
+mod nanos;
+mod order;
+mod rounder;
+mod tick;
+
+pub use digits::Digits;
+pub use floor::{ceil_count, floor_unit};
+pub use laws::{
+    calls_are_printed, each_time_has_one_floor, same_times_print_alike, sums_are_floors,
+    times_are_ordered, whole_units_stay,
+};
+pub use nanos::Nanos;
+pub use order::compare;
+pub use rounder::Rounder;
+pub use tick::Tick;
+
+#[cfg(test)]
+mod tests;

@@ -1,0 +1,9 @@
+pub mod CalendarLemmas
+pub mod CivilLemmas
+pub mod DigitLemmas
+pub mod DurationLemmas
+pub mod InstantLemmas
+pub mod PaddedLemmas
+pub mod PlaceLemmas
+pub mod ReadingLemmas
+pub mod WrittenLemmas

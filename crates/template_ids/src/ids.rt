@@ -1,0 +1,32 @@
+// What a template's identifiers stand for.
+ghost use Rattle.std.specs.Prelude.{◌≡◌};
+
+use crate::identifier::Quantity;
+use bridge_io::Text;
+
+/// What the identifiers of a template stand for.
+#[derive(Debug, Drop)]
+pub struct Ids {
+    /// The id of the Representation.
+    pub id: Text,
+    /// The Representation's `@bandwidth`, in bits per second.
+    pub bandwidth: u64,
+    /// The segment's number.
+    pub number: u64,
+    /// The segment's start in media time, in ticks.
+    pub time: u64,
+}
+
+impl Ids {
+    ghost use Rattle.template_ids.specs.Templates.{quantity};
+
+    pub(crate) fn number_of(&self, wanted: Quantity) -> u64
+        ensures { result ≡ quantity self.now wanted }
+    {
+        match wanted {
+            Quantity::Number => self.number,
+            Quantity::Time => self.time,
+            Quantity::Bandwidth => self.bandwidth,
+        }
+    }
+}

@@ -1,0 +1,12 @@
+//! Segment templates of an MPD, and the names that they give: ISO/IEC 23009-1, 5.3.9.4.4.
+#![tactic(auto)]
+
+mod fault;
+mod identifier;
+mod ids;
+mod piece;
+mod template;
+
+pub use fault::TemplateFault;
+pub use ids::Ids;
+pub use template::Template;

@@ -1,0 +1,101 @@
+// Segment templates.
+ghost use Rattle.std.specs.Prelude.{◌≡◌, ℕ, List, IfOk, Ok};
+ghost use Rattle.bridge_io.specs.Answer.{Gives};
+
+use crate::identifier::Quantity;
+use crate::piece::{self, Piece};
+use crate::{Ids, TemplateFault};
+use bridge_io::{NoMemory, Text};
+use std::alloc::Global;
+use std::marker::Model;
+
+/// A segment template of an MPD (ISO/IEC 23009-1, 5.3.9.4.4).
+///
+/// The text is cut at each `$`, and the parts at odd places, counted from 0, are identifiers: an empty one stands
+/// for a `$`, `RepresentationID` for the Representation's id, and `Number`, `Time` and `Bandwidth` for a number. Each
+/// of these three may carry a format `%0wd`, with w of 1 to 3 digits and a value of 1 to 20, which pads the number
+/// with zeros to w digits.
+#[derive(Debug, Drop)]
+pub struct Template {
+    text: Text,
+    pieces: Vec<Piece>,
+}
+
+impl Model for Template {
+    ghost use Rattle.std.specs.Prelude.{◌≡◌, ℕ, List, Ok};
+    ghost use Rattle.template_ids.specs.Templates.{template_of};
+    ghost use Rattle.template_ids.specs.Pieces.{AreOf};
+
+    ghost Value = { List ℕ };
+
+    ghost view = { λ t. t.text };
+
+    ghost invariant = { λ t. (template_of t.text ≡ Ok t.text) × AreOf t.text t.pieces.items };
+}
+
+impl Template {
+    ghost use Rattle.template_ids.specs.Templates.{named, template_of, refusal, uses_number, uses_time};
+
+    /// Reads a text as a template.
+    ///
+    /// The text is refused where the number of `$` is odd, otherwise by its first identifier at fault, otherwise
+    /// where it has both `Number` and `Time`.
+    pub fn read(alloc: Global, text: &str) -> Result<Template, TemplateFault>
+        ensures { Gives (λ template. template) refusal result (template_of text.now) }
+    {
+        let dollars = text.bytes().filter(|byte| *byte == b'$').count();
+        if dollars % 2 == 1 {
+            return Err(TemplateFault::LoneDollar);
+        }
+        let pieces = piece::cut(alloc, text)?;
+        if piece::has(&pieces, Quantity::Number) && piece::has(&pieces, Quantity::Time) {
+            return Err(TemplateFault::Both);
+        }
+        let text = Text::copy_of(alloc, text)?;
+        Ok(Template { text, pieces })
+    }
+
+    /// The template's text.
+    pub fn as_str(&self) -> &str
+        ensures text { result.now ≡ self.now }
+        ensures template { template_of self.now ≡ Ok self.now }
+    {
+        self.text.as_str()
+    }
+
+    /// The text of the template with each identifier replaced by what it stands for.
+    pub fn name(&self, alloc: Global, ids: &Ids) -> Result<Text, NoMemory>
+        ensures { IfOk result (λ name. name ≡ named self.now ids.now) }
+    {
+        let text = self.text.as_str();
+        let mut name = String::with_capacity(alloc, self.room(ids))?;
+        for piece in &self.pieces {
+            piece.push_to(&mut name, text, ids)?;
+        }
+        Ok(Text::from(name))
+    }
+
+    /// Whether an identifier of the template is `Number`.
+    pub fn uses_number(&self) -> bool
+        ensures { result ≡ uses_number self.now }
+    {
+        piece::has(&self.pieces, Quantity::Number)
+    }
+
+    /// Whether an identifier of the template is `Time`.
+    pub fn uses_time(&self) -> bool
+        ensures { result ≡ uses_time self.now }
+    {
+        piece::has(&self.pieces, Quantity::Time)
+    }
+
+    /// How many bytes the name takes at most.
+    fn room(&self, ids: &Ids) -> usize {
+        self.pieces
+            .iter()
+            .fold(0usize, |room, piece| room.saturating_add(piece.room(ids)))
+    }
+}
+
+#[cfg(test)]
+mod tests;
