@@ -1,0 +1,17 @@
+-- Laws of addresses.
+use Rattle.std.specs.Prelude.{◌≡◌, ℕ, true, List, [], ◌∷◌, ◌++◌, Some, None, Ok}
+use Rattle.url.specs.Parser.{parse_url}
+use Rattle.url.specs.Parts.{Parts}
+use Rattle.url_parts.specs.Addresses.{is_absolute, resolve, resolve_more, chain}
+
+-- a reference that begins with `http://` or `https://` is read alike with any base and without one
+abbrev pub NeedsNoBase : List ℕ → Type 0
+NeedsNoBase reference = is_absolute reference ≡ true → (base : Parts) → parse_url (Some base) reference ≡ parse_url None reference
+
+-- an address that each base gives again
+abbrev pub IsGivenAgain : List ℕ → Type 0
+IsGivenAgain address = (base : List ℕ) → resolve base address ≡ Ok address
+
+-- one more reference is resolved against what those before it gave
+abbrev pub GoesOn : List ℕ → Type 0
+GoesOn reference = (base : List ℕ) (references : List (List ℕ)) → chain base (references ++ reference ∷ []) ≡ resolve_more (λ next. resolve next reference) (chain base references)

@@ -1,0 +1,4 @@
+pub mod Addresses
+pub mod Laws
+pub mod Ranges
+pub mod Codes

@@ -1,0 +1,265 @@
+// Bases, against which references are resolved.
+ghost use Rattle.std.specs.Prelude.{◌≡◌, ℕ, true, List, ◌++◌, IfOk, IsAscii, position, string_bytes};
+ghost use Rattle.std.specs.List.{list_all};
+ghost use Rattle.url.specs.Parser.{Gives as IsParsed, Parsed};
+ghost use Rattle.url.specs.Parts.{Parts, IsValid};
+ghost use Rattle.bridge_io.specs.Answer.{Gives};
+ghost use Rattle.url_parts.specs.Addresses.{is_absolute, is_address_byte, is_web, text_of, accepted, refusal, IsBaseUrl, folder_of, is_tail, without_tail, local_name_of};
+
+use crate::name::is_name;
+use crate::{Address, UrlFault};
+use bridge_io::{Name, NameFault, NoMemory, Text};
+use std::alloc::{AllocError, Global};
+use std::marker::Model;
+use url::{ParseResult, Url};
+
+/// The most bytes that an address has.
+const MAX_LEN: usize = 2048;
+
+/// An address against which references are resolved.
+#[derive(Debug, Drop)]
+pub struct Base {
+    url: Url,
+    /// How many bytes of the text its folder has.
+    folder: usize,
+}
+
+impl Model for Base {
+    ghost use Rattle.std.specs.Prelude.{ℕ, List};
+    ghost use Rattle.url_parts.specs.Addresses.{text_of, IsBaseWith};
+
+    ghost Value = { List ℕ };
+
+    ghost view = { λ b. text_of b.url };
+
+    ghost invariant = { λ b. IsBaseWith b.url b.folder };
+}
+
+impl Base {
+    ghost use Rattle.bridge_io.specs.Names.{is_name};
+    ghost use Rattle.url_parts.specs.Addresses.{absolute, resolve, beside, unless_long, IsAddress, IsBase};
+
+    /// Reads an absolute URL as a base.
+    #[tactic(auto, unfolding(crate::specs::Addresses::absolute))]
+    pub fn of(alloc: Global, text: &str) -> Result<Base, UrlFault>
+        ensures { Gives (λ base. base) refusal result (absolute text.now) }
+    {
+        accept(Url::parse(alloc, text)).map(Base::new)
+    }
+
+    /// The base that a reference gives against this one.
+    ///
+    /// A reference that begins with `http://` or `https://` is read without the base, with which the URL Standard
+    /// gives the same.
+    pub fn deeper(&self, alloc: Global, reference: &str) -> Result<Base, UrlFault>
+        ensures { Gives (λ base. base) refusal result (resolve self.now reference.now) }
+    {
+        self.resolve(alloc, reference).map(Base::new)
+    }
+
+    /// The address that a reference gives against this base.
+    ///
+    /// A name stands right behind the base's folder, so that nothing of it is parsed.
+    #[tactic(auto, using(crate::proofs::Relative::resolve_name))]
+    pub fn join(&self, alloc: Global, reference: &str) -> Result<Address, UrlFault>
+        ensures { Gives (λ address. address) refusal result (resolve self.now reference.now) }
+    {
+        if is_name(reference.as_bytes()) {
+            return self.child(alloc, reference);
+        }
+        self.resolve(alloc, reference).map(address_of)
+    }
+
+    /// The address of a name in the base's folder: the base's text without query and fragment, up to and with its
+    /// last `/`, followed by the name.
+    ///
+    /// It is refused exactly where this text isn't the one that the URL Standard writes for it, and then exactly where
+    /// it has more than 2,048 bytes.
+    #[tactic(auto, using(crate::proofs::Relative::beside_name))]
+    pub fn beside(&self, alloc: Global, name: &Name) -> Result<Address, UrlFault>
+        ensures { Gives (λ address. address) refusal result (beside self.now name.now) }
+    {
+        self.child(alloc, name.as_str())
+    }
+
+    /// The base's text.
+    #[tactic(auto, using(crate::proofs::Bases::base_is_address))]
+    pub fn as_str(&self) -> &str
+        ensures text { result.now ≡ self.now }
+        ensures address { IsAddress self.now }
+        ensures base { IsBase self.now }
+    {
+        text_of(&self.url)
+    }
+
+    /// The same base once more.
+    pub fn copy(&self, alloc: Global) -> Result<Base, NoMemory>
+        ensures { IfOk result (λ copy. copy ≡ self.now) }
+    {
+        let url = self.url.clone()?;
+        let folder = self.folder;
+        Ok(Base { url, folder })
+    }
+
+    fn new(url: Url) -> Base
+        requires { IsBaseUrl url }
+        ensures { result ≡ text_of url }
+    {
+        let folder = folder_of(text_of(&url)).len();
+        Base { url, folder }
+    }
+
+    /// The base's text without query and fragment, up to and with its last `/`.
+    fn folder(&self) -> &str
+        ensures text { result.now ≡ folder_of self.now }
+        ensures base { IsBase self.now }
+    {
+        &text_of(&self.url)[..self.folder]
+    }
+
+    /// The address of a name in the base's folder.
+    fn child(&self, alloc: Global, name: &str) -> Result<Address, UrlFault>
+        requires { is_name name.now ≡ true }
+        ensures value { Gives (λ address. address) refusal result (unless_long (folder_of self.now ++ name.now)) }
+        ensures base { IsBase self.now }
+    {
+        let folder = self.folder();
+        if folder.len() + name.len() > MAX_LEN {
+            return Err(UrlFault::TooLong);
+        }
+        let text = join_texts(alloc, folder, name)?;
+        Ok(Address::of(Text::from(text)))
+    }
+
+    /// The URL that a reference gives against this base, unless it is no address.
+    #[tactic(auto, using(crate::proofs::Bases::own_url), unfolding(crate::specs::Addresses::resolve, crate::specs::Addresses::absolute))]
+    fn resolve(&self, alloc: Global, reference: &str) -> Result<Url, UrlFault>
+        ensures value { Gives text_of refusal result (resolve self.now reference.now) }
+        ensures base { IfOk result IsBaseUrl }
+    {
+        if is_absolute(reference) {
+            accept(Url::parse(alloc, reference))
+        } else {
+            accept(self.url.join(reference))
+        }
+    }
+}
+
+/// The URL that was parsed, unless it is no address.
+fn accept(parsed: ParseResult<Url>) -> Result<Url, UrlFault>
+    ensures value { (expected : Parsed Parts) → IsParsed parsed expected → Gives text_of refusal result (accepted expected) }
+    ensures base { IfOk result IsBaseUrl }
+{
+    let url = parsed?;
+    let text = text_of(&url);
+    if !has_address_bytes(text) {
+        return Err(UrlFault::Refused);
+    }
+    if !is_web(url.scheme()) {
+        return Err(UrlFault::Scheme);
+    }
+    if text.len() > MAX_LEN {
+        return Err(UrlFault::TooLong);
+    }
+    Ok(url)
+}
+
+#[tactic(auto, using(crate::proofs::Bases::base_is_address))]
+fn address_of(url: Url) -> Address
+    requires { IsBaseUrl url }
+    ensures { result ≡ text_of url }
+{
+    Address::of(into_text(url))
+}
+
+#[tactic(auto, unfolding(crate::specs::Addresses::text_of))]
+fn into_text(url: Url) -> Text
+    ensures { result ≡ text_of url }
+{
+    Text::from(String::from(url))
+}
+
+#[tactic(auto, unfolding(crate::specs::Addresses::text_of))]
+fn text_of(url: &Url) -> &str
+    ensures text { result.now ≡ text_of url.now }
+    ensures ascii { IsAscii result.now }
+    ensures valid { IsValid url.now }
+{
+    url.as_str()
+}
+
+/// A text without query and fragment, up to and with its last `/`.
+fn folder_of(text: &str) -> &str
+    ensures { result.now ≡ folder_of text.now }
+{
+    let path = without_tail(text);
+    match path.rfind('/') {
+        None => "",
+        Some(slash) => &path[..slash + 1],
+    }
+}
+
+/// What stands before the first `?` or `#`.
+fn without_tail(text: &str) -> &str
+    ensures { result.now ≡ without_tail text.now }
+{
+    match tail_start(text.as_bytes()) {
+        None => text,
+        Some(start) => &text[..start],
+    }
+}
+
+/// The place of the first `?` or `#`.
+fn tail_start(text: &[u8]) -> Option<usize>
+    ensures { result ≡ position is_tail text.now }
+{
+    text.iter().position(|byte| matches!(byte, b'?' | b'#'))
+}
+
+fn join_texts(alloc: Global, front: &str, back: &str) -> Result<String, AllocError>
+    ensures { IfOk result (λ text. string_bytes text ≡ front.now ++ back.now) }
+{
+    let mut text = String::with_capacity(alloc, front.len().saturating_add(back.len()))?;
+    text.push_str(front)?;
+    text.push_str(back)?;
+    Ok(text)
+}
+
+/// The rest of an address after a folder's text, without query and fragment, where that is a name. So no name leads
+/// out of the folder.
+pub fn local_name(alloc: Global, folder: &Base, address: &Address) -> Result<Option<Name>, NoMemory>
+    ensures { IfOk result (λ name. name ≡ local_name_of folder.now address.now) }
+{
+    let Some(rest) = address.as_str().strip_prefix(folder.as_str()) else {
+        return Ok(None);
+    };
+    match Name::read(alloc, without_tail(rest)) {
+        Ok(name) => Ok(Some(name)),
+        Err(NameFault::Shape) => Ok(None),
+        Err(NameFault::Memory) => Err(NoMemory),
+    }
+}
+
+fn is_absolute(reference: &str) -> bool
+    ensures { result ≡ is_absolute reference.now }
+{
+    reference.starts_with("http://") || reference.starts_with("https://")
+}
+
+fn has_address_bytes(text: &str) -> bool
+    ensures { result ≡ list_all is_address_byte text.now }
+{
+    text.as_bytes().iter().all(|byte| is_address_byte(*byte))
+}
+
+fn is_address_byte(byte: u8) -> bool
+    ensures { result ≡ is_address_byte byte }
+{
+    (0x21..=0x7e).contains(&byte) && byte != b'"'
+}
+
+fn is_web(scheme: &str) -> bool
+    ensures { result ≡ is_web scheme.now }
+{
+    scheme == "http" || scheme == "https"
+}

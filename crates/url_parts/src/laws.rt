@@ -1,0 +1,40 @@
+//! Laws of addresses.
+ghost use Rattle.std.specs.Prelude.{◌≡◌, ℕ, List, Ok};
+ghost use Rattle.url_parts.specs.Addresses.{resolve, beside};
+ghost use Rattle.url_parts.specs.Laws.{NeedsNoBase, IsGivenAgain, GoesOn};
+
+use crate::Base;
+use bridge_io::Name;
+
+/// The URL Standard reads a reference that begins with `http://` or `https://` alike with any base and without one.
+#[tactic(auto, using(crate::proofs::Absolute::needs_no_base))]
+pub fn absolute_reference(reference: &str)
+    ensures { NeedsNoBase reference.now }
+{
+    let _ = reference;
+}
+
+/// The address that a reference gives is given again by each base.
+pub fn resolved_address(base: &str, reference: &str)
+    ensures { (address : List ℕ) → resolve base.now reference.now ≡ Ok address → IsGivenAgain address }
+{
+    let _ = base;
+    let _ = reference;
+}
+
+/// The address of a name beside a base is the one that the name gives as a reference, and is given again by each base.
+pub fn name_address(base: &Base, name: &Name)
+    ensures reference { beside base.now name.now ≡ resolve base.now name.now }
+    ensures again { (address : List ℕ) → beside base.now name.now ≡ Ok address → IsGivenAgain address }
+{
+    let _ = base.as_str();
+    let _ = name.as_str();
+}
+
+/// References that are resolved one after another go on from what those before them gave.
+#[tactic(auto, using(crate::proofs::Chains::goes_on))]
+pub fn one_more_reference(reference: &str)
+    ensures { GoesOn reference.now }
+{
+    let _ = reference;
+}

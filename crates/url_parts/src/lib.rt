@@ -1,0 +1,19 @@
+//! Addresses of media files, their ranges of bytes, and the classes of their codes.
+#![tactic(auto)]
+
+mod address;
+mod base;
+mod code;
+mod fault;
+pub mod laws;
+mod name;
+mod range;
+
+pub use address::{Address, Part};
+pub use base::{Base, local_name};
+pub use code::{CodeClass, code_class};
+pub use fault::UrlFault;
+pub use range::{Range, read_range};
+
+#[cfg(test)]
+mod tests;
