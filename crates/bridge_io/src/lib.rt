@@ -31,7 +31,7 @@ pub use media::{Kind, Ratio, Size};
 pub use mem_sink::MemSink;
 pub use mem_source::MemSource;
 pub use mem_store::MemStore;
-pub use name::{Name, NameFault};
+pub use name::{Name, NameFault, is_name};
 pub use no_memory::NoMemory;
 pub use outside::{Fail, Sink, Source, Store};
 pub use place::Place;

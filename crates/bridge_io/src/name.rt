@@ -60,7 +60,8 @@ impl Name {
     }
 }
 
-fn is_name(text: &[u8]) -> bool
+/// Whether a text is a name, as `Name::read` reads it.
+pub fn is_name(text: &[u8]) -> bool
     ensures { result ≡ is_name text.now }
 {
     !text.is_empty() && text.len() <= MAX_LEN && has_name_bytes(text) && has_proper_parts(text)
@@ -75,7 +76,8 @@ fn has_name_bytes(text: &[u8]) -> bool
 fn is_name_byte(byte: u8) -> bool
     ensures { result ≡ is_name_byte byte }
 {
-    byte.is_ascii_alphanumeric() || b"-._~+=,@/".contains(&byte)
+    // From `+` to `9` stand `+,-./` and the digits, and from `@` to `Z` the capitals.
+    matches!(byte, b'+'..=b'9' | b'@'..=b'Z' | b'a'..=b'z' | b'=' | b'_' | b'~')
 }
 
 /// Whether no part between the slashes is empty, `.` or `..`.

@@ -6,9 +6,8 @@ ghost use Rattle.url.specs.Parts.{Parts, IsValid};
 ghost use Rattle.bridge_io.specs.Answer.{Gives};
 ghost use Rattle.url_parts.specs.Addresses.{is_absolute, is_address_byte, is_web, text_of, accepted, refusal, IsBaseUrl, folder_of, is_tail, without_tail, local_name_of};
 
-use crate::name::is_name;
 use crate::{Address, UrlFault};
-use bridge_io::{Name, NameFault, NoMemory, Text};
+use bridge_io::{Name, NameFault, NoMemory, Text, is_name};
 use std::alloc::{AllocError, Global};
 use std::marker::Model;
 use url::{ParseResult, Url};

@@ -6,7 +6,6 @@ mod base;
 mod code;
 mod fault;
 pub mod laws;
-mod name;
 mod range;
 
 pub use address::{Address, Part};
