@@ -3,7 +3,7 @@ use Rattle.std.proofs.Common.{◌≡◌, ℕ, ◌+◌, ◌-◌, List, [], ◌∷
 use Rattle.std.proofs.Common.{arith}
 use Rattle.bridge_io.specs.Outside.{Files}
 use Rattle.bridge_io.specs.Written.{HasFront, front_of_more}
-use Rattle.mpd_text.specs.declared.plain.Plain.{Plain}
+use Rattle.plain_mpd.specs.declared.plain.Plain.{Plain}
 use Rattle.timeline.specs.declared.plain.PlainSpan.{PlainSpan}
 use Rattle.timeline.specs.Plain.{spans_from}
 use Rattle.bridge_core.specs.Playlist.{segment_text, segments_text, spans_text}

@@ -2,7 +2,7 @@
 use Rattle.std.proofs.Common.{◌≡◌, ◌⊎◌, ℕ, List, [], ◌∷◌, Option, Result, Ok, Err, IfSome, inl, inr}
 use Rattle.bridge_io.specs.Outside.{Files}
 use Rattle.bridge_io.specs.Written.{HasFront}
-use Rattle.mpd_text.specs.declared.plain.Plain.{Plain}
+use Rattle.plain_mpd.specs.declared.plain.Plain.{Plain}
 use Rattle.bridge_core.specs.declared.words.Job.{Job}
 use Rattle.bridge_core.specs.declared.report.Ending.{Ending}
 use Rattle.bridge_core.specs.declared.report.Ending.TheVariants as ending

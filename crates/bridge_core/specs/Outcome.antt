@@ -2,9 +2,9 @@
 use Rattle.std.specs.Prelude.{ℕ, List, [], ◌∷◌, length, codes, if◌then◌else◌, Option, Some, None, Result, Ok, Err}
 use Rattle.bridge_io.specs.Outside.{Files}
 use Rattle.bridge_io.specs.Slurped.{Unread, Long, Missing, whole_file}
-use Rattle.mpd_text.specs.declared.plain.Plain.{Plain}
-use Rattle.mpd_text.specs.declared.plain.PlainFault.{PlainFault}
-use Rattle.mpd_text.specs.Reading.{plain_of}
+use Rattle.plain_mpd.specs.declared.plain.Plain.{Plain}
+use Rattle.plain_mpd.specs.declared.plain.PlainFault.{PlainFault}
+use Rattle.plain_mpd.specs.Reading.{plain_of}
 use Rattle.bridge_core.specs.declared.words.Job.{Job}
 use Rattle.bridge_core.specs.Words.{job_of, is_plain_base}
 use Rattle.bridge_core.specs.Playlist.{playlist_text}

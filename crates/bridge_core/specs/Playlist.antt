@@ -1,6 +1,6 @@
 -- The text of a finished media playlist (RFC 8216, 4.3).
 use Rattle.std.specs.Prelude.{ℕ, ◌+◌, ◌-◌, max, List, [], ◌∷◌, ◌++◌, codes, decimal}
-use Rattle.mpd_text.specs.declared.plain.Plain.{Plain}
+use Rattle.plain_mpd.specs.declared.plain.Plain.{Plain}
 use Rattle.timeline.specs.declared.plain.PlainSpan.{PlainSpan}
 
 -- the greatest of some durations

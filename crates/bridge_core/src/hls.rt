@@ -7,7 +7,7 @@ ghost use Rattle.bridge_io.specs.Outside.{Changes};
 ghost use Rattle.bridge_io.specs.declared.outside.Fail.TheVariants.{Failed};
 ghost use Rattle.bridge_core.specs.Report.{done_line};
 ghost use Rattle.bridge_core.specs.Run.{put_all, AreBegun, files_of};
-ghost use Rattle.mpd_text.specs.Form.{AreDurations};
+ghost use Rattle.plain_mpd.specs.Form.{AreDurations};
 ghost use Rattle.bridge_core.specs.Words.{is_plain_base};
 ghost use Rattle.bridge_core.specs.Outcome.{outcome_of_job, manifest_of, finished, unbuilt_line, Refusal};
 ghost use Rattle.bridge_core.specs.Endings.{IsEnding, IsStop, refused_as, refusal_of};
@@ -17,7 +17,7 @@ use crate::playlist::write_playlist;
 use crate::report::{Ending, done, refused, refused_at};
 use crate::words::Job;
 use bridge_io::{Fail, Name, NoMemory, Slurp, Store, Text, slurp};
-use mpd_text::{Plain, PlainFault, read_plain};
+use plain_mpd::{Plain, PlainFault, read_plain};
 use std::alloc::Global;
 
 /// How many bytes a manifest has at most.

@@ -5,11 +5,11 @@ ghost use Rattle.bridge_io.specs.declared.outside.Fail.TheVariants.{Failed};
 ghost use Rattle.bridge_io.specs.Fault.{HasCause};
 ghost use Rattle.bridge_io.specs.Outside.{Files, put, Changes};
 ghost use Rattle.bridge_io.specs.Written.{target, IsBehind, HasFront};
-ghost use Rattle.mpd_text.specs.Form.{AreDurations};
+ghost use Rattle.plain_mpd.specs.Form.{AreDurations};
 ghost use Rattle.bridge_core.specs.Playlist.{longest, version_text, kind_text, map_text, head_text, segment_text, segments_text, playlist_text};
 
 use bridge_io::{Fail, FileWriter, Name, Store};
-use mpd_text::Plain;
+use plain_mpd::Plain;
 use std::alloc::{AllocError, Global};
 use std::fmt::Write;
 use timeline::PlainRuns;

@@ -1,50 +1,30 @@
-// Classes of characters.
-ghost use Rattle.std.specs.Prelude.{◌≡◌, ◌≤◌, length};
-ghost use Rattle.std.specs.List.{list_all, prefix_len};
-ghost use Rattle.mpd_text.specs.Characters.{members};
+// The bytes of a text by their parts in the grammar of XML 1.0.
+ghost use Rattle.std.specs.Prelude.{◌≡◌};
+ghost use Rattle.mpd_text.specs.Characters.{is_white, starts_name, goes_on_name};
 
-/// A class of ASCII characters.
-#[derive(Clone, Copy)]
-pub enum Class {
-    /// Space, tab, LF and CR.
-    White,
-    /// `0`-`9`.
-    Digit,
-    /// Letters and digits.
-    Alphanumeric,
-    /// Letters, digits, `-`, `.` and `_`.
-    Name,
+/// White space, production 3.
+#[tactic(auto, unfolding(crate::specs::Characters::is_white))]
+#[inline(always)]
+pub(crate) fn is_white(byte: u8) -> bool
+    ensures { result ≡ is_white byte }
+{
+    byte == b' ' || byte == b'\t' || byte == b'\n' || byte == b'\r'
 }
 
-impl Class {
-    fn has(self, byte: u8) -> bool
-        ensures { result ≡ members self byte }
-    {
-        match self {
-            Class::White => b" \t\n\r".contains(&byte),
-            Class::Digit => byte.is_ascii_digit(),
-            Class::Alphanumeric => byte.is_ascii_alphanumeric(),
-            Class::Name => byte.is_ascii_alphanumeric() || b"-._".contains(&byte),
-        }
-    }
+/// The first byte of a name. All characters from U+0080 on are let through.
+#[tactic(auto, unfolding(crate::specs::Characters::starts_name))]
+#[inline(always)]
+pub(crate) fn starts_name(byte: u8) -> bool
+    ensures { result ≡ starts_name byte }
+{
+    byte.is_ascii_alphabetic() || byte == b'_' || byte == b':' || byte >= 0x80
+}
 
-    /// Whether each byte belongs to the class.
-    pub fn has_all(self, bytes: &[u8]) -> bool
-        ensures { result ≡ list_all (members self) bytes.now }
-    {
-        bytes.iter().all(|byte| self.has(*byte))
-    }
-
-    /// How many bytes at the front belong to the class.
-    pub fn run_len(self, bytes: &[u8]) -> usize
-        ensures count { result ≡ prefix_len (members self) bytes.now }
-        ensures bound { result ≤ length bytes.now }
-    {
-        for (i, byte) in bytes.iter().enumerate() {
-            if !self.has(*byte) {
-                return i;
-            }
-        }
-        bytes.len()
-    }
+/// A later byte of a name.
+#[tactic(auto, unfolding(crate::specs::Characters::goes_on_name))]
+#[inline(always)]
+pub(crate) fn goes_on_name(byte: u8) -> bool
+    ensures { result ≡ goes_on_name byte }
+{
+    starts_name(byte) || byte.is_ascii_digit() || byte == b'-' || byte == b'.'
 }

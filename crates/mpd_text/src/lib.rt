@@ -1,12 +1,31 @@
-//! Reading an MPD of the plainest form: one representation, whose segments are listed one by one.
+//! The text of an MPD: the tree that it spells, or its one fault.
 #![tactic(auto)]
 
+mod attr;
 mod class;
-mod document;
-mod pieces;
-mod plain;
+mod clean;
+mod decode;
+mod escape;
+mod fault;
+mod growing;
+mod laws;
+mod many_names;
+mod marked;
+mod markup;
+mod node;
+mod places;
+mod read;
+mod reader;
+mod references;
+mod runs;
 #[cfg(test)]
 mod tests;
+mod tree;
 
-pub use document::read_plain;
-pub use plain::{Plain, PlainFault};
+pub use attr::Attr;
+pub use escape::escaped;
+pub use fault::TextFault;
+pub use laws::{one_reading, reads_back};
+pub use node::{AttrWalk, Node, NodeWalk};
+pub use read::read_tree;
+pub use tree::Tree;

@@ -1,8 +1,51 @@
-//! Segments in order: when each one begins and ends, and which number it has.
+//! Segments in order: when each one begins and ends, and which number and address it has.
+//!
+//! The segments of a Representation are kept as stretches of equal segments, and never one by one: a
+//! place among them is found by dividing, and a walk goes on from a place by adding.
 #![tactic(auto)]
 
+mod bound;
+mod cursor;
+mod durations;
+mod entry;
+mod fault;
+mod laws;
+mod layout;
+mod limits;
+mod listing;
+mod names;
 mod plain;
+mod runs;
+mod span;
+mod spans;
+mod stretch;
+mod time_walk;
+mod timelines;
 mod walk;
+mod window;
 
+use bridge_io::Sequence;
+pub use cursor::Cursor;
+pub use entry::{End, SEntry, Scale};
+pub use fault::{ListFault, TimeFault};
+pub use laws::ends_rise;
+pub use listing::{Listing, Segment};
+pub use names::{Names, RefPart};
 pub use plain::{PlainRuns, PlainSpan};
+pub use runs::Runs;
+pub use span::Span;
+pub use time_walk::TimeWalk;
 pub use walk::PlainWalk;
+pub use window::Window;
+
+/// The S elements of a SegmentTimeline.
+pub type SList = Sequence<SEntry>;
+
+/// Times of segments.
+pub type SpanList = Sequence<Span>;
+
+/// The names of a list's segments.
+pub type RefList = Sequence<RefPart>;
+
+#[cfg(test)]
+mod tests;

@@ -1,0 +1,84 @@
+#!/usr/bin/env bash
+# Times the reading of an MPD of 8 MB with 200,000 S elements: mpd_text's `read_tree`, the Rust crate roxmltree 0.16 and libxml2's
+# tree. Each is a program of its own that reads the file; the shortest of eleven runs counts, with its largest memory.
+#
+# It wants `rt`, cargo, python3, and Debian's packages librust-roxmltree-dev and libxml2-utils.
+set -euo pipefail
+here=$(cd "$(dirname "$0")/.." && pwd)
+work=$(mktemp -d)
+trap 'rm -rf "$work"' EXIT
+
+python3 - "$work/m.mpd" <<'PY'
+import sys
+rows = "".join('<S t="%010d" d="0000096256" r="0"/>\n' % (96256 * k) for k in range(200_000))
+head = '<?xml version="1.0"?>\n<MPD xmlns="urn:mpeg:dash:schema:mpd:2011"><Period><AdaptationSet mimeType="video/mp4">' \
+    '<Representation id="v" bandwidth="1000"><SegmentTemplate timescale="48000" media="s$Number$.m4s"><SegmentTimeline>\n'
+tail = "</SegmentTimeline></SegmentTemplate></Representation></AdaptationSet></Period></MPD>\n"
+open(sys.argv[1], "w").write(head + rows + tail)
+PY
+
+# Ours: a program beside copies of the libraries.
+mkdir -p "$work/ours/crates"
+cp -r "$here/crates/bridge_io" "$here/crates/byte_scan" "$here/crates/mpd_text" "$work/ours/crates/"
+printf 'bridge_io: thiserror\nbyte_scan:\nmpd_text: bridge_io byte_scan thiserror\nreads: bridge_io mpd_text\n' > "$work/ours/crates.txt"
+mkdir -p "$work/ours/crates/reads/src"
+cat > "$work/ours/crates/reads/src/main.rt" <<'RS'
+//! Reads the tree of a file.
+#![tactic(auto)]
+
+use bridge_io::{FolderStore, Name, slurp};
+use mpd_text::read_tree;
+use std::process::ExitCode;
+
+fn main(rt: HostRuntime) -> ExitCode {
+    let alloc = rt.alloc();
+    let Ok(name) = Name::read(alloc, "m.mpd") else {
+        return ExitCode::from(1);
+    };
+    let Ok(mut store) = FolderStore::new(rt, alloc, ".") else {
+        return ExitCode::from(1);
+    };
+    let Ok(bytes) = slurp(alloc, &mut store, &name, 8_388_608) else {
+        return ExitCode::from(1);
+    };
+    match read_tree(alloc, bytes.as_slice()) {
+        Ok(_) => ExitCode::from(0),
+        Err(_) => ExitCode::from(1),
+    }
+}
+RS
+cp "$work/m.mpd" "$work/ours/crates/reads/"
+(cd "$work/ours" && git init -q && cd crates/reads && rt run > "$work/build.log" 2>&1) || { tail "$work/build.log"; exit 1; }
+ours=$work/ours/crates/reads/out/reads
+
+# roxmltree, from Debian's sources.
+mkdir -p "$work/rox/src" "$work/rox/.cargo"
+printf '[package]\nname = "rox"\nversion = "0.1.0"\nedition = "2021"\n[dependencies]\nroxmltree = "0.16"\n' > "$work/rox/Cargo.toml"
+printf '[source.crates-io]\nreplace-with = "debian"\n[source.debian]\ndirectory = "/usr/share/cargo/registry"\n' > "$work/rox/.cargo/config.toml"
+cat > "$work/rox/src/main.rs" <<'RS'
+fn main() {
+    let text = std::fs::read_to_string("m.mpd").unwrap();
+    let tree = roxmltree::Document::parse(&text).unwrap();
+    std::process::exit(if tree.root_element().has_children() { 0 } else { 1 });
+}
+RS
+(cd "$work/rox" && cargo build -q --release --offline)
+
+cat > "$work/measure.py" <<'PY'
+import os, resource, sys, time
+name, folder, command = sys.argv[1], sys.argv[2], sys.argv[3:]
+os.chdir(folder)
+best, peak = 1e9, 0
+for _ in range(11):
+    start = time.perf_counter()
+    pid = os.spawnvp(os.P_NOWAIT, command[0], command)
+    _, status, usage = os.wait4(pid, 0)
+    best = min(best, time.perf_counter() - start)
+    peak = max(peak, usage.ru_maxrss)
+    assert status == 0, status
+size = os.path.getsize("m.mpd")
+print(f"{name}: {best * 1000:.0f} ms, {peak / 1024:.1f} MB, {peak * 1024 / size:.1f} bytes of memory a byte of {size}")
+PY
+python3 "$work/measure.py" read_tree "$work" "$ours"
+python3 "$work/measure.py" roxmltree "$work" "$work/rox/target/release/rox"
+python3 "$work/measure.py" xmllint "$work" xmllint --noout --huge m.mpd

@@ -1,0 +1,12 @@
+use Rattle.std.proofs.Common.{◌≡◌, ◌+◌, suc, ap, sym, ◌∙◌, arith}
+use Rattle.mpd_text.specs.Nodes.{head_in}
+use Rattle.mpd_text.specs.Views.{forest_of, side_by_side}
+use Rattle.mpd_text.proofs.NodeLemmas.{node_shows}
+use Rattle.mpd_text.proofs.node.Node.children.Goals as goal
+
+pub returns : goal.returns
+returns c =
+    let tree = c.args.self.now.tree.now in
+    let one : c.args.self.now.index + 1 ≡ suc c.args.self.now.index = omega arith in
+    ap (λ k. side_by_side (forest_of (head_in tree) tree.elements.items 0 k c.row.result.now.next)) one
+    ∙ sym (ap (λ e. side_by_side e.children) (node_shows c.args.self.now c.row.result.now c.row.ensures))

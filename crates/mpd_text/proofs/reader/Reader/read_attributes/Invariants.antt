@@ -1,0 +1,24 @@
+use Rattle.std.proofs.Common.{◌≡◌, ◌-◌, ◌≤◌, ℕ, List, [], Some, false, length, vec_len}
+use Rattle.std.specs.List.{slice_get}
+use Rattle.mpd_text.specs.InTag.{IsInTag}
+use Rattle.mpd_text.specs.Characters.{goes_on_name}
+use Rattle.mpd_text.specs.Positions.{IsAt}
+use Rattle.mpd_text.specs.Reading.{view_of}
+use Rattle.mpd_text.specs.Showing.{TagShown}
+use Rattle.mpd_text.specs.Steps.{Mode, Opened, Tag}
+use Rattle.mpd_text.proofs.AttributePositions.{IsTagSoFar}
+use Rattle.mpd_text.proofs.reader.Reader.read_attributes.Given as goal
+
+abbrev pub invariant-attributes : goal.invariant-attributes
+invariant-attributes l = record {
+  text : l.self.text.now ≡ l.fn.self.text.now;
+  elements : vec_len l.self.growing.elements ≡ vec_len l.fn.self.growing.elements;
+  opened : vec_len l.self.growing.open ≡ vec_len l.fn.self.growing.open;
+  behind : l.fn.from ≤ l.at;
+  within : l.at ≤ length l.fn.self.text.now;
+  so_far : (os : List Opened) (t : Tag) (m : Mode) → t.attributes ≡ [] → IsInTag os t m → IsAt l.fn.self.text.now l.fn.from m → ((byte : ℕ) → slice_get l.fn.self.text.now l.fn.from ≡ Some byte → goes_on_name byte ≡ false) → TagShown (view_of l.fn.self) t os →
+      IsTagSoFar l.fn.self.text.now l.at os l.self l.many;
+}
+
+abbrev pub decreases-attributes : goal.decreases-attributes
+decreases-attributes l = length l.fn.self.text.now - l.at

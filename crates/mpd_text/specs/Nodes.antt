@@ -1,0 +1,37 @@
+-- Elements by the trees, nodes and walks that hold them.
+use Rattle.std.specs.Prelude.{ℕ, List, ◌++◌, map}
+use Rattle.std.specs.String.{string_bytes}
+use Rattle.mpd_text.specs.declared.node.Node.{Node}
+use Rattle.mpd_text.specs.declared.node.AttrWalk.{AttrWalk}
+use Rattle.mpd_text.specs.declared.node.NodeWalk.{NodeWalk}
+use Rattle.mpd_text.specs.declared.tree.Tree.{Tree}
+use Rattle.mpd_text.specs.declared.tree.ElementRow.{ElementRow}
+use Rattle.mpd_text.specs.declared.tree.AttributeRow.{AttributeRow}
+use Rattle.mpd_text.specs.Trees.{Attribute, Head, Element}
+use Rattle.mpd_text.specs.Views.{attribute_of, element_at, forest_of, head_of, root_shown, side_by_side}
+
+-- the root of a tree, with all that is in it
+abbrev pub root_of : Tree → Element
+root_of tree = root_shown (string_bytes tree.source) (string_bytes tree.read) tree.elements.items tree.attributes.items
+
+-- the element that a node stands for
+abbrev pub element_of : Node → Element
+element_of node = element_at (root_of node.tree.now) node.index
+
+-- the text that a tree keeps
+abbrev pub kept_of : Tree → List ℕ
+kept_of tree = string_bytes tree.source ++ string_bytes tree.read
+
+abbrev pub attribute_in : Tree → AttributeRow → Attribute
+attribute_in tree row = attribute_of (string_bytes tree.source) (kept_of tree) row
+
+abbrev pub head_in : Tree → ElementRow → Head
+head_in tree row = head_of (string_bytes tree.source) (kept_of tree) tree.attributes.items row
+
+-- the attributes that a walk has before it
+abbrev pub attributes_left : AttrWalk → List Attribute
+attributes_left walk = map (attribute_in walk.tree.now) walk.rest.now
+
+-- the elements that a walk has before it
+abbrev pub elements_left : NodeWalk → List Element
+elements_left walk = side_by_side (forest_of (head_in walk.tree.now) walk.tree.now.elements.items 0 walk.at walk.end)

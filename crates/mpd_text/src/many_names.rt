@@ -1,0 +1,84 @@
+// The names of one tag where there are many, so that a hostile tag takes no square of its length.
+ghost use Rattle.std.specs.Prelude.{◌≡◌, ◌≤◌, ◌++◌, ◌∷◌, [], ℕ, List, All, IfErr, IfOk, OnOk, length, not, false, slice_range};
+ghost use Rattle.mpd_text.specs.Names.{HasNameWithin, name_in};
+ghost use Rattle.mpd_text.specs.declared.fault.TextFault.TheVariants.{Memory};
+
+use crate::TextFault;
+use crate::tree::AttributeRow;
+use std::alloc::Global;
+use std::collections::BTreeSet;
+
+/// As many attributes are looked through one by one.
+pub(crate) const FEW: usize = 16;
+
+#[derive(Drop)]
+pub(crate) struct ManyNames<'a> {
+    names: BTreeSet<&'a [u8]>,
+}
+
+impl<'a> ManyNames<'a> {
+    ghost use Rattle.mpd_text.specs.Grammar.{is_among};
+    ghost use Rattle.mpd_text.specs.ManyNames.{HasNames, IsPrepared};
+    ghost use Rattle.mpd_text.specs.Names.{names_in};
+
+    pub(crate) fn new(alloc: Global) -> ManyNames<'a>
+        ensures { HasNames result [] }
+    {
+        ManyNames {
+            names: BTreeSet::new(alloc),
+        }
+    }
+
+    /// Adds the names of attributes.
+    pub(crate) fn add_all(
+        &mut self,
+        bytes: &'a [u8],
+        rows: &[AttributeRow],
+    ) -> Result<(), TextFault>
+        requires { All (HasNameWithin (length bytes.now)) rows.now }
+        ensures names { HasNames self.old [] → OnOk result (HasNames self.new (names_in bytes.now rows.now)) }
+        ensures fault { IfErr result (λ fault. fault ≡ Memory) }
+    {
+        for row in rows {
+            self.add(name_of(bytes, row))?;
+        }
+        Ok(())
+    }
+
+    /// Adds a name behind those of many attributes, and answers whether one of these has it.
+    pub(crate) fn repeats(
+        &mut self,
+        bytes: &'a [u8],
+        before: &[AttributeRow],
+        name: &'a [u8],
+    ) -> Result<bool, TextFault>
+        requires within { All (HasNameWithin (length bytes.now)) before.now }
+        requires many { 16 ≤ length before.now }
+        ensures read { IsPrepared self.old (names_in bytes.now before.now) → IfOk result (λ repeated.
+            (repeated ≡ is_among name.now (names_in bytes.now before.now)) ×
+            (repeated ≡ false → IsPrepared self.new (names_in bytes.now before.now ++ name.now ∷ []))) }
+        ensures fault { IfErr result (λ fault. fault ≡ Memory) }
+    {
+        if before.len() == FEW {
+            self.add_all(bytes, before)?;
+        }
+        Ok(!self.add(name)?)
+    }
+
+    /// Adds a name, and answers whether it is new.
+    pub(crate) fn add(&mut self, name: &'a [u8]) -> Result<bool, TextFault>
+        ensures name { (names : List (List ℕ)) → HasNames self.old names →
+            IfOk result (λ is_new. (is_new ≡ not (is_among name.now names)) × HasNames self.new (names ++ name.now ∷ [])) }
+        ensures fault { IfErr result (λ fault. fault ≡ Memory) }
+    {
+        Ok(self.names.insert(name)?)
+    }
+}
+
+/// The name of an attribute.
+pub(crate) fn name_of<'a>(bytes: &'a [u8], row: &AttributeRow) -> &'a [u8]
+    requires { HasNameWithin (length bytes.now) row.now }
+    ensures { result.now ≡ name_in bytes.now row.now }
+{
+    &bytes[row.name.start()..row.name.end()]
+}

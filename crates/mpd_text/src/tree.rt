@@ -1,0 +1,132 @@
+// The tree that a text spells, in document order.
+ghost use Rattle.std.specs.Prelude.{◌≡◌, ◌≤◌, ◌++◌, All, length, vec_len};
+ghost use Rattle.std.specs.String.{string_bytes};
+ghost use Rattle.mpd_text.specs.Rows.{
+  IsKept,
+  IsElementKept,
+  IsAttributeKept,
+  HasAttributesWithin,
+  AreFollowed,
+  AreNested,
+  AreRooted,
+};
+
+use crate::TextFault;
+use crate::attr::Attr;
+use crate::node::Node;
+use crate::places::place_at;
+use bridge_io::Place;
+
+/// Bytes of the kept text: of the source, or, counted on from its end, of what was read otherwise than it stands
+/// there.
+#[derive(Clone, Copy, Debug)]
+pub(crate) struct Span {
+    start: u32,
+    end: u32,
+}
+
+impl Span {
+    ghost use Rattle.std.specs.Prelude.{IfErr, IfOk};
+    ghost use Rattle.mpd_text.specs.declared.fault.TextFault.TheVariants.{Memory};
+
+    pub(crate) const NOTHING: Span = Span { start: 0, end: 0 };
+
+    /// The bytes between two places. There is no number for a place from 4 GiB on.
+    pub(crate) fn between(start: usize, end: usize) -> Result<Span, TextFault>
+        ensures span { IfOk result (λ span. (span.start ≡ start) × (span.end ≡ end)) }
+        ensures fault { IfErr result (λ fault. fault ≡ Memory) }
+    {
+        match (u32::try_from(start), u32::try_from(end)) {
+            (Ok(start), Ok(end)) => Ok(Span { start, end }),
+            _ => Err(TextFault::Memory),
+        }
+    }
+
+    pub(crate) fn start(self) -> usize
+        ensures { result ≡ self.start }
+    {
+        self.start as usize
+    }
+
+    pub(crate) fn end(self) -> usize
+        ensures { result ≡ self.end }
+    {
+        self.end as usize
+    }
+}
+
+/// An element: its attributes are those from `attributes` to `attributes_end`, and the elements inside it follow it
+/// up to `next`.
+#[derive(Clone, Copy, Debug)]
+pub(crate) struct ElementRow {
+    pub(crate) name: Span,
+    pub(crate) text: Span,
+    pub(crate) attributes: u32,
+    pub(crate) attributes_end: u32,
+    pub(crate) next: u32,
+}
+
+#[derive(Clone, Copy, Debug)]
+pub(crate) struct AttributeRow {
+    pub(crate) name: Span,
+    pub(crate) value: Span,
+}
+
+/// The elements of a text, from the root on.
+#[derive(Debug, Drop)]
+pub struct Tree {
+    pub(crate) source: String,
+    // What is read otherwise than it stands in the source: texts of elements, and values with references.
+    pub(crate) read: String,
+    pub(crate) elements: Vec<ElementRow>,
+    pub(crate) attributes: Vec<AttributeRow>,
+    ghost elements_kept: { All (IsElementKept (string_bytes source) (string_bytes source ++ string_bytes read)) elements.items },
+    ghost attributes_kept: { All (IsAttributeKept (string_bytes source) (string_bytes source ++ string_bytes read)) attributes.items },
+    ghost attributes_within: { All (HasAttributesWithin (vec_len attributes)) elements.items },
+    ghost followed: { AreFollowed elements.items },
+    ghost nested: { AreNested elements.items },
+    ghost rooted: { AreRooted elements.items },
+}
+
+impl Tree {
+    ghost use Rattle.bridge_io.specs.Places.{place_of};
+    ghost use Rattle.mpd_text.specs.Nodes.{attribute_in, element_of, kept_of, root_of};
+    ghost use Rattle.mpd_text.specs.Views.{attribute_shown, bytes_of};
+
+    /// The root element.
+    pub fn root(&self) -> Node<'_>
+        ensures { element_of result ≡ root_of self.now }
+    {
+        Node::at(self, 0)
+    }
+
+    pub(crate) fn text_of(&self, span: Span) -> &str
+        requires { IsKept (string_bytes self.now.source) (kept_of self.now) span }
+        ensures { result.now ≡ bytes_of (kept_of self.now) span }
+    {
+        let (start, end, len) = (span.start(), span.end(), self.source.len());
+        if end <= len {
+            &self.source.as_str()[start..end]
+        } else {
+            &self.read.as_str()[start - len..end - len]
+        }
+    }
+
+    pub(crate) fn place_of(&self, at: usize) -> Place
+        requires { at ≤ length (string_bytes self.now.source) }
+        ensures { result ≡ place_of (string_bytes self.now.source) at }
+    {
+        place_at(self.source.as_bytes(), at)
+    }
+
+    pub(crate) fn attr(&self, row: &AttributeRow) -> Attr<'_>
+        requires { IsAttributeKept (string_bytes self.now.source) (kept_of self.now) row.now }
+        ensures { attribute_shown result ≡ attribute_in self.now row.now }
+    {
+        Attr {
+            name: self.text_of(row.name),
+            value: self.text_of(row.value),
+            place: self.place_of(row.name.start()),
+        }
+    }
+}

@@ -1,0 +1,225 @@
+-- What the stretches and the open end of a `Runs` have.
+use Rattle.std.proofs.Common.{◌≡◌, ℕ, zero, suc, ◌+◌, ◌-◌, ◌*◌, ◌<◌, ◌≤◌, ◌^◌, Bool, true, false, ◌&&◌, ltb, List, [], ◌∷◌, ◌++◌, length, ℤ, pos, negsuc, ◌+ℤ◌, ◌≤ℤ◌, ◌<ℤ◌, neg_ℤ, refl, ◌∙◌, sym, ap, subst, inl, inr, arith, length-append}
+use Rattle.std.specs.Prelude.{Option, Some, None, unsigned_abs}
+use Rattle.std.specs.List.{AllByRecursion, list_any}
+use Rattle.std.proofs.lemmas.Int.{ints}
+use Rattle.std.proofs.lemmas.Bool.{cases_order, cases_lt, lt-ltb, true≢false}
+use Rattle.std.proofs.lemmas.Bool.Decides.{nat_tests}
+use Rattle.std.proofs.Math.Nat.{mul-le-mul_left}
+use Rattle.exact_time.specs.Time.{Time}
+use Rattle.timeline.specs.Ratios.{natural}
+use Rattle.timeline.specs.Bounds.{IsNear}
+use Rattle.timeline.specs.Expansions.{Extent, repeated, repeat_of}
+use Rattle.timeline.specs.Limits.{breaks_limits}
+use Rattle.timeline.specs.Stretches.{IsStretch, AreLaid, IsEndless, HasRoom, all_extents, extents_of, one_extent, endless_count, endless_extents, first_of}
+use Rattle.timeline.specs.Kept.{Follows, FollowsOn}
+use Rattle.timeline.specs.declared.stretch.Stretch.{Stretch}
+use Rattle.timeline.specs.declared.stretch.Endless.{Endless}
+use Rattle.timeline.proofs.Repeats.{row, repeat-row, length-repeated, natural-pos}
+use Rattle.timeline.proofs.LimitLemmas.{breaks_ticks, open_breaks}
+use Rattle.timeline.proofs.OpenLemmas.{AreAlike, near-from, some_breaks, alike_breaks, alike_count}
+use Rattle.timeline.proofs.StretchLemmas.{one_extent-row}
+use Rattle.timeline.proofs.CourseLemmas.{open_at, open_count, open_breaks_limits}
+use Rattle.timeline.proofs.PlaceLemmas.{HasScale, LastsSome}
+
+pub all_append : {X : Type 0} (P : X → Type 0) (xs ys : List X) → AllByRecursion P xs → AllByRecursion P ys → AllByRecursion P (xs ++ ys)
+all_append P [] ys xs_are ys_are = ys_are
+all_append P (x ∷ xs) ys xs_are ys_are = (xs_are.0, all_append P xs ys xs_are.1 ys_are)
+
+abbrev pub EndsNear : Extent → Type 0
+EndsNear x = IsNear x.end
+
+-- ---- segments that are repeated
+
+pub scales_repeated : (n : ℕ) (x : Extent) → HasScale x → AllByRecursion HasScale (repeated n x)
+unfolding repeated
+scales_repeated zero x is = tt
+scales_repeated (suc n) x is = (is, scales_repeated n (repeat_of x) is)
+
+pub near_rows : (n scale : ℕ) (start : ℤ) (step : ℕ) → 0 < scale → neg_ℤ (pos (2 ^ 64)) <ℤ start → (start +ℤ pos (n * step)) <ℤ pos (2 ^ 65 * scale) →
+    AllByRecursion EndsNear (repeated n (row scale start step))
+unfolding repeated
+near_rows zero scale start step some low high = tt
+near_rows (suc n) scale start step some low high = (
+  near-from (start +ℤ pos step) scale some (omega (arith, ints)) (omega (arith, ints)),
+  subst (λ (x : Extent). AllByRecursion EndsNear (repeated n x)) (sym (repeat-row scale start step))
+      (near_rows n scale (start +ℤ pos step) step some (omega (arith, ints)) (omega (arith, ints))),
+)
+
+-- ---- the stretches
+
+pub tick_bounds : (z : ℤ) → unsigned_abs z < 2 ^ 64 → (z <ℤ pos (2 ^ 64)) × (neg_ℤ (pos (2 ^ 64)) <ℤ z)
+tick_bounds (pos n) h = (omega (arith, ints), omega (arith, ints))
+tick_bounds (negsuc n) h = (omega (arith, ints), omega (arith, ints))
+
+near_one : (s : Stretch) → EndsNear (one_extent s.start s.end)
+near_one s =
+    let bounds = tick_bounds s.end.n s.end.bounded in
+    let scale : 0 < s.end.scale = s.end.positive in
+    near-from s.end.n s.end.scale s.end.positive (omega (arith, ints, bounds.0)) bounds.1
+
+pub near_stretch : (s : Stretch) → IsStretch s → AllByRecursion EndsNear (extents_of s)
+unfolding repeated
+near_stretch s is = elim (cases_order s.count 1) [
+  | inl one ↦ subst (λ (n : ℕ). AllByRecursion EndsNear (repeated n (one_extent s.start s.end))) (sym one) (near_one s, tt)
+  | inr other ↦ elim other [
+    | inl fewer ↦ let none : 0 ≡ s.count = omega arith in subst (λ (n : ℕ). AllByRecursion EndsNear (repeated n (one_extent s.start s.end))) none tt
+    | inr several ↦
+        let bounds = tick_bounds s.start.n s.start.bounded in
+        let scale : 0 < s.end.scale = s.end.positive in
+        let ticks = is.in_ticks several in
+        subst (λ (x : Extent). AllByRecursion EndsNear (repeated s.count x)) (sym (one_extent-row s is several))
+        (near_rows s.count s.end.scale s.start.n s.step s.end.positive bounds.1 (omega (arith, ints, is.near)))
+  ]
+]
+
+pub length-laid : (before : ℕ) (stretches : List Stretch) (total : ℕ) → AreLaid before stretches total → before + length (all_extents stretches) ≡ total
+length-laid before [] total laid = omega (arith, laid)
+length-laid before (s ∷ later) total (at, some, is, laid) = omega (
+  arith,
+  length-append (extents_of s) (all_extents later),
+  length-repeated s.count (one_extent s.start s.end),
+  length-laid (before + s.count) later total laid,
+)
+
+pub near_laid : (before : ℕ) (stretches : List Stretch) (total : ℕ) → AreLaid before stretches total → AllByRecursion EndsNear (all_extents stretches)
+near_laid before [] total laid = tt
+near_laid before (s ∷ later) total (at, some, is, laid) = all_append EndsNear (extents_of s) (all_extents later) (near_stretch s is) (near_laid (before + s.count) later total laid)
+
+pub scales_laid : (before : ℕ) (stretches : List Stretch) (total : ℕ) → AreLaid before stretches total → AllByRecursion HasScale (all_extents stretches)
+scales_laid before [] total laid = tt
+scales_laid before (s ∷ later) total (at, some, is, laid) =
+    all_append HasScale (extents_of s) (all_extents later) (scales_repeated s.count (one_extent s.start s.end) s.end.positive) (scales_laid (before + s.count) later total laid)
+
+pub stretches_laid : (before : ℕ) (stretches : List Stretch) (total : ℕ) → AreLaid before stretches total → AllByRecursion IsStretch stretches
+stretches_laid before [] total laid = tt
+stretches_laid before (s ∷ later) total (at, some, is, laid) = (is, stretches_laid (before + s.count) later total laid)
+
+-- ---- the segments that go on to an open end
+
+pub scales_open : (t : Time) (e : Option Endless) → AllByRecursion HasScale (open_at t e)
+scales_open t None = tt
+scales_open t (Some e) = scales_repeated (endless_count e t) (first_of e) e.start.positive
+
+pub lasts_some : (ticks origin total : ℕ) (e : Option Endless) → FollowsOn ticks origin total e → LastsSome e
+lasts_some ticks origin total None follows = tt
+lasts_some ticks origin total (Some e) follows = follows.is.lasting
+
+-- no segment reached breaks the limits: where the last one ends
+record Stays (origin count : ℕ) (e : Endless) : Type 0 where
+  media : 0 < count → ((e.start.n +ℤ pos (count * e.step)) +ℤ pos origin) <ℤ pos (2 ^ 63)
+  far : 0 < count → (e.start.n +ℤ pos (count * e.step)) ≤ℤ pos (100000000000 * e.start.scale)
+
+pub open_breaks-some : (ticks origin total : ℕ) (e : Endless) (t : Time) → Follows ticks origin total e →
+    open_breaks_limits ticks origin t (Some e) ≡ some_breaks e.start.scale origin e.start.n e.step (endless_count e t)
+open_breaks-some ticks origin total e t follows =
+    ap (λ (n : ℕ). list_any (breaks_limits n origin) (endless_extents e t)) (sym follows.scale)
+    ∙ open_breaks e.start.scale origin e.start.n e.step (endless_count e t) e.start.positive
+
+not_first : (a b : Bool) → a ≡ true → (a && b) ≡ false → b ≡ false
+not_first true b holds fails = fails
+not_first false b holds fails = absurd (true≢false (sym holds))
+
+stays : (ticks origin total : ℕ) (e : Endless) (t : Time) → Follows ticks origin total e → open_breaks_limits ticks origin t (Some e) ≡ false → Stays origin (endless_count e t) e
+stays ticks origin total e t follows keeps =
+    let count : ℕ = endless_count e t in
+    let none : some_breaks e.start.scale origin e.start.n e.step count ≡ false = sym (open_breaks-some ticks origin total e t follows) ∙ keeps in
+    let of_last : 0 < count → breaks_ticks e.start.scale origin (e.start.n +ℤ pos (count * e.step)) e.step ≡ false = λ some. not_first (ltb 0 count) (breaks_ticks e.start.scale origin (e.start.n +ℤ pos (count * e.step)) e.step) (lt-ltb 0 count some) none in
+    record { media = λ some. let h = of_last some in grind (arith, ints, nat_tests); far = λ some. let h = of_last some in grind (arith, ints, nat_tests) }
+
+-- so many segments, of which the last one ends before the limit
+few_enough : (total origin count step : ℕ) (start : ℤ) → pos 0 ≤ℤ (start +ℤ pos origin) → 2 * total ≤ 2 * natural (start +ℤ pos origin) + step → 0 < step → 0 < count →
+    ((start +ℤ pos (count * step)) +ℤ pos origin) <ℤ pos (2 ^ 63) → total + count < 2 ^ 63
+few_enough total origin count step start placed room lasts some media =
+    let first : ℕ = natural (start +ℤ pos origin) in
+    let first_is : start +ℤ pos origin ≡ pos first = natural-pos (start +ℤ pos origin) placed in
+    let last : first + count * step < 2 ^ 63 = omega (arith, ints) in
+    let more : count - 1 ≤ (count - 1) * step = omega (arith, mul-le-mul_left (count - 1) lasts) in
+    let split : count * step ≡ (count - 1) * step + step = let whole : count ≡ (count - 1) + 1 = omega arith in omega (arith, ap (λ (n : ℕ). n * step) whole) in
+    omega arith
+
+few_of : (ticks origin total : ℕ) (e : Endless) (count : ℕ) → Follows ticks origin total e → Stays origin count e → total ≤ 2 ^ 63 → total + count ≤ 2 ^ 63
+few_of ticks origin total e count follows is small = elim (cases_lt 0 count) [
+  | inl some ↦ omega (arith, few_enough total origin count e.step e.start.n follows.placed follows.room follows.is.lasting some (is.media some))
+  | inr none ↦ omega arith
+]
+
+room_of : (ticks origin total : ℕ) (e : Endless) (count : ℕ) → Follows ticks origin total e → Stays origin count e → total ≤ 2 ^ 63 → HasRoom e count
+room_of ticks origin total e count follows is small = record {
+  near = λ some.
+      let more : 1 * e.step ≤ count * e.step = omega (arith, mul-le-mul_left e.step some) in
+      omega (arith, ints, is.media some, follows.placed);
+  countable = omega (arith, few_of ticks origin total e count follows is small, follows.place);
+}
+
+none_repeated : (P : Extent → Type 0) (x : Extent) → AllByRecursion P (repeated 0 x)
+unfolding repeated
+none_repeated P x = tt
+
+near_of : (origin : ℕ) (e : Endless) (count : ℕ) → IsEndless e → Stays origin count e → AllByRecursion EndsNear (repeated count (first_of e))
+near_of origin e count ends is = elim (cases_lt 0 count) [
+  | inl some ↦
+      let bounds = tick_bounds e.start.n e.start.bounded in
+      let scale : 0 < e.start.scale = e.start.positive in
+      near_rows count e.start.scale e.start.n e.step e.start.positive bounds.1 (omega (arith, ints, is.far some))
+  | inr none ↦ let zero_is : 0 ≡ count = omega arith in subst (λ (n : ℕ). AllByRecursion EndsNear (repeated n (first_of e))) zero_is (none_repeated EndsNear (first_of e))
+]
+
+-- ---- media times of starts
+
+abbrev pub StartsTimed : ℕ → Extent → Type 0
+StartsTimed origin x = natural (x.start.ticks +ℤ pos origin) < 2 ^ 64
+
+timed_rows : (origin n scale : ℕ) (start : ℤ) (step : ℕ) → pos 0 ≤ℤ (start +ℤ pos origin) → ((start +ℤ pos (n * step)) +ℤ pos origin) <ℤ pos (2 ^ 64) →
+    AllByRecursion (StartsTimed origin) (repeated n (row scale start step))
+unfolding repeated
+timed_rows origin zero scale start step low high = tt
+timed_rows origin (suc n) scale start step low high =
+    let here = natural-pos (start +ℤ pos origin) low in (
+      omega (arith, ints),
+      subst (λ (x : Extent). AllByRecursion (StartsTimed origin) (repeated n x)) (sym (repeat-row scale start step))
+          (timed_rows origin n scale (start +ℤ pos step) step (omega (arith, ints)) (omega (arith, ints))),
+    )
+
+timed_of : (ticks origin total : ℕ) (e : Endless) (count : ℕ) → Follows ticks origin total e → Stays origin count e → AllByRecursion (StartsTimed origin) (repeated count (first_of e))
+timed_of ticks origin total e count follows is = elim (cases_lt 0 count) [
+  | inl some ↦ timed_rows origin count e.start.scale e.start.n e.step follows.placed (omega (arith, ints, is.media some))
+  | inr none ↦ let zero_is : 0 ≡ count = omega arith in subst (λ (n : ℕ). AllByRecursion (StartsTimed origin) (repeated n (first_of e))) zero_is (none_repeated (StartsTimed origin) (first_of e))
+]
+
+-- ---- the whole segments, where no segment that is reached breaks the limits
+
+pub record AreReached (origin total : ℕ) (t : Time) (e : Option Endless) : Type 0 where
+  pub few : total + open_count t e ≤ 2 ^ 63
+  pub near : AllByRecursion EndsNear (open_at t e)
+  pub timed : AllByRecursion (StartsTimed origin) (open_at t e)
+
+pub reached_open : (ticks origin total : ℕ) (e : Option Endless) (t : Time) → FollowsOn ticks origin total e → total ≤ 2 ^ 63 → open_breaks_limits ticks origin t e ≡ false → AreReached origin total t e
+reached_open ticks origin total None t follows small keeps = record { few = omega arith; near = tt; timed = tt }
+reached_open ticks origin total (Some e) t follows small keeps =
+    let is = stays ticks origin total e t follows keeps in
+    record {
+      few = few_of ticks origin total e (endless_count e t) follows is small;
+      near = near_of origin e (endless_count e t) follows.is is;
+      timed = timed_of ticks origin total e (endless_count e t) follows is;
+    }
+
+pub room_reached : (ticks origin total : ℕ) (e : Endless) (t : Time) → Follows ticks origin total e → total ≤ 2 ^ 63 → open_breaks_limits ticks origin t (Some e) ≡ false → HasRoom e (endless_count e t)
+room_reached ticks origin total e t follows small keeps = room_of ticks origin total e (endless_count e t) follows (stays ticks origin total e t follows keeps) small
+
+-- ---- times that are alike
+
+pub alike_open : (ticks origin total : ℕ) (s t : Time) (e : Option Endless) → AreAlike s t → 0 < s.scale → 0 < t.scale → FollowsOn ticks origin total e →
+    open_breaks_limits ticks origin t e ≡ false → open_count s e ≡ open_count t e
+alike_open ticks origin total s t None alike positive_s positive_t follows keeps = refl
+alike_open ticks origin total s t (Some e) alike positive_s positive_t follows keeps =
+    let bounds = tick_bounds e.start.n e.start.bounded in
+    alike_count s t alike positive_s positive_t e.start.scale origin e.start.n e.step e.start.positive follows.is.lasting bounds.0 bounds.1 follows.short
+    (sym (open_breaks-some ticks origin total e t follows) ∙ keeps)
+
+pub alike_open_breaks : (ticks origin total : ℕ) (s t : Time) (e : Endless) → AreAlike s t → 0 < s.scale → 0 < t.scale → Follows ticks origin total e →
+    some_breaks e.start.scale origin e.start.n e.step (endless_count e s) ≡ open_breaks_limits ticks origin t (Some e)
+alike_open_breaks ticks origin total s t e alike positive_s positive_t follows =
+    let bounds = tick_bounds e.start.n e.start.bounded in
+    alike_breaks s t alike positive_s positive_t e.start.scale origin e.start.n e.step e.start.positive follows.is.lasting bounds.0 bounds.1 follows.short
+    ∙ sym (open_breaks-some ticks origin total e t follows)

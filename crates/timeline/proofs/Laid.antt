@@ -1,0 +1,162 @@
+-- Stretches in a row.
+use Rattle.std.proofs.Common.{◌≡◌, ℕ, zero, suc, ◌+◌, ◌-◌, ◌*◌, ◌<◌, ◌≤◌, ◌^◌, min, ltb, Bool, false, List, [], ◌∷◌, ◌++◌, map, length, pos, ◌+ℤ◌, ◌-ℤ◌, Option, Some, None, refl, ◌∙◌, sym, ap, subst, inl, inr, arith}
+use Rattle.std.specs.Prelude.{All, IsNone, IfSome, MatchResult, Result, Ok, Err, not, ◌&&◌, ◌==◌, ◌⊎◌}
+use Rattle.std.specs.Int.{abs_diff}
+use Rattle.std.specs.Result.{IsErr, IsErrAnd}
+use Rattle.std.proofs.lemmas.Bool.{cases_lt, ltb-false}
+use Rattle.std.proofs.lemmas.Int.{ints}
+use Rattle.std.proofs.lemmas.Grind.{flat_map-append}
+use Rattle.std.proofs.lemmas.List.{map-append, append-nil, length-append, length-map}
+use Rattle.std.proofs.lemmas.List.Elements.{All-nil, All-cons, All-append}
+use Rattle.std.proofs.Math.Nat.{mul-le-mul_right}
+use Rattle.exact_time.specs.Time.{Time}
+use Rattle.exact_time.specs.Tick.{time_of}
+use Rattle.timeline.specs.declared.fault.TimeFault.{TimeFault}
+use Rattle.timeline.specs.declared.fault.TimeFault.TheVariants.{Memory}
+use Rattle.timeline.specs.declared.layout.Layout.{Layout}
+use Rattle.timeline.specs.declared.limits.Limits.{Limits}
+use Rattle.timeline.specs.declared.stretch.Stretch.{Stretch}
+use Rattle.timeline.specs.declared.stretch.Endless.{Endless as GoesOn}
+use Rattle.timeline.specs.Ratios.{natural}
+use Rattle.timeline.specs.Expansions.{Extent, Member, Closed, is_open, repeated, repeat_of}
+use Rattle.timeline.specs.Stretches.{AreLaid, IsStretch, all_extents, extents_of, one_extent}
+use Rattle.timeline.specs.Kept.{endless_members, FollowsOn}
+use Rattle.timeline.specs.Limits.{breaks_limits, media_extent}
+use Rattle.timeline.specs.Faults.{is_apart, refusal, segment_fault, are_paired}
+use Rattle.timeline.specs.Layouts.{placed_in, extent_in, breaks_in, fault_of, former_end, IsFaultOf, IsLaidOut, members_so_far}
+use Rattle.timeline.proofs.Repeats.{length-repeated}
+use Rattle.timeline.proofs.Judged.{repeat-extent_in, head_fault, is_apart-in, former_end-some, within-end}
+
+-- ---- one more stretch
+
+pub laid-push : (before : ℕ) (ss : List Stretch) (total : ℕ) (s : Stretch) → AreLaid before ss total → s.before ≡ total → 0 < s.count → IsStretch s → AreLaid before (ss ++ s ∷ []) (total + s.count)
+laid-push before [] total s laid place some is = (place ∙ sym laid, some, is, ap (λ (n : ℕ). n + s.count) laid)
+laid-push before (x ∷ xs) total s laid place some is = (laid.0, laid.1, laid.2, laid-push (before + x.count) xs total s laid.3 place some is)
+
+pub laid-length : (before : ℕ) (ss : List Stretch) (total : ℕ) → AreLaid before ss total → before + length (all_extents ss) ≡ total
+laid-length before [] total laid = omega (arith, laid)
+laid-length before (x ∷ xs) total laid =
+    omega (arith, laid-length (before + x.count) xs total laid.3, length-append (extents_of x) (all_extents xs), length-repeated x.count (one_extent x.start x.end))
+
+extents-push : (ss : List Stretch) (s : Stretch) → all_extents (ss ++ s ∷ []) ≡ all_extents ss ++ extents_of s
+extents-push ss s = flat_map-append extents_of ss (s ∷ []) ∙ ap (λ (xs : List Extent). all_extents ss ++ xs) (append-nil (extents_of s))
+
+none_of : (e : Option GoesOn) → IsNone e → endless_members e ≡ []
+none_of None is = refl
+none_of (Some e) is = cc
+
+pub members-push : (ss : List Stretch) (s : Stretch) (e : Option GoesOn) → IsNone e →
+    map Closed (all_extents (ss ++ s ∷ [])) ++ endless_members e ≡ (map Closed (all_extents ss) ++ endless_members e) ++ map Closed (extents_of s)
+members-push ss s e none =
+    rw (none_of e none, append-nil, append-nil, extents-push ss s, map-append)
+
+-- ---- a stretch of segments of one scale
+
+module _ (l : Limits) (s d count : ℕ) (x : Stretch) (start : time_of x.start ≡ placed_in l s) (end : time_of x.end ≡ placed_in l (s + d)) (lasts : x.step ≡ d) (number : x.count ≡ count) where
+  pub extents_of-in : extents_of x ≡ repeated count (extent_in l s d)
+  extents_of-in =
+      ap (λ (n : ℕ). repeated n (one_extent x.start x.end)) number
+      ∙ ap (λ (a : Time). repeated count (record { start = a; end = time_of x.end })) start
+      ∙ ap (λ (b : Time). repeated count (record { start = placed_in l s; end = b })) end
+
+  pub IsStretch-in : 0 < d → 0 < count → s + count * d < 2 ^ 63 → x.before + count < 2 ^ 64 → IsStretch x
+  IsStretch-in some has near countable =
+      let start_ticks : x.start.n ≡ pos s -ℤ pos l.origin = ap (λ (a : Time). a.ticks) start in
+      let end_ticks : x.end.n ≡ pos (s + d) -ℤ pos l.origin = ap (λ (a : Time). a.ticks) end in
+      let product : x.count * x.step ≡ count * d = ap (λ (n : ℕ). n * x.step) number ∙ ap (λ (n : ℕ). count * n) lasts in
+      let least : 1 * d ≤ count * d = mul-le-mul_right d has in
+      record {
+        lasting = omega (arith, lasts);
+        one_scale = λ _. ap (λ (a : Time). a.scale) start ∙ sym (ap (λ (a : Time). a.scale) end);
+        in_ticks = λ _. omega (arith, ints, start_ticks, end_ticks, lasts);
+        near = omega (arith, ints, end_ticks, product, least);
+        countable = omega (arith, number);
+      }
+
+-- ---- media times
+
+pub timed-in : (l : Limits) (d count s : ℕ) → s + count * d < 2 ^ 64 → All (λ x. natural (x.start.ticks +ℤ pos l.origin) < 2 ^ 64) (repeated count (extent_in l s d))
+unfolding repeated
+timed-in l d zero s near = All-nil (λ (x : Extent). natural (x.start.ticks +ℤ pos l.origin) < 2 ^ 64)
+timed-in l d (suc count) s near =
+    let start : (pos s -ℤ pos l.origin) +ℤ pos l.origin ≡ pos s = omega (arith, ints) in
+    All-cons (λ (x : Extent). natural (x.start.ticks +ℤ pos l.origin) < 2 ^ 64) (extent_in l s d) (repeated count (repeat_of (extent_in l s d)))
+    (omega (arith, ap natural start))
+    (subst (λ (x : Extent). All (λ (y : Extent). natural (y.start.ticks +ℤ pos l.origin) < 2 ^ 64) (repeated count x)) (sym (repeat-extent_in l s d)) (timed-in l d count (s + d) (omega arith)))
+
+-- ---- faults
+
+pub refusal_some : (fault : TimeFault) (P : TimeFault → Type 0) → P fault → IfSome (refusal fault) P
+refusal_some Memory P holds = tt
+refusal_some fault P holds = holds
+
+pub IsFaultOf-run : (old : Layout) (s d count : ℕ) (fault : TimeFault) → 0 < count → fault_of old.limits (former_end old) (extent_in old.limits s d) ≡ Some fault →
+    IsFaultOf old (map Closed (repeated count (extent_in old.limits s d))) fault
+unfolding repeated
+IsFaultOf-run old s d zero fault has is = absurd (omega arith)
+IsFaultOf-run old s d (suc count) fault has is =
+    refusal_some fault (λ f. (later : List Member) → segment_fault (breaks_in old.limits) (former_end old) (map Closed (repeated (suc count) (extent_in old.limits s d)) ++ later) ≡ Some f)
+    (λ later. head_fault old.limits (former_end old) (extent_in old.limits s d) (map Closed (repeated count (repeat_of (extent_in old.limits s d))) ++ later) fault is)
+
+pub from_fault : {X : Type 0} (r : Result X TimeFault) (fault : TimeFault) (Q : X → Type 0) (P : TimeFault → Type 0) → IsErr r × IsErrAnd r (λ f. f ≡ fault) → P fault → MatchResult r Q P
+from_fault (Ok done) fault Q P is holds = cc
+from_fault (Err e) fault Q P is holds = subst P (sym is.1) holds
+
+-- ---- the segments before are no more than the ticks before
+
+pub room_before : (old : Layout) (s d : ℕ) → is_apart (former_end old) (extent_in old.limits s d) ≡ false → old.total ≤ old.former → 2 * old.total ≤ 2 * s + d
+room_before old s d near room = elim (cases_lt 0 old.total) [
+  | inr none ↦ omega arith
+  | inl some ↦
+      let gap : ℕ = abs_diff s old.former in
+      let between : (s ≡ old.former + gap) ⊎ (old.former ≡ s + gap) = elim (cases_lt old.former s) [ inl late ↦ inl (omega arith) | inr early ↦ inr (omega arith) ] in
+      let test : ltb d (2 * gap) ≡ false = sym (is_apart-in old.limits s d old.former gap old.limits.positive between) ∙ ap (λ (f : Option Time). is_apart f (extent_in old.limits s d)) (sym (former_end-some old some)) ∙ near in
+      omega (arith, ltb-false d (2 * gap) test)
+]
+
+product-least : (a b : ℕ) → 0 < a → 0 < b → a + b ≤ a * b + 1
+product-least zero b some_a some_b = absurd (omega arith)
+product-least (suc a) zero some_a some_b = absurd (omega arith)
+product-least (suc a) (suc b) some_a some_b = omega arith
+
+pub room_after : (total s d count : ℕ) → 0 < d → 0 < count → 2 * total ≤ 2 * s + d → total + count ≤ s + count * d
+room_after total s d count some has room = omega (arith, product-least count d has some)
+
+pub capped : (l : Limits) (s m count d : ℕ) → m ≡ min (min (count * d) (2 ^ 128 - 1)) (2 ^ 64 - 1) → breaks_limits l.ticks l.origin (media_extent l (s + m) d) ≡ false → (m ≡ count * d) × (s + count * d < 2 ^ 63)
+capped l s m count d is kept =
+    let near : s + m < 2 ^ 63 = within-end l d (s + m) l.positive kept in
+    let same : m ≡ count * d = omega arith in
+    (same, omega arith)
+
+-- ---- a layout with one more stretch
+
+pub none_follows : (ticks origin total : ℕ) (e : Option GoesOn) → IsNone e → FollowsOn ticks origin total e
+none_follows ticks origin total None none = tt
+none_follows ticks origin total (Some e) none = cc
+
+module _ (items ss : List Stretch) (x : Stretch) (xs : List Extent) (pushed : items ≡ ss ++ x ∷ []) (same : extents_of x ≡ xs) where
+  pub members_after : (e : Option GoesOn) → IsNone e → map Closed (all_extents items) ++ endless_members e ≡ (map Closed (all_extents ss) ++ endless_members e) ++ map Closed xs
+  members_after e none =
+      ap (λ (ys : List Stretch). map Closed (all_extents ys) ++ endless_members e) pushed ∙ members-push ss x e none
+      ∙ ap (λ (ys : List Extent). (map Closed (all_extents ss) ++ endless_members e) ++ map Closed ys) same
+
+  pub extents_after : (P : Extent → Type 0) → All P (all_extents ss) → All P xs → All P (all_extents items)
+  extents_after P first last = subst (λ (ys : List Extent). All P ys) (sym (ap all_extents pushed ∙ extents-push ss x ∙ ap (λ (ys : List Extent). all_extents ss ++ ys) same)) (All-append P (all_extents ss) xs first last)
+
+  pub laid_after : (total count : ℕ) → x.count ≡ count → AreLaid 0 ss total → x.before ≡ total → 0 < count → IsStretch x → AreLaid 0 items (total + count)
+  laid_after total count number laid place some is =
+      subst (λ (ys : List Stretch). AreLaid 0 ys (total + count)) (sym pushed)
+      (subst (λ (n : ℕ). AreLaid 0 (ss ++ x ∷ []) (total + n)) number (laid-push 0 ss total x laid place (omega arith) is))
+
+-- ---- as many as names
+
+open_closed : (xs : List Extent) (ys : List Member) → is_open (map Closed xs ++ ys) ≡ is_open ys
+open_closed [] ys = refl
+open_closed (x ∷ xs) ys = open_closed xs ys
+
+pub paired_closed : (l : Layout) (count : ℕ) → IsLaidOut l → IsNone l.endless → are_paired (Some count) (members_so_far l) ≡ (l.total == count)
+paired_closed l count laid none =
+    let all : List Extent = all_extents l.stretches.items in
+    let number : length (map Closed all) ≡ l.total = omega (arith, length-map {B = Member} all (λ (x : Extent). Closed x), laid-length 0 l.stretches.items l.total laid.laid) in
+    rw (none_of l.endless none, append-nil)
+    (ap (λ (b : Bool). not b && (length (map Closed all) == count)) (ap is_open (sym (append-nil (map Closed all))) ∙ open_closed all []) ∙ ap (λ (n : ℕ). n == count) number)

@@ -1,0 +1,164 @@
+-- Each segment ends after the one before it, where none is apart from it.
+use Rattle.std.proofs.Common.{◌≡◌, ℕ, zero, suc, ◌+◌, ◌*◌, ◌<◌, ◌≤◌, Bool, true, false, cond, ℤ, pos, negsuc, ◌+ℤ◌, ◌-ℤ◌, ◌*ℤ◌, ◌≤ℤ◌, ◌<ℤ◌, List, [], ◌∷◌, map, Option, Some, None, refl, ◌∙◌, ap, inl, inr, arith}
+use Rattle.std.specs.Prelude.{unsigned_abs}
+use Rattle.std.proofs.lemmas.Int.{ints, by_lt_z}
+use Rattle.std.proofs.lemmas.Bool.{cond-false}
+use Rattle.std.proofs.lemmas.List.{append-nil}
+use Rattle.std.proofs.Math.Nat.{mul-le-mul_left, one-le-mul}
+use borrow.Author.Differences.{up, down}
+use Rattle.exact_time.specs.Time.{Time, IsTime, IsBefore, IsAtMost, cross, difference}
+use Rattle.exact_time.specs.TimeOrder.{share, share_le_out, before_or_at_most, before_excludes}
+use Rattle.timeline.specs.declared.fault.TimeFault.{TimeFault}
+use Rattle.timeline.specs.declared.fault.TimeFault.TheVariants.{Step, Range}
+use Rattle.timeline.specs.Ratios.{before, earlier}
+use Rattle.timeline.specs.Expansions.{Extent, Member, Closed, Short, Endless, extents, ended_by, lasting, repeat_of, repeated}
+use Rattle.timeline.specs.Faults.{is_apart, segment_fault}
+use Rattle.timeline.specs.Laws.{AreRising, EndsRise}
+
+pub IsAtMost-not_before : (x y : Time) → before x y ≡ false → IsAtMost y x
+IsAtMost-not_before x y h = by_lt_z (cross x y) (cross y x) (λ below. absurd (grind (arith, ints))) (λ above. above)
+
+-- a segment that lasts some time
+pub record Lasts (x : Extent) : Type 0 where
+  pub start_is : IsTime x.start
+  pub end_is : IsTime x.end
+  pub ends : IsBefore x.start x.end
+
+-- of which the start and the end are ticks of one scale
+pub record LastsTicks (x : Extent) : Type 0 where
+  pub one_scale : x.start.scale ≡ x.end.scale
+  pub end_is : IsTime x.end
+  pub rises : x.start.ticks <ℤ x.end.ticks
+
+pub Lasts-from_ticks : (x : Extent) → LastsTicks x → Lasts x
+Lasts-from_ticks x is = record {
+  start_is = omega (arith, is.one_scale, is.end_is);
+  end_is = is.end_is;
+  ends =
+      let more : up x.start.ticks + down x.end.ticks + 1 ≤ up x.end.ticks + down x.start.ticks = omega (arith, ints, is.rises) in
+      omega (arith, ints, mul-le-mul_left x.end.scale more, is.end_is, ap (λ (k : ℕ). up x.end.ticks * k) is.one_scale, ap (λ (k : ℕ). down x.end.ticks * k) is.one_scale);
+}
+
+-- ---- a segment that isn't apart from a time ends after it
+
+twice : (length gap : ℤ) (m n p : ℕ) → 0 < m → 0 < p → pos 0 <ℤ length → ((gap *ℤ pos n) +ℤ (length *ℤ pos p)) ≤ℤ pos 0 →
+    (length *ℤ pos (m * p)) <ℤ (pos (2 * unsigned_abs gap) *ℤ pos (n * m))
+twice (negsuc l) gap m n p some_m some_p some le = absurd (omega (arith, ints))
+twice (pos l) (pos g) m n p some_m some_p some le = let some_l : 0 < l = omega (arith, ints) in absurd (omega (arith, ints, one-le-mul some_l some_p))
+twice (pos l) (negsuc g) m n p some_m some_p some le =
+    let long : l * p ≤ suc g * n = omega (arith, ints) in
+    let some_l : 0 < l = omega (arith, ints) in
+    omega (arith, ints, mul-le-mul_left m long, one-le-mul some_m (one-le-mul some_l some_p))
+
+-- twice the gap to a time that isn't before its end is longer than a segment
+farther : (former : Time) (x : Extent) → Lasts x → IsTime former → IsAtMost x.end former →
+    IsBefore (lasting x) (record { ticks = pos (2 * unsigned_abs (difference x.start former).ticks); scale = (difference x.start former).scale })
+farther former x is is_former late =
+    let length : ℤ = cross x.end x.start -ℤ cross x.start x.end in
+    let gap : ℤ = cross x.start former -ℤ cross former x.start in
+    twice length gap x.start.scale x.end.scale former.scale is.start_is is_former (omega (arith, ints, is.ends))
+    (
+    let gap_is : up gap + share former x.start ≡ down gap + share x.start former = omega (arith, ints) in
+    let length_is : up length + share x.start x.end ≡ down length + share x.end x.start = omega (arith, ints) in
+    omega (arith, ints, ap (λ (k : ℕ). k * x.end.scale) gap_is, ap (λ (k : ℕ). k * former.scale) length_is, mul-le-mul_left x.start.scale (share_le_out x.end former late))
+    )
+
+pub ends_after : (former : Time) (x : Extent) → Lasts x → IsTime former → is_apart (Some former) x ≡ false → IsBefore former x.end
+ends_after former x is is_former near = elim (before_or_at_most former x.end) [
+  | inl earlier ↦ earlier
+  | inr late ↦
+      let twice_gap : Time = record { ticks = pos (2 * unsigned_abs (difference x.start former).ticks); scale = (difference x.start former).scale } in
+      absurd (before_excludes (lasting x) twice_gap (farther former x is is_former late) (IsAtMost-not_before (lasting x) twice_gap near))
+]
+
+-- ---- rising ends
+
+-- the ends rise, and the first one is after a time
+abbrev pub RisesAfter : Option Time → List Extent → Type 0
+RisesAfter former [] = Unit {0}
+RisesAfter None (x ∷ xs) = RisesAfter (Some x.end) xs
+RisesAfter (Some former) (x ∷ xs) = IsBefore former x.end × RisesAfter (Some x.end) xs
+
+rising-after : (former : Time) (xs : List Extent) → RisesAfter (Some former) xs → AreRising (former ∷ map (λ x. x.end) xs)
+rising-after former [] rises = tt
+rising-after former (x ∷ xs) (first, later) = (first, rising-after x.end xs later)
+
+pub rising-from : (xs : List Extent) → RisesAfter None xs → AreRising (map (λ x. x.end) xs)
+rising-from [] rises = tt
+rising-from (x ∷ xs) rises = rising-after x.end xs rises
+
+-- ---- segments of one duration
+
+pub LastsTicks-repeat : (x : Extent) → LastsTicks x → LastsTicks (repeat_of x)
+LastsTicks-repeat x is = record { one_scale = refl; end_is = is.end_is; rises = omega (arith, ints, is.rises) }
+
+next_after : (x : Extent) → LastsTicks x → IsBefore x.end (repeat_of x).end
+next_after x is = (Lasts-from_ticks (repeat_of x) (LastsTicks-repeat x is)).ends
+
+repeated_after : (count : ℕ) (x : Extent) → LastsTicks x → (former : Time) → IsBefore former x.end → RisesAfter (Some former) (repeated count x)
+unfolding repeated
+repeated_after zero x is former first = tt
+repeated_after (suc count) x is former first = (first, repeated_after count (repeat_of x) (LastsTicks-repeat x is) x.end (next_after x is))
+
+pub repeated_rises : (count : ℕ) (x : Extent) → LastsTicks x → RisesAfter None (repeated count x)
+unfolding repeated
+repeated_rises zero x is = tt
+repeated_rises (suc count) x is = repeated_after count (repeat_of x) (LastsTicks-repeat x is) x.end (next_after x is)
+
+-- ---- members
+
+-- each lasts some time, and nothing follows on those that go on to an open end
+abbrev pub AreLasting : List Member → Type 0
+AreLasting [] = Unit {0}
+AreLasting (Closed x ∷ later) = Lasts x × AreLasting later
+AreLasting (Short x ∷ later) = AreLasting later
+AreLasting (Endless x ∷ later) = LastsTicks x × (later ≡ [])
+
+abbrev IsSomeTime : Option Time → Type 0
+IsSomeTime None = Unit {0}
+IsSomeTime (Some former) = IsTime former
+
+pub alone : (former : Option Time) (instant : Time) (x : Extent) (later : List Member) → later ≡ [] → RisesAfter former (repeated (ended_by instant x) x) →
+    RisesAfter former (extents instant (Endless x ∷ later))
+alone former instant x later none rises = rw (none, append-nil) rises
+
+no_range : (holds : Bool) (rest : Option TimeFault) → cond holds (Some Range) rest ≡ None → rest ≡ None
+no_range true rest h = cc
+no_range false rest h = h
+
+short_range : (holds : Bool) → cond holds (Some Range) (Some Step) ≡ None → Some Step ≡ None
+short_range true h = cc
+short_range false h = h
+
+no_step : (holds : Bool) (rest : Option TimeFault) → cond holds (Some Step) rest ≡ None → (holds ≡ false) × (rest ≡ None)
+no_step true rest h = cc
+no_step false rest h = (refl, h)
+
+pub members_rise : (members : List Member) (former : Option Time) → AreLasting members → IsSomeTime former → segment_fault (λ _. false) former members ≡ None →
+    (instant : Time) → RisesAfter former (extents instant members)
+members_rise [] former last is none instant = tt
+members_rise (Closed x ∷ later) None (is, last) _ none instant = members_rise later (Some x.end) last is.end_is none instant
+members_rise (Closed x ∷ later) (Some former) (is, last) is_former none instant =
+    let split = no_step (is_apart (Some former) x) (segment_fault (λ _. false) (Some x.end) later) none in
+    (ends_after former x is is_former split.0, members_rise later (Some x.end) last is.end_is split.1 instant)
+members_rise (Short x ∷ later) former last is_former none instant = cc
+members_rise (Endless x ∷ later) None (is, last) _ none instant =
+    alone None instant x later last (repeated_rises (ended_by instant x) x is)
+members_rise (Endless x ∷ later) (Some former) (is, last) is_former none instant =
+    let split = no_step (is_apart (Some former) x) (segment_fault (λ _. false) (Some former) later) none in
+    alone (Some former) instant x later last (repeated_after (ended_by instant x) x is former (ends_after former x (Lasts-from_ticks x is) is_former split.0))
+
+pub ends_rise : (members : List Member) → AreLasting members → segment_fault (λ _. false) None members ≡ None → EndsRise members
+ends_rise members last none instant = rising-from (extents instant members) (members_rise members None last tt none instant)
+
+-- what has no fault has no step
+pub no_step_from : (breaks : Extent → Bool) (former : Option Time) (members : List Member) → segment_fault breaks former members ≡ None → segment_fault (λ _. false) former members ≡ None
+no_step_from breaks former [] none = refl
+no_step_from breaks former (Closed x ∷ later) none =
+    let kept = no_range (breaks x) (cond (is_apart former x) (Some Step) (segment_fault breaks (Some x.end) later)) none in
+    let near = no_step (is_apart former x) (segment_fault breaks (Some x.end) later) kept in
+    cond-false (is_apart former x) (Some Step) (segment_fault (λ _. false) (Some x.end) later) near.0 ∙ no_step_from breaks (Some x.end) later near.1
+no_step_from breaks former (Short x ∷ later) none = short_range (breaks x) none
+no_step_from breaks former (Endless x ∷ later) none =
+    let near = no_step (is_apart former x) (segment_fault breaks former later) none in
+    cond-false (is_apart former x) (Some Step) (segment_fault (λ _. false) former later) near.0 ∙ no_step_from breaks former later near.1

@@ -1,0 +1,51 @@
+-- The addresses of segments.
+use Rattle.std.specs.Prelude.{ℕ, Bool, false, List, length, slice_get, Option, Some, None, Result, Ok, Err}
+use Rattle.template_ids.specs.Templates.{named, uses_time}
+use Rattle.url_parts.specs.Addresses.{resolve}
+use Rattle.url_parts.specs.declared.address.Part.{Part}
+use Rattle.url_parts.specs.declared.range.Range.{Range}
+use Rattle.url_parts.specs.declared.fault.UrlFault.{UrlFault}
+use Rattle.url_parts.specs.declared.fault.UrlFault.TheVariants.{Memory as NoRoom}
+use Rattle.timeline.specs.declared.fault.ListFault.{ListFault}
+use Rattle.timeline.specs.declared.fault.ListFault.TheVariants.{Url, Memory}
+use Rattle.timeline.specs.declared.names.RefPart.{RefPart}
+use Rattle.timeline.specs.declared.names.Names.{Names}
+use Rattle.timeline.specs.declared.names.Names.TheVariants.{Template, List as Listed}
+
+-- how many names a list has
+abbrev pub count_of : Names → Option ℕ
+count_of (Template media id bandwidth base) = None
+count_of (Listed parts base) = Some (length parts)
+
+-- whether a template asks for a segment's media time
+abbrev pub asks_for_time : Names → Bool
+asks_for_time (Template media id bandwidth base) = uses_time media
+asks_for_time (Listed parts base) = false
+
+-- want of memory tells nothing of the address
+abbrev pub list_refusal : ListFault → Option ListFault
+list_refusal Memory = None
+list_refusal (Url fault) = Some (Url fault)
+
+abbrev pub list_fault_of : UrlFault → ListFault
+list_fault_of NoRoom = Memory
+list_fault_of fault = Url fault
+
+abbrev pub part_at : Option Range → Result (List ℕ) UrlFault → Result Part ListFault
+part_at range (Ok address) = Ok (record { address = address; range = range })
+part_at range (Err fault) = Err (Url fault)
+
+-- an absent reference is the base itself
+abbrev pub referred : List ℕ → Option (List ℕ) → Result (List ℕ) UrlFault
+referred base None = Ok base
+referred base (Some reference) = resolve base reference
+
+abbrev pub listed_part : List ℕ → Option RefPart → Result Part ListFault
+listed_part base None = part_at None (Ok base)
+listed_part base (Some part) = part_at part.range (referred base part.reference)
+
+-- the address and range of the segment at a place, with a number and a media time
+abbrev pub part_of : Names → ℕ → ℕ → ℕ → Result Part ListFault
+part_of (Template media id bandwidth base) place number time =
+    part_at None (resolve base (named media (record { id = id; bandwidth = bandwidth; number = number; time = time })))
+part_of (Listed parts base) place number time = listed_part base (slice_get parts place)

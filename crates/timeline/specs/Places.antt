@@ -1,0 +1,37 @@
+-- How many segments end by a time.
+use Rattle.std.specs.Prelude.{ℕ, List, filter, flat_map, sum_by, count_by, not, if◌then◌else◌}
+use Rattle.exact_time.specs.Time.{Time}
+use Rattle.timeline.specs.Ratios.{at_most}
+use Rattle.timeline.specs.Expansions.{Course, Extent, Member, Closed, Short, Endless, ended_by, extents_at, goes_on}
+use Rattle.timeline.specs.Listed.{expansion, instant_of, is_until}
+use Rattle.timeline.specs.declared.window.Window.{Window}
+
+abbrev pub closed_by : Time → Member → ℕ
+closed_by time (Closed x) = if at_most x.end time then 1 else 0
+closed_by time (Short x) = 0
+closed_by time (Endless x) = 0
+
+abbrev pub reached_by : Time → Member → ℕ
+reached_by time (Closed x) = closed_by time (Closed x)
+reached_by time (Short x) = 0
+reached_by time (Endless x) = ended_by time x
+
+-- how many segments end at or before a time, but for those that go on to an open end
+abbrev pub closed_count : Course → Time → ℕ
+closed_count course time = sum_by (closed_by time) course.members
+
+-- how many segments there are, but for those that go on to an open end
+abbrev pub closed_total : Course → ℕ
+closed_total course = count_by (λ x. not (goes_on x)) course.members
+
+-- how many segments end at or before a time, those that go on to an open end taken at that time
+abbrev pub reached_count : Course → Time → ℕ
+reached_count course time = sum_by (reached_by time) course.members
+
+-- how many segments end by the window's `until`
+abbrev pub count_until : Course → Window → ℕ
+count_until course window = count_by (λ x. is_until window.until x.end) (expansion course window)
+
+-- the segments that go on to an open end, up to the window's `until`
+abbrev pub open_extents : Course → Window → List Extent
+open_extents course window = flat_map (extents_at (instant_of window)) (filter goes_on course.members)

@@ -1,0 +1,34 @@
+// A place among the segments of a Representation.
+use std::marker::Model;
+
+/// A place among the segments of a Representation. In a contract it is the number of segments before it.
+#[derive(Clone, Copy, Debug, PartialEq, Eq)]
+pub struct Cursor {
+    place: u64,
+}
+
+impl Model for Cursor {
+    ghost use Rattle.std.specs.Prelude.{ℕ};
+
+    ghost Value = { ℕ };
+
+    ghost view = { λ c. c.place };
+
+    ghost inverse = { λ place. record { place = place } };
+}
+
+impl Cursor {
+    ghost use Rattle.std.specs.Prelude.{◌≡◌};
+
+    pub(crate) fn at(place: u64) -> Cursor
+        ensures { result ≡ place }
+    {
+        Cursor { place }
+    }
+
+    pub(crate) fn place(self) -> u64
+        ensures { result ≡ self }
+    {
+        self.place
+    }
+}

@@ -1,0 +1,35 @@
+// How far and how long segments may be.
+ghost use Rattle.std.specs.Prelude.{◌≡◌, ◌<◌, ◌≤◌, ◌+◌, ◌*◌, ◌^◌};
+
+/// The media time, in ticks, before which segments end.
+const END: u128 = 1 << 63;
+
+/// How many seconds a segment lasts at most.
+pub const LONGEST: u64 = 1_000_000;
+
+/// How many seconds after its Period's start a segment ends at most.
+pub const FARTHEST: u64 = 100_000_000_000;
+
+/// The limits of segments that are counted in ticks.
+#[derive(Clone, Copy, Debug)]
+pub struct Limits {
+    /// How many ticks make a second.
+    pub ticks: u32,
+    /// The media time of the Period's start.
+    pub origin: u64,
+    pub ghost positive: { 0 < ticks },
+}
+
+impl Limits {
+    ghost use Rattle.timeline.specs.Limits.{media_extent, breaks_limits};
+
+    /// Whether a segment breaks the limits that ends at this media time and lasts so many ticks.
+    pub fn are_broken(&self, end: u128, step: u64) -> bool
+        requires { step ≤ end }
+        ensures { result ≡ breaks_limits self.now.ticks self.now.origin (media_extent self.now end step) }
+    {
+        let ticks = u128::from(self.ticks);
+        let farthest = u128::from(self.origin) + ticks * u128::from(FARTHEST);
+        END <= end || ticks * u128::from(LONGEST) < u128::from(step) || farthest < end
+    }
+}

@@ -1,0 +1,115 @@
+// Segments one by one.
+ghost use Rattle.std.specs.Prelude.{◌≡◌, ◌+◌, MatchOption, MatchResult};
+ghost use Rattle.bridge_io.specs.Answer.{Gives};
+ghost use Rattle.timeline.specs.Listed.{CanBeNamed, part_of_timing, timing_of};
+ghost use Rattle.timeline.specs.Names.{list_refusal};
+
+use crate::{ListFault, Runs, Span, TimeWalk};
+use bridge_io::{Ledger, Steps};
+use std::alloc::Global;
+use std::marker::Model;
+use url_parts::{Address, Part, Range};
+
+/// A segment: its address, its range and its times. Only a `Listing` makes one.
+#[derive(Debug, Drop)]
+pub struct Segment {
+    part: Part,
+    span: Span,
+}
+
+impl Model for Segment {
+    ghost use Rattle.timeline.specs.Listed.{Made, timing_of};
+
+    ghost Value = { Made };
+
+    ghost view = { λ s. record { part = s.part; times = timing_of s.span } };
+}
+
+impl Segment {
+    ghost use Rattle.timeline.specs.Listed.{timing_of};
+
+    /// Where it lies.
+    pub fn address(&self) -> &Address
+        ensures { result.now ≡ self.now.part.address }
+    {
+        &self.part.address
+    }
+
+    /// Which bytes of the file it is; all of them where there is none.
+    pub fn range(&self) -> Option<Range>
+        ensures { result ≡ self.now.part.range }
+    {
+        self.part.range
+    }
+
+    /// When it begins and ends, and its number.
+    pub fn span(&self) -> Span
+        ensures { timing_of result ≡ self.now.times }
+    {
+        self.span
+    }
+}
+
+/// The segments of a Representation in order, each made when it is asked for.
+///
+/// In a contract it is the segments with their names, and the times of those that are left.
+#[derive(Debug, Drop)]
+pub struct Listing<'a> {
+    runs: &'a Runs,
+    walk: TimeWalk<'a>,
+}
+
+impl<'a> Model for Listing<'a> {
+    ghost use Rattle.timeline.specs.Listed.{Rest};
+
+    ghost Value = { Rest };
+
+    ghost use Rattle.timeline.specs.Listed.{IsWithin};
+
+    ghost view = { λ l. record { course = l.runs.now; left = l.walk } };
+
+    ghost invariant = { λ l. IsWithin l.runs.now l.walk };
+}
+
+impl<'a> Listing<'a> {
+    ghost use Rattle.timeline.specs.Listed.{IsDone, IsHeld, IsMade, IsWithin, made_count};
+
+    pub(crate) fn over(runs: &'a Runs, walk: TimeWalk<'a>) -> Listing<'a>
+        requires { IsWithin runs.now walk }
+        ensures course { result.course ≡ runs.now }
+        ensures left { result.left ≡ walk.entry }
+    {
+        Listing { runs, walk }
+    }
+
+    /// Makes the next segment, and counts it. There is none exactly at the end. After a refusal the listing stands
+    /// before the same segment, and nothing is counted.
+    pub fn next<L: Ledger>(
+        &mut self,
+        alloc: Global,
+        steps: &mut Steps<L>,
+    ) -> Result<Option<Segment>, ListFault>
+        ensures segment { MatchResult result
+            (λ next. MatchOption next (IsDone self.old self.new) (λ made. IsMade self.old made self.new))
+            (λ fault. IsHeld self.old fault self.new) }
+        ensures counted { steps.new ≡ steps.old + made_count result }
+    {
+        let Some(span) = self.walk.peek() else {
+            return Ok(None);
+        };
+        let part = part_of(self.runs, alloc, &span)?;
+        self.walk.advance();
+        steps.tick();
+        Ok(Some(Segment { part, span }))
+    }
+}
+
+/// The address and range of a segment.
+fn part_of(runs: &Runs, alloc: Global, span: &Span) -> Result<Part, ListFault>
+    requires { CanBeNamed runs.now (timing_of span.now) }
+    ensures { Gives (λ part. part) list_refusal result (part_of_timing runs.now (timing_of span.now)) }
+{
+    let place = span.number - runs.scale.start_number;
+    runs.names
+        .part(alloc, place, span.number, runs.media_time(span.start))
+}

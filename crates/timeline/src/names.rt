@@ -1,0 +1,139 @@
+// The names of segments, against which addresses are made.
+ghost use Rattle.std.specs.Prelude.{◌≡◌, IfOk};
+ghost use Rattle.std.specs.Option.{option_copied};
+ghost use Rattle.bridge_io.specs.Answer.{Gives};
+ghost use Rattle.timeline.specs.Names.{list_refusal, listed_part, part_at};
+ghost use Rattle.url_parts.specs.Addresses.{resolve};
+
+use crate::{ListFault, RefList};
+use bridge_io::Text;
+use std::alloc::Global;
+use template_ids::{Ids, Template};
+use url_parts::{Base, Part, Range};
+
+/// A SegmentURL of a SegmentList (ISO/IEC 23009-1, 5.3.9.3).
+#[derive(Debug, Drop)]
+pub struct RefPart {
+    /// Its `@media`. Where it is absent, the base itself is the address.
+    pub reference: Option<Text>,
+    /// Its `@mediaRange`.
+    pub range: Option<Range>,
+}
+
+/// The names of a Representation's segments, and the base against which they are resolved.
+#[derive(Debug, Drop)]
+pub enum Names {
+    /// A template with the Representation's id and bandwidth.
+    Template {
+        media: Template,
+        id: Text,
+        bandwidth: u64,
+        base: Base,
+    },
+    /// One name for each segment.
+    List {
+        parts: RefList,
+        base: Base,
+    },
+}
+
+impl Names {
+    ghost use Rattle.timeline.specs.Names.{count_of, asks_for_time, part_of};
+    ghost use Rattle.timeline.specs.declared.names.Names.TheVariants.{Template as ByTemplate, List as ByList};
+
+    /// Names by a template.
+    pub fn of_template(media: Template, id: Text, bandwidth: u64, base: Base) -> Names
+        ensures { result ≡ ByTemplate media id bandwidth base }
+    {
+        Names::Template {
+            media,
+            id,
+            bandwidth,
+            base,
+        }
+    }
+
+    /// Names by a list.
+    pub fn of_list(parts: RefList, base: Base) -> Names
+        ensures { result ≡ ByList parts base }
+    {
+        Names::List { parts, base }
+    }
+
+    /// How many names a list has.
+    pub(crate) fn len(&self) -> Option<u64>
+        ensures { result ≡ count_of self.now }
+    {
+        match self {
+            Names::Template { .. } => None,
+            Names::List { parts, .. } => Some(parts.len() as u64),
+        }
+    }
+
+    /// Whether a template asks for a segment's media time.
+    pub(crate) fn uses_time(&self) -> bool
+        ensures { result ≡ asks_for_time self.now }
+    {
+        match self {
+            Names::Template { media, .. } => media.uses_time(),
+            Names::List { .. } => false,
+        }
+    }
+
+    /// The address and range of the segment at a place, which begins at a media time.
+    pub(crate) fn part(
+        &self,
+        alloc: Global,
+        place: u64,
+        number: u64,
+        time: u64,
+    ) -> Result<Part, ListFault>
+        ensures { Gives (λ part. part) list_refusal result (part_of self.now place number time) }
+    {
+        match self {
+            Names::Template {
+                media,
+                id,
+                bandwidth,
+                base,
+            } => {
+                let ids = Ids {
+                    id: Text::copy_of(alloc, id.as_str())?,
+                    bandwidth: *bandwidth,
+                    number,
+                    time,
+                };
+                let name = media.name(alloc, &ids)?;
+                joined(alloc, base, name.as_str(), None)
+            }
+            Names::List { parts, base } => listed_part(alloc, parts.get(place as usize), base),
+        }
+    }
+}
+
+/// The address and range of a segment by its name.
+#[tactic(auto, using(crate::proofs::Naming::resolve_own))]
+fn listed_part(alloc: Global, part: Option<&RefPart>, base: &Base) -> Result<Part, ListFault>
+    ensures { Gives (λ part. part) list_refusal result (listed_part base.now (option_copied part.entry)) }
+{
+    match part {
+        None => joined(alloc, base, base.as_str(), None),
+        Some(RefPart { reference, range }) => match reference {
+            None => joined(alloc, base, base.as_str(), *range),
+            Some(reference) => joined(alloc, base, reference.as_str(), *range),
+        },
+    }
+}
+
+/// The address that a reference gives against a base, with a range.
+fn joined(
+    alloc: Global,
+    base: &Base,
+    reference: &str,
+    range: Option<Range>,
+) -> Result<Part, ListFault>
+    ensures { Gives (λ part. part) list_refusal result (part_at range (resolve base.now reference.now)) }
+{
+    let address = base.join(alloc, reference)?;
+    Ok(Part { address, range })
+}

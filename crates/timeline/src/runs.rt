@@ -1,0 +1,232 @@
+// The segments of a Representation in one Period.
+ghost use Rattle.std.specs.Prelude.{◌≡◌, ◌-◌, ◌<◌, ◌^◌, ◌+ℤ◌, pos, min};
+
+use crate::bound::Bound;
+use crate::layout::Layout;
+use crate::limits::Limits;
+use crate::stretch::{Endless, Stretch};
+use crate::{Cursor, Listing, Names, Scale, TimeFault, TimeWalk, Window};
+use exact_time::Tick;
+use std::marker::Model;
+
+/// The segments of a Representation in one Period, with their names.
+///
+/// In a contract it is what its segments are at every instant, their numbers and their names.
+#[derive(Debug, Drop)]
+pub struct Runs {
+    pub(crate) stretches: Vec<Stretch>,
+    /// The segments behind them that go on to an open end.
+    pub(crate) endless: Option<Endless>,
+    /// How many segments the stretches have.
+    pub(crate) total: u64,
+    pub(crate) scale: Scale,
+    /// The media time of the Period's start: `@presentationTimeOffset` in a timeline, otherwise 0.
+    pub(crate) origin: u64,
+    pub(crate) names: Names,
+}
+
+impl Model for Runs {
+    ghost use Rattle.timeline.specs.Expansions.{Course};
+
+    ghost Value = { Course };
+
+    ghost use Rattle.timeline.specs.Kept.{course_of, IsKept};
+
+    ghost view = { course_of };
+
+    ghost invariant = { IsKept };
+}
+
+impl Runs {
+    ghost use Rattle.exact_time.specs.Tick.{time_of};
+    ghost use Rattle.bridge_io.specs.Answer.{Gives};
+    ghost use Rattle.timeline.specs.Courses.{course_from, course_if_paired};
+    ghost use Rattle.timeline.specs.Faults.{refusal};
+    ghost use Rattle.timeline.specs.Laws.{EndsRise};
+    ghost use Rattle.timeline.specs.Layouts.{IsLaidOut, members_so_far};
+    ghost use Rattle.timeline.specs.Listed.{IsWindowOf, IsReached, IsFirstListed, IsPlaceAfter, answered_count, is_out_of_range, expansion, listed_from};
+    ghost use Rattle.timeline.specs.declared.window.Window.{Window};
+    ghost use Rattle.timeline.specs.Bounds.{time_of_bound};
+    ghost use Rattle.timeline.specs.Places.{closed_count, closed_total, reached_count, count_until, open_extents};
+    ghost use Rattle.timeline.specs.Ratios.{natural};
+    ghost use Rattle.timeline.specs.Stretches.{IsTail, extents_of_some};
+
+    /// How many segments are listed in a window. It is Range exactly where segments that go on to an open end reach
+    /// one, by the window's `until`, that breaks the limits of a segment. It takes no memory.
+    ///
+    /// Requires that `until` is given where the Period's end is open.
+    pub fn count(&self, window: &Window) -> Result<u64, TimeFault>
+        requires { IsWindowOf self.now window.now }
+        ensures { result ≡ answered_count self.now window.now }
+    {
+        let _ = &self.stretches; // opens the value, for what it keeps
+        if self.is_broken(window) {
+            return Err(TimeFault::Range);
+        }
+        let finish = self.finish(window);
+        Ok(finish.saturating_sub(self.place(window.low())))
+    }
+
+    /// The place of the first listed segment. It takes no memory.
+    ///
+    /// Requires that `until` is given where the Period's end is open, and that `count` doesn't answer Range.
+    pub fn seek(&self, window: &Window) -> Cursor
+        requires window { IsWindowOf self.now window.now }
+        requires reached { IsReached self.now window.now }
+        ensures { IsFirstListed window.now (expansion self.now window.now) result }
+    {
+        let _ = &self.stretches; // opens the value, for what it keeps
+        Cursor::at(self.place(window.low()))
+    }
+
+    /// The place of the first segment that ends after a time, counted from the Period's start. Where there is none,
+    /// the place is that of the expansion's end or behind it. Where the end is open, this is so for every window for
+    /// which `count` doesn't answer Range. It takes no memory.
+    pub fn seek_end(&self, end: Tick) -> Cursor
+        ensures { (window : Window) → IsWindowOf self.now window → IsReached self.now window →
+            IsPlaceAfter (time_of end) (expansion self.now window) result }
+    {
+        let _ = &self.stretches; // opens the value, for what it keeps
+        Cursor::at(self.place(Bound::tick(end)))
+    }
+
+    /// The times and numbers of the listed segments from a place on. It takes no memory.
+    ///
+    /// Requires that `until` is given where the Period's end is open, and that `count` doesn't answer Range.
+    pub fn walk(&self, from: &Cursor, window: &Window) -> TimeWalk<'_>
+        requires window { IsWindowOf self.now window.now }
+        requires reached { IsReached self.now window.now }
+        ensures { result ≡ listed_from from.now self.now window.now }
+    {
+        let begin = from.place().max(self.place(window.low()));
+        let left = self.finish(window).saturating_sub(begin);
+        let tail = self.tail(window);
+        TimeWalk::from(
+            self.stretches.as_slice(),
+            tail,
+            begin,
+            left,
+            self.scale.start_number,
+        )
+    }
+
+    /// The listed segments from a place on, each with its address. It takes no memory.
+    ///
+    /// Requires that `until` is given where the Period's end is open, and that `count` doesn't answer Range.
+    pub fn resume(&self, from: &Cursor, window: &Window) -> Listing<'_>
+        requires window { IsWindowOf self.now window.now }
+        requires reached { IsReached self.now window.now }
+        ensures segments { result.left ≡ listed_from from.now self.now window.now }
+        ensures course { result.course ≡ self.now }
+    {
+        let _ = &self.stretches; // opens the value, for what it keeps
+        Listing::over(self, self.walk(from, window))
+    }
+
+    pub(crate) fn of(layout: Layout, scale: Scale, origin: u64, names: Names) -> Runs
+        requires laid { IsLaidOut layout }
+        requires ticks { layout.limits.ticks ≡ scale.ticks }
+        requires origin { layout.limits.origin ≡ origin }
+        requires rising { EndsRise (members_so_far layout) }
+        ensures { result ≡ course_from scale origin names (members_so_far layout) }
+    {
+        Runs {
+            stretches: layout.stretches,
+            endless: layout.endless,
+            total: layout.total,
+            scale,
+            origin,
+            names,
+        }
+    }
+
+    /// The segments with their names, unless these are a list of another length.
+    pub(crate) fn paired(
+        layout: Layout,
+        scale: Scale,
+        origin: u64,
+        names: Names,
+    ) -> Result<Runs, TimeFault>
+        requires laid { IsLaidOut layout }
+        requires ticks { layout.limits.ticks ≡ scale.ticks }
+        requires origin { layout.limits.origin ≡ origin }
+        requires rising { EndsRise (members_so_far layout) }
+        ensures { Gives (λ runs. runs) refusal result (course_if_paired scale origin names (members_so_far layout)) }
+    {
+        if !layout.is_paired(names.len()) {
+            return Err(TimeFault::ListLength);
+        }
+        Ok(Runs::of(layout, scale, origin, names))
+    }
+
+    /// The segment's media time, for a template that asks for it.
+    pub(crate) fn media_time(&self, start: Tick) -> u64
+        requires { natural (start.n +ℤ pos self.now.origin) < 2 ^ 64 }
+        ensures { result ≡ natural (start.n +ℤ pos self.now.origin) }
+    {
+        u64::try_from(start.n + i128::from(self.origin)).unwrap_or(0)
+    }
+
+    /// How many segments end at or before a bound, those that go on to an open end among them, but for more than can
+    /// ever be listed.
+    fn place(&self, bound: Bound) -> u64
+        ensures { result ≡ min (2 ^ 64 - 1) (reached_count self.now (time_of_bound bound)) }
+    {
+        let endless = self.endless.map_or(0, |endless| endless.ended_by(bound));
+        let place = u128::from(self.ended_by(bound)).saturating_add(endless);
+        place.min(u128::from(u64::MAX)) as u64
+    }
+
+    /// How many segments of the stretches end at or before a bound.
+    fn ended_by(&self, bound: Bound) -> u64
+        ensures { result ≡ closed_count self.now (time_of_bound bound) }
+    {
+        let mut ended = 0;
+        for stretch in &self.stretches {
+            ended += stretch.ended_by(bound);
+        }
+        ended
+    }
+
+    /// The place behind the last listed segment.
+    fn finish(&self, window: &Window) -> u64
+        requires window { IsWindowOf self.now window.now }
+        requires reached { IsReached self.now window.now }
+        ensures { result ≡ count_until self.now window.now }
+    {
+        match window.high() {
+            Some(high) => self.place(high),
+            None => self.total,
+        }
+    }
+
+    /// The segments that go on to an open end and are reached.
+    fn tail(&self, window: &Window) -> Option<Stretch>
+        requires window { IsWindowOf self.now window.now }
+        requires reached { IsReached self.now window.now }
+        ensures extents { extents_of_some result ≡ open_extents self.now window.now }
+        ensures tail { IsTail (closed_total self.now) result }
+    {
+        let (Some(endless), Some(high)) = (self.endless, window.high()) else {
+            return None;
+        };
+        endless.until(high)
+    }
+
+    /// Whether the segments that go on to an open end reach one that breaks the limits. As they last equally long, the
+    /// last one tells it.
+    fn is_broken(&self, window: &Window) -> bool
+        requires { IsWindowOf self.now window.now }
+        ensures { result ≡ is_out_of_range self.now window.now }
+    {
+        let (Some(endless), Some(high)) = (self.endless, window.high()) else {
+            return false;
+        };
+        let count = endless.ended_by(high);
+        let limits = Limits {
+            ticks: self.scale.ticks,
+            origin: self.origin,
+        };
+        count > 0 && limits.are_broken(endless.media_end(count, self.origin), endless.step)
+    }
+}

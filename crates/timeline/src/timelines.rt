@@ -1,0 +1,182 @@
+// The segments of a SegmentTimeline.
+ghost use Rattle.std.specs.Prelude.{◌≡◌, ◌<◌, ◌^◌, ◌==◌, ◌⊎◌, ◌&&◌, not, [], false, IsNone, MatchResult, OnOk};
+ghost use Rattle.std.specs.List.{list_any};
+ghost use Rattle.bridge_io.specs.Answer.{Gives};
+ghost use Rattle.timeline.specs.Faults.{ends_open, is_unbounded};
+ghost use Rattle.timeline.specs.Layouts.{AreAdded, IsFaultOf, IsInTime, IsLaidOut};
+ghost use Rattle.timeline.specs.Limits.{breaks_limits};
+ghost use Rattle.timeline.specs.Reaches.{AreLaidOut, AreLimitsOf, GoesOn, IsReach, IsTheirFault, IsUpTo, members_of_entry, next_of, start_of};
+ghost use Rattle.timeline.specs.Timelines.{expansion_of_timeline, extent_from, reach_of};
+
+use crate::layout::Layout;
+use crate::limits::Limits;
+use crate::{End, Names, Runs, SEntry, SList, Scale, TimeFault};
+use exact_time::ceil_count;
+use std::alloc::Global;
+
+/// How far the segments of an S go on.
+#[derive(Clone, Copy, Debug)]
+enum Reach {
+    /// So many segments.
+    Count(u128),
+    /// Up to an end that isn't known yet.
+    Open,
+    /// Up to a time that isn't after their start, or to none.
+    Nowhere,
+}
+
+impl Runs {
+    ghost use Rattle.timeline.specs.Faults.{refusal};
+    ghost use Rattle.timeline.specs.Courses.{course_of_timeline};
+
+    /// The segments of a SegmentTimeline (ISO/IEC 23009-1, 5.3.9.6).
+    ///
+    /// `live` says that the MPD is dynamic, so that segments that go on up to the end of an open Period are those that
+    /// end by an instant. The faults are tried in this order: ZeroDuration where an S has `@d` 0; NoEnd where the last
+    /// S goes on up to the end of an open Period of a static MPD; Range and Step, by the first segment concerned;
+    /// ListLength where the names are a list and aren't as many as the segments.
+    pub fn from_timeline(
+        alloc: Global,
+        list: &SList,
+        end: End,
+        live: bool,
+        scale: Scale,
+        names: Names,
+    ) -> Result<Runs, TimeFault>
+        ensures { Gives (λ runs. runs) refusal result (course_of_timeline list.now end live scale names) }
+    {
+        let entries = list.as_slice();
+        if have_no_time(entries) {
+            return Err(TimeFault::ZeroDuration);
+        }
+        if lack_end(entries, end, live) {
+            return Err(TimeFault::NoEnd);
+        }
+        let layout = laid_out(alloc, entries, &end, scale)?;
+        Runs::paired(layout, scale, scale.offset, names)
+    }
+}
+
+/// Whether some S lasts no time.
+fn have_no_time(entries: &[SEntry]) -> bool
+    ensures { result ≡ list_any (λ s. s.d == 0) entries.now }
+{
+    entries.iter().any(|entry| entry.d == 0)
+}
+
+/// Whether the S elements of a static MPD go on to the end of a Period that has none.
+fn lack_end(entries: &[SEntry], end: End, live: bool) -> bool
+    ensures { result ≡ (not live && is_unbounded end && ends_open entries.now) }
+{
+    !live && end == End::Unbounded && goes_on(entries)
+}
+
+/// Whether the last S goes on up to the Period's end.
+fn goes_on(entries: &[SEntry]) -> bool
+    ensures { result ≡ ends_open entries.now }
+{
+    match entries.last() {
+        None => false,
+        Some(entry) => entry.r < 0,
+    }
+}
+
+/// The segments of the S elements in a row.
+fn laid_out(alloc: Global, entries: &[SEntry], end: &End, scale: Scale) -> Result<Layout, TimeFault>
+    requires { list_any (λ s. s.d == 0) entries.now ≡ false }
+    ensures { let members = expansion_of_timeline scale end.now entries.now in
+        MatchResult result (AreLaidOut scale members) (IsTheirFault (breaks_limits scale.ticks scale.offset) members) }
+{
+    let limits = Limits {
+        ticks: scale.ticks,
+        origin: scale.offset,
+    };
+    let mut layout = Layout::new(alloc, limits);
+    let mut rest = entries;
+    while let Some((entry, later)) = rest.split_first() {
+        add_entry(&mut layout, entry, later, end, scale)?;
+        rest = later;
+    }
+    Ok(layout)
+}
+
+/// Adds the segments of an S, which others follow.
+fn add_entry(
+    layout: &mut Layout,
+    entry: &SEntry,
+    later: &[SEntry],
+    end: &End,
+    scale: Scale,
+) -> Result<(), TimeFault>
+    requires lasting { 0 < entry.now.d }
+    requires closed { IsNone layout.old.endless }
+    requires laid { IsInTime layout.old }
+    requires limits { AreLimitsOf scale layout.old.limits }
+    ensures members { let members = members_of_entry scale end.now layout.old.former entry.now later.now in
+        MatchResult result (λ _. AreAdded layout.old members layout.new) (λ fault. IsFaultOf layout.old members fault) }
+    ensures limits { layout.new.limits ≡ layout.old.limits }
+    ensures laid { OnOk result (IsLaidOut layout.new) }
+    ensures goes_on { OnOk result (GoesOn layout.new later.now) }
+    ensures former { OnOk result ((layout.new.former ≡ next_of scale end.now layout.old.former entry.now later.now) ⊎ (later.now ≡ [])) }
+{
+    let start = start_of(entry, layout.former());
+    match reach_of(entry, start, later, end, scale) {
+        Reach::Count(count) => layout.add(start, entry.d, count),
+        Reach::Open => layout.go_on(start, entry.d),
+        Reach::Nowhere => {
+            layout.judge(start, entry.d)?;
+            Err(TimeFault::Step)
+        }
+    }
+}
+
+/// Where the first segment of an S begins that follows on a segment.
+fn start_of(entry: &SEntry, former: u128) -> u128
+    requires { former < 2 ^ 64 }
+    ensures value { result ≡ start_of former entry.now }
+    ensures near { result < 2 ^ 64 }
+{
+    match entry.t {
+        None => former,
+        Some(start) => u128::from(start),
+    }
+}
+
+/// How far the segments of an S go on, the first of which begins at `start`.
+fn reach_of(entry: &SEntry, start: u128, later: &[SEntry], end: &End, scale: Scale) -> Reach
+    requires start { start < 2 ^ 64 }
+    requires lasting { 0 < entry.now.d }
+    ensures { IsReach (reach_of scale end.now entry.now.r later.now) (extent_from scale start entry.now.d) result }
+{
+    if let Ok(repeats) = u64::try_from(entry.r) {
+        return Reach::Count(u128::from(repeats) + 1);
+    }
+    match later.first() {
+        Some(next) => match next.t {
+            None => Reach::Nowhere,
+            Some(bound) => up_to(u128::from(bound), start, u128::from(entry.d)),
+        },
+        None => match end {
+            End::Unbounded => Reach::Open,
+            End::At(length) => {
+                let bound = u128::from(length.0) * u128::from(scale.ticks)
+                    + u128::from(scale.offset) * SECOND;
+                up_to(bound, start * SECOND, u128::from(entry.d) * SECOND)
+            }
+        },
+    }
+}
+
+/// How many nanoseconds a second has.
+pub const SECOND: u128 = 1_000_000_000;
+
+/// How many segments of `step` it takes from `start` up to a bound, rounded up.
+fn up_to(bound: u128, start: u128, step: u128) -> Reach
+    requires { 0 < step }
+    ensures { IsUpTo bound start step result }
+{
+    if bound <= start {
+        return Reach::Nowhere;
+    }
+    Reach::Count(ceil_count(bound - start, step))
+}
