@@ -1,8 +1,9 @@
 -- What the stretches and the open end of a `Runs` have.
-use Rattle.std.proofs.Common.{◌≡◌, ℕ, zero, suc, ◌+◌, ◌-◌, ◌*◌, ◌<◌, ◌≤◌, ◌^◌, Bool, true, false, ◌&&◌, ltb, List, [], ◌∷◌, ◌++◌, length, ℤ, pos, negsuc, ◌+ℤ◌, ◌≤ℤ◌, ◌<ℤ◌, neg_ℤ, refl, ◌∙◌, sym, ap, subst, inl, inr, arith, length-append}
+use Rattle.std.proofs.Common.{◌≡◌, ℕ, zero, suc, ◌+◌, ◌-◌, ◌*◌, ◌<◌, ◌≤◌, ◌^◌, Bool, true, false, ◌&&◌, ltb, List, [], ◌∷◌, ◌++◌, length, get_or, ℤ, pos, negsuc, ◌+ℤ◌, ◌≤ℤ◌, ◌<ℤ◌, neg_ℤ, refl, ◌∙◌, sym, ap, subst, inl, inr, arith, length-append}
 use Rattle.std.specs.Prelude.{Option, Some, None, unsigned_abs}
 use Rattle.std.specs.List.{AllByRecursion, list_any}
 use Rattle.std.proofs.lemmas.Int.{ints}
+use Rattle.std.proofs.lemmas.List.Elements.{All-from_recursion}
 use Rattle.std.proofs.lemmas.Bool.{cases_order, cases_lt, lt-ltb, true≢false}
 use Rattle.std.proofs.lemmas.Bool.Decides.{nat_tests}
 use Rattle.std.proofs.Math.Nat.{mul-le-mul_left}
@@ -94,6 +95,10 @@ scales_laid before (s ∷ later) total (at, some, is, laid) =
 pub stretches_laid : (before : ℕ) (stretches : List Stretch) (total : ℕ) → AreLaid before stretches total → AllByRecursion IsStretch stretches
 stretches_laid before [] total laid = tt
 stretches_laid before (s ∷ later) total (at, some, is, laid) = (is, stretches_laid (before + s.count) later total laid)
+
+pub stretch_at : (stretches : List Stretch) (total i : ℕ) (s : Stretch) → AreLaid 0 stretches total → i < length stretches → s ≡ get_or stretches i s → IsStretch s
+stretch_at stretches total i s laid within read =
+    subst (λ (x : Stretch). IsStretch x) (sym read) (All-from_recursion IsStretch stretches (stretches_laid 0 stretches total laid) i s within)
 
 -- ---- the segments that go on to an open end
 

@@ -1,3 +1,4 @@
+pub mod BegunLemmas
 pub mod BoundLemmas
 pub mod Counted
 pub mod CourseLemmas
@@ -6,7 +7,6 @@ pub mod Judged
 pub mod KeptLemmas
 pub mod Laid
 pub mod LimitLemmas
-pub mod LoopLemmas
 pub mod Naming
 pub mod NumberedLemmas
 pub mod OpenLemmas

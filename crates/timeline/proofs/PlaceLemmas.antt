@@ -58,7 +58,7 @@ pub count_ended-le : (t : Time) (xs : List Extent) → count_ended t xs ≤ leng
 count_ended-le t xs = count_by-le-length (ends_by_time t) xs
 
 -- where one of the later ones ends by the time, all of the earlier ones do
-front_ended : (t : Time) (k : ℕ) (xs ys : List Extent) → SplitsAt (ends_by_time t) k (xs ++ ys) → 0 < count_ended t ys → count_ended t xs ≡ length xs
+pub front_ended : (t : Time) (k : ℕ) (xs ys : List Extent) → SplitsAt (ends_by_time t) k (xs ++ ys) → 0 < count_ended t ys → count_ended t xs ≡ length xs
 front_ended t k [] ys is some = refl
 front_ended t zero (x ∷ xs) ys is some = absurd (omega (arith, none_ended t (xs ++ ys) is.1, count_ended-append t xs ys))
 front_ended t (suc k) (x ∷ xs) ys is some = omega (arith, count_ended-in t x xs is.0, front_ended t k xs ys is.1 some)

@@ -1,5 +1,5 @@
 -- Lists of which the first ones pass a test and the others don't.
-use Rattle.std.proofs.Common.{◌≡◌, ℕ, zero, suc, ◌+◌, ◌-◌, ◌<◌, ◌≤◌, ◌⊎◌, max, Bool, true, false, not, ◌&&◌, List, [], ◌∷◌, length, take, drop, refl, ◌∙◌, sym, ap, subst, inl, inr, arith}
+use Rattle.std.proofs.Common.{◌≡◌, ℕ, zero, suc, ◌+◌, ◌-◌, ◌<◌, ◌≤◌, ◌⊎◌, min, max, Bool, true, false, not, ◌&&◌, List, [], ◌∷◌, ◌++◌, length, take, drop, refl, ◌∙◌, sym, ap, subst, inl, inr, arith}
 use Rattle.std.specs.Prelude.{slice_get, IsSome, IfSome, All, filter}
 use Rattle.std.proofs.lemmas.List.Elements.{All-nil, All-cons}
 use Rattle.std.proofs.lemmas.List.{drop-drop, drop_all, take_all}
@@ -69,6 +69,18 @@ filter-all low high (suc l) (suc h) (x ∷ xs) is_low is_high =
 
 pub splits_same : {X : Type 0} (test : X → Bool) (m n : ℕ) (xs : List X) → m ≡ n → SplitsAt test m xs → SplitsAt test n xs
 splits_same test m n xs same is = subst (λ (k : ℕ). SplitsAt test k xs) same is
+
+-- of the list's front, and of its rest
+pub splits_front : {X : Type 0} (test : X → Bool) (k : ℕ) (xs ys : List X) → SplitsAt test k (xs ++ ys) → SplitsAt test (min k (length xs)) xs
+splits_front test k [] ys is = splits_same test 0 (min k 0) [] (omega arith) tt
+splits_front test zero (x ∷ xs) ys is = splits_same test 0 (min 0 (suc (length xs))) (x ∷ xs) (omega arith)
+    (is.0, splits_same test (min 0 (length xs)) 0 xs (omega arith) (splits_front test zero xs ys is.1))
+splits_front test (suc k) (x ∷ xs) ys is = splits_same test (suc (min k (length xs))) (min (suc k) (suc (length xs))) (x ∷ xs) (omega arith) (is.0, splits_front test k xs ys is.1)
+
+pub splits_rest : {X : Type 0} (test : X → Bool) (k : ℕ) (xs ys : List X) → SplitsAt test k (xs ++ ys) → SplitsAt test (k - length xs) ys
+splits_rest test k [] ys is = splits_same test k (k - 0) ys (omega arith) is
+splits_rest test zero (x ∷ xs) ys is = splits_same test (0 - length xs) (0 - suc (length xs)) ys (omega arith) (splits_rest test zero xs ys is.1)
+splits_rest test (suc k) (x ∷ xs) ys is = splits_same test (k - length xs) (suc k - suc (length xs)) ys (omega arith) (splits_rest test k xs ys is.1)
 
 pub splits_drop : {X : Type 0} (test : X → Bool) (f k : ℕ) (xs : List X) → SplitsAt test k xs → SplitsAt test (k - f) (drop f xs)
 splits_drop test zero k xs is = splits_same test k (k - 0) xs (omega arith) is

@@ -1,9 +1,11 @@
 -- How many segments end by a time.
-use Rattle.std.specs.Prelude.{ℕ, List, filter, flat_map, sum_by, count_by, not, if◌then◌else◌}
+use Rattle.std.specs.Prelude.{◌≡◌, ℕ, ◌+◌, ◌<◌, ◌^◌, List, filter, flat_map, sum_by, count_by, not, if◌then◌else◌}
 use Rattle.exact_time.specs.Time.{Time}
 use Rattle.timeline.specs.Ratios.{at_most}
 use Rattle.timeline.specs.Expansions.{Course, Extent, Member, Closed, Short, Endless, ended_by, extents_at, goes_on}
 use Rattle.timeline.specs.Listed.{expansion, instant_of, is_until}
+use Rattle.timeline.specs.Stretches.{IsStretch, extents_of, count_ended}
+use Rattle.timeline.specs.declared.stretch.Stretch.{Stretch}
 use Rattle.timeline.specs.declared.window.Window.{Window}
 
 abbrev pub closed_by : Time → Member → ℕ
@@ -19,6 +21,12 @@ reached_by time (Endless x) = ended_by time x
 -- how many segments end at or before a time, but for those that go on to an open end
 abbrev pub closed_count : Course → Time → ℕ
 closed_count course time = sum_by (closed_by time) course.members
+
+-- a stretch that tells how many segments end at or before a time: all those before it, and some of its own
+pub record IsLastBegun (course : Course) (time : Time) (s : Stretch) : Type 0 where
+  pub is : IsStretch s
+  pub ended : closed_count course time ≡ s.before + count_ended time (extents_of s)
+  pub fits : closed_count course time < 2 ^ 64
 
 -- how many segments there are, but for those that go on to an open end
 abbrev pub closed_total : Course → ℕ

@@ -1,5 +1,5 @@
 // The segments of a Representation in one Period.
-ghost use Rattle.std.specs.Prelude.{◌≡◌, ◌-◌, ◌<◌, ◌^◌, ◌+ℤ◌, pos, min};
+ghost use Rattle.std.specs.Prelude.{◌≡◌, ◌-◌, ◌<◌, ◌^◌, ◌+ℤ◌, pos, min, MatchOption};
 
 use crate::bound::Bound;
 use crate::layout::Layout;
@@ -47,7 +47,7 @@ impl Runs {
     ghost use Rattle.timeline.specs.Listed.{IsWindowOf, IsReached, IsFirstListed, IsPlaceAfter, answered_count, is_out_of_range, expansion, listed_from};
     ghost use Rattle.timeline.specs.declared.window.Window.{Window};
     ghost use Rattle.timeline.specs.Bounds.{time_of_bound};
-    ghost use Rattle.timeline.specs.Places.{closed_count, closed_total, reached_count, count_until, open_extents};
+    ghost use Rattle.timeline.specs.Places.{IsLastBegun, closed_count, closed_total, reached_count, count_until, open_extents};
     ghost use Rattle.timeline.specs.Ratios.{natural};
     ghost use Rattle.timeline.specs.Stretches.{IsTail, extents_of_some};
 
@@ -181,11 +181,19 @@ impl Runs {
     fn ended_by(&self, bound: Bound) -> u64
         ensures { result ≡ closed_count self.now (time_of_bound bound) }
     {
-        let mut ended = 0;
-        for stretch in &self.stretches {
-            ended += stretch.ended_by(bound);
+        match self.last_begun(bound) {
+            Some(stretch) => stretch.before + stretch.ended_by(bound),
+            None => 0,
         }
-        ended
+    }
+
+    /// The last stretch of which a segment ends at or before a bound. As ends rise, all before it do too.
+    fn last_begun(&self, bound: Bound) -> Option<&Stretch>
+        ensures { MatchOption result (closed_count self.now (time_of_bound bound) ≡ 0) (λ s. IsLastBegun self.now (time_of_bound bound) s.now) }
+    {
+        let stretches = self.stretches.as_slice();
+        let begun = stretches.partition_point(|stretch| stretch.first_ends_by(bound));
+        stretches[..begun].last()
     }
 
     /// The place behind the last listed segment.

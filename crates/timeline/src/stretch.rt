@@ -22,8 +22,17 @@ pub struct Stretch {
 
 impl Stretch {
     ghost use Rattle.std.specs.Prelude.{MatchOption};
+    ghost use Rattle.exact_time.specs.Tick.{time_of};
     ghost use Rattle.timeline.specs.Bounds.{time_of_bound};
+    ghost use Rattle.timeline.specs.Ratios.{at_most};
     ghost use Rattle.timeline.specs.Stretches.{IsStretch, IsRestOf, extents_of, count_ended};
+
+    /// Whether the first of the segments ends at or before a bound.
+    pub fn first_ends_by(&self, bound: Bound) -> bool
+        ensures { result ≡ at_most (time_of self.now.end) (time_of_bound bound) }
+    {
+        self.end.n <= bound.ticks(self.end.scale)
+    }
 
     /// How many of the segments end at or before a bound.
     pub fn ended_by(&self, bound: Bound) -> u64
