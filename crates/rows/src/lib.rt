@@ -1,6 +1,8 @@
-//! Worked runs of the top call over the outside in memory.
+//! Worked rows: runs of the top call over the outside in memory, and listings of segments.
 #![tactic(auto)]
 
+#[cfg(test)]
+mod listings;
 #[cfg(test)]
 mod outside;
 #[cfg(test)]
