@@ -1,0 +1,21 @@
+//! Laws of what manifests mean. The functions do nothing: what they ensure is the law.
+ghost use Rattle.std.specs.Prelude.{◌≡◌, ◌↔◌, ℕ, None};
+ghost use Rattle.meaning.specs.Meanings.{Meaning};
+ghost use Rattle.meaning.specs.Same.{SameExact, SameFloor, Agrees};
+ghost use Rattle.meaning.specs.Differences.{first_difference};
+
+/// Each presentation means the same as itself.
+pub fn a_meaning_is_the_same_as_itself()
+    ensures { (a : Meaning) → SameExact a a }
+{}
+
+/// What means the same, with equal times or with times rounded down, agrees.
+pub fn the_same_agrees()
+    ensures exact { (unit : ℕ) (a b : Meaning) → SameExact a b → Agrees unit a b }
+    ensures floor { (unit : ℕ) (a b : Meaning) → SameFloor unit a b → Agrees unit a b }
+{}
+
+/// Two presentations agree exactly where no first difference is found.
+pub fn agreeing_has_no_difference()
+    ensures { (unit : ℕ) (a b : Meaning) → Agrees unit a b ↔ (first_difference unit a b ≡ None) }
+{}

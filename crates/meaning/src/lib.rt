@@ -1,0 +1,12 @@
+//! What a manifest means, by whichever standard it is written, and when two manifests mean the same.
+//!
+//! An MPD and a master with its playlists denote one kind of value: tracks with their kinds and languages, and what
+//! each has in each section, an initialization part and segments with their times. The definitions stand in `specs/`;
+//! this crate has the laws of them.
+#![tactic(auto)]
+
+mod difference;
+mod laws;
+
+pub use difference::{Aspect, Difference};
+pub use laws::{a_meaning_is_the_same_as_itself, agreeing_has_no_difference, the_same_agrees};
