@@ -5,12 +5,15 @@ use crate::Range;
 use bridge_io::{NoMemory, Text};
 use std::alloc::Global;
 use std::marker::Model;
+use std::rc::Rc;
 
-/// The address of a file: an absolute http or https URL of at most 2,048 bytes in the form that the URL Standard
-/// writes. Its bytes are 0x21 to 0x7E without `"`.
+/// The address of a file: an absolute http or https URL of at most 2,048 bytes in the form that the URL Standard,
+/// section 4.5, writes. Its bytes are 0x21 to 0x7E without `"`.
+///
+/// Copies share one text.
 #[derive(Debug, Drop)]
 pub struct Address {
-    text: Text,
+    text: Rc<Text>,
 }
 
 impl Model for Address {
@@ -19,19 +22,20 @@ impl Model for Address {
 
     ghost Value = { List ℕ };
 
-    ghost view = { λ a. a.text };
+    ghost view = { λ a. a.text.value };
 
-    ghost invariant = { λ a. IsAddress a.text };
+    ghost invariant = { λ a. IsAddress a.text.value };
 }
 
 impl Address {
     ghost use Rattle.url_parts.specs.Addresses.{IsAddress};
 
-    pub(crate) fn of(text: Text) -> Address
+    pub(crate) fn of(alloc: Global, text: Text) -> Result<Address, NoMemory>
         requires { IsAddress text }
-        ensures { result ≡ text }
+        ensures { IfOk result (λ address. address ≡ text) }
     {
-        Address { text }
+        let text = Rc::new(alloc, text)?;
+        Ok(Address { text })
     }
 
     /// The address's text.
@@ -42,11 +46,12 @@ impl Address {
         self.text.as_str()
     }
 
-    /// The same address once more.
+    /// The same address once more. It shares the text, and takes no memory of its own.
     pub fn copy(&self, alloc: Global) -> Result<Address, NoMemory>
         ensures { IfOk result (λ copy. copy ≡ self.now) }
     {
-        let text = Text::copy_of(alloc, self.text.as_str())?;
+        let _ = alloc;
+        let text = self.text.clone()?;
         Ok(Address { text })
     }
 }

@@ -10,15 +10,18 @@ use crate::{Address, UrlFault};
 use bridge_io::{Name, NameFault, NoMemory, Text, is_name};
 use std::alloc::{AllocError, Global};
 use std::marker::Model;
+use std::rc::Rc;
 use url::{ParseResult, Url};
 
 /// The most bytes that an address has.
 const MAX_LEN: usize = 2048;
 
-/// An address against which references are resolved.
+/// An address against which references are resolved (RFC 3986, 5.1; ISO/IEC 23009-1, 5.6.4).
+///
+/// Copies share one URL.
 #[derive(Debug, Drop)]
 pub struct Base {
-    url: Url,
+    url: Rc<Url>,
     /// How many bytes of the text its folder has.
     folder: usize,
 }
@@ -29,9 +32,9 @@ impl Model for Base {
 
     ghost Value = { List ℕ };
 
-    ghost view = { λ b. text_of b.url };
+    ghost view = { λ b. text_of b.url.value };
 
-    ghost invariant = { λ b. IsBaseWith b.url b.folder };
+    ghost invariant = { λ b. IsBaseWith b.url.value b.folder };
 }
 
 impl Base {
@@ -43,7 +46,7 @@ impl Base {
     pub fn of(alloc: Global, text: &str) -> Result<Base, UrlFault>
         ensures { Gives (λ base. base) refusal result (absolute text.now) }
     {
-        accept(Url::parse(alloc, text)).map(Base::new)
+        Ok(Base::new(alloc, accept(Url::parse(alloc, text))?)?)
     }
 
     /// The base that a reference gives against this one.
@@ -53,7 +56,7 @@ impl Base {
     pub fn deeper(&self, alloc: Global, reference: &str) -> Result<Base, UrlFault>
         ensures { Gives (λ base. base) refusal result (resolve self.now reference.now) }
     {
-        self.resolve(alloc, reference).map(Base::new)
+        Ok(Base::new(alloc, self.resolve(alloc, reference)?)?)
     }
 
     /// The address that a reference gives against this base.
@@ -66,7 +69,7 @@ impl Base {
         if is_name(reference.as_bytes()) {
             return self.child(alloc, reference);
         }
-        self.resolve(alloc, reference).map(address_of)
+        Ok(address_of(alloc, self.resolve(alloc, reference)?)?)
     }
 
     /// The address of a name in the base's folder: the base's text without query and fragment, up to and with its
@@ -91,21 +94,23 @@ impl Base {
         text_of(&self.url)
     }
 
-    /// The same base once more.
+    /// The same base once more. It shares the URL, and takes no memory of its own.
     pub fn copy(&self, alloc: Global) -> Result<Base, NoMemory>
         ensures { IfOk result (λ copy. copy ≡ self.now) }
     {
+        let _ = alloc;
         let url = self.url.clone()?;
         let folder = self.folder;
         Ok(Base { url, folder })
     }
 
-    fn new(url: Url) -> Base
+    fn new(alloc: Global, url: Url) -> Result<Base, NoMemory>
         requires { IsBaseUrl url }
-        ensures { result ≡ text_of url }
+        ensures { IfOk result (λ base. base ≡ text_of url) }
     {
         let folder = folder_of(text_of(&url)).len();
-        Base { url, folder }
+        let url = Rc::new(alloc, url)?;
+        Ok(Base { url, folder })
     }
 
     /// The base's text without query and fragment, up to and with its last `/`.
@@ -127,7 +132,7 @@ impl Base {
             return Err(UrlFault::TooLong);
         }
         let text = join_texts(alloc, folder, name)?;
-        Ok(Address::of(Text::from(text)))
+        Ok(Address::of(alloc, Text::from(text))?)
     }
 
     /// The URL that a reference gives against this base, unless it is no address.
@@ -164,11 +169,11 @@ fn accept(parsed: ParseResult<Url>) -> Result<Url, UrlFault>
 }
 
 #[tactic(auto, using(crate::proofs::Bases::base_is_address))]
-fn address_of(url: Url) -> Address
+fn address_of(alloc: Global, url: Url) -> Result<Address, NoMemory>
     requires { IsBaseUrl url }
-    ensures { result ≡ text_of url }
+    ensures { IfOk result (λ address. address ≡ text_of url) }
 {
-    Address::of(into_text(url))
+    Address::of(alloc, into_text(url))
 }
 
 #[tactic(auto, unfolding(crate::specs::Addresses::text_of))]
