@@ -1,6 +1,7 @@
 pub mod Answer
 pub mod Fault
 pub mod InMemory
+pub mod InOrder
 pub mod Names
 pub mod Outside
 pub mod Places

@@ -1,6 +1,6 @@
 -- A file that is written in pieces.
 use Rattle.std.specs.Prelude.{◌≡◌, ℕ, List, ◌++◌, length, take, min, Option}
-use Rattle.std.proofs.Common.{◌∙◌, arith}
+use Rattle.std.proofs.Common.{◌∙◌, append_assoc, arith}
 use Rattle.std.proofs.lemmas.List.{take-append-le, take_min}
 use Rattle.std.proofs.Math.Seq.{take-length}
 use Rattle.bridge_io.specs.Outside.{Files, put, Changes}
@@ -30,6 +30,11 @@ pub front_of_more : (name text more : List ℕ) (first now : Option Files) → H
 front_of_more name text more first now (n, changes) =
     let same : take (min n (length text)) (text ++ more) ≡ take n text = take-append-le (min n (length text)) text more (omega arith) ∙ take_min n text in
     (min n (length text), rw same changes)
+
+-- a front of what a whole text begins with is one of the whole text
+pub front_of_whole : (name text done rest whole : List ℕ) (first now : Option Files) → done ++ rest ≡ whole → HasFront name (text ++ done) first now → HasFront name (text ++ whole) first now
+front_of_whole name text done rest whole first now goes front =
+    rw (← goes, ← append_assoc) (front_of_more name (text ++ done) rest first now front)
 
 -- the whole text is a front of itself
 pub front_of_all : (name text : List ℕ) (first now : Option Files) → Changes (put name text) first now → HasFront name text first now

@@ -1,24 +1,27 @@
 // A file that is written in large pieces.
-ghost use Rattle.std.specs.Prelude.{◌≡◌, ℕ, List, ◌++◌, [], Option, IfOk, OnOk, OnErr};
+ghost use Rattle.std.specs.Prelude.{◌≡◌, ◌<◌, ◌≤◌, ℕ, List, ◌++◌, [], Option, length, IfOk, OnOk, OnErr};
 ghost use Rattle.bridge_io.specs.declared.outside.Fail.TheVariants.{Failed};
 ghost use Rattle.bridge_io.specs.Fault.{HasCause};
-ghost use Rattle.bridge_io.specs.Outside.{Files, put, Changes, MayEmpty};
-ghost use Rattle.bridge_io.specs.Written.{target, held, IsBehind, HasFront};
+ghost use Rattle.bridge_io.specs.Outside.{Files, put, extended, Changes, MayEmpty, MayExtend};
 
 use crate::{Fail, Name, Store};
 use std::alloc::Global;
 
-/// How many bytes are held back at most.
+/// How many bytes are held back at most, and handed on at once at most.
 const PIECE: usize = 4096;
 
-/// A file that is written from its start on. What is pushed is held back, and comes to the file's end piece by piece.
+/// A file that is written from its start on. What is pushed is held back, and comes to the file's end in pieces of 1 to
+/// 4,096 bytes.
 #[derive(Debug, Drop)]
 pub struct FileWriter<'a> {
     name: &'a Name,
     held: Vec<u8>,
+    ghost bounded: { length held.items ≤ 4096 },
 }
 
 impl<'a> FileWriter<'a> {
+    ghost use Rattle.bridge_io.specs.Written.{target, held, IsBehind, HasFront};
+
     /// Makes the file empty. An error leaves it as it was, or empty.
     pub fn create<F: Store>(
         alloc: Global,
@@ -36,7 +39,7 @@ impl<'a> FileWriter<'a> {
         Ok(FileWriter { name, held })
     }
 
-    /// Adds a piece to the text. An error leaves a front of the text in the file.
+    /// Adds a piece of any length to the text. An error leaves a front of the text in the file.
     pub fn push<F: Store>(&mut self, store: &mut F, piece: &[u8]) -> Result<(), Fail>
         ensures target { target self.new ≡ target self.old }
         ensures ok { OnOk result ((text : List ℕ) (first : Option Files) → IsBehind self.old text first (F.files store.old)
@@ -46,7 +49,27 @@ impl<'a> FileWriter<'a> {
         ensures cause { HasCause Failed (F.write_faults store.old) (F.write_faults store.new) result }
         ensures reads { F.read_faults store.new ≡ F.read_faults store.old }
     {
-        if piece.len() > PIECE.saturating_sub(self.held.len()) {
+        let mut rest = piece;
+        while !rest.is_empty() {
+            let (front, back) = rest.split_at(rest.len().min(PIECE));
+            self.hold(store, front)?;
+            rest = back;
+        }
+        Ok(())
+    }
+
+    /// Adds a piece of at most 4,096 bytes. Where there is no room for it, what is held goes to the file first.
+    fn hold<F: Store>(&mut self, store: &mut F, piece: &[u8]) -> Result<(), Fail>
+        requires { length piece.now ≤ PIECE }
+        ensures target { target self.new ≡ target self.old }
+        ensures ok { OnOk result ((text : List ℕ) (first : Option Files) → IsBehind self.old text first (F.files store.old)
+            → IsBehind self.new (text ++ piece.now) first (F.files store.new)) }
+        ensures err { OnErr result ((text : List ℕ) (first : Option Files) → IsBehind self.old text first (F.files store.old)
+            → HasFront (target self.old) (text ++ piece.now) first (F.files store.new)) }
+        ensures cause { HasCause Failed (F.write_faults store.old) (F.write_faults store.new) result }
+        ensures reads { F.read_faults store.new ≡ F.read_faults store.old }
+    {
+        if piece.len() > PIECE - self.held.len() {
             self.flush(store)?;
         }
         self.held.extend_from_slice(piece)?;
@@ -64,8 +87,23 @@ impl<'a> FileWriter<'a> {
         ensures cause { HasCause Failed (F.write_faults store.old) (F.write_faults store.new) result }
         ensures reads { F.read_faults store.new ≡ F.read_faults store.old }
     {
-        store.append(self.name, &self.held)?;
+        if self.held.is_empty() {
+            return Ok(());
+        }
+        hand_on(store, self.name, &self.held)?;
         self.held.clear();
         Ok(())
     }
+}
+
+/// Adds a piece to a file's end: each one that a writer hands on has 1 to 4,096 bytes.
+fn hand_on<F: Store>(store: &mut F, name: &Name, piece: &[u8]) -> Result<(), Fail>
+    requires some { 0 < length piece.now }
+    requires bounded { length piece.now ≤ PIECE }
+    ensures ok { OnOk result (Changes (extended name.now piece.now) (F.files store.old) (F.files store.new)) }
+    ensures err { OnErr result (MayExtend name.now piece.now (F.files store.old) (F.files store.new)) }
+    ensures cause { HasCause Failed (F.write_faults store.old) (F.write_faults store.new) result }
+    ensures reads { F.read_faults store.new ≡ F.read_faults store.old }
+{
+    store.append(name, piece)
 }

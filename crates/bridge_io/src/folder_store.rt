@@ -1,5 +1,5 @@
 // A folder of the file system as a store.
-ghost use Rattle.std.specs.Prelude.{◌≤◌, length, None, IfOk};
+ghost use Rattle.std.specs.Prelude.{◌≡◌, ◌≤◌, length, None, IfOk};
 
 use crate::fault::counted;
 use crate::{Fail, Name, NoMemory, Store};
@@ -10,7 +10,10 @@ use std::path::Path;
 use std::rt::Files;
 use std::{fs, io};
 
-/// The files under a folder as a store. It tells nothing of their bytes. A name can't lead out of the folder.
+/// The files under a folder as a store. It tells nothing of their bytes.
+///
+/// A file's path is the folder's, `/` and the name, which has no `..` and is no absolute path. A symbolic link is
+/// followed.
 #[derive(Drop)]
 pub struct FolderStore<R: Files> {
     files: R,
@@ -21,8 +24,11 @@ pub struct FolderStore<R: Files> {
 }
 
 impl<R: Files + Drop> FolderStore<R> {
-    /// A store over a folder, as `.` for the current one, that has not failed yet.
-    pub fn new(files: R, alloc: Global, folder: &str) -> Result<FolderStore<R>, NoMemory> {
+    /// A store over a folder, as `.` for the current one, with no fault counted.
+    pub fn new(files: R, alloc: Global, folder: &str) -> Result<FolderStore<R>, NoMemory>
+        ensures read_faults { IfOk result (λ store. ⟦<FolderStore<R> as Store>⟧.read_faults store ≡ 0) }
+        ensures write_faults { IfOk result (λ store. ⟦<FolderStore<R> as Store>⟧.write_faults store ≡ 0) }
+    {
         Ok(FolderStore {
             files,
             alloc,
@@ -40,6 +46,7 @@ impl<R: Files> Store for FolderStore<R> {
 
     ghost write_faults = { λ s. s.write_faults };
 
+    /// A folder is no file, and neither is what stands below a file.
     fn has(&mut self, name: &Name) -> Result<bool, Fail> {
         let path = path_of(self.alloc, &self.folder, name)?;
         match is_file(&self.files, path.as_str()) {
@@ -48,12 +55,12 @@ impl<R: Files> Store for FolderStore<R> {
         }
     }
 
-    /// Makes one read.
+    /// Makes one read. Where there is no file, but a folder or nothing, no bytes come.
     fn read_at(&mut self, name: &Name, at: u64, buf: &mut [u8]) -> Result<usize, Fail> {
         let path = path_of(self.alloc, &self.folder, name)?;
         match read_from(&self.files, path.as_str(), at, buf) {
             Ok(n) => Ok(n),
-            Err(error) if is_absence(&error) => Ok(0),
+            Err(error) if is_absence(&error) || error.kind() == ErrorKind::IsADirectory => Ok(0),
             Err(error) => Err(counted(&mut self.read_faults, error)),
         }
     }

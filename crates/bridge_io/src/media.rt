@@ -1,25 +1,32 @@
 // What a track shows of itself: its kind, the size of its picture and its frame rate.
 ghost use Rattle.std.specs.Prelude.{◌<◌};
 
-/// What a track holds.
+/// What a track holds (ISO/IEC 23009-1, 5.3.7.2; RFC 8216, 4.3.4.1).
 #[derive(Clone, Copy, Debug, PartialEq, Eq)]
 pub enum Kind {
+    /// Pictures that follow one another.
     Video,
+    /// Sound.
     Audio,
+    /// Subtitles or captions.
     Text,
 }
 
-/// Width and height of a picture, in pixels.
+/// The size of a picture (ISO/IEC 23009-1, 5.3.7.2; RFC 8216, 4.3.4.2).
 #[derive(Clone, Copy, Debug, PartialEq, Eq)]
 pub struct Size {
+    /// In pixels.
     pub width: u32,
+    /// In pixels.
     pub height: u32,
 }
 
-/// The fraction n/m, as a frame rate is told: frames a second.
+/// The fraction n/m, as a frame rate is told: frames a second (ISO/IEC 23009-1, 5.3.7.2).
 #[derive(Clone, Copy, Debug, PartialEq, Eq)]
 pub struct Ratio {
+    /// How many frames there are in m seconds.
     pub n: u32,
+    /// How many seconds n frames last, at least 1.
     pub m: u32,
     ghost positive: { 0 < m },
 }

@@ -20,7 +20,7 @@ pub enum NameFault {
     Memory,
 }
 
-/// The name of a file in a store: a relative path that can't lead out of the store's folder.
+/// The name of a file in a store: a relative path without `..`.
 ///
 /// It has 1 to 255 bytes of ASCII letters, digits, `-`, `.`, `_`, `~`, `+`, `=`, `,`, `@` and `/`, and the parts
 /// between the slashes aren't empty, `.` or `..`.
@@ -40,7 +40,7 @@ impl Model for Name {
 impl Name {
     ghost use Rattle.bridge_io.specs.Names.{name_of, refusal};
 
-    /// Reads a text as a name.
+    /// Reads a text as a name. Shape comes exactly where the text isn't one.
     pub fn read(alloc: Global, text: &str) -> Result<Name, NameFault>
         ensures { Gives (λ name. name) refusal result (name_of text.now) }
     {
@@ -76,8 +76,10 @@ fn has_name_bytes(text: &[u8]) -> bool
 fn is_name_byte(byte: u8) -> bool
     ensures { result ≡ is_name_byte byte }
 {
-    // From `+` to `9` stand `+,-./` and the digits, and from `@` to `Z` the capitals.
-    matches!(byte, b'+'..=b'9' | b'@'..=b'Z' | b'a'..=b'z' | b'=' | b'_' | b'~')
+    // The frequent ones stand first. From `+` to `9` stand `+,-./` and the digits, and from `@` to `Z` the capitals.
+    byte.is_ascii_lowercase()
+        || (b'+'..=b'9').contains(&byte)
+        || matches!(byte, b'@'..=b'Z' | b'=' | b'_' | b'~')
 }
 
 /// Whether no part between the slashes is empty, `.` or `..`.

@@ -1,9 +1,10 @@
 // Where something stands in a file.
 
-/// A byte of a file, or its end: how many bytes stand before it, and its line, which is one more than the number
-/// of LF bytes before it.
+/// A byte of a file, or its end.
 #[derive(Clone, Copy, Debug, PartialEq, Eq)]
 pub struct Place {
+    /// How many bytes stand before it.
     pub at: u64,
+    /// Its line: one more than the number of LF bytes before it.
     pub line: u64,
 }

@@ -1,5 +1,5 @@
 // Standard output as a sink.
-ghost use Rattle.std.specs.Prelude.{None};
+ghost use Rattle.std.specs.Prelude.{◌≡◌, None};
 
 use crate::fault::counted;
 use crate::{Fail, Sink};
@@ -14,8 +14,10 @@ pub struct StdSink<W: Write> {
 }
 
 impl<W: Write> StdSink<W> {
-    /// A sink over a writer that has not failed yet.
-    pub fn new(writer: W) -> StdSink<W> {
+    /// A sink over a writer, with no fault counted.
+    pub fn new(writer: W) -> StdSink<W>
+        ensures { ⟦<StdSink<W> as Sink>⟧.faults result ≡ 0 }
+    {
         StdSink { writer, faults: 0 }
     }
 }

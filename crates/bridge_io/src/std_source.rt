@@ -1,5 +1,5 @@
 // Standard input as a source.
-ghost use Rattle.std.specs.Prelude.{None};
+ghost use Rattle.std.specs.Prelude.{◌≡◌, None};
 
 use crate::fault::counted;
 use crate::{Fail, Source};
@@ -13,8 +13,10 @@ pub struct StdSource<R: Read> {
 }
 
 impl<R: Read> StdSource<R> {
-    /// A source over a reader that has not failed yet.
-    pub fn new(reader: R) -> StdSource<R> {
+    /// A source over a reader, with no fault counted.
+    pub fn new(reader: R) -> StdSource<R>
+        ensures { ⟦<StdSource<R> as Source>⟧.faults result ≡ 0 }
+    {
         StdSource { reader, faults: 0 }
     }
 }

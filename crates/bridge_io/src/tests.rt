@@ -82,14 +82,28 @@ fn whole_files(rt: HostRuntime) -> Result<(), TestFail> {
 #[test]
 fn written_in_pieces(rt: HostRuntime) -> Result<(), TestFail> {
     let alloc = rt.alloc();
-    let mut store = MemStore::new(alloc, CallList::new(alloc), CallList::new(alloc));
-    let a = Name::read(alloc, "out/a")?;
-    let mut writer = FileWriter::create(alloc, &mut store, &a)?;
-    for _ in 0..1000 {
-        writer.push(&mut store, b"0123456789")?;
+    let name = Name::read(alloc, "out/a")?;
+    let text = [b'x'; 10_000];
+    // One writing call makes the file and three add its 10,000 bytes, whether these come by tens or at once.
+    for (piece, times, failing, written) in [
+        (&text[..10], 1000, 3, false),
+        (&text[..10], 1000, 4, true),
+        (text.as_slice(), 1, 3, false),
+        (text.as_slice(), 1, 4, true),
+    ] {
+        let mut calls = CallList::new(alloc);
+        calls.push(failing)?;
+        let mut store = MemStore::new(alloc, CallList::new(alloc), calls);
+        let mut writer = FileWriter::create(alloc, &mut store, &name)?;
+        for _ in 0..times {
+            writer.push(&mut store, piece)?;
+        }
+        assert_eq!(rt; writer.flush(&mut store).is_ok(), written);
+        if written {
+            assert!(rt; store.file(&name) == Some(text.as_slice()));
+            assert!(rt; writer.flush(&mut store).is_ok());
+        }
     }
-    writer.flush(&mut store)?;
-    assert_eq!(rt; store.file(&a).map(|file| file.len()), Some(10_000));
     Ok(())
 }
 
@@ -132,7 +146,10 @@ fn folder(rt: HostRuntime) -> Result<(), TestFail> {
         ("deep", false),
         ("old", false),
     ] {
-        assert_eq!(rt; store.has(&Name::read(alloc, file)?), Ok(found), "{file}");
+        let name = Name::read(alloc, file)?;
+        assert_eq!(rt; store.has(&name), Ok(found), "{file}");
+        let bytes = if found { 4 } else { 0 };
+        assert_eq!(rt; store.read_at(&name, 0, &mut buf), Ok(bytes), "{file}");
     }
     Ok(())
 }

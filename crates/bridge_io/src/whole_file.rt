@@ -15,6 +15,9 @@ use std::alloc::Global;
 const PIECE: usize = 1 << 16;
 
 /// Reads a whole file of at most `limit` bytes. The store's files stay as they are.
+///
+/// TooLong comes exactly where the file has more bytes, and Absent exactly where the store hasn't the name, unless a
+/// fault or want of memory came before.
 pub fn slurp<F: Store>(
     alloc: Global,
     store: &mut F,
