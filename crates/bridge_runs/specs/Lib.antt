@@ -1,0 +1,4 @@
+pub mod Courses
+pub mod Runs
+pub mod Laws
+pub mod Statuses
