@@ -6,7 +6,7 @@ use Rattle.std.proofs.lemmas.Nat.{le-div}
 use Rattle.std.proofs.lemmas.Bool.{leb-true, le-leb, cases_lt}
 use Rattle.exact_time.specs.Time.{Time, IsTime, IsNotNegative, IsAtMost, IsBefore, IsSame, cross, difference, in_units}
 use Rattle.exact_time.specs.Floor.{IsFloorIn, floor_in, fits_in, greatest_of}
-use Rattle.exact_time.specs.TimeOrder.{IsAtMost-trans, same_is_at_most, same_is_at_least}
+use Rattle.exact_time.proofs.TimeOrder.{IsAtMost-trans, same_is_at_most, same_is_at_least}
 use Rattle.exact_time.proofs.Times.{IsTime-difference, IsNotNegative-difference, units_le-before, units_le-after, difference-le}
 
 -- a floor is the only one

@@ -8,7 +8,7 @@ use Rattle.exact_time.specs.Rounding.{Rounding, Call, total}
 use Rattle.exact_time.specs.Rounder.{rounding_of, IsKept}
 use Rattle.exact_time.specs.declared.tick.Tick.{Tick}
 use Rattle.exact_time.specs.declared.rounder.Rounder.TheInside.{Inside}
-use Rattle.exact_time.specs.TimeOrder.{IsAtMost-trans}
+use Rattle.exact_time.proofs.TimeOrder.{IsAtMost-trans}
 use Rattle.exact_time.proofs.Times.{none_le-difference, le_seconds}
 use Rattle.exact_time.proofs.Floors.{IsFloorIn-difference, floor-before, floor-after}
 

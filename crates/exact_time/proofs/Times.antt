@@ -4,7 +4,7 @@ use Rattle.std.proofs.lemmas.Int.{ints}
 use Rattle.std.proofs.Math.Nat.{mul-le-mul_left, le_of_mul-le-mul_left, one-le-mul}
 use borrow.Author.Differences.{up, down}
 use Rattle.exact_time.specs.Time.{Time, IsTime, IsNotNegative, IsAtMost, difference, in_units, seconds}
-use Rattle.exact_time.specs.TimeOrder.{share, share_le_out, share_le_in}
+use Rattle.exact_time.proofs.TimeOrder.{share, share_le_out, share_le_in}
 
 pub IsTime-difference : (x y : Time) → IsTime x → IsTime y → IsTime (difference x y)
 IsTime-difference x y p q = one-le-mul p q

@@ -1,8 +1,8 @@
 -- What holds of times, floors and printed durations.
-use Rattle.std.specs.Prelude.{◌≡◌, ◌↔◌, ◌⊎◌, ℕ, ◌+◌, ◌<◌, List, Some, slice_get, sum, take}
-use Rattle.exact_time.specs.Time.{Time, IsTime, IsNotNegative, IsSame, AreSame, IsBefore, IsAtMost, difference, in_units}
+use Rattle.std.specs.Prelude.{◌≡◌, ◌↔◌, ◌⊎◌, ℕ, ◌+◌, ◌<◌, true, List, [], ◌∷◌, ◌++◌, Some, slice_get, sum, take}
+use Rattle.exact_time.specs.Time.{Time, IsTime, IsNotNegative, IsSame, AreSame, IsBefore, IsAtMost, before, at_most, difference, in_units, seconds}
 use Rattle.exact_time.specs.Floor.{IsFloorIn, floor_in}
-use Rattle.exact_time.specs.Rounding.{Rounding, rounding_from, printed, total, IsRising, AreWholeUnits, Calls}
+use Rattle.exact_time.specs.Rounding.{Rounding, rounding_behind, rounding_from, printed, total, IsRising, AreNear, AreWholeUnits, Calls}
 
 -- the order of times is one: it is transitive, any two times stand in it, and those that stand in it
 -- both ways are the same time
@@ -17,6 +17,10 @@ IsExclusive = (x y : Time) → IsBefore x y → ¬ IsAtMost y x
 
 abbrev pub IsAntisymmetric : Type 0
 IsAntisymmetric = (x y : Time) → IsSame x y ↔ (IsAtMost x y × IsAtMost y x)
+
+-- the tests tell the order
+abbrev pub TestsTell : Type 0
+TestsTell = (x y : Time) → ((before x y ≡ true) ↔ IsBefore x y) × ((at_most x y ≡ true) ↔ IsAtMost x y)
 
 -- a time that is not negative has one floor
 abbrev pub HasOneFloor : Type 0
@@ -39,6 +43,19 @@ abbrev pub CallsRise : Type 0
 CallsRise =
     (first : Time) (unit : ℕ) (ends : List Time) (numbers : List ℕ) (last : Rounding) →
     Calls (rounding_from first unit) ends numbers last → IsRising first ends
+
+-- A `Rounder` that goes on behind some ends gives what `printed` gives behind them.
+abbrev pub CallsGoOn : Type 0
+CallsGoOn =
+    (first former : Time) (unit : ℕ) (earlier ends : List Time) (numbers : List ℕ) (last : Rounding) →
+    Calls (rounding_behind first unit former) ends numbers last →
+    printed unit first (earlier ++ former ∷ ends) ≡ printed unit first (earlier ++ former ∷ []) ++ numbers
+
+-- ends that rise, each near the one before it, may be given in turn
+abbrev pub CallsAreAllowed : Type 0
+CallsAreAllowed =
+    (former end : Time) (ends : List Time) → IsRising former (end ∷ ends) → AreNear former (end ∷ ends) →
+    IsAtMost former end × IsAtMost (difference end former) (seconds 2000000) × IsRising end ends × AreNear end ends
 
 -- the printed durations up to the segment that ends at `end` sum to the floor of the time up to it
 abbrev pub SumsAreFloors : Type 0

@@ -1,7 +1,7 @@
 pub mod Time
 pub mod Floor
 pub mod Tick
-pub mod TimeOrder
+pub mod TickOrder
 pub mod Rounding
 pub mod Rounder
 pub mod Laws

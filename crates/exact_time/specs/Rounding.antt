@@ -18,6 +18,11 @@ abbrev pub IsRising : Time → List Time → Type 0
 IsRising former [] = Unit {0}
 IsRising former (end ∷ ends) = IsTime end × IsAtMost former end × IsRising end ends
 
+-- no end is more than 2,000,000 s after the one before it, nor the first one after `former`
+abbrev pub AreNear : Time → List Time → Type 0
+AreNear former [] = Unit {0}
+AreNear former (end ∷ ends) = IsAtMost (difference end former) (seconds 2000000) × AreNear end ends
+
 -- each segment lasts this number of units, from the end of the one before it
 abbrev pub AreWholeUnits : ℕ → Time → List ℕ → List Time → Type 0
 AreWholeUnits u former [] [] = Unit {0}
@@ -38,6 +43,10 @@ total r = floor_in r.unit (difference r.former r.first)
 
 abbrev pub rounding_from : Time → ℕ → Rounding
 rounding_from first unit = record { first = first; unit = unit; former = first }
+
+-- what goes on behind a segment that ends at `former`
+abbrev pub rounding_behind : Time → ℕ → Time → Rounding
+rounding_behind first unit former = record { first = first; unit = unit; former = former }
 
 -- one call of `next`: `end` is one that it may be given, and `number` what it answers
 pub record Call (old : Rounding) (end : Time) (number : ℕ) (new : Rounding) : Type 0 where

@@ -1,7 +1,7 @@
 -- Times as exact fractions of a second, compared by cross products.
 use Rattle.std.specs.Ordering.{int_cmp}
 use Rattle.std.specs.declared.cmp.Ordering.{Ordering}
-use Rattle.std.specs.Prelude.{◌≡◌, ℕ, ◌*◌, ◌<◌, ℤ, pos, ◌*ℤ◌, ◌-ℤ◌, ◌≤ℤ◌, ◌<ℤ◌, List, [], ◌∷◌}
+use Rattle.std.specs.Prelude.{◌≡◌, ℕ, ◌*◌, ◌<◌, ℤ, pos, ◌*ℤ◌, ◌-ℤ◌, ◌≤ℤ◌, ◌<ℤ◌, Bool, int_lt, int_le, List, [], ◌∷◌}
 
 -- ticks / scale seconds
 pub record Time : Type 0 where
@@ -35,6 +35,20 @@ IsBefore x y = cross x y <ℤ cross y x
 abbrev pub IsAtMost : Time → Time → Type 0
 IsAtMost x y = cross x y ≤ℤ cross y x
 
+-- is x before y?
+abbrev pub before : Time → Time → Bool
+before x y = int_lt (cross x y) (cross y x)
+
+-- is x at or before y?
+abbrev pub at_most : Time → Time → Bool
+at_most x y = int_le (cross x y) (cross y x)
+
+-- each time is after the one before it
+abbrev pub AreRising : List Time → Type 0
+AreRising [] = Unit {0}
+AreRising (x ∷ []) = Unit {0}
+AreRising (x ∷ y ∷ ys) = IsBefore x y × AreRising (y ∷ ys)
+
 -- `Less`, `Equal` or `Greater`, as x is before y, the same, or after it
 abbrev pub time_cmp : Time → Time → Ordering
 time_cmp x y = int_cmp (cross x y) (cross y x)
@@ -49,3 +63,6 @@ in_units u count = record { ticks = pos count; scale = u }
 
 abbrev pub seconds : ℕ → Time
 seconds count = in_units 1 count
+
+abbrev pub nanoseconds : ℤ → Time
+nanoseconds count = record { ticks = count; scale = 1000000000 }

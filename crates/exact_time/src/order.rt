@@ -3,7 +3,7 @@ ghost use Rattle.std.specs.Ordering.{MatchOrdering, as_partial_cmp, eq_by_cmp};
 ghost use Rattle.std.specs.Cmp.{eq_by_cmp_equiv, partial_equiv_from_equiv, partial_order_from_agreeing_total};
 ghost use Rattle.exact_time.specs.Time.{IsBefore, IsSame, cross, time_cmp};
 ghost use Rattle.exact_time.specs.Tick.{tick_cmp, time_of};
-ghost use Rattle.exact_time.specs.TimeOrder.{tick_cmp_total};
+ghost use Rattle.exact_time.specs.TickOrder.{tick_cmp_total};
 
 use crate::tick::Tick;
 use std::cmp::Ordering;

@@ -1,6 +1,6 @@
 ghost use Rattle.std.specs.Prelude.{◌≡◌, ◌+◌, ◌*◌, ◌≤◌, ◌^◌};
 ghost use Rattle.exact_time.specs.Time.{IsAtMost, difference, seconds};
-ghost use Rattle.exact_time.specs.Rounding.{Call, rounding_from, total};
+ghost use Rattle.exact_time.specs.Rounding.{Call, rounding_behind, rounding_from, total};
 ghost use Rattle.exact_time.specs.Tick.{time_of};
 
 use crate::floor::floor_unit;
@@ -46,6 +46,25 @@ impl Rounder {
             unit,
             former: first,
             floor: 0,
+        }
+    }
+
+    /// Goes on behind segments that were printed before, of which the first one began at `first` and the last one
+    /// ended at `former`: the next durations are those that a `Rounder` which printed these too would give. A
+    /// playlist that is written again with more segments needs no other state.
+    ///
+    /// Requires that `former` isn't before `first`.
+    pub fn resume(first: Tick, former: Tick, unit: u32) -> Rounder
+        requires low { 1 ≤ unit }
+        requires high { unit ≤ 10 ^ 9 }
+        requires begun { IsAtMost (time_of first) (time_of former) }
+        ensures { result ≡ rounding_behind (time_of first) unit (time_of former) }
+    {
+        Rounder {
+            first,
+            unit,
+            former,
+            floor: floor_unit(former, first, unit),
         }
     }
 

@@ -3,8 +3,7 @@ use Rattle.std.proofs.Common.{◌≡◌, ℕ, ◌*◌, ◌<◌, ◌^◌, true, f
 use Rattle.std.specs.Prelude.{unsigned_abs}
 use Rattle.std.specs.Int.{int_max, int_min}
 use Rattle.std.proofs.lemmas.Int.{ints, clamps, by_lt_z}
-use Rattle.exact_time.specs.Time.{Time}
-use Rattle.timeline.specs.Ratios.{at_most, nanoseconds}
+use Rattle.exact_time.specs.Time.{Time, at_most, nanoseconds}
 use Rattle.timeline.specs.Bounds.{IsNear}
 use Rattle.timeline.proofs.Ratios.{int_le-mul, int_le-from, not_int_le-from}
 

@@ -6,23 +6,24 @@ use Rattle.std.proofs.lemmas.Int.{ints}
 use Rattle.std.proofs.lemmas.List.{append-nil, map-append}
 use Rattle.std.proofs.Math.Bool.{or-false}
 use Rattle.std.proofs.lemmas.Bool.{cases_Bool, cases_lt, cond-true, cond-false, le-ltb, lt-ltb}
-use Rattle.exact_time.specs.Time.{Time, IsAtMost, in_units, seconds}
+use Rattle.exact_time.specs.Time.{Time, IsAtMost, in_units, seconds, at_most, before, nanoseconds}
 use Rattle.exact_time.specs.Floor.{IsCeiling}
 use Rattle.timeline.specs.declared.entry.End.{End}
 use Rattle.timeline.specs.declared.entry.End.TheVariants.{At, Unbounded}
 use Rattle.timeline.specs.declared.fault.TimeFault.{TimeFault}
 use Rattle.timeline.specs.declared.fault.TimeFault.TheVariants.{Range, Step, ListLength}
-use Rattle.timeline.specs.declared.layout.Layout.{Layout}
+use Rattle.timeline.specs.declared.builder.RunsBuilder.{RunsBuilder}
 use Rattle.timeline.specs.declared.limits.Limits.{Limits}
-use Rattle.timeline.specs.Ratios.{at_most, before, earlier, nanoseconds, steps_to_cover}
+use Rattle.timeline.specs.Ratios.{earlier, steps_to_cover}
 use Rattle.timeline.specs.Expansions.{Extent, Member, Closed, Endless, lasting, repeated, repeat_of}
 use Rattle.timeline.specs.Durations.{cut_at, extent_at, extents_by, expansion_of_names}
 use Rattle.timeline.specs.Faults.{begins_late, extents_break, fault_if, is_apart, is_too_many, members_by, or_fault, refusal, segment_fault}
 use Rattle.timeline.specs.Laws.{EndsRise}
-use Rattle.timeline.specs.Layouts.{AreAdded, IsFaultOf, IsInTime, breaks_in, extent_in, former_end, members_so_far, placed_in}
+use Rattle.timeline.specs.Building.{AreAdded, IsFaultOf, IsInTime, breaks_in, extent_in, former_end, members_so_far, placed_in}
 use Rattle.timeline.specs.Limits.{breaks_limits}
 use Rattle.timeline.specs.Rows.{AreCounted, IsCountedFault, IsFresh, IsLast, IsRange, IsRow, count_until, counted_fault, cut_fault, last_extent, row_of}
-use Rattle.timeline.proofs.Ratios.{steps_to_cover-is, ceiling-is, before-is, at_most-from, not_at_most-from}
+use Rattle.timeline.proofs.Ratios.{steps_to_cover-is, ceiling-is}
+use Rattle.exact_time.proofs.TimeOrder.{before-is, at_most-from, not_at_most-from}
 use Rattle.timeline.proofs.Judged.{former_end-none, former_end-some, head_breaks, head_passes, repeat-extent_in, touching}
 use Rattle.timeline.proofs.Reached.{IfSome-map}
 use Rattle.timeline.proofs.ExpansionsRise.{durations_rise, last_covers}
@@ -61,14 +62,14 @@ module _ (l : Limits) where
       ]
 
 -- the segment behind the last one isn't apart from it
-follows : (l : Layout) (d : ℕ) → is_apart (former_end l) (extent_in l.limits l.former d) ≡ false
+follows : (l : RunsBuilder) (d : ℕ) → is_apart (former_end l) (extent_in l.limits l.former d) ≡ false
 follows l d = elim (cases_lt 0 l.total) [
   | inl some ↦ ap (λ (f : Option Time). is_apart f (extent_in l.limits l.former d)) (former_end-some l some) ∙ touching l.limits l.former d l.limits.positive
   | inr none ↦ ap (λ (f : Option Time). is_apart f (extent_in l.limits l.former d)) (former_end-none l (omega arith))
 ]
 
 -- adding a run behind the last segment says whether it breaks the limits
-module _ (old new : Layout) (d count : ℕ) where
+module _ (old new : RunsBuilder) (d count : ℕ) where
   abbrev run : List Extent
   run = repeated count (extent_in old.limits old.former d)
 
@@ -83,7 +84,7 @@ module _ (old new : Layout) (d count : ℕ) where
 
 -- ---- the first segments
 
-pub row_none : (l : Layout) (d count : ℕ) → IsFresh l → count ≡ 0 → IsRow l.limits d count l
+pub row_none : (l : RunsBuilder) (d count : ℕ) → IsFresh l → count ≡ 0 → IsRow l.limits d count l
 unfolding repeated
 row_none l d count fresh none =
     let nothing : count * d ≡ 0 = ap (λ (n : ℕ). n * d) none ∙ omega arith in
@@ -97,7 +98,7 @@ row_none l d count fresh none =
       kept = ap (list_any (breaks_in l.limits)) empty;
     }
 
-pub row_added : (old new : Layout) (d count : ℕ) (r : Result (Unit {0}) TimeFault) → IsFresh old →
+pub row_added : (old new : RunsBuilder) (d count : ℕ) (r : Result (Unit {0}) TimeFault) → IsFresh old →
     MatchResult r (λ _. AreAdded old (map Closed (row_of old.limits d count)) new) (λ f. IsFaultOf old (map Closed (row_of old.limits d count)) f) →
     new.limits ≡ old.limits → OnOk r (new.former ≡ 0 + count * d) → OnOk r (IsNone new.endless) → OnOk r (IsInTime new) →
     MatchResult r (λ _. IsRow old.limits d count new) (IsRange (list_any (breaks_in old.limits) (row_of old.limits d count)))
@@ -196,7 +197,7 @@ one_member : (x : Extent) → map Closed (repeated 1 x) ≡ Closed x ∷ []
 unfolding repeated
 one_member x = refl
 
-pub last_added : (old new : Layout) (ticks length d : ℕ) (r : Result (Unit {0}) TimeFault) → old.limits.ticks ≡ ticks → old.limits.origin ≡ 0 → (old.former + d) * 1000000000 ≤ length * ticks →
+pub last_added : (old new : RunsBuilder) (ticks length d : ℕ) (r : Result (Unit {0}) TimeFault) → old.limits.ticks ≡ ticks → old.limits.origin ≡ 0 → (old.former + d) * 1000000000 ≤ length * ticks →
     MatchResult r (λ _. AreAdded old (map Closed (repeated 1 (extent_in old.limits old.former d))) new) (λ f. IsFaultOf old (map Closed (repeated 1 (extent_in old.limits old.former d))) f) →
     new.limits ≡ old.limits → OnOk r (IsInTime new) →
     MatchResult r (λ _. IsLast old (last_extent ticks length old.former d) new) (IsRange (breaks_in old.limits (last_extent ticks length old.former d)))
@@ -282,7 +283,7 @@ module _ (l : Limits) (ticks : ℕ) (scale : l.ticks ≡ ticks) (origin : l.orig
         ap (λ (b : Bool). or_fault (fault_if b Range) (fault_if (begins_late ticks (At length) d count) ListLength)) (broken_last ∙ fine)
         ∙ ap (λ (b : Bool). fault_if b ListLength) (begins_at ticks length d whole count more ∙ not_at_most-from (nanoseconds (pos length)) (in_units ticks (whole * d)) (omega (arith, ints)))
 
-pub cut_none : (l : Layout) (ticks length d count : ℕ) → IsFresh l → l.limits.ticks ≡ ticks → count ≡ 0 → AreCounted ticks (expansion_of_names ticks (At length) d count) (cut_fault ticks length d count) l
+pub cut_none : (l : RunsBuilder) (ticks length d count : ℕ) → IsFresh l → l.limits.ticks ≡ ticks → count ≡ 0 → AreCounted ticks (expansion_of_names ticks (At length) d count) (cut_fault ticks length d count) l
 unfolding extents_by
 cut_none l ticks length d count fresh scale none =
     let members : expansion_of_names ticks (At length) d count ≡ [] = ap (expansion_of_names ticks (At length) d) none in
@@ -294,7 +295,7 @@ cut_none l ticks length d count fresh scale none =
       judged = ap (cut_fault ticks length d) none;
     }
 
-pub cut_done : (limits : Limits) (mid new : Layout) (ticks length d whole count : ℕ) → limits.ticks ≡ ticks → limits.origin ≡ 0 → count ≡ suc whole → IsRow limits d whole mid → mid.former * 1000000000 < length * ticks →
+pub cut_done : (limits : Limits) (mid new : RunsBuilder) (ticks length d whole count : ℕ) → limits.ticks ≡ ticks → limits.origin ≡ 0 → count ≡ suc whole → IsRow limits d whole mid → mid.former * 1000000000 < length * ticks →
     IsLast mid (last_extent ticks length mid.former d) new → AreCounted ticks (expansion_of_names ticks (At length) d count) (cut_fault ticks length d count) new
 cut_done limits mid new ticks length d whole count scale origin more row early is =
     let last : Extent = last_extent ticks length (whole * d) d in
@@ -310,7 +311,7 @@ cut_done limits mid new ticks length d whole count scale origin more row early i
           (ap (λ (k : Limits). breaks_in k last) (sym row.limits_are) ∙ ap (breaks_in mid.limits) (sym same) ∙ is.kept) (omega (arith, row.former, ap (λ (n : ℕ). n * 1000000000) row.former));
     }
 
-pub cut_range : (limits : Limits) (mid : Layout) (ticks length d whole count : ℕ) (f : TimeFault) → limits.ticks ≡ ticks → limits.origin ≡ 0 → count ≡ suc whole → IsRow limits d whole mid →
+pub cut_range : (limits : Limits) (mid : RunsBuilder) (ticks length d whole count : ℕ) (f : TimeFault) → limits.ticks ≡ ticks → limits.origin ≡ 0 → count ≡ suc whole → IsRow limits d whole mid →
     IsRange (breaks_in mid.limits (last_extent ticks length mid.former d)) f → IsCountedFault (cut_fault ticks length d count) f
 cut_range limits mid ticks length d whole count f scale origin more row is =
     cut_last limits ticks scale origin length d whole count more row.kept f
@@ -347,12 +348,12 @@ pub members_at : (ticks length d : ℕ) (names : Option ℕ) → expansion_of_na
 members_at ticks length d None = refl
 members_at ticks length d (Some count) = refl
 
-pub open_fault : (l : Layout) (d : ℕ) (f : TimeFault) (meant : Option TimeFault) → IsFresh l → IsFaultOf l (Endless (extent_in l.limits 0 d) ∷ []) f → IsCountedFault meant f
+pub open_fault : (l : RunsBuilder) (d : ℕ) (f : TimeFault) (meant : Option TimeFault) → IsFresh l → IsFaultOf l (Endless (extent_in l.limits 0 d) ∷ []) f → IsCountedFault meant f
 open_fault l d f meant fresh is =
     let near : is_apart (former_end l) (extent_in l.limits 0 d) ≡ false = ap (λ (t : Option Time). is_apart t (extent_in l.limits 0 d)) (former_end-none l fresh.total) in
     IfSome-map (refusal f) _ _ (λ g holds. absurd (never (sym (cond-false (is_apart (former_end l) (extent_in l.limits 0 d)) (Some Step) None near) ∙ holds []))) is
 
-pub names_done : (limits : Limits) (new : Layout) (ticks d count : ℕ) → limits.ticks ≡ ticks → limits.origin ≡ 0 → IsRow limits d count new →
+pub names_done : (limits : Limits) (new : RunsBuilder) (ticks d count : ℕ) → limits.ticks ≡ ticks → limits.origin ≡ 0 → IsRow limits d count new →
     AreCounted ticks (members_by ticks Unbounded d (Some count)) (counted_fault ticks Unbounded d (Some count)) new
 names_done limits new ticks d count scale origin row =
     record {
@@ -374,14 +375,14 @@ second_none (Some f) late none = cc
 second_none None true none = cc
 second_none None false none = refl
 
-pub duration_rises : (ticks d : ℕ) (end : End) (names : Option ℕ) (l : Layout) → 0 < ticks → 0 < d → AreCounted ticks (members_by ticks end d names) (counted_fault ticks end d names) l → EndsRise (members_so_far l)
+pub duration_rises : (ticks d : ℕ) (end : End) (names : Option ℕ) (l : RunsBuilder) → 0 < ticks → 0 < d → AreCounted ticks (members_by ticks end d names) (counted_fault ticks end d names) l → EndsRise (members_so_far l)
 duration_rises ticks d end names l positive some are =
     subst (λ (ms : List Member). EndsRise ms) (sym are.members_are)
     (durations_rise ticks d end names positive some (second_none (fault_if (extents_break (breaks_limits ticks 0) (members_by ticks end d names)) Range) (is_too_many ticks end d names) are.judged))
 
 -- ---- the parts of the code
 
-pub last_added_at : (old new : Layout) (ticks length d start : ℕ) (r : Result (Unit {0}) TimeFault) → old.limits.ticks ≡ ticks → old.limits.origin ≡ 0 → start ≡ old.former → (start + d) * 1000000000 ≤ length * ticks →
+pub last_added_at : (old new : RunsBuilder) (ticks length d start : ℕ) (r : Result (Unit {0}) TimeFault) → old.limits.ticks ≡ ticks → old.limits.origin ≡ 0 → start ≡ old.former → (start + d) * 1000000000 ≤ length * ticks →
     MatchResult r (λ _. AreAdded old (map Closed (repeated 1 (extent_in old.limits start d))) new) (λ f. IsFaultOf old (map Closed (repeated 1 (extent_in old.limits start d))) f) →
     new.limits ≡ old.limits → OnOk r (IsInTime new) →
     MatchResult r (λ _. IsLast old (last_extent ticks length old.former d) new) (IsRange (breaks_in old.limits (last_extent ticks length old.former d)))
@@ -389,13 +390,13 @@ last_added_at old new ticks length d start r scale origin is fits members limits
     last_added old new ticks length d r scale origin (omega (arith, ap (λ (n : ℕ). (n + d) * 1000000000) is))
     (subst (λ (s : ℕ). MatchResult r (λ _. AreAdded old (map Closed (repeated 1 (extent_in old.limits s d))) new) (λ f. IsFaultOf old (map Closed (repeated 1 (extent_in old.limits s d))) f)) is members) limits laid
 
-pub cut_end : (limits : Limits) (mid new : Layout) (ticks length d whole count : ℕ) (r : Result (Unit {0}) TimeFault) → limits.ticks ≡ ticks → limits.origin ≡ 0 → count ≡ suc whole → IsRow limits d whole mid → mid.former * 1000000000 < length * ticks →
+pub cut_end : (limits : Limits) (mid new : RunsBuilder) (ticks length d whole count : ℕ) (r : Result (Unit {0}) TimeFault) → limits.ticks ≡ ticks → limits.origin ≡ 0 → count ≡ suc whole → IsRow limits d whole mid → mid.former * 1000000000 < length * ticks →
     MatchResult r (λ _. IsLast mid (last_extent ticks length mid.former d) new) (IsRange (breaks_in mid.limits (last_extent ticks length mid.former d))) →
     MatchResult r (λ _. AreCounted ticks (expansion_of_names ticks (At length) d count) (cut_fault ticks length d count) new) (IsCountedFault (cut_fault ticks length d count))
 cut_end limits mid new ticks length d whole count (Ok done) scale origin more row early is = cut_done limits mid new ticks length d whole count scale origin more row early is
 cut_end limits mid new ticks length d whole count (Err f) scale origin more row early is = cut_range limits mid ticks length d whole count f scale origin more row is
 
-pub IsFresh-new : (l : Layout) → IsInTime l → IsNone l.endless → members_so_far l ≡ [] → l.former ≡ 0 → l.limits.origin ≡ 0 → IsFresh l
+pub IsFresh-new : (l : RunsBuilder) → IsInTime l → IsNone l.endless → members_so_far l ≡ [] → l.former ≡ 0 → l.limits.origin ≡ 0 → IsFresh l
 IsFresh-new l laid closed none former origin = record {
   laid = laid;
   closed = closed;

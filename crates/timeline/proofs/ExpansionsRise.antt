@@ -5,20 +5,20 @@ use Rattle.std.specs.List.{list_any}
 use Rattle.std.proofs.lemmas.Int.{ints}
 use Rattle.std.proofs.lemmas.Bool.Decides.{nat_tests}
 use Rattle.std.proofs.Math.Nat.{mul-lt-mul_of_pos_left}
-use Rattle.exact_time.specs.Time.{Time, IsBefore, in_units}
-use Rattle.exact_time.specs.TimeOrder.{before_or_at_most}
+use Rattle.exact_time.specs.Time.{Time, IsBefore, in_units, before, at_most, nanoseconds}
+use Rattle.exact_time.proofs.TimeOrder.{before_or_at_most, at_most-false}
 use Rattle.timeline.specs.declared.entry.SEntry.{SEntry}
 use Rattle.timeline.specs.declared.entry.Scale.{Scale}
 use Rattle.timeline.specs.declared.entry.End.{End}
 use Rattle.timeline.specs.declared.entry.End.TheVariants.{At, Unbounded}
 use Rattle.timeline.specs.declared.span.Span.{Span}
-use Rattle.timeline.specs.Ratios.{before, at_most, earlier, nanoseconds, steps_to_cover}
+use Rattle.timeline.specs.Ratios.{earlier, steps_to_cover}
 use Rattle.timeline.specs.Expansions.{Extent, Member, Closed, Short, Endless, extents, ended_by, repeated, repeat_of}
 use Rattle.timeline.specs.Timelines.{Reach, Counted, UpTo, Unending, Nowhere, extent_from, reach_of, reach_of_next, count_of, count_up_to, members_of, members_from, expansion_of_timeline}
 use Rattle.timeline.specs.Durations.{extent_at, extents_by, cut_at, expansion_of_names, expansion_of_list, extent_of}
 use Rattle.timeline.specs.Faults.{lasts_no_time, begins_late}
 use Rattle.timeline.specs.Laws.{EndsRise, TimelinesRise, DurationsRise, ListsRise}
-use Rattle.timeline.proofs.Ratios.{at_most-false, steps_to_cover-is, ceiling, ceiling-le}
+use Rattle.timeline.proofs.Ratios.{steps_to_cover-is, ceiling, ceiling-le}
 use Rattle.timeline.proofs.Rises.{LastsTicks, Lasts-from_ticks, LastsTicks-repeat, RisesAfter, rising-from, repeated_rises, AreLasting, alone, ends_rise}
 
 pub neither : (a b : Bool) → (a || b) ≡ false → (a ≡ false) × (b ≡ false)

@@ -4,18 +4,17 @@ use Rattle.std.specs.Prelude.{unsigned_abs, ◌||◌, ◌⊎◌, ◌==◌}
 use Rattle.std.proofs.lemmas.Int.{ints}
 use Rattle.std.proofs.lemmas.Bool.{cases_lt, cases_Bool, cond-true, cond-false, le-leb, lt-leb, not-true, eq-eqb, ne_eqb}
 use Rattle.std.proofs.Math.Nat.{mul-le-mul_left, mul-lt-mul_of_pos_left, one-le-mul}
-use Rattle.exact_time.specs.Time.{Time, IsBefore, IsAtMost, seconds}
-use Rattle.exact_time.specs.TimeOrder.{IsAtMost-trans, before_then_at_most, before_excludes}
+use Rattle.exact_time.specs.Time.{Time, IsBefore, IsAtMost, seconds, before, at_most}
+use Rattle.exact_time.proofs.TimeOrder.{IsAtMost-trans, before_then_at_most, before_excludes, at_most-true, at_most-false, at_most-from, not_at_most-from, before-is}
 use Rattle.timeline.specs.declared.fault.TimeFault.{TimeFault}
 use Rattle.timeline.specs.declared.fault.TimeFault.TheVariants.{Step, Range}
-use Rattle.timeline.specs.declared.layout.Layout.{Layout}
+use Rattle.timeline.specs.declared.builder.RunsBuilder.{RunsBuilder}
 use Rattle.timeline.specs.declared.limits.Limits.{Limits}
-use Rattle.timeline.specs.Ratios.{before, at_most}
 use Rattle.timeline.specs.Expansions.{Extent, Member, Closed, lasting, repeat_of, repeated}
 use Rattle.timeline.specs.Limits.{breaks_limits, media_extent}
 use Rattle.timeline.specs.Faults.{is_apart, segment_fault}
-use Rattle.timeline.specs.Layouts.{placed_in, extent_in, breaks_in, fault_of, former_end}
-use Rattle.timeline.proofs.Ratios.{at_most-true, at_most-false, at_most-from, not_at_most-from, before-is, int_add-mul, int_le-mul}
+use Rattle.timeline.specs.Building.{placed_in, extent_in, breaks_in, fault_of, former_end}
+use Rattle.timeline.proofs.Ratios.{int_add-mul, int_le-mul}
 use Rattle.timeline.proofs.Repeats.{row, repeat-row}
 
 -- ---- whole numbers
@@ -206,8 +205,8 @@ module _ (l : Limits) where
       run_fault d count s former later some first.0 first.1 ∙ cond-false (breaks (s + count * d) d) (Some Range) _ last
       ∙ ap (λ (n : ℕ). segment_fault (breaks_in l) (Some (placed_in l n)) later) (sym end)
 
-pub former_end-some : (l : Layout) → 0 < l.total → former_end l ≡ Some (placed_in l.limits l.former)
+pub former_end-some : (l : RunsBuilder) → 0 < l.total → former_end l ≡ Some (placed_in l.limits l.former)
 former_end-some l some = cond-false (l.total == 0) None _ (ne_eqb l.total 0 (omega arith))
 
-pub former_end-none : (l : Layout) → l.total ≡ 0 → former_end l ≡ None
+pub former_end-none : (l : RunsBuilder) → l.total ≡ 0 → former_end l ≡ None
 former_end-none l none = cond-true (l.total == 0) None _ (eq-eqb l.total 0 none)

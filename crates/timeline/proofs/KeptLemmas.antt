@@ -1,4 +1,4 @@
--- What the stretches and the open end of a `Runs` have.
+-- What the runs and the open end of a `Runs` have.
 use Rattle.std.proofs.Common.{◌≡◌, ℕ, zero, suc, ◌+◌, ◌-◌, ◌*◌, ◌<◌, ◌≤◌, ◌^◌, Bool, true, false, ◌&&◌, ltb, List, [], ◌∷◌, ◌++◌, length, get_or, ℤ, pos, negsuc, ◌+ℤ◌, ◌≤ℤ◌, ◌<ℤ◌, neg_ℤ, refl, ◌∙◌, sym, ap, subst, inl, inr, arith, length-append}
 use Rattle.std.specs.Prelude.{Option, Some, None, unsigned_abs}
 use Rattle.std.specs.List.{AllByRecursion, list_any}
@@ -12,15 +12,15 @@ use Rattle.timeline.specs.Ratios.{natural}
 use Rattle.timeline.specs.Bounds.{IsNear}
 use Rattle.timeline.specs.Expansions.{Extent, repeated, repeat_of}
 use Rattle.timeline.specs.Limits.{breaks_limits}
-use Rattle.timeline.specs.Stretches.{IsStretch, AreLaid, IsEndless, HasRoom, all_extents, extents_of, one_extent, endless_count, endless_extents, first_of}
+use Rattle.timeline.specs.RunSegments.{IsRun, AreLaid, IsEndless, HasRoom, all_extents, extents_of, one_extent, endless_count, endless_extents, first_of}
 use Rattle.timeline.specs.Kept.{Follows, FollowsOn}
-use Rattle.timeline.specs.declared.stretch.Stretch.{Stretch}
-use Rattle.timeline.specs.declared.stretch.Endless.{Endless}
+use Rattle.timeline.specs.declared.run.Run.{Run}
+use Rattle.timeline.specs.declared.run.Endless.{Endless}
 use Rattle.timeline.proofs.Repeats.{row, repeat-row, length-repeated, natural-pos}
 use Rattle.timeline.proofs.LimitLemmas.{breaks_ticks, open_breaks}
 use Rattle.timeline.proofs.OpenLemmas.{AreAlike, near-from, some_breaks, alike_breaks, alike_count}
-use Rattle.timeline.proofs.StretchLemmas.{one_extent-row}
-use Rattle.timeline.proofs.CourseLemmas.{open_at, open_count, open_breaks_limits}
+use Rattle.timeline.proofs.RunLemmas.{one_extent-row}
+use Rattle.timeline.proofs.SegmentTimelineLemmas.{open_at, open_count, open_breaks_limits}
 use Rattle.timeline.proofs.PlaceLemmas.{HasScale, LastsSome}
 
 pub all_append : {X : Type 0} (P : X → Type 0) (xs ys : List X) → AllByRecursion P xs → AllByRecursion P ys → AllByRecursion P (xs ++ ys)
@@ -47,21 +47,21 @@ near_rows (suc n) scale start step some low high = (
       (near_rows n scale (start +ℤ pos step) step some (omega (arith, ints)) (omega (arith, ints))),
 )
 
--- ---- the stretches
+-- ---- the runs
 
 pub tick_bounds : (z : ℤ) → unsigned_abs z < 2 ^ 64 → (z <ℤ pos (2 ^ 64)) × (neg_ℤ (pos (2 ^ 64)) <ℤ z)
 tick_bounds (pos n) h = (omega (arith, ints), omega (arith, ints))
 tick_bounds (negsuc n) h = (omega (arith, ints), omega (arith, ints))
 
-near_one : (s : Stretch) → EndsNear (one_extent s.start s.end)
+near_one : (s : Run) → EndsNear (one_extent s.start s.end)
 near_one s =
     let bounds = tick_bounds s.end.n s.end.bounded in
     let scale : 0 < s.end.scale = s.end.positive in
     near-from s.end.n s.end.scale s.end.positive (omega (arith, ints, bounds.0)) bounds.1
 
-pub near_stretch : (s : Stretch) → IsStretch s → AllByRecursion EndsNear (extents_of s)
+pub near_run : (s : Run) → IsRun s → AllByRecursion EndsNear (extents_of s)
 unfolding repeated
-near_stretch s is = elim (cases_order s.count 1) [
+near_run s is = elim (cases_order s.count 1) [
   | inl one ↦ subst (λ (n : ℕ). AllByRecursion EndsNear (repeated n (one_extent s.start s.end))) (sym one) (near_one s, tt)
   | inr other ↦ elim other [
     | inl fewer ↦ let none : 0 ≡ s.count = omega arith in subst (λ (n : ℕ). AllByRecursion EndsNear (repeated n (one_extent s.start s.end))) none tt
@@ -74,7 +74,7 @@ near_stretch s is = elim (cases_order s.count 1) [
   ]
 ]
 
-pub length-laid : (before : ℕ) (stretches : List Stretch) (total : ℕ) → AreLaid before stretches total → before + length (all_extents stretches) ≡ total
+pub length-laid : (before : ℕ) (runs : List Run) (total : ℕ) → AreLaid before runs total → before + length (all_extents runs) ≡ total
 length-laid before [] total laid = omega (arith, laid)
 length-laid before (s ∷ later) total (at, some, is, laid) = omega (
   arith,
@@ -83,22 +83,22 @@ length-laid before (s ∷ later) total (at, some, is, laid) = omega (
   length-laid (before + s.count) later total laid,
 )
 
-pub near_laid : (before : ℕ) (stretches : List Stretch) (total : ℕ) → AreLaid before stretches total → AllByRecursion EndsNear (all_extents stretches)
+pub near_laid : (before : ℕ) (runs : List Run) (total : ℕ) → AreLaid before runs total → AllByRecursion EndsNear (all_extents runs)
 near_laid before [] total laid = tt
-near_laid before (s ∷ later) total (at, some, is, laid) = all_append EndsNear (extents_of s) (all_extents later) (near_stretch s is) (near_laid (before + s.count) later total laid)
+near_laid before (s ∷ later) total (at, some, is, laid) = all_append EndsNear (extents_of s) (all_extents later) (near_run s is) (near_laid (before + s.count) later total laid)
 
-pub scales_laid : (before : ℕ) (stretches : List Stretch) (total : ℕ) → AreLaid before stretches total → AllByRecursion HasScale (all_extents stretches)
+pub scales_laid : (before : ℕ) (runs : List Run) (total : ℕ) → AreLaid before runs total → AllByRecursion HasScale (all_extents runs)
 scales_laid before [] total laid = tt
 scales_laid before (s ∷ later) total (at, some, is, laid) =
     all_append HasScale (extents_of s) (all_extents later) (scales_repeated s.count (one_extent s.start s.end) s.end.positive) (scales_laid (before + s.count) later total laid)
 
-pub stretches_laid : (before : ℕ) (stretches : List Stretch) (total : ℕ) → AreLaid before stretches total → AllByRecursion IsStretch stretches
-stretches_laid before [] total laid = tt
-stretches_laid before (s ∷ later) total (at, some, is, laid) = (is, stretches_laid (before + s.count) later total laid)
+pub runs_laid : (before : ℕ) (runs : List Run) (total : ℕ) → AreLaid before runs total → AllByRecursion IsRun runs
+runs_laid before [] total laid = tt
+runs_laid before (s ∷ later) total (at, some, is, laid) = (is, runs_laid (before + s.count) later total laid)
 
-pub stretch_at : (stretches : List Stretch) (total i : ℕ) (s : Stretch) → AreLaid 0 stretches total → i < length stretches → s ≡ get_or stretches i s → IsStretch s
-stretch_at stretches total i s laid within read =
-    subst (λ (x : Stretch). IsStretch x) (sym read) (All-from_recursion IsStretch stretches (stretches_laid 0 stretches total laid) i s within)
+pub run_at : (runs : List Run) (total i : ℕ) (s : Run) → AreLaid 0 runs total → i < length runs → s ≡ get_or runs i s → IsRun s
+run_at runs total i s laid within read =
+    subst (λ (x : Run). IsRun x) (sym read) (All-from_recursion IsRun runs (runs_laid 0 runs total laid) i s within)
 
 -- ---- the segments that go on to an open end
 

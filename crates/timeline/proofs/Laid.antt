@@ -13,54 +13,54 @@ use Rattle.exact_time.specs.Time.{Time}
 use Rattle.exact_time.specs.Tick.{time_of}
 use Rattle.timeline.specs.declared.fault.TimeFault.{TimeFault}
 use Rattle.timeline.specs.declared.fault.TimeFault.TheVariants.{Memory}
-use Rattle.timeline.specs.declared.layout.Layout.{Layout}
+use Rattle.timeline.specs.declared.builder.RunsBuilder.{RunsBuilder}
 use Rattle.timeline.specs.declared.limits.Limits.{Limits}
-use Rattle.timeline.specs.declared.stretch.Stretch.{Stretch}
-use Rattle.timeline.specs.declared.stretch.Endless.{Endless as GoesOn}
+use Rattle.timeline.specs.declared.run.Run.{Run}
+use Rattle.timeline.specs.declared.run.Endless.{Endless as GoesOn}
 use Rattle.timeline.specs.Ratios.{natural}
 use Rattle.timeline.specs.Expansions.{Extent, Member, Closed, is_open, repeated, repeat_of}
-use Rattle.timeline.specs.Stretches.{AreLaid, IsStretch, all_extents, extents_of, one_extent}
+use Rattle.timeline.specs.RunSegments.{AreLaid, IsRun, all_extents, extents_of, one_extent}
 use Rattle.timeline.specs.Kept.{endless_members, FollowsOn}
 use Rattle.timeline.specs.Limits.{breaks_limits, media_extent}
 use Rattle.timeline.specs.Faults.{is_apart, refusal, segment_fault, are_paired}
-use Rattle.timeline.specs.Layouts.{placed_in, extent_in, breaks_in, fault_of, former_end, IsFaultOf, IsLaidOut, members_so_far}
+use Rattle.timeline.specs.Building.{placed_in, extent_in, breaks_in, fault_of, former_end, IsFaultOf, IsLaidOut, members_so_far}
 use Rattle.timeline.proofs.Repeats.{length-repeated}
 use Rattle.timeline.proofs.Judged.{repeat-extent_in, head_fault, is_apart-in, former_end-some, within-end}
 
--- ---- one more stretch
+-- ---- one more run
 
-pub laid-push : (before : ℕ) (ss : List Stretch) (total : ℕ) (s : Stretch) → AreLaid before ss total → s.before ≡ total → 0 < s.count → IsStretch s → AreLaid before (ss ++ s ∷ []) (total + s.count)
+pub laid-push : (before : ℕ) (ss : List Run) (total : ℕ) (s : Run) → AreLaid before ss total → s.before ≡ total → 0 < s.count → IsRun s → AreLaid before (ss ++ s ∷ []) (total + s.count)
 laid-push before [] total s laid place some is = (place ∙ sym laid, some, is, ap (λ (n : ℕ). n + s.count) laid)
 laid-push before (x ∷ xs) total s laid place some is = (laid.0, laid.1, laid.2, laid-push (before + x.count) xs total s laid.3 place some is)
 
-pub laid-length : (before : ℕ) (ss : List Stretch) (total : ℕ) → AreLaid before ss total → before + length (all_extents ss) ≡ total
+pub laid-length : (before : ℕ) (ss : List Run) (total : ℕ) → AreLaid before ss total → before + length (all_extents ss) ≡ total
 laid-length before [] total laid = omega (arith, laid)
 laid-length before (x ∷ xs) total laid =
     omega (arith, laid-length (before + x.count) xs total laid.3, length-append (extents_of x) (all_extents xs), length-repeated x.count (one_extent x.start x.end))
 
-extents-push : (ss : List Stretch) (s : Stretch) → all_extents (ss ++ s ∷ []) ≡ all_extents ss ++ extents_of s
+extents-push : (ss : List Run) (s : Run) → all_extents (ss ++ s ∷ []) ≡ all_extents ss ++ extents_of s
 extents-push ss s = flat_map-append extents_of ss (s ∷ []) ∙ ap (λ (xs : List Extent). all_extents ss ++ xs) (append-nil (extents_of s))
 
 none_of : (e : Option GoesOn) → IsNone e → endless_members e ≡ []
 none_of None is = refl
 none_of (Some e) is = cc
 
-pub members-push : (ss : List Stretch) (s : Stretch) (e : Option GoesOn) → IsNone e →
+pub members-push : (ss : List Run) (s : Run) (e : Option GoesOn) → IsNone e →
     map Closed (all_extents (ss ++ s ∷ [])) ++ endless_members e ≡ (map Closed (all_extents ss) ++ endless_members e) ++ map Closed (extents_of s)
 members-push ss s e none =
     rw (none_of e none, append-nil, append-nil, extents-push ss s, map-append)
 
--- ---- a stretch of segments of one scale
+-- ---- a run of segments of one scale
 
-module _ (l : Limits) (s d count : ℕ) (x : Stretch) (start : time_of x.start ≡ placed_in l s) (end : time_of x.end ≡ placed_in l (s + d)) (lasts : x.step ≡ d) (number : x.count ≡ count) where
+module _ (l : Limits) (s d count : ℕ) (x : Run) (start : time_of x.start ≡ placed_in l s) (end : time_of x.end ≡ placed_in l (s + d)) (lasts : x.step ≡ d) (number : x.count ≡ count) where
   pub extents_of-in : extents_of x ≡ repeated count (extent_in l s d)
   extents_of-in =
       ap (λ (n : ℕ). repeated n (one_extent x.start x.end)) number
       ∙ ap (λ (a : Time). repeated count (record { start = a; end = time_of x.end })) start
       ∙ ap (λ (b : Time). repeated count (record { start = placed_in l s; end = b })) end
 
-  pub IsStretch-in : 0 < d → 0 < count → s + count * d < 2 ^ 63 → x.before + count < 2 ^ 64 → IsStretch x
-  IsStretch-in some has near countable =
+  pub IsRun-in : 0 < d → 0 < count → s + count * d < 2 ^ 63 → x.before + count < 2 ^ 64 → IsRun x
+  IsRun-in some has near countable =
       let start_ticks : x.start.n ≡ pos s -ℤ pos l.origin = ap (λ (a : Time). a.ticks) start in
       let end_ticks : x.end.n ≡ pos (s + d) -ℤ pos l.origin = ap (λ (a : Time). a.ticks) end in
       let product : x.count * x.step ≡ count * d = ap (λ (n : ℕ). n * x.step) number ∙ ap (λ (n : ℕ). count * n) lasts in
@@ -90,7 +90,7 @@ pub refusal_some : (fault : TimeFault) (P : TimeFault → Type 0) → P fault �
 refusal_some Memory P holds = tt
 refusal_some fault P holds = holds
 
-pub IsFaultOf-run : (old : Layout) (s d count : ℕ) (fault : TimeFault) → 0 < count → fault_of old.limits (former_end old) (extent_in old.limits s d) ≡ Some fault →
+pub IsFaultOf-run : (old : RunsBuilder) (s d count : ℕ) (fault : TimeFault) → 0 < count → fault_of old.limits (former_end old) (extent_in old.limits s d) ≡ Some fault →
     IsFaultOf old (map Closed (repeated count (extent_in old.limits s d))) fault
 unfolding repeated
 IsFaultOf-run old s d zero fault has is = absurd (omega arith)
@@ -104,7 +104,7 @@ from_fault (Err e) fault Q P is holds = subst P (sym is.1) holds
 
 -- ---- the segments before are no more than the ticks before
 
-pub room_before : (old : Layout) (s d : ℕ) → is_apart (former_end old) (extent_in old.limits s d) ≡ false → old.total ≤ old.former → 2 * old.total ≤ 2 * s + d
+pub room_before : (old : RunsBuilder) (s d : ℕ) → is_apart (former_end old) (extent_in old.limits s d) ≡ false → old.total ≤ old.former → 2 * old.total ≤ 2 * s + d
 room_before old s d near room = elim (cases_lt 0 old.total) [
   | inr none ↦ omega arith
   | inl some ↦
@@ -128,24 +128,24 @@ capped l s m count d is kept =
     let same : m ≡ count * d = omega arith in
     (same, omega arith)
 
--- ---- a layout with one more stretch
+-- ---- a builder with one more run
 
 pub none_follows : (ticks origin total : ℕ) (e : Option GoesOn) → IsNone e → FollowsOn ticks origin total e
 none_follows ticks origin total None none = tt
 none_follows ticks origin total (Some e) none = cc
 
-module _ (items ss : List Stretch) (x : Stretch) (xs : List Extent) (pushed : items ≡ ss ++ x ∷ []) (same : extents_of x ≡ xs) where
+module _ (items ss : List Run) (x : Run) (xs : List Extent) (pushed : items ≡ ss ++ x ∷ []) (same : extents_of x ≡ xs) where
   pub members_after : (e : Option GoesOn) → IsNone e → map Closed (all_extents items) ++ endless_members e ≡ (map Closed (all_extents ss) ++ endless_members e) ++ map Closed xs
   members_after e none =
-      ap (λ (ys : List Stretch). map Closed (all_extents ys) ++ endless_members e) pushed ∙ members-push ss x e none
+      ap (λ (ys : List Run). map Closed (all_extents ys) ++ endless_members e) pushed ∙ members-push ss x e none
       ∙ ap (λ (ys : List Extent). (map Closed (all_extents ss) ++ endless_members e) ++ map Closed ys) same
 
   pub extents_after : (P : Extent → Type 0) → All P (all_extents ss) → All P xs → All P (all_extents items)
   extents_after P first last = subst (λ (ys : List Extent). All P ys) (sym (ap all_extents pushed ∙ extents-push ss x ∙ ap (λ (ys : List Extent). all_extents ss ++ ys) same)) (All-append P (all_extents ss) xs first last)
 
-  pub laid_after : (total count : ℕ) → x.count ≡ count → AreLaid 0 ss total → x.before ≡ total → 0 < count → IsStretch x → AreLaid 0 items (total + count)
+  pub laid_after : (total count : ℕ) → x.count ≡ count → AreLaid 0 ss total → x.before ≡ total → 0 < count → IsRun x → AreLaid 0 items (total + count)
   laid_after total count number laid place some is =
-      subst (λ (ys : List Stretch). AreLaid 0 ys (total + count)) (sym pushed)
+      subst (λ (ys : List Run). AreLaid 0 ys (total + count)) (sym pushed)
       (subst (λ (n : ℕ). AreLaid 0 (ss ++ x ∷ []) (total + n)) number (laid-push 0 ss total x laid place (omega arith) is))
 
 -- ---- as many as names
@@ -154,9 +154,9 @@ open_closed : (xs : List Extent) (ys : List Member) → is_open (map Closed xs +
 open_closed [] ys = refl
 open_closed (x ∷ xs) ys = open_closed xs ys
 
-pub paired_closed : (l : Layout) (count : ℕ) → IsLaidOut l → IsNone l.endless → are_paired (Some count) (members_so_far l) ≡ (l.total == count)
+pub paired_closed : (l : RunsBuilder) (count : ℕ) → IsLaidOut l → IsNone l.endless → are_paired (Some count) (members_so_far l) ≡ (l.total == count)
 paired_closed l count laid none =
-    let all : List Extent = all_extents l.stretches.items in
-    let number : length (map Closed all) ≡ l.total = omega (arith, length-map {B = Member} all (λ (x : Extent). Closed x), laid-length 0 l.stretches.items l.total laid.laid) in
+    let all : List Extent = all_extents l.runs.items in
+    let number : length (map Closed all) ≡ l.total = omega (arith, length-map {B = Member} all (λ (x : Extent). Closed x), laid-length 0 l.runs.items l.total laid.laid) in
     rw (none_of l.endless none, append-nil)
     (ap (λ (b : Bool). not b && (length (map Closed all) == count)) (ap is_open (sym (append-nil (map Closed all))) ∙ open_closed all []) ∙ ap (λ (n : ℕ). n == count) number)

@@ -1,7 +1,7 @@
 pub mod BegunLemmas
 pub mod BoundLemmas
 pub mod Counted
-pub mod CourseLemmas
+pub mod SegmentTimelineLemmas
 pub mod ExpansionsRise
 pub mod Judged
 pub mod KeptLemmas
@@ -15,10 +15,10 @@ pub mod Ratios
 pub mod Reached
 pub mod Repeats
 pub mod Rises
-pub mod RunLemmas
+pub mod RunsLemmas
 pub mod SeekLemmas
 pub mod Spanned
 pub mod Splits
-pub mod StretchLemmas
+pub mod RunLemmas
 pub mod WalkLemmas
 pub mod WindowLemmas

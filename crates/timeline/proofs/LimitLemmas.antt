@@ -6,8 +6,7 @@ use Rattle.std.proofs.lemmas.Int.{ints, by_lt_z}
 use Rattle.std.proofs.lemmas.Bool.{cases_lt, lt-ltb, le-ltb, or_parts, or_from, cases_Bool, true_from_ne_false, false_from_ne_true, true≢false}
 use Rattle.std.proofs.lemmas.Bool.Decides.{nat_tests}
 use Rattle.std.proofs.Math.Nat.{mul-le-mul_left}
-use Rattle.exact_time.specs.Time.{seconds}
-use Rattle.timeline.specs.Ratios.{before}
+use Rattle.exact_time.specs.Time.{seconds, before}
 use Rattle.timeline.specs.Expansions.{Extent, lasting, repeated, repeat_of}
 use Rattle.timeline.specs.Limits.{breaks_limits, media_extent}
 use Rattle.timeline.specs.declared.limits.Limits.{Limits}

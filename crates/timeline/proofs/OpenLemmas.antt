@@ -5,8 +5,7 @@ use Rattle.std.proofs.lemmas.Int.{ints, by_lt_z}
 use Rattle.std.proofs.lemmas.Bool.{cases_order, lt-ltb, and_from, true≢false}
 use Rattle.std.proofs.lemmas.Bool.Decides.{nat_tests}
 use Rattle.std.proofs.Math.Nat.{mul-le-mul_left}
-use Rattle.exact_time.specs.Time.{Time}
-use Rattle.timeline.specs.Ratios.{at_most}
+use Rattle.exact_time.specs.Time.{Time, at_most}
 use Rattle.timeline.specs.Bounds.{IsNear}
 use Rattle.timeline.specs.Expansions.{ended_by}
 use Rattle.timeline.proofs.Ratios.{floor_ticks, at_most-floor, int_le-from, not_int_le-from}

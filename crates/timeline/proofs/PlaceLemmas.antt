@@ -5,17 +5,14 @@ use Rattle.std.specs.List.{AllByRecursion}
 use Rattle.std.proofs.lemmas.List.Sums.{sum_by-append, count_by-le-length}
 use Rattle.std.proofs.lemmas.Bool.{cases_Bool, cases_lt}
 use Rattle.std.specs.Prelude.{cond}
-use Rattle.exact_time.specs.Time.{Time, IsBefore}
-use Rattle.exact_time.specs.TimeOrder.{before_then_at_most, IsAtMost-from_before}
-use Rattle.timeline.specs.Ratios.{at_most}
+use Rattle.exact_time.specs.Time.{Time, IsBefore, at_most, AreRising}
+use Rattle.exact_time.proofs.TimeOrder.{before_then_at_most, IsAtMost-from_before, at_most-false, not_at_most-from}
 use Rattle.timeline.specs.Expansions.{Extent}
-use Rattle.timeline.specs.Stretches.{count_ended, endless_count, endless_extents, first_of}
-use Rattle.timeline.specs.Laws.{AreRising}
-use Rattle.timeline.specs.declared.stretch.Endless.{Endless}
-use Rattle.timeline.proofs.Ratios.{at_most-false, not_at_most-from}
+use Rattle.timeline.specs.RunSegments.{count_ended, endless_count, endless_extents, first_of}
+use Rattle.timeline.specs.declared.run.Endless.{Endless}
 use Rattle.timeline.proofs.Repeats.{length-repeated, count_ended-in, count_ended-out, count_ended-row, ended_by-row}
 use Rattle.timeline.proofs.Splits.{SplitsAt, splits_same, IsPlaceOf}
-use Rattle.timeline.proofs.CourseLemmas.{open_at, open_count}
+use Rattle.timeline.proofs.SegmentTimelineLemmas.{open_at, open_count}
 
 abbrev pub HasScale : Extent → Type 0
 HasScale x = 0 < x.end.scale

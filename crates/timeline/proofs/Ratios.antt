@@ -1,5 +1,5 @@
 -- How often one time fits into another: floors and ceilings, by cross products.
-use Rattle.std.proofs.Common.{◌≡◌, ℕ, zero, suc, ◌+◌, ◌-◌, ◌*◌, ◌/◌, ◌<◌, ◌≤◌, true, false, not, leb, ℤ, pos, negsuc, ◌+ℤ◌, ◌*ℤ◌, ◌≤ℤ◌, ◌<ℤ◌, neg_ℤ, refl, ◌∙◌, sym, ap, inl, inr, arith}
+use Rattle.std.proofs.Common.{◌≡◌, ℕ, zero, suc, ◌+◌, ◌-◌, ◌*◌, ◌/◌, ◌<◌, ◌≤◌, true, false, leb, ℤ, pos, negsuc, ◌+ℤ◌, ◌*ℤ◌, ◌≤ℤ◌, ◌<ℤ◌, neg_ℤ, refl, ◌∙◌, sym, ap, inl, inr, arith}
 use Rattle.std.specs.Prelude.{int_le}
 use Rattle.std.specs.Int.{int_div_euclid}
 use Rattle.std.proofs.lemmas.Int.{ints}
@@ -9,9 +9,9 @@ use Rattle.std.proofs.lemmas.Bool.Decides.{nat_tests}
 use Rattle.std.proofs.Math.Dec.{leb-suc-suc}
 use Rattle.std.proofs.Math.Nat.{div-mul-le_self, mul-le-mul_left, le_of_mul-le-mul_left, le_antisymm, one-le-mul}
 use borrow.Author.Differences.{up, down}
-use Rattle.exact_time.specs.Time.{Time, IsAtMost, IsBefore}
+use Rattle.exact_time.specs.Time.{Time, at_most}
 use Rattle.exact_time.specs.Floor.{IsCeiling}
-use Rattle.timeline.specs.Ratios.{before, at_most, natural, steps_within, steps_to_cover}
+use Rattle.timeline.specs.Ratios.{natural, steps_within, steps_to_cover}
 
 -- ---- quotients
 
@@ -61,23 +61,6 @@ ceiling-cancel n d m some whole = le_antisymm
 pub steps_to_cover-is : (l s : Time) (n d m : ℕ) → 0 < m → 0 < d → natural l.ticks * s.scale ≡ n * m → l.scale * natural s.ticks ≡ d * m → steps_to_cover l s ≡ ceiling n d
 unfolding steps_to_cover
 steps_to_cover-is l s n d m some whole above below = rw (above, below) (ceiling-cancel n d m some whole)
-
--- ---- tests on times
-
-pub at_most-true : (x y : Time) → at_most x y ≡ true → IsAtMost x y
-at_most-true x y h = grind (arith, ints, nat_tests)
-
-pub at_most-false : (x y : Time) → at_most x y ≡ false → IsBefore y x
-at_most-false x y h = grind (arith, ints, nat_tests)
-
-pub at_most-from : (x y : Time) → IsAtMost x y → at_most x y ≡ true
-at_most-from x y h = grind (arith, ints, nat_tests)
-
-pub not_at_most-from : (x y : Time) → IsBefore y x → at_most x y ≡ false
-not_at_most-from x y h = grind (arith, ints, nat_tests)
-
-pub before-is : (x y : Time) → before x y ≡ not (at_most y x)
-before-is x y = grind (arith, ints, nat_tests)
 
 -- ---- a time in ticks of a scale, rounded down
 

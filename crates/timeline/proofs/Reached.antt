@@ -8,7 +8,7 @@ use mir.Syntax.{w64}
 use Rattle.std.proofs.lemmas.Int.{ints}
 use Rattle.std.proofs.lemmas.Bool.{cond-true, cond-false}
 use Rattle.std.proofs.Math.Nat.{one-le-mul}
-use Rattle.exact_time.specs.Time.{Time, IsBefore, IsAtMost, difference}
+use Rattle.exact_time.specs.Time.{Time, IsBefore, IsAtMost, difference, at_most, nanoseconds}
 use Rattle.exact_time.specs.Floor.{IsCeiling}
 use Rattle.timeline.specs.declared.entry.SEntry.{SEntry}
 use Rattle.timeline.specs.declared.entry.Scale.{Scale}
@@ -16,21 +16,22 @@ use Rattle.timeline.specs.declared.entry.End.{End}
 use Rattle.timeline.specs.declared.entry.End.TheVariants.{At}
 use Rattle.timeline.specs.declared.fault.TimeFault.{TimeFault}
 use Rattle.timeline.specs.declared.fault.TimeFault.TheVariants.{Range, Step}
-use Rattle.timeline.specs.declared.layout.Layout.{Layout}
+use Rattle.timeline.specs.declared.builder.RunsBuilder.{RunsBuilder}
 use Rattle.timeline.specs.declared.limits.Limits.{Limits}
 use Rattle.timeline.specs.declared.timelines.Reach.{Reach as Found}
 use Rattle.timeline.specs.declared.timelines.Reach.TheVariants.{Count, Open, Nowhere}
-use Rattle.timeline.specs.Ratios.{at_most, natural, nanoseconds}
+use Rattle.timeline.specs.Ratios.{natural}
 use Rattle.timeline.specs.Expansions.{Extent, Member, Closed, Short, Endless as GoesOn, lasting, repeated}
 use Rattle.timeline.specs.Timelines.{UpTo, placed, extent_from, count_up_to, members_of, reach_of, reach_of_next, reach_of_end, members_from, expansion_of_timeline}
 use Rattle.timeline.specs.declared.names.Names.{Names}
-use Rattle.timeline.specs.Courses.{course_of_timeline, course_if_paired}
+use Rattle.timeline.specs.SegmentTimelines.{timeline_of_entries, timeline_if_paired}
 use Rattle.timeline.specs.Laws.{EndsRise}
 use Rattle.timeline.specs.Limits.{breaks_limits}
 use Rattle.timeline.specs.Faults.{ends_open, is_apart, is_unbounded, refusal, segment_fault}
-use Rattle.timeline.specs.Layouts.{IsFaultOf, breaks_in, extent_in, fault_of, former_end, members_so_far}
+use Rattle.timeline.specs.Building.{IsFaultOf, breaks_in, extent_in, fault_of, former_end, members_so_far}
 use Rattle.timeline.specs.Reaches.{IsUpTo, IsReach, AreLaidOut, AreLimitsOf, IsSoFar, IsTheirFault, members_of_entry, next_of, start_of}
-use Rattle.timeline.proofs.Ratios.{at_most-from, not_at_most-from, steps_to_cover-is, ceiling-is, int_le-mul, int_add-mul}
+use Rattle.timeline.proofs.Ratios.{steps_to_cover-is, ceiling-is, int_le-mul, int_add-mul}
+use Rattle.exact_time.proofs.TimeOrder.{at_most-from, not_at_most-from}
 use Rattle.timeline.proofs.Laid.{refusal_some}
 use Rattle.timeline.proofs.Rises.{no_step_from}
 use Rattle.timeline.proofs.ExpansionsRise.{timelines_rise}
@@ -128,7 +129,7 @@ short_of_two true b fault is = is
 short_of_two false true fault is = is
 short_of_two false false fault is = cc
 
-pub IsFaultOf-short : (old : Layout) (x : Extent) (members : List Member) (fault : TimeFault) → members ≡ Short x ∷ [] → fault_of old.limits (former_end old) x ≡ Some fault → IsFaultOf old members fault
+pub IsFaultOf-short : (old : RunsBuilder) (x : Extent) (members : List Member) (fault : TimeFault) → members ≡ Short x ∷ [] → fault_of old.limits (former_end old) x ≡ Some fault → IsFaultOf old members fault
 IsFaultOf-short old x members fault short is =
     subst (λ (ms : List Member). IsFaultOf old ms fault) (sym short)
     (refusal_some fault (λ f. (later : List Member) → segment_fault (breaks_in old.limits) (former_end old) (Short x ∷ later) ≡ Some f) (λ later. short_of_two (breaks_in old.limits x) (is_apart (former_end old) x) fault is))
@@ -165,7 +166,7 @@ fault_by p q same former (Closed x ∷ later) =
 fault_by p q same former (Short x ∷ later) = ap (λ (b : Bool). cond b (Some Range) (Some Step)) (same x)
 fault_by p q same former (GoesOn x ∷ later) = ap (λ (f : Option TimeFault). cond (is_apart former x) (Some Step) f) (fault_by p q same former later)
 
-pub fault_so_far : (scale : Scale) (end : End) (entries : List SEntry) (l : Layout) (rest : List SEntry) (s : SEntry) (later : List SEntry) (fault : TimeFault) → IsSoFar scale end entries l rest → rest ≡ s ∷ later →
+pub fault_so_far : (scale : Scale) (end : End) (entries : List SEntry) (l : RunsBuilder) (rest : List SEntry) (s : SEntry) (later : List SEntry) (fault : TimeFault) → IsSoFar scale end entries l rest → rest ≡ s ∷ later →
     IsFaultOf l (members_of_entry scale end l.former s later) fault → IsTheirFault (breaks_limits scale.ticks scale.offset) (expansion_of_timeline scale end entries) fault
 fault_so_far scale end entries l rest s later fault so_far at is =
     IfSome-map (refusal fault) _ _ (λ f holds.
@@ -181,15 +182,15 @@ members_nowhere scale end former s later start is short = ap (λ (n : ℕ). memb
 -- ---- a timeline
 
 -- laid out, it has no fault
-pub judged_by : (scale : Scale) (l : Layout) (members : List Member) → AreLaidOut scale members l → segment_fault (breaks_limits scale.ticks scale.offset) None members ≡ None
+pub judged_by : (scale : Scale) (l : RunsBuilder) (members : List Member) → AreLaidOut scale members l → segment_fault (breaks_limits scale.ticks scale.offset) None members ≡ None
 judged_by scale l members are = fault_by (breaks_limits scale.ticks scale.offset) (breaks_in l.limits) (λ x. sym (breaks_in-of scale l.limits are.limits x)) None members ∙ are.judged
 
-pub timeline_rises : (scale : Scale) (end : End) (entries : List SEntry) (l : Layout) → list_any (λ s. s.d == 0) entries ≡ false → AreLaidOut scale (expansion_of_timeline scale end entries) l → EndsRise (members_so_far l)
+pub timeline_rises : (scale : Scale) (end : End) (entries : List SEntry) (l : RunsBuilder) → list_any (λ s. s.d == 0) entries ≡ false → AreLaidOut scale (expansion_of_timeline scale end entries) l → EndsRise (members_so_far l)
 timeline_rises scale end entries l lasting are =
     subst (λ (ms : List Member). EndsRise ms) (sym are.members_are)
     (timelines_rise scale end entries lasting (no_step_from (breaks_in l.limits) None (expansion_of_timeline scale end entries) are.judged))
 
-pub timeline_course : (entries : List SEntry) (end : End) (live : Bool) (scale : Scale) (names : Names) (l : Layout) → list_any (λ s. s.d == 0) entries ≡ false → (not live && is_unbounded end && ends_open entries) ≡ false →
-    AreLaidOut scale (expansion_of_timeline scale end entries) l → course_of_timeline entries end live scale names ≡ course_if_paired scale scale.offset names (members_so_far l)
-timeline_course entries end live scale names l lasting ended are =
+pub timeline_built : (entries : List SEntry) (end : End) (live : Bool) (scale : Scale) (names : Names) (l : RunsBuilder) → list_any (λ s. s.d == 0) entries ≡ false → (not live && is_unbounded end && ends_open entries) ≡ false →
+    AreLaidOut scale (expansion_of_timeline scale end entries) l → timeline_of_entries entries end live scale names ≡ timeline_if_paired scale scale.offset names (members_so_far l)
+timeline_built entries end live scale names l lasting ended are =
     rw (are.members_are, lasting, ended, judged_by scale l (expansion_of_timeline scale end entries) are) refl

@@ -5,12 +5,12 @@ use Rattle.std.proofs.lemmas.Int.{ints}
 use Rattle.std.proofs.lemmas.List.Sums.{sum_by-cons}
 use Rattle.std.proofs.lemmas.Bool.{cases_lt, cases_Bool, cond-true, cond-false}
 use Rattle.std.proofs.Math.Nat.{mul-le-mul_left, one-le-mul}
-use Rattle.exact_time.specs.Time.{Time, IsBefore, difference}
-use Rattle.timeline.specs.Ratios.{before, at_most, natural, steps_within}
+use Rattle.exact_time.specs.Time.{Time, IsBefore, difference, before, at_most, AreRising}
+use Rattle.timeline.specs.Ratios.{natural, steps_within}
 use Rattle.timeline.specs.Expansions.{Extent, repeated, repeat_of, ended_by, lasting}
-use Rattle.timeline.specs.Stretches.{count_ended}
-use Rattle.timeline.specs.Laws.{AreRising}
-use Rattle.timeline.proofs.Ratios.{quotient-is, quotient-low, quotient-high, steps_within-is, at_most-floor, before-is, floor_ticks, floor-low, floor-high, int_le-true, int_le-false, int_le-from, not_int_le-from, int_add-mul}
+use Rattle.timeline.specs.RunSegments.{count_ended}
+use Rattle.timeline.proofs.Ratios.{quotient-is, quotient-low, quotient-high, steps_within-is, at_most-floor, floor_ticks, floor-low, floor-high, int_le-true, int_le-false, int_le-from, not_int_le-from, int_add-mul}
+use Rattle.exact_time.proofs.TimeOrder.{before-is}
 
 -- the k-th one after a segment
 unfoldable pub again : ℕ → Extent → Extent

@@ -6,14 +6,14 @@ use Rattle.std.proofs.lemmas.Bool.{cond-false}
 use Rattle.std.proofs.lemmas.List.{append-nil}
 use Rattle.std.proofs.Math.Nat.{mul-le-mul_left, one-le-mul}
 use borrow.Author.Differences.{up, down}
-use Rattle.exact_time.specs.Time.{Time, IsTime, IsBefore, IsAtMost, cross, difference}
-use Rattle.exact_time.specs.TimeOrder.{share, share_le_out, before_or_at_most, before_excludes}
+use Rattle.exact_time.specs.Time.{Time, IsTime, IsBefore, IsAtMost, cross, difference, before, AreRising}
+use Rattle.exact_time.proofs.TimeOrder.{share, share_le_out, before_or_at_most, before_excludes}
 use Rattle.timeline.specs.declared.fault.TimeFault.{TimeFault}
 use Rattle.timeline.specs.declared.fault.TimeFault.TheVariants.{Step, Range}
-use Rattle.timeline.specs.Ratios.{before, earlier}
+use Rattle.timeline.specs.Ratios.{earlier}
 use Rattle.timeline.specs.Expansions.{Extent, Member, Closed, Short, Endless, extents, ended_by, lasting, repeat_of, repeated}
 use Rattle.timeline.specs.Faults.{is_apart, segment_fault}
-use Rattle.timeline.specs.Laws.{AreRising, EndsRise}
+use Rattle.timeline.specs.Laws.{EndsRise}
 
 pub IsAtMost-not_before : (x y : Time) → before x y ≡ false → IsAtMost y x
 IsAtMost-not_before x y h = by_lt_z (cross x y) (cross y x) (λ below. absurd (grind (arith, ints))) (λ above. above)

@@ -1,125 +1,95 @@
--- The calls of a `Runs`, by its fields.
-use Rattle.std.proofs.Common.{◌≡◌, ℕ, ◌-◌, ◌*◌, ◌<◌, ◌≤◌, ◌^◌, min, Bool, false, ◌&&◌, List, [], ℤ, pos, ◌+ℤ◌, ◌-ℤ◌, ◌≤ℤ◌, refl, ◌∙◌, sym, ap, subst, arith}
-use Rattle.std.specs.Prelude.{Option, Some, None, option_map, unwrap_or, flat_map, filter}
-use Rattle.std.specs.List.{list_any}
+-- The segments of a run.
+use Rattle.std.proofs.Common.{◌≡◌, ℕ, ◌+◌, ◌-◌, ◌*◌, ◌<◌, ◌≤◌, [], ◌∷◌, drop, ℤ, pos, ◌+ℤ◌, ◌-ℤ◌, ◌/◌, min, inl, inr, refl, ◌∙◌, sym, ap, subst, arith}
 use Rattle.std.proofs.lemmas.Int.{ints}
-use Rattle.std.proofs.lemmas.Bool.{lt-ltb}
-use Rattle.std.proofs.Math.Nat.{mul-le-mul_left}
+use Rattle.std.specs.Prelude.{int_le}
+use Rattle.std.proofs.lemmas.Bool.{cases_Bool, cases_order, cond-true}
 use Rattle.exact_time.specs.Time.{Time}
-use Rattle.timeline.specs.Ratios.{nanoseconds}
-use Rattle.timeline.specs.Bounds.{StandsFor, StandsForSome, time_of_bound}
-use Rattle.timeline.specs.Expansions.{Course, Member, extents_at, goes_on, repeated}
-use Rattle.timeline.specs.Listed.{instant_of, IsWindowOf, IsReached, is_out_of_range, reaches_fault}
-use Rattle.timeline.specs.Places.{closed_total, reached_count, count_until, open_extents}
-use Rattle.timeline.specs.Stretches.{HasRoom, all_extents, endless_count, endless_extents, first_of}
-use Rattle.timeline.specs.Kept.{Follows, FollowsOn, IsKept, course_of}
-use Rattle.timeline.specs.declared.bound.Bound.{Bound}
-use Rattle.timeline.specs.declared.runs.Runs.TheInside.{Inside}
-use Rattle.timeline.specs.declared.stretch.Endless.{Endless}
-use Rattle.timeline.specs.declared.window.Window.{Window}
-use Rattle.timeline.specs.Limits.{breaks_limits, media_extent}
-use Rattle.timeline.specs.declared.limits.Limits.{Limits}
-use Rattle.timeline.proofs.LimitLemmas.{breaks_at, breaks_ticks}
-use Rattle.timeline.proofs.OpenLemmas.{some_breaks}
-use Rattle.timeline.proofs.CourseLemmas.{open_at, open_breaks_limits, members_of_parts, out_of_range-parts, open_extents-parts, total-parts}
-use Rattle.timeline.proofs.KeptLemmas.{alike_open, alike_open_breaks, room_reached}
-use Rattle.timeline.proofs.WindowLemmas.{Parts, parts_of, finish_none, finish_some}
+use Rattle.timeline.specs.Ratios.{natural}
+use Rattle.exact_time.specs.declared.tick.Tick.{Tick}
+use Rattle.timeline.specs.Expansions.{Extent, repeated}
+use Rattle.timeline.specs.RunSegments.{IsRun, IsRestOf, one_extent, extents_of, count_ended}
+use Rattle.timeline.specs.declared.run.Run.{Run}
+use Rattle.timeline.proofs.Ratios.{floor_ticks, at_most-floor}
+use Rattle.timeline.proofs.Repeats.{again-row, drop-repeated, row, row-is, row-same, ends_by, ends_by-past, count_ended-in, count_ended-out, count_ended-row}
 
--- what a window's upper bound says of its `until`
-pub record HasUntil (until : Option ℤ) (bound : Bound) : Type 0 where
-  pub count : ℤ
-  pub is : until ≡ Some count
-  pub stands : StandsFor bound (nanoseconds count)
+-- several segments are so many ticks of one scale
+pub one_extent-row : (s : Run) → IsRun s → 1 < s.count → one_extent s.start s.end ≡ row s.end.scale s.start.n s.step
+one_extent-row s is several = row-is (one_extent s.start s.end) s.step (is.one_scale several) (is.in_ticks several)
 
-pub some_high : (until : Option ℤ) (bound : Bound) → StandsForSome (Some bound) (option_map nanoseconds until) → HasUntil until bound
-some_high None bound stands = absurd stands
-some_high (Some u) bound stands = record { count = u; is = refl; stands = stands }
+times_split : (n k step : ℕ) → k ≤ n → (n - k) * step + k * step ≡ n * step
+times_split n k step within = let whole : n ≡ (n - k) + k = omega arith in omega (arith, ap (λ (m : ℕ). m * step) whole)
 
-pub none_high : (until : Option ℤ) → StandsForSome None (option_map nanoseconds until) → until ≡ None
-none_high None stands = refl
-none_high (Some u) stands = absurd stands
+extents_moved : (s rest : Run) (k : ℕ) → IsRun s → k < s.count → 1 < s.count → rest.start.n ≡ s.start.n +ℤ pos (k * s.step) → rest.step ≡ s.step → rest.count ≡ s.count - k →
+    rest.start.scale ≡ rest.end.scale → rest.end.n ≡ rest.start.n +ℤ pos rest.step → rest.end.scale ≡ s.end.scale → extents_of rest ≡ drop (s.before + k - s.before) (extents_of s)
+extents_moved s rest k is within several start_n step count one_scale in_ticks end_scale =
+    let first : one_extent rest.start rest.end ≡ row s.end.scale (s.start.n +ℤ pos (k * s.step)) s.step =
+    row-is (one_extent rest.start rest.end) rest.step one_scale in_ticks
+    ∙ ap (λ (n : ℕ). row n rest.start.n rest.step) end_scale ∙ row-same s.end.scale rest.start.n (s.start.n +ℤ pos (k * s.step)) rest.step start_n
+    ∙ ap (λ (n : ℕ). row s.end.scale (s.start.n +ℤ pos (k * s.step)) n) step in
+    let place : s.before + k - s.before ≡ k = omega arith in
+    ap (repeated rest.count) first ∙ ap (λ (n : ℕ). repeated n (row s.end.scale (s.start.n +ℤ pos (k * s.step)) s.step)) count
+    ∙ sym (ap (λ (n : ℕ). drop n (extents_of s)) place
+    ∙ ap (λ (x : Extent). drop k (repeated s.count x)) (one_extent-row s is several)
+    ∙ drop-repeated k s.count (row s.end.scale s.start.n s.step)
+    ∙ ap (repeated (s.count - k)) (again-row k s.end.scale s.start.n s.step))
 
--- the last one of so many segments breaks the limits
-last_breaks : (limits : Limits) (e : Endless) (origin end count : ℕ) → limits.ticks ≡ e.start.scale → limits.origin ≡ origin → 0 < count → e.step ≤ end →
-    pos end ≡ (e.start.n +ℤ pos limits.origin) +ℤ pos (count * e.step) → breaks_limits limits.ticks limits.origin (media_extent limits end e.step) ≡ some_breaks e.start.scale origin e.start.n e.step count
-last_breaks limits e origin end count ticks origins some within end_is =
-    let at : pos end -ℤ pos limits.origin ≡ e.start.n +ℤ pos (count * e.step) = omega (arith, ints) in
-    breaks_at limits end e.step within
-    ∙ ap (λ (z : ℤ). breaks_ticks limits.ticks limits.origin z e.step) at
-    ∙ ap (λ (n : ℕ). breaks_ticks n limits.origin (e.start.n +ℤ pos (count * e.step)) e.step) ticks
-    ∙ ap (λ (n : ℕ). breaks_ticks e.start.scale n (e.start.n +ℤ pos (count * e.step)) e.step) origins
-    ∙ ap (λ (b : Bool). b && breaks_ticks e.start.scale origin (e.start.n +ℤ pos (count * e.step)) e.step) (sym (lt-ltb 0 count some))
+-- the run from the k-th segment on
+moved_on : (s rest : Run) (k : ℕ) → IsRun s → 0 < k → k < s.count → rest.start.n ≡ s.start.n +ℤ pos (k * s.step) → rest.start.scale ≡ s.start.scale →
+    rest.end.n ≡ s.end.n +ℤ pos (k * s.step) → rest.end.scale ≡ s.end.scale → rest.step ≡ s.step → rest.count ≡ s.count - k → rest.before ≡ s.before + k → IsRestOf s (s.before + k) rest
+moved_on s rest k is some within start_n start_scale end_n end_scale step count before =
+    let several : 1 < s.count = omega arith in
+    let one_scale : rest.start.scale ≡ rest.end.scale = omega (arith, is.one_scale several) in
+    let in_ticks : rest.end.n ≡ rest.start.n +ℤ pos rest.step = omega (arith, ints, is.in_ticks several) in
+    let times : rest.count * rest.step + k * s.step ≡ s.count * s.step = rw (count, step) (times_split s.count k s.step (omega arith)) in
+    record {
+      is = record {
+        lasting = omega (arith, is.lasting);
+        one_scale = λ _. one_scale;
+        in_ticks = λ _. in_ticks;
+        near = omega (arith, ints, is.near);
+        countable = omega (arith, is.countable);
+      };
+      some = omega arith;
+      placed = before;
+      end = omega arith;
+      extents = extents_moved s rest k is within several start_n step count one_scale in_ticks (omega (arith, is.one_scale several));
+    }
 
-module _ (r : Inside) (kept : IsKept r) (course : Course) (view : course_of r ≡ course) (window : Window) (is_window : IsWindowOf course window) where
-  pub members_are : course.members ≡ members_of_parts (all_extents r.stretches.items) r.endless
-  members_are = sym (ap (λ (c : Course). c.members) view)
+pub moved_to : (s : Run) (place k : ℕ) (start end : Tick) → IsRun s → place ≡ s.before + k → 0 < k → k < s.count → start.n ≡ s.start.n +ℤ pos (k * s.step) → start.scale ≡ s.start.scale →
+    end.n ≡ s.end.n +ℤ pos (k * s.step) → end.scale ≡ s.end.scale → IsRestOf s place (record { start = start; end = end; step = s.step; count = s.count - k; before = place })
+moved_to s place k start end is at some within start_n start_scale end_n end_scale =
+    subst (λ (n : ℕ). IsRestOf s n (record { start = start; end = end; step = s.step; count = s.count - k; before = place })) (sym at)
+    (moved_on s (record { start = start; end = end; step = s.step; count = s.count - k; before = place }) k is some within start_n start_scale end_n end_scale refl refl at)
 
-  pub parts : Parts course.ticks course.origin r.total (all_extents r.stretches.items) r.endless
-  parts = subst (λ (c : Course). Parts c.ticks c.origin r.total (all_extents r.stretches.items) r.endless) view (parts_of r kept)
+-- ---- how many end at or before a time
 
-  out_of_range_is : is_out_of_range course window ≡ open_breaks_limits course.ticks course.origin (instant_of window) r.endless
-  out_of_range_is = ap (list_any (reaches_fault course window)) members_are ∙ out_of_range-parts course window (all_extents r.stretches.items) r.endless
+count_of_one : (t : Time) (x : Extent) (step : ℕ) → 0 < t.scale → count_ended t (x ∷ []) ≡ min 1 (ends_by (floor_ticks t x.end.scale) x.end.ticks step)
+count_of_one t x step time =
+    let last : ℤ = floor_ticks t x.end.scale in
+    let here = at_most-floor x.end.ticks x.end.scale t time in
+    elim (cases_Bool (int_le x.end.ticks last)) [
+      | inl early ↦
+          let e : ends_by last x.end.ticks step ≡ natural (last -ℤ x.end.ticks) / step + 1 = cond-true (int_le x.end.ticks last) (natural (last -ℤ x.end.ticks) / step + 1) 0 early in
+          omega (arith, count_ended-in t x [] (here ∙ early))
+      | inr late ↦
+          let e = ends_by-past last x.end.ticks step late in
+          omega (arith, count_ended-out t x [] (here ∙ late))
+    ]
 
-  pub open_extents_is : open_extents course window ≡ open_at (instant_of window) r.endless
-  open_extents_is = ap (λ (ms : List Member). flat_map (extents_at (instant_of window)) (filter goes_on ms)) members_are ∙ open_extents-parts (instant_of window) (all_extents r.stretches.items) r.endless
-
-  pub closed_total_is : closed_total course ≡ r.total
-  closed_total_is = ap (λ (ms : List Member). closed_total (record course { members = ms })) members_are ∙ total-parts (all_extents r.stretches.items) r.endless ∙ parts.long
-
-  pub none_open_broken : r.endless ≡ None → false ≡ is_out_of_range course window
-  none_open_broken is = sym (out_of_range_is ∙ ap (open_breaks_limits course.ticks course.origin (instant_of window)) is)
-
-  pub none_open_tail : r.endless ≡ None → [] ≡ open_extents course window
-  none_open_tail is = sym (open_extents_is ∙ ap (open_at (instant_of window)) is)
-
-  -- the segments that go on to an open end, up to a bound
-  module _ (e : Endless) (bound : Bound) (is : r.endless ≡ Some e) (has : HasUntil window.until bound) where
-    follows : Follows course.ticks course.origin r.total e
-    follows = subst (λ (o : Option Endless). FollowsOn course.ticks course.origin r.total o) is parts.follows
-
-    instant : instant_of window ≡ nanoseconds has.count
-    instant = ap (λ (o : Option ℤ). nanoseconds (unwrap_or o (pos 0))) has.is
-
-    out_of_range_some : is_out_of_range course window ≡ open_breaks_limits course.ticks course.origin (nanoseconds has.count) (Some e)
-    out_of_range_some = out_of_range_is ∙ ap (open_breaks_limits course.ticks course.origin (instant_of window)) is
-        ∙ ap (λ (t : Time). open_breaks_limits course.ticks course.origin t (Some e)) instant
-
-    pub broken_is : some_breaks e.start.scale course.origin e.start.n e.step (endless_count e (time_of_bound bound)) ≡ is_out_of_range course window
-    broken_is = alike_open_breaks course.ticks course.origin r.total (time_of_bound bound) (nanoseconds has.count) e has.stands bound.positive (omega arith) follows ∙ sym out_of_range_some
-
-    -- what the last segment tells
-    pub last_broken : (limits : Limits) (end : ℕ) → limits.ticks ≡ r.scale.ticks → limits.origin ≡ r.origin → 0 < endless_count e (time_of_bound bound) →
-        pos end ≡ (e.start.n +ℤ pos limits.origin) +ℤ pos (endless_count e (time_of_bound bound) * e.step) →
-        breaks_limits limits.ticks limits.origin (media_extent limits end e.step) ≡ is_out_of_range course window
-    last_broken limits end ticks origins some end_is =
-        let origin : r.origin ≡ course.origin = ap (λ (c : Course). c.origin) view in
-        let ticks_are : r.scale.ticks ≡ course.ticks = ap (λ (c : Course). c.ticks) view in
-        let placed : pos 0 ≤ℤ (e.start.n +ℤ pos course.origin) = follows.placed in
-        let once : 1 * e.step ≤ endless_count e (time_of_bound bound) * e.step = omega (arith, mul-le-mul_left e.step some) in
-        last_breaks limits e course.origin end (endless_count e (time_of_bound bound)) (ticks ∙ ticks_are ∙ sym follows.scale) (origins ∙ origin) some
-        (omega (arith, ints, once, end_is, placed, origins, origin)) end_is
-        ∙ broken_is
-
-    module _ (is_reached : IsReached course window) where
-      keeps_some : open_breaks_limits course.ticks course.origin (nanoseconds has.count) (Some e) ≡ false
-      keeps_some = sym out_of_range_some ∙ is_reached
-
-      same_count : endless_count e (time_of_bound bound) ≡ endless_count e (nanoseconds has.count)
-      same_count = alike_open course.ticks course.origin r.total (time_of_bound bound) (nanoseconds has.count) (Some e) has.stands bound.positive (omega arith) follows keeps_some
-
-      pub tail_room : HasRoom e (endless_count e (time_of_bound bound))
-      tail_room = subst (λ (n : ℕ). HasRoom e n) (sym same_count) (room_reached course.ticks course.origin r.total e (nanoseconds has.count) follows parts.small keeps_some)
-
-      pub tail_extents : endless_extents e (time_of_bound bound) ≡ open_extents course window
-      tail_extents = ap (λ (n : ℕ). repeated n (first_of e)) same_count
-          ∙ sym (open_extents_is ∙ ap (open_at (instant_of window)) is ∙ ap (λ (t : Time). endless_extents e t) instant)
-
-      pub tail_before : e.before ≡ closed_total course
-      tail_before = follows.place ∙ sym closed_total_is
-
-  module _ (is_reached : IsReached course window) where
-    pub finish_none_is : window.until ≡ None → r.total ≡ count_until course window
-    finish_none_is no_until = finish_none course window r.total (all_extents r.stretches.items) r.endless members_are parts is_window is_reached no_until
-
-    pub finish_some_is : (bound : Bound) → HasUntil window.until bound → min (2 ^ 64 - 1) (reached_count course (time_of_bound bound)) ≡ count_until course window
-    finish_some_is bound has = finish_some course window r.total (all_extents r.stretches.items) r.endless members_are parts is_window is_reached has.count bound has.is has.stands
+pub count_ended-run : (t : Time) (s : Run) → 0 < t.scale → IsRun s → count_ended t (extents_of s) ≡ min s.count (ends_by (floor_ticks t s.end.scale) s.end.n s.step)
+unfolding repeated
+count_ended-run t s time is = elim (cases_order s.count 1) [
+  | inl one ↦
+      ap (λ (n : ℕ). count_ended t (repeated n (one_extent s.start s.end))) one
+      ∙ count_of_one t (one_extent s.start s.end) s.step time
+      ∙ ap (λ (n : ℕ). min n (ends_by (floor_ticks t s.end.scale) s.end.n s.step)) (sym one)
+  | inr other ↦ elim other [
+    | inl fewer ↦
+        let none : s.count ≡ 0 = omega arith in
+        ap (λ (n : ℕ). count_ended t (repeated n (one_extent s.start s.end))) none ∙ omega arith
+    | inr several ↦
+        ap (λ (x : Extent). count_ended t (repeated s.count x)) (one_extent-row s is several)
+        ∙ count_ended-row s.count t s.end.scale s.start.n s.step time is.lasting
+        ∙ ap (λ (z : ℤ). min s.count (ends_by (floor_ticks t s.end.scale) z s.step)) (sym (is.in_ticks several))
+  ]
+]

@@ -4,48 +4,47 @@ use Rattle.std.specs.Prelude.{Option, Some, None, IfSome, IsSome, filter, slice_
 use Rattle.std.specs.List.{AllByRecursion}
 use Rattle.std.proofs.lemmas.Bool.{cases_lt}
 use Rattle.std.proofs.lemmas.List.Elements.{filter_agree, All-filter, All-drop, All-from_recursion, recursion_from_All}
-use Rattle.exact_time.specs.Time.{Time}
-use Rattle.timeline.specs.Ratios.{at_most, before}
+use Rattle.exact_time.specs.Time.{Time, at_most, before}
 use Rattle.timeline.specs.Bounds.{StandsFor, time_of_bound, low_of}
-use Rattle.timeline.specs.Expansions.{Course, Extent, Timing, numbered}
+use Rattle.timeline.specs.Expansions.{SegmentTimeline, Extent, Timing, numbered}
 use Rattle.timeline.specs.Listed.{expansion, is_until, is_listed, listed, listed_from, instant_of, IsWindowOf, IsReached, IsFirstListed, IsPlaceAfter, IsWithin, CanBeNamed}
 use Rattle.timeline.specs.Places.{reached_count, count_until, closed_total, open_extents}
-use Rattle.timeline.specs.Stretches.{AreLaid, AreLaidFrom, IsTail, count_ended, all_extents, extents_of_some}
-use Rattle.timeline.specs.Kept.{IsKept, course_of}
+use Rattle.timeline.specs.RunSegments.{AreLaid, AreLaidFrom, IsTail, count_ended, all_extents, extents_of_some}
+use Rattle.timeline.specs.Kept.{IsKept, timeline_of}
 use Rattle.timeline.specs.declared.bound.Bound.{Bound}
 use Rattle.timeline.specs.declared.runs.Runs.TheInside.{Inside}
-use Rattle.timeline.specs.declared.stretch.Stretch.{Stretch}
+use Rattle.timeline.specs.declared.run.Run.{Run}
 use Rattle.timeline.specs.declared.window.Window.{Window}
-use Rattle.timeline.proofs.Ratios.{before-is}
+use Rattle.exact_time.proofs.TimeOrder.{before-is}
 use Rattle.timeline.proofs.Splits.{SplitsAt, IsPlaceOf, between, splits_before, splits_behind, filter-before, first-between, take-place, drop-place, slice_get-place, left-place}
-use Rattle.timeline.proofs.CourseLemmas.{open_at}
+use Rattle.timeline.proofs.SegmentTimelineLemmas.{open_at}
 use Rattle.timeline.proofs.KeptLemmas.{length-laid, all_append, StartsTimed}
 use Rattle.timeline.proofs.NumberedLemmas.{length-numbered, drop-numbered, take-numbered, splits-numbered}
 use Rattle.timeline.proofs.WindowLemmas.{expansion_is, long_all, splits_low, splits_high, splits_at, until_within, listed_is, listed_between, place_is, reached_is}
-use Rattle.timeline.proofs.RunLemmas.{members_are, parts, closed_total_is, open_extents_is}
+use Rattle.timeline.proofs.RunsLemmas.{members_are, parts, closed_total_is, open_extents_is}
 
 -- segments whose starts have media times, and whose numbers are not below the first one
-named_all : (course : Course) (number : ℕ) (xs : List Extent) → course.first_number ≤ number → AllByRecursion (StartsTimed course.origin) xs → AllByRecursion (CanBeNamed course) (numbered number xs)
-named_all course number [] above timed = tt
-named_all course number (x ∷ xs) above timed = (record { numbered = above; timed = timed.0 }, named_all course (number + 1) xs (omega arith) timed.1)
+named_all : (timeline : SegmentTimeline) (number : ℕ) (xs : List Extent) → timeline.first_number ≤ number → AllByRecursion (StartsTimed timeline.origin) xs → AllByRecursion (CanBeNamed timeline) (numbered number xs)
+named_all timeline number [] above timed = tt
+named_all timeline number (x ∷ xs) above timed = (record { numbered = above; timed = timed.0 }, named_all timeline (number + 1) xs (omega arith) timed.1)
 
-module _ (r : Inside) (kept : IsKept r) (course : Course) (view : course_of r ≡ course) (window : Window) (is_window : IsWindowOf course window) (is_reached : IsReached course window) where
+module _ (r : Inside) (kept : IsKept r) (timeline : SegmentTimeline) (view : timeline_of r ≡ timeline) (window : Window) (is_window : IsWindowOf timeline window) (is_reached : IsReached timeline window) where
   abbrev all : List Extent
-  all = all_extents r.stretches.items ++ open_at (instant_of window) r.endless
+  all = all_extents r.runs.items ++ open_at (instant_of window) r.endless
 
   abbrev whole : List Timing
-  whole = numbered course.first_number all
+  whole = numbered timeline.first_number all
 
   abbrev place : Bound → ℕ
-  place bound = min (2 ^ 64 - 1) (reached_count course (time_of_bound bound))
+  place bound = min (2 ^ 64 - 1) (reached_count timeline (time_of_bound bound))
 
-  whole_is : expansion course window ≡ whole
-  whole_is = expansion_is course window r.total (all_extents r.stretches.items) r.endless (members_are r kept course view window is_window) (parts r kept course view window is_window) is_window is_reached
+  whole_is : expansion timeline window ≡ whole
+  whole_is = expansion_is timeline window r.total (all_extents r.runs.items) r.endless (members_are r kept timeline view window is_window) (parts r kept timeline view window is_window) is_window is_reached
 
   pub placed : (bound : Bound) (t : Time) → StandsFor bound t → IsPlaceOf (place bound) (count_ended t all) whole
   placed bound t stands =
-      let here : IsPlaceOf (place bound) (count_ended t all) all = place_is course window r.total (all_extents r.stretches.items) r.endless (members_are r kept course view window is_window) (parts r kept course view window is_window) is_window is_reached bound t stands in
-      elim here [ inl same ↦ inl same | inr past ↦ inr (past.0 ∙ sym (length-numbered course.first_number all), omega (arith, past.1, length-numbered course.first_number all)) ]
+      let here : IsPlaceOf (place bound) (count_ended t all) all = place_is timeline window r.total (all_extents r.runs.items) r.endless (members_are r kept timeline view window is_window) (parts r kept timeline view window is_window) is_window is_reached bound t stands in
+      elim here [ inl same ↦ inl same | inr past ↦ inr (past.0 ∙ sym (length-numbered timeline.first_number all), omega (arith, past.1, length-numbered timeline.first_number all)) ]
 
   abbrev low : Timing → Bool
   low y = at_most y.end (low_of window)
@@ -58,38 +57,38 @@ module _ (r : Inside) (kept : IsKept r) (course : Course) (view : course_of r �
   first = count_ended (low_of window) all
 
   abbrev finish : ℕ
-  finish = count_until course window
+  finish = count_until timeline window
 
   low_splits : SplitsAt low first whole
-  low_splits = splits-numbered (λ (t : Time). at_most t (low_of window)) first course.first_number all
-      (splits_low course window r.total (all_extents r.stretches.items) r.endless (members_are r kept course view window is_window) (parts r kept course view window is_window) is_window is_reached)
+  low_splits = splits-numbered (λ (t : Time). at_most t (low_of window)) first timeline.first_number all
+      (splits_low timeline window r.total (all_extents r.runs.items) r.endless (members_are r kept timeline view window is_window) (parts r kept timeline view window is_window) is_window is_reached)
 
   high_splits : SplitsAt high finish whole
-  high_splits = splits-numbered (is_until window.until) finish course.first_number all
-      (splits_high course window r.total (all_extents r.stretches.items) r.endless (members_are r kept course view window is_window) (parts r kept course view window is_window) is_window is_reached)
+  high_splits = splits-numbered (is_until window.until) finish timeline.first_number all
+      (splits_high timeline window r.total (all_extents r.runs.items) r.endless (members_are r kept timeline view window is_window) (parts r kept timeline view window is_window) is_window is_reached)
 
   finish_within : finish ≤ length whole
   finish_within = omega (
     arith,
-    length-numbered course.first_number all,
-    until_within course window r.total (all_extents r.stretches.items) r.endless (members_are r kept course view window is_window) (parts r kept course view window is_window) is_window is_reached,
+    length-numbered timeline.first_number all,
+    until_within timeline window r.total (all_extents r.runs.items) r.endless (members_are r kept timeline view window is_window) (parts r kept timeline view window is_window) is_window is_reached,
   )
 
   pub few_all : finish ≤ 2 ^ 63
   few_all = omega (
     arith,
-    length-numbered course.first_number all,
+    length-numbered timeline.first_number all,
     finish_within,
-    long_all course window r.total (all_extents r.stretches.items) r.endless (members_are r kept course view window is_window) (parts r kept course view window is_window) is_window is_reached,
-    (reached_is course window r.total (all_extents r.stretches.items) r.endless (members_are r kept course view window is_window) (parts r kept course view window is_window) is_window is_reached).few,
+    long_all timeline window r.total (all_extents r.runs.items) r.endless (members_are r kept timeline view window is_window) (parts r kept timeline view window is_window) is_window is_reached,
+    (reached_is timeline window r.total (all_extents r.runs.items) r.endless (members_are r kept timeline view window is_window) (parts r kept timeline view window is_window) is_window is_reached).few,
   )
 
-  listed_whole : (from : ℕ) → listed_from from course window ≡ take (finish - max from first) (drop (max from first) whole)
-  listed_whole from = listed_is course window r.total (all_extents r.stretches.items) r.endless (members_are r kept course view window is_window) (parts r kept course view window is_window) is_window is_reached from
+  listed_whole : (from : ℕ) → listed_from from timeline window ≡ take (finish - max from first) (drop (max from first) whole)
+  listed_whole from = listed_is timeline window r.total (all_extents r.runs.items) r.endless (members_are r kept timeline view window is_window) (parts r kept timeline view window is_window) is_window is_reached from
 
   -- ---- `count`
 
-  pub count_is : (bound : Bound) → StandsFor bound (low_of window) → finish - place bound ≡ length (listed window (expansion course window))
+  pub count_is : (bound : Bound) → StandsFor bound (low_of window) → finish - place bound ≡ length (listed window (expansion timeline window))
   count_is bound stands =
       let left = left-place (place bound) first finish whole (placed bound (low_of window) stands) finish_within in
       let within = finish_within in
@@ -98,7 +97,7 @@ module _ (r : Inside) (kept : IsKept r) (course : Course) (view : course_of r �
 
   -- ---- `seek`
 
-  pub seek_is : (bound : Bound) → StandsFor bound (low_of window) → IsFirstListed window (expansion course window) (place bound)
+  pub seek_is : (bound : Bound) → StandsFor bound (low_of window) → IsFirstListed window (expansion timeline window) (place bound)
   seek_is bound stands =
       let here = placed bound (low_of window) stands in
       subst (λ (xs : List Timing). IsFirstListed window xs (place bound)) (sym whole_is) (record {
@@ -126,12 +125,12 @@ module _ (r : Inside) (kept : IsKept r) (course : Course) (view : course_of r �
   after_some t None late = tt
   after_some t (Some x) late = end_after t x late
 
-  pub seek_end_is : (bound : Bound) (t : Time) → StandsFor bound t → IsPlaceAfter t (expansion course window) (place bound)
+  pub seek_end_is : (bound : Bound) (t : Time) → StandsFor bound t → IsPlaceAfter t (expansion timeline window) (place bound)
   seek_end_is bound t stands =
       let here = placed bound t stands in
       let splits : SplitsAt (λ (x : Timing). at_most x.end t) (count_ended t all) whole =
-      splits-numbered (λ (end : Time). at_most end t) (count_ended t all) course.first_number all
-      (splits_at course window r.total (all_extents r.stretches.items) r.endless (members_are r kept course view window is_window) (parts r kept course view window is_window) is_window is_reached t) in
+      splits-numbered (λ (end : Time). at_most end t) (count_ended t all) timeline.first_number all
+      (splits_at timeline window r.total (all_extents r.runs.items) r.endless (members_are r kept timeline view window is_window) (parts r kept timeline view window is_window) is_window is_reached t) in
       subst (λ (xs : List Timing). IsPlaceAfter t xs (place bound)) (sym whole_is) (record {
         none_before = subst (λ (xs : List Timing). All (λ x. at_most x.end t ≡ true) xs) (sym (take-place (place bound) (count_ended t all) whole here))
             (splits_before (λ (x : Timing). at_most x.end t) (count_ended t all) whole splits);
@@ -152,44 +151,44 @@ module _ (r : Inside) (kept : IsKept r) (course : Course) (view : course_of r �
   ]
 
   pub walk_is : (bound : Bound) → StandsFor bound (low_of window) → (from begin left : ℕ) → begin ≡ max from (place bound) → left ≡ finish - begin →
-      numbered (course.first_number + begin) (take left (drop begin all)) ≡ listed_from from course window
+      numbered (timeline.first_number + begin) (take left (drop begin all)) ≡ listed_from from timeline window
   walk_is bound stands from begin left begin_is left_is =
-      sym (take-numbered left (course.first_number + begin) (drop begin all))
-      ∙ ap (take left) (sym (drop-numbered begin course.first_number all))
+      sym (take-numbered left (timeline.first_number + begin) (drop begin all))
+      ∙ ap (take left) (sym (drop-numbered begin timeline.first_number all))
       ∙ ap (λ (n : ℕ). take n (drop begin whole)) left_is
       ∙ ap (λ (n : ℕ). take (finish - n) (drop n whole)) begin_is
       ∙ from_place (place bound) from (placed bound (low_of window) stands)
       ∙ sym (listed_whole from)
 
-  pub finish_there : finish ≤ length (all_extents r.stretches.items) + length (open_at (instant_of window) r.endless)
-  finish_there = omega (arith, finish_within, length-numbered course.first_number all, length-append (all_extents r.stretches.items) (open_at (instant_of window) r.endless))
+  pub finish_there : finish ≤ length (all_extents r.runs.items) + length (open_at (instant_of window) r.endless)
+  finish_there = omega (arith, finish_within, length-numbered timeline.first_number all, length-append (all_extents r.runs.items) (open_at (instant_of window) r.endless))
 
   -- what a walk asks for
-  pub walk_laid : (tail : Option Stretch) (begin left : ℕ) → IsTail (closed_total course) tail → extents_of_some tail ≡ open_extents course window → left ≡ finish - begin → 0 < left →
-      AreLaidFrom 0 r.stretches.items tail (begin + left)
+  pub walk_laid : (tail : Option Run) (begin left : ℕ) → IsTail (closed_total timeline) tail → extents_of_some tail ≡ open_extents timeline window → left ≡ finish - begin → 0 < left →
+      AreLaidFrom 0 r.runs.items tail (begin + left)
   walk_laid tail begin left is_tail extents left_is some =
-      let long : 0 + length (all_extents r.stretches.items) ≡ r.total = length-laid 0 r.stretches.items r.total kept.laid in
-      let closed : closed_total course ≡ r.total = closed_total_is r kept course view window is_window in
-      let opened : length (extents_of_some tail) ≡ length (open_at (instant_of window) r.endless) = ap length (extents ∙ open_extents_is r kept course view window is_window) in
+      let long : 0 + length (all_extents r.runs.items) ≡ r.total = length-laid 0 r.runs.items r.total kept.laid in
+      let closed : closed_total timeline ≡ r.total = closed_total_is r kept timeline view window is_window in
+      let opened : length (extents_of_some tail) ≡ length (open_at (instant_of window) r.endless) = ap length (extents ∙ open_extents_is r kept timeline view window is_window) in
       record {
-        laid = subst (λ (n : ℕ). AreLaid 0 r.stretches.items n) (sym long) kept.laid;
+        laid = subst (λ (n : ℕ). AreLaid 0 r.runs.items n) (sym long) kept.laid;
         tail_is = subst (λ (n : ℕ). IsTail n tail) (closed ∙ sym long) is_tail;
         enough = omega (arith, finish_there, left_is, some, opened);
       }
 
-  pub walk_all : (tail : Option Stretch) → extents_of_some tail ≡ open_extents course window → all_extents r.stretches.items ++ extents_of_some tail ≡ all
-  walk_all tail extents = ap (λ (xs : List Extent). all_extents r.stretches.items ++ xs) (extents ∙ open_extents_is r kept course view window is_window)
+  pub walk_all : (tail : Option Run) → extents_of_some tail ≡ open_extents timeline window → all_extents r.runs.items ++ extents_of_some tail ≡ all
+  walk_all tail extents = ap (λ (xs : List Extent). all_extents r.runs.items ++ xs) (extents ∙ open_extents_is r kept timeline view window is_window)
 
-  pub walk_countable : (begin left : ℕ) → course.first_number < 2 ^ 63 → left ≡ finish - begin → 0 < left → course.first_number + (begin + left) < 2 ^ 64
+  pub walk_countable : (begin left : ℕ) → timeline.first_number < 2 ^ 63 → left ≡ finish - begin → 0 < left → timeline.first_number + (begin + left) < 2 ^ 64
   walk_countable begin left small left_is some = omega (arith, few_all, left_is, some)
 
   -- ---- `resume`
 
-  timed_all : AllByRecursion (StartsTimed course.origin) all
-  timed_all = all_append (StartsTimed course.origin) (all_extents r.stretches.items) (open_at (instant_of window) r.endless)
-      (recursion_from_All (StartsTimed course.origin) (all_extents r.stretches.items) (subst (λ (c : Course). All (StartsTimed c.origin) (all_extents r.stretches.items)) view kept.timed))
-      (reached_is course window r.total (all_extents r.stretches.items) r.endless (members_are r kept course view window is_window) (parts r kept course view window is_window) is_window is_reached).timed
+  timed_all : AllByRecursion (StartsTimed timeline.origin) all
+  timed_all = all_append (StartsTimed timeline.origin) (all_extents r.runs.items) (open_at (instant_of window) r.endless)
+      (recursion_from_All (StartsTimed timeline.origin) (all_extents r.runs.items) (subst (λ (c : SegmentTimeline). All (StartsTimed c.origin) (all_extents r.runs.items)) view kept.timed))
+      (reached_is timeline window r.total (all_extents r.runs.items) r.endless (members_are r kept timeline view window is_window) (parts r kept timeline view window is_window) is_window is_reached).timed
 
-  pub within_is : (from : ℕ) → IsWithin course (listed_from from course window)
-  within_is from = All-filter (is_listed window) (CanBeNamed course) (drop from (expansion course window)) (All-drop (CanBeNamed course) from (expansion course window)
-      (subst (λ (xs : List Timing). All (CanBeNamed course) xs) (sym whole_is) (All-from_recursion (CanBeNamed course) whole (named_all course course.first_number all (omega arith) timed_all))))
+  pub within_is : (from : ℕ) → IsWithin timeline (listed_from from timeline window)
+  within_is from = All-filter (is_listed window) (CanBeNamed timeline) (drop from (expansion timeline window)) (All-drop (CanBeNamed timeline) from (expansion timeline window)
+      (subst (λ (xs : List Timing). All (CanBeNamed timeline) xs) (sym whole_is) (All-from_recursion (CanBeNamed timeline) whole (named_all timeline timeline.first_number all (omega arith) timed_all))))

@@ -4,21 +4,20 @@ use Rattle.std.specs.Prelude.{int_le, int_lt, unsigned_abs, ◌||◌, IsNone, op
 use Rattle.std.proofs.lemmas.List.{append_assoc}
 use Rattle.std.proofs.lemmas.Bool.{lt-ltb, le-ltb, ltb-false}
 use Rattle.std.proofs.Math.Nat.{mul-le-mul_right, mul-lt-mul_of_pos_left}
-use Rattle.exact_time.specs.Time.{difference, seconds}
+use Rattle.exact_time.specs.Time.{difference, seconds, before, at_most}
 use Rattle.exact_time.specs.Tick.{time_of}
 use Rattle.exact_time.specs.declared.tick.Tick.{Tick}
 use Rattle.timeline.specs.declared.fault.TimeFault.{TimeFault}
-use Rattle.timeline.specs.declared.layout.Layout.{Layout}
+use Rattle.timeline.specs.declared.builder.RunsBuilder.{RunsBuilder}
 use Rattle.timeline.specs.declared.limits.Limits.{Limits}
 use Rattle.timeline.specs.declared.span.Span.{Span}
-use Rattle.timeline.specs.Ratios.{before, at_most}
 use Rattle.timeline.specs.Expansions.{Member, Closed, lasting}
 use Rattle.timeline.specs.Durations.{extent_of, expansion_of_list}
 use Rattle.timeline.specs.Laws.{EndsRise}
-use Rattle.timeline.specs.Layouts.{IsLaidOut, members_so_far}
+use Rattle.timeline.specs.Building.{IsLaidOut, members_so_far}
 use Rattle.timeline.specs.Reaches.{IsTheirFault}
 use Rattle.timeline.specs.Spans.{AreInRow, IsRowSoFar, fault_of_span, have_no_time}
-use Rattle.timeline.specs.Stretches.{one_extent}
+use Rattle.timeline.specs.RunSegments.{one_extent}
 use Rattle.timeline.specs.Faults.{is_apart, lasts_no_time, segment_fault}
 use Rattle.timeline.specs.Limits.{span_breaks_limits}
 use Rattle.timeline.proofs.LimitLemmas.{int_le-cancel}
@@ -83,7 +82,7 @@ module _ (start end : Tick) (lasts : ℕ) (is_lasting : (lasting (one_extent sta
 
 -- ---- a row of spans
 
-pub row_fault : (ticks : ℕ) (spans : List Span) (l : Layout) (former : Option Tick) (rest : List Span) (span : Span) (later : List Span) (fault : TimeFault) → IsRowSoFar ticks spans l former rest → rest ≡ span ∷ later →
+pub row_fault : (ticks : ℕ) (spans : List Span) (l : RunsBuilder) (former : Option Tick) (rest : List Span) (span : Span) (later : List Span) (fault : TimeFault) → IsRowSoFar ticks spans l former rest → rest ≡ span ∷ later →
     fault_of_span former span ≡ Some fault → IsTheirFault span_breaks_limits (expansion_of_list spans) fault
 row_fault ticks spans l former rest span later fault so_far at is =
     refusal_some fault (λ f. segment_fault span_breaks_limits None (expansion_of_list spans) ≡ Some f)
@@ -92,7 +91,7 @@ row_fault ticks spans l former rest span later fault so_far at is =
     ∙ fault_of_two (span_breaks_limits (extent_of span)) (is_apart (option_map time_of former) (extent_of span)) fault (segment_fault span_breaks_limits (Some (time_of span.end)) (expansion_of_list later)) is
     )
 
-pub row_more : (ticks : ℕ) (spans : List Span) (l : Layout) (former : Option Tick) (rest : List Span) (span : Span) (later : List Span) (new : Layout) → IsRowSoFar ticks spans l former rest → rest ≡ span ∷ later →
+pub row_more : (ticks : ℕ) (spans : List Span) (l : RunsBuilder) (former : Option Tick) (rest : List Span) (span : Span) (later : List Span) (new : RunsBuilder) → IsRowSoFar ticks spans l former rest → rest ≡ span ∷ later →
     fault_of_span former span ≡ None → members_so_far new ≡ members_so_far l ++ Closed (one_extent span.start span.end) ∷ [] → new.total ≡ l.total + 1 → new.limits ≡ l.limits → IsNone new.endless → IsLaidOut new →
     IsRowSoFar ticks spans new (Some span.end) later
 row_more ticks spans l former rest span later new so_far at none added total limits closed laid =
@@ -111,6 +110,6 @@ row_more ticks spans l former rest span later new so_far at none added total lim
           ∙ head_passes span_breaks_limits (option_map time_of former) (extent_of span) (expansion_of_list later) kept.0 kept.1;
     }
 
-pub list_rises : (ticks : ℕ) (spans : List Span) (l : Layout) → have_no_time spans ≡ false → AreInRow ticks (expansion_of_list spans) l → EndsRise (members_so_far l)
+pub list_rises : (ticks : ℕ) (spans : List Span) (l : RunsBuilder) → have_no_time spans ≡ false → AreInRow ticks (expansion_of_list spans) l → EndsRise (members_so_far l)
 list_rises ticks spans l lasting are =
     subst (λ (ms : List Member). EndsRise ms) (sym are.members_are) (lists_rise spans lasting (no_step_from span_breaks_limits None (expansion_of_list spans) are.judged))

@@ -1,8 +1,8 @@
 -- The segments of a Representation in one Period, written out one by one.
 use Rattle.std.specs.Prelude.{ℕ, zero, suc, ◌+◌, ◌+ℤ◌, ◌-ℤ◌, Bool, true, false, List, [], ◌∷◌, flat_map, if◌then◌else◌}
 use Rattle.std.specs.List.{list_any}
-use Rattle.exact_time.specs.Time.{Time, difference}
-use Rattle.timeline.specs.Ratios.{before, steps_within}
+use Rattle.exact_time.specs.Time.{Time, difference, before}
+use Rattle.timeline.specs.Ratios.{steps_within}
 use Rattle.timeline.specs.declared.names.Names.{Names}
 
 -- where a segment begins and ends, from the Period's start
@@ -72,7 +72,7 @@ is_open members = list_any goes_on members
 
 -- The segments of a Representation in one Period at every instant, their numbers and their names. `ticks` make a
 -- second, and `origin` is the media time of the Period's start.
-pub record Course : Type 0 where
+pub record SegmentTimeline : Type 0 where
   pub members : List Member
   pub ticks : ℕ
   pub origin : ℕ
@@ -80,5 +80,5 @@ pub record Course : Type 0 where
   pub names : Names
 
 -- the whole expansion, at an instant where the Period's end is open
-abbrev pub expansion_at : Time → Course → List Timing
-expansion_at instant course = numbered course.first_number (extents instant course.members)
+abbrev pub expansion_at : Time → SegmentTimeline → List Timing
+expansion_at instant timeline = numbered timeline.first_number (extents instant timeline.members)

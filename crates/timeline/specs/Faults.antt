@@ -1,7 +1,7 @@
 -- Why times give no segments.
 use Rattle.std.specs.Prelude.{ℕ, ◌-◌, ◌*◌, ℤ, pos, negsuc, Bool, true, false, not, ◌&&◌, ◌||◌, ◌==◌, nat_lt, List, [], ◌∷◌, length, unsigned_abs, if◌then◌else◌, Option, Some, None}
 use Rattle.std.specs.List.{list_any}
-use Rattle.exact_time.specs.Time.{Time, difference}
+use Rattle.exact_time.specs.Time.{Time, difference, before, at_most, nanoseconds}
 use Rattle.timeline.specs.declared.fault.TimeFault.{TimeFault}
 use Rattle.timeline.specs.declared.fault.TimeFault.TheVariants.{ZeroDuration, Range, NoEnd, Step, ListLength, TimeWithoutTimeline, Memory}
 use Rattle.timeline.specs.declared.entry.SEntry.{SEntry}
@@ -10,7 +10,6 @@ use Rattle.timeline.specs.declared.entry.End.{End}
 use Rattle.timeline.specs.declared.entry.End.TheVariants.{At, Unbounded}
 use Rattle.timeline.specs.declared.span.Span.{Span}
 use Rattle.timeline.specs.declared.names.Names.{Names}
-use Rattle.timeline.specs.Ratios.{before, at_most, nanoseconds}
 use Rattle.timeline.specs.Expansions.{Extent, Member, Closed, Short, Endless, lasting, is_open}
 use Rattle.timeline.specs.Limits.{breaks_limits, span_breaks_limits}
 use Rattle.timeline.specs.Timelines.{expansion_of_timeline}

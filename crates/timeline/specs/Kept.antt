@@ -1,19 +1,19 @@
 -- The segments that a `Runs` keeps.
 use Rattle.std.specs.Prelude.{◌≡◌, ℕ, ◌+◌, ◌*◌, ◌<◌, ◌≤◌, ◌^◌, pos, ◌+ℤ◌, ◌≤ℤ◌, List, [], ◌∷◌, ◌++◌, map, All, Option, Some, None}
-use Rattle.timeline.specs.Expansions.{Course, Member, Closed, Endless as GoesOn}
-use Rattle.timeline.specs.Stretches.{AreLaid, IsEndless, all_extents, first_of}
+use Rattle.timeline.specs.Expansions.{SegmentTimeline, Member, Closed, Endless as GoesOn}
+use Rattle.timeline.specs.RunSegments.{AreLaid, IsEndless, all_extents, first_of}
 use Rattle.timeline.specs.Laws.{EndsRise}
 use Rattle.timeline.specs.Ratios.{natural}
-use Rattle.timeline.specs.declared.stretch.Endless.{Endless}
+use Rattle.timeline.specs.declared.run.Endless.{Endless}
 use Rattle.timeline.specs.declared.runs.Runs.TheInside.{Inside}
 
 abbrev pub endless_members : Option Endless → List Member
 endless_members None = []
 endless_members (Some e) = GoesOn (first_of e) ∷ []
 
-abbrev pub course_of : Inside → Course
-course_of r = record {
-  members = map Closed (all_extents r.stretches.items) ++ endless_members r.endless;
+abbrev pub timeline_of : Inside → SegmentTimeline
+timeline_of r = record {
+  members = map Closed (all_extents r.runs.items) ++ endless_members r.endless;
   ticks = r.scale.ticks;
   origin = r.origin;
   first_number = r.scale.start_number;
@@ -35,8 +35,8 @@ FollowsOn ticks origin total None = Unit {0}
 FollowsOn ticks origin total (Some e) = Follows ticks origin total e
 
 pub record IsKept (r : Inside) : Type 0 where
-  pub laid : AreLaid 0 r.stretches.items r.total
+  pub laid : AreLaid 0 r.runs.items r.total
   pub follows : FollowsOn r.scale.ticks r.origin r.total r.endless
   pub countable : r.total ≤ 2 ^ 63
-  pub rising : EndsRise (course_of r).members
-  pub timed : All (λ x. natural (x.start.ticks +ℤ pos r.origin) < 2 ^ 64) (all_extents r.stretches.items)
+  pub rising : EndsRise (timeline_of r).members
+  pub timed : All (λ x. natural (x.start.ticks +ℤ pos r.origin) < 2 ^ 64) (all_extents r.runs.items)

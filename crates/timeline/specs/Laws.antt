@@ -1,7 +1,7 @@
 -- Each segment ends after the one before it.
-use Rattle.std.specs.Prelude.{◌≡◌, ℕ, ◌<◌, ◌==◌, false, List, [], ◌∷◌, map, Option, None}
+use Rattle.std.specs.Prelude.{◌≡◌, ℕ, ◌<◌, ◌==◌, false, List, map, Option, None}
 use Rattle.std.specs.List.{list_any}
-use Rattle.exact_time.specs.Time.{Time, IsBefore}
+use Rattle.exact_time.specs.Time.{Time, AreRising}
 use Rattle.timeline.specs.declared.entry.SEntry.{SEntry}
 use Rattle.timeline.specs.declared.entry.Scale.{Scale}
 use Rattle.timeline.specs.declared.entry.End.{End}
@@ -10,12 +10,6 @@ use Rattle.timeline.specs.Expansions.{Member, extents}
 use Rattle.timeline.specs.Timelines.{expansion_of_timeline}
 use Rattle.timeline.specs.Durations.{expansion_of_list, extent_of}
 use Rattle.timeline.specs.Faults.{segment_fault, lasts_no_time, members_by, is_too_many}
-
--- each time is after the one before it
-abbrev pub AreRising : List Time → Type 0
-AreRising [] = Unit {0}
-AreRising (x ∷ []) = Unit {0}
-AreRising (x ∷ y ∷ ys) = IsBefore x y × AreRising (y ∷ ys)
 
 abbrev pub EndsRise : List Member → Type 0
 EndsRise members = (instant : Time) → AreRising (map (λ x. x.end) (extents instant members))

@@ -1,11 +1,11 @@
 pub mod Bounds
-pub mod Courses
+pub mod SegmentTimelines
 pub mod Durations
 pub mod Expansions
 pub mod Faults
 pub mod Kept
 pub mod Laws
-pub mod Layouts
+pub mod Building
 pub mod Limits
 pub mod Listed
 pub mod Names
@@ -15,6 +15,6 @@ pub mod Ratios
 pub mod Reaches
 pub mod Rows
 pub mod Spans
-pub mod Stretches
+pub mod RunSegments
 pub mod Timelines
 pub mod Walks

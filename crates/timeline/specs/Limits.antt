@@ -1,7 +1,6 @@
 -- How far and how long segments may be.
 use Rattle.std.specs.Prelude.{ℕ, ◌-◌, ◌^◌, pos, ◌-ℤ◌, Bool, ◌||◌}
-use Rattle.exact_time.specs.Time.{seconds}
-use Rattle.timeline.specs.Ratios.{before, at_most}
+use Rattle.exact_time.specs.Time.{seconds, before, at_most}
 use Rattle.timeline.specs.Expansions.{Extent, lasting}
 use Rattle.timeline.specs.declared.limits.Limits.{Limits}
 

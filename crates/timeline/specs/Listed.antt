@@ -1,7 +1,7 @@
 -- Which segments are listed, and from where on.
 use Rattle.std.specs.Prelude.{◌≡◌, ℕ, ◌-◌, ◌<◌, ◌≤◌, ◌^◌, ℤ, pos, ◌+ℤ◌, Bool, true, false, ◌&&◌, ◌⊎◌, List, [], ◌∷◌, filter, take, drop, length, slice_get, All, IsSome, IfSome, Option, Some, None, unwrap_or, Result, Ok, Err, if◌then◌else◌}
 use Rattle.std.specs.List.{list_any}
-use Rattle.exact_time.specs.Time.{Time, seconds}
+use Rattle.exact_time.specs.Time.{Time, seconds, before, at_most, nanoseconds}
 use Rattle.exact_time.specs.Tick.{time_of}
 use Rattle.url_parts.specs.declared.address.Part.{Part}
 use Rattle.timeline.specs.declared.window.Window.{Window}
@@ -9,9 +9,9 @@ use Rattle.timeline.specs.declared.span.Span.{Span}
 use Rattle.timeline.specs.declared.fault.TimeFault.{TimeFault}
 use Rattle.timeline.specs.declared.fault.TimeFault.TheVariants.{Range}
 use Rattle.timeline.specs.declared.fault.ListFault.{ListFault}
-use Rattle.timeline.specs.Ratios.{before, at_most, natural, nanoseconds}
+use Rattle.timeline.specs.Ratios.{natural}
 use Rattle.timeline.specs.Limits.{breaks_limits}
-use Rattle.timeline.specs.Expansions.{Course, Member, Closed, Short, Endless, Timing, is_open, extents_at, expansion_at}
+use Rattle.timeline.specs.Expansions.{SegmentTimeline, Member, Closed, Short, Endless, Timing, is_open, extents_at, expansion_at}
 use Rattle.timeline.specs.Names.{part_of, list_refusal}
 
 abbrev pub is_after : Option ℤ → Time → Bool
@@ -34,33 +34,33 @@ abbrev pub instant_of : Window → Time
 instant_of window = nanoseconds (unwrap_or window.until (pos 0))
 
 -- the whole expansion, an open end taken at the window's `until`
-abbrev pub expansion : Course → Window → List Timing
-expansion course window = expansion_at (instant_of window) course
+abbrev pub expansion : SegmentTimeline → Window → List Timing
+expansion timeline window = expansion_at (instant_of window) timeline
 
 -- the listed segments from a place in the whole expansion on
-abbrev pub listed_from : ℕ → Course → Window → List Timing
-listed_from place course window = listed window (drop place (expansion course window))
+abbrev pub listed_from : ℕ → SegmentTimeline → Window → List Timing
+listed_from place timeline window = listed window (drop place (expansion timeline window))
 
 -- whether segments that go on to an open end reach one that breaks the limits
-abbrev pub reaches_fault : Course → Window → Member → Bool
-reaches_fault course window (Closed x) = false
-reaches_fault course window (Short x) = false
-reaches_fault course window (Endless x) = list_any (breaks_limits course.ticks course.origin) (extents_at (instant_of window) (Endless x))
+abbrev pub reaches_fault : SegmentTimeline → Window → Member → Bool
+reaches_fault timeline window (Closed x) = false
+reaches_fault timeline window (Short x) = false
+reaches_fault timeline window (Endless x) = list_any (breaks_limits timeline.ticks timeline.origin) (extents_at (instant_of window) (Endless x))
 
-abbrev pub is_out_of_range : Course → Window → Bool
-is_out_of_range course window = list_any (reaches_fault course window) course.members
+abbrev pub is_out_of_range : SegmentTimeline → Window → Bool
+is_out_of_range timeline window = list_any (reaches_fault timeline window) timeline.members
 
 -- the number of listed segments
-abbrev pub answered_count : Course → Window → Result ℕ TimeFault
-answered_count course window = if is_out_of_range course window then Err Range else Ok (length (listed window (expansion course window)))
+abbrev pub answered_count : SegmentTimeline → Window → Result ℕ TimeFault
+answered_count timeline window = if is_out_of_range timeline window then Err Range else Ok (length (listed window (expansion timeline window)))
 
 -- an open end needs an instant
-abbrev pub IsWindowOf : Course → Window → Type 0
-IsWindowOf course window = is_open course.members ≡ true → IsSome window.until
+abbrev pub IsWindowOf : SegmentTimeline → Window → Type 0
+IsWindowOf timeline window = is_open timeline.members ≡ true → IsSome window.until
 
 -- `count` doesn't answer Range
-abbrev pub IsReached : Course → Window → Type 0
-IsReached course window = is_out_of_range course window ≡ false
+abbrev pub IsReached : SegmentTimeline → Window → Type 0
+IsReached timeline window = is_out_of_range timeline window ≡ false
 
 -- a place before the first listed segment, where there is one
 pub record IsFirstListed (window : Window) (xs : List Timing) (place : ℕ) : Type 0 where
@@ -76,12 +76,12 @@ abbrev pub timing_of : Span → Timing
 timing_of span = record { start = time_of span.start; end = time_of span.end; number = span.number }
 
 -- the segment's media time
-abbrev pub media_time : Course → Timing → ℕ
-media_time course x = natural (x.start.ticks +ℤ pos course.origin)
+abbrev pub media_time : SegmentTimeline → Timing → ℕ
+media_time timeline x = natural (x.start.ticks +ℤ pos timeline.origin)
 
 -- the address and range of a segment
-abbrev pub part_of_timing : Course → Timing → Result Part ListFault
-part_of_timing course x = part_of course.names (x.number - course.first_number) x.number (media_time course x)
+abbrev pub part_of_timing : SegmentTimeline → Timing → Result Part ListFault
+part_of_timing timeline x = part_of timeline.names (x.number - timeline.first_number) x.number (media_time timeline x)
 
 -- what a `Segment` is
 pub record Made : Type 0 where
@@ -90,14 +90,14 @@ pub record Made : Type 0 where
 
 -- what a `Listing` has not made yet
 pub record Rest : Type 0 where
-  pub course : Course
+  pub timeline : SegmentTimeline
   pub left : List Timing
 
 -- the next segment was made, with its own address
 pub record IsMade (old : Rest) (made : Made) (new : Rest) : Type 0 where
   pub next : old.left ≡ made.times ∷ new.left
-  pub part : part_of_timing old.course made.times ≡ Ok made.part
-  pub course : new.course ≡ old.course
+  pub part : part_of_timing old.timeline made.times ≡ Ok made.part
+  pub timeline : new.timeline ≡ old.timeline
 
 -- no segment was left
 pub record IsDone (old new : Rest) : Type 0 where
@@ -108,7 +108,7 @@ pub record IsDone (old new : Rest) : Type 0 where
 pub record IsHeld (old : Rest) (fault : ListFault) (new : Rest) : Type 0 where
   pub same : new ≡ old
   pub some : IsSome (slice_get old.left 0)
-  pub refused : IfSome (list_refusal fault) (λ f. IfSome (slice_get old.left 0) (λ x. part_of_timing old.course x ≡ Err f))
+  pub refused : IfSome (list_refusal fault) (λ f. IfSome (slice_get old.left 0) (λ x. part_of_timing old.timeline x ≡ Err f))
 
 -- how many segments a call made
 abbrev pub made_count : Result (Option Made) ListFault → ℕ
@@ -117,9 +117,9 @@ made_count (Ok None) = 0
 made_count (Err fault) = 0
 
 -- a segment's number and media time are those of a name
-pub record CanBeNamed (course : Course) (x : Timing) : Type 0 where
-  pub numbered : course.first_number ≤ x.number
-  pub timed : media_time course x < 2 ^ 64
+pub record CanBeNamed (timeline : SegmentTimeline) (x : Timing) : Type 0 where
+  pub numbered : timeline.first_number ≤ x.number
+  pub timed : media_time timeline x < 2 ^ 64
 
-abbrev pub IsWithin : Course → List Timing → Type 0
-IsWithin course left = All (CanBeNamed course) left
+abbrev pub IsWithin : SegmentTimeline → List Timing → Type 0
+IsWithin timeline left = All (CanBeNamed timeline) left

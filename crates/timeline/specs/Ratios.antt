@@ -1,14 +1,6 @@
 -- How often one time fits into another.
-use Rattle.std.specs.Prelude.{ℕ, ◌+◌, ◌-◌, ◌*◌, ◌/◌, ℤ, pos, negsuc, Bool, int_lt, int_le, if◌then◌else◌}
-use Rattle.exact_time.specs.Time.{Time, cross}
-
--- x before y
-abbrev pub before : Time → Time → Bool
-before x y = int_lt (cross x y) (cross y x)
-
--- x at or before y
-abbrev pub at_most : Time → Time → Bool
-at_most x y = int_le (cross x y) (cross y x)
+use Rattle.std.specs.Prelude.{ℕ, ◌+◌, ◌-◌, ◌*◌, ◌/◌, ℤ, pos, negsuc, if◌then◌else◌}
+use Rattle.exact_time.specs.Time.{Time, before}
 
 abbrev pub earlier : Time → Time → Time
 earlier x y = if before y x then y else x
@@ -26,6 +18,3 @@ steps_within length step = (natural length.ticks * step.scale) / (length.scale *
 unfoldable pub steps_to_cover : Time → Time → ℕ
 steps_to_cover length step = let whole = length.scale * natural step.ticks in
     (natural length.ticks * step.scale + (whole - 1)) / whole
-
-abbrev pub nanoseconds : ℤ → Time
-nanoseconds count = record { ticks = count; scale = 1000000000 }

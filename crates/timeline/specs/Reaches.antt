@@ -6,13 +6,13 @@ use Rattle.timeline.specs.declared.entry.SEntry.{SEntry}
 use Rattle.timeline.specs.declared.entry.Scale.{Scale}
 use Rattle.timeline.specs.declared.entry.End.{End}
 use Rattle.timeline.specs.declared.fault.TimeFault.{TimeFault}
-use Rattle.timeline.specs.declared.layout.Layout.{Layout}
+use Rattle.timeline.specs.declared.builder.RunsBuilder.{RunsBuilder}
 use Rattle.timeline.specs.declared.limits.Limits.{Limits}
 use Rattle.timeline.specs.declared.timelines.Reach.{Reach as Found}
 use Rattle.timeline.specs.declared.timelines.Reach.TheVariants.{Count, Open, Nowhere}
 use Rattle.timeline.specs.Expansions.{Extent, Member, Closed, Short, repeated}
 use Rattle.timeline.specs.Faults.{refusal, segment_fault}
-use Rattle.timeline.specs.Layouts.{IsLaidOut, IsInTime, breaks_in, former_end, members_so_far}
+use Rattle.timeline.specs.Building.{IsLaidOut, IsInTime, breaks_in, former_end, members_so_far}
 use Rattle.timeline.specs.Timelines.{Reach, Unending, count_of, extent_from, members_of, members_from, expansion_of_timeline, reach_of}
 
 -- the segments from a start on that it takes up to a bound
@@ -48,11 +48,11 @@ pub record AreLimitsOf (scale : Scale) (limits : Limits) : Type 0 where
   pub origin : limits.origin ≡ scale.offset
 
 -- more S may follow, or none do
-abbrev pub GoesOn : Layout → List SEntry → Type 0
+abbrev pub GoesOn : RunsBuilder → List SEntry → Type 0
 GoesOn l later = (IsInTime l × IsNone l.endless) ⊎ (later ≡ [])
 
 -- the segments of some S are in the row, and those of the others are judged from there on
-pub record IsSoFar (scale : Scale) (end : End) (entries : List SEntry) (l : Layout) (rest : List SEntry) : Type 0 where
+pub record IsSoFar (scale : Scale) (end : End) (entries : List SEntry) (l : RunsBuilder) (rest : List SEntry) : Type 0 where
   pub limits : AreLimitsOf scale l.limits
   pub laid : IsLaidOut l
   pub lasting : list_any (λ s. s.d == 0) rest ≡ false
@@ -61,7 +61,7 @@ pub record IsSoFar (scale : Scale) (end : End) (entries : List SEntry) (l : Layo
   pub judged : segment_fault (breaks_in l.limits) None (expansion_of_timeline scale end entries) ≡ segment_fault (breaks_in l.limits) (former_end l) (members_from scale end l.former rest)
 
 -- the members are in the row, and have no fault
-pub record AreLaidOut (scale : Scale) (members : List Member) (l : Layout) : Type 0 where
+pub record AreLaidOut (scale : Scale) (members : List Member) (l : RunsBuilder) : Type 0 where
   pub limits : AreLimitsOf scale l.limits
   pub laid : IsLaidOut l
   pub members_are : members_so_far l ≡ members

@@ -1,18 +1,18 @@
 -- The segments of a duration while they are put in a row.
 use Rattle.std.specs.Prelude.{◌≡◌, ℕ, ◌+◌, ◌*◌, pos, Bool, true, false, List, [], ◌∷◌, ◌++◌, map, IfSome, IsNone, Option, Some, None}
 use Rattle.std.specs.List.{list_any}
-use Rattle.exact_time.specs.Time.{in_units}
+use Rattle.exact_time.specs.Time.{in_units, nanoseconds}
 use Rattle.timeline.specs.declared.entry.End.{End}
 use Rattle.timeline.specs.declared.entry.End.TheVariants.{At}
 use Rattle.timeline.specs.declared.fault.TimeFault.{TimeFault}
 use Rattle.timeline.specs.declared.fault.TimeFault.TheVariants.{Range, ListLength}
-use Rattle.timeline.specs.declared.layout.Layout.{Layout}
+use Rattle.timeline.specs.declared.builder.RunsBuilder.{RunsBuilder}
 use Rattle.timeline.specs.declared.limits.Limits.{Limits}
-use Rattle.timeline.specs.Ratios.{earlier, nanoseconds, steps_to_cover}
+use Rattle.timeline.specs.Ratios.{earlier, steps_to_cover}
 use Rattle.timeline.specs.Expansions.{Extent, Member, Closed, repeated}
 use Rattle.timeline.specs.Durations.{expansion_of_names}
 use Rattle.timeline.specs.Faults.{begins_late, extents_break, fault_if, is_too_many, members_by, or_fault, refusal}
-use Rattle.timeline.specs.Layouts.{IsInTime, IsLaidOut, breaks_in, extent_in, members_so_far}
+use Rattle.timeline.specs.Building.{IsInTime, IsLaidOut, breaks_in, extent_in, members_so_far}
 use Rattle.timeline.specs.Limits.{breaks_limits}
 
 -- so many segments from the Period's start on
@@ -20,7 +20,7 @@ abbrev pub row_of : Limits → ℕ → ℕ → List Extent
 row_of l duration count = repeated count (extent_in l 0 duration)
 
 -- nothing is in the row yet, and times are counted from the Period's start
-pub record IsFresh (l : Layout) : Type 0 where
+pub record IsFresh (l : RunsBuilder) : Type 0 where
   pub laid : IsInTime l
   pub closed : IsNone l.endless
   pub none : members_so_far l ≡ []
@@ -29,7 +29,7 @@ pub record IsFresh (l : Layout) : Type 0 where
   pub origin : l.limits.origin ≡ 0
 
 -- so many whole segments are in the row, and none breaks the limits
-pub record IsRow (limits : Limits) (duration count : ℕ) (l : Layout) : Type 0 where
+pub record IsRow (limits : Limits) (duration count : ℕ) (l : RunsBuilder) : Type 0 where
   pub laid : IsInTime l
   pub closed : IsNone l.endless
   pub limits_are : l.limits ≡ limits
@@ -46,7 +46,7 @@ abbrev pub last_extent : ℕ → ℕ → ℕ → ℕ → Extent
 last_extent ticks length start duration = record { start = in_units ticks start; end = earlier (in_units ticks (start + duration)) (nanoseconds (pos length)) }
 
 -- one more segment is in the row, which doesn't break the limits
-pub record IsLast (old : Layout) (x : Extent) (new : Layout) : Type 0 where
+pub record IsLast (old : RunsBuilder) (x : Extent) (new : RunsBuilder) : Type 0 where
   pub laid : IsLaidOut new
   pub limits_are : new.limits ≡ old.limits
   pub members : members_so_far new ≡ members_so_far old ++ Closed x ∷ []
@@ -67,7 +67,7 @@ counted_fault ticks end duration names =
     or_fault (fault_if (extents_break (breaks_limits ticks 0) (members_by ticks end duration names)) Range) (fault_if (is_too_many ticks end duration names) ListLength)
 
 -- the members are in the row, and they have no fault
-pub record AreCounted (ticks : ℕ) (members : List Member) (fault : Option TimeFault) (l : Layout) : Type 0 where
+pub record AreCounted (ticks : ℕ) (members : List Member) (fault : Option TimeFault) (l : RunsBuilder) : Type 0 where
   pub scale : l.limits.ticks ≡ ticks
   pub origin : l.limits.origin ≡ 0
   pub laid : IsLaidOut l

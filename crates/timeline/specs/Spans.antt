@@ -5,12 +5,12 @@ use Rattle.exact_time.specs.Tick.{time_of}
 use Rattle.exact_time.specs.declared.tick.Tick.{Tick}
 use Rattle.timeline.specs.declared.fault.TimeFault.{TimeFault}
 use Rattle.timeline.specs.declared.fault.TimeFault.TheVariants.{Range, Step}
-use Rattle.timeline.specs.declared.layout.Layout.{Layout}
+use Rattle.timeline.specs.declared.builder.RunsBuilder.{RunsBuilder}
 use Rattle.timeline.specs.declared.span.Span.{Span}
 use Rattle.timeline.specs.Durations.{expansion_of_list, extent_of}
 use Rattle.timeline.specs.Expansions.{Member}
 use Rattle.timeline.specs.Faults.{is_apart, lasts_no_time, segment_fault}
-use Rattle.timeline.specs.Layouts.{IsLaidOut, members_so_far}
+use Rattle.timeline.specs.Building.{IsLaidOut, members_so_far}
 use Rattle.timeline.specs.Limits.{span_breaks_limits}
 
 abbrev pub have_no_time : List Span → Bool
@@ -22,7 +22,7 @@ fault_of_span former span =
     if span_breaks_limits (extent_of span) then Some Range else (if is_apart (option_map time_of former) (extent_of span) then Some Step else None)
 
 -- some segments are in the row, and the others are judged from the last end on
-pub record IsRowSoFar (ticks : ℕ) (spans : List Span) (l : Layout) (former : Option Tick) (rest : List Span) : Type 0 where
+pub record IsRowSoFar (ticks : ℕ) (spans : List Span) (l : RunsBuilder) (former : Option Tick) (rest : List Span) : Type 0 where
   pub scale : l.limits.ticks ≡ ticks
   pub origin : l.limits.origin ≡ 0
   pub laid : IsLaidOut l
@@ -33,7 +33,7 @@ pub record IsRowSoFar (ticks : ℕ) (spans : List Span) (l : Layout) (former : O
   pub judged : segment_fault span_breaks_limits None (expansion_of_list spans) ≡ segment_fault span_breaks_limits (option_map time_of former) (expansion_of_list rest)
 
 -- the members are in the row, and have no fault
-pub record AreInRow (ticks : ℕ) (members : List Member) (l : Layout) : Type 0 where
+pub record AreInRow (ticks : ℕ) (members : List Member) (l : RunsBuilder) : Type 0 where
   pub scale : l.limits.ticks ≡ ticks
   pub origin : l.limits.origin ≡ 0
   pub laid : IsLaidOut l

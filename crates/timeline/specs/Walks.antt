@@ -1,12 +1,12 @@
 -- The segments that a walk has left.
 use Rattle.std.specs.Prelude.{◌≡◌, ℕ, ◌+◌, ◌<◌, ◌^◌, List, ◌++◌, take, Option, Some, None}
 use Rattle.timeline.specs.Expansions.{Extent, Timing, numbered}
-use Rattle.timeline.specs.Stretches.{AreLaidFrom, IsStretch, all_extents, extents_of_some}
-use Rattle.timeline.specs.declared.stretch.Stretch.{Stretch}
+use Rattle.timeline.specs.RunSegments.{AreLaidFrom, IsRun, all_extents, extents_of_some}
+use Rattle.timeline.specs.declared.run.Run.{Run}
 use Rattle.timeline.specs.declared.time_walk.TimeWalk.TheInside.{Inside}
 
 -- how many segments stand before the next one
-abbrev pub place_of : Option Stretch → ℕ
+abbrev pub place_of : Option Run → ℕ
 place_of None = 0
 place_of (Some s) = s.before
 
@@ -16,10 +16,10 @@ rest_of walk = extents_of_some walk.now ++ (all_extents walk.later.now ++ extent
 abbrev pub timings_left : Inside → List Timing
 timings_left walk = numbered (walk.first_number + place_of walk.now) (take walk.left (rest_of walk))
 
--- the stretch that the walk stands in is followed by the later ones
-abbrev pub StandsIn : Option Stretch → Inside → Type 0
+-- the run that the walk stands in is followed by the later ones
+abbrev pub StandsIn : Option Run → Inside → Type 0
 StandsIn None walk = walk.left ≡ 0
-StandsIn (Some s) walk = (0 < s.count) × IsStretch s × AreLaidFrom (s.before + s.count) walk.later.now walk.tail (s.before + walk.left)
+StandsIn (Some s) walk = (0 < s.count) × IsRun s × AreLaidFrom (s.before + s.count) walk.later.now walk.tail (s.before + walk.left)
 
 pub record IsWalk (walk : Inside) : Type 0 where
   pub stands : StandsIn walk.now walk

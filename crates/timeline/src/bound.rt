@@ -19,7 +19,7 @@ pub struct Bound {
 impl Bound {
     ghost use Rattle.exact_time.specs.Tick.{time_of};
     ghost use Rattle.timeline.specs.Bounds.{StandsFor, time_of_bound};
-    ghost use Rattle.timeline.specs.Ratios.{nanoseconds};
+    ghost use Rattle.exact_time.specs.Time.{nanoseconds};
 
     /// Nanoseconds. A time past every segment's end is brought nearer.
     pub fn nanos(count: i128) -> Bound

@@ -2,16 +2,15 @@
 ghost use Rattle.std.specs.Prelude.{◌≡◌, ◌+◌, ◌*◌, ◌<◌, ◌≤◌, pos, Some, None, IsNone, MatchResult};
 ghost use Rattle.std.specs.List.{list_any};
 ghost use Rattle.bridge_io.specs.Answer.{Gives};
-ghost use Rattle.exact_time.specs.Time.{in_units};
+ghost use Rattle.exact_time.specs.Time.{in_units, nanoseconds};
 ghost use Rattle.timeline.specs.Durations.{expansion_of_names};
 ghost use Rattle.timeline.specs.declared.entry.End.TheVariants.{At};
 ghost use Rattle.timeline.specs.Faults.{lacks_end, members_by};
-ghost use Rattle.timeline.specs.Layouts.{IsInTime, breaks_in};
+ghost use Rattle.timeline.specs.Building.{IsInTime, breaks_in};
 ghost use Rattle.timeline.specs.Limits.{breaks_limits};
-ghost use Rattle.timeline.specs.Ratios.{nanoseconds};
 ghost use Rattle.timeline.specs.Rows.{AreCounted, IsCountedFault, IsFresh, IsLast, IsRange, IsRow, count_until, counted_fault, cut_fault, last_extent, row_of};
 
-use crate::layout::Layout;
+use crate::builder::RunsBuilder;
 use crate::limits::{LONGEST, Limits};
 use crate::timelines::SECOND;
 use crate::{End, Names, Runs, Scale, TimeFault};
@@ -20,7 +19,7 @@ use std::alloc::Global;
 
 impl Runs {
     ghost use Rattle.timeline.specs.Faults.{refusal};
-    ghost use Rattle.timeline.specs.Courses.{course_of_duration};
+    ghost use Rattle.timeline.specs.SegmentTimelines.{timeline_of_duration};
 
     /// The segments of a Representation with `@duration` and without a SegmentTimeline (ISO/IEC 23009-1, 5.3.9.5.2).
     ///
@@ -37,7 +36,7 @@ impl Runs {
         scale: Scale,
         names: Names,
     ) -> Result<Runs, TimeFault>
-        ensures { Gives (λ runs. runs) refusal result (course_of_duration duration end live scale names) }
+        ensures { Gives (λ runs. runs) refusal result (timeline_of_duration duration end live scale names) }
     {
         if names.uses_time() {
             return Err(TimeFault::TimeWithoutTimeline);
@@ -48,8 +47,8 @@ impl Runs {
         if lacks_end(&end, names.len(), live) {
             return Err(TimeFault::NoEnd);
         }
-        let layout = counted(alloc, duration, &end, scale.ticks, names.len())?;
-        Ok(Runs::of(layout, scale, 0, names))
+        let builder = counted(alloc, duration, &end, scale.ticks, names.len())?;
+        Ok(Runs::of(builder, scale, 0, names))
     }
 }
 
@@ -70,28 +69,28 @@ fn counted(
     end: &End,
     ticks: u32,
     names: Option<u64>,
-) -> Result<Layout, TimeFault>
+) -> Result<RunsBuilder, TimeFault>
     requires lasting { 0 < duration }
     requires positive { 0 < ticks }
     ensures { let fault = counted_fault ticks end.now duration names in
         MatchResult result (AreCounted ticks (members_by ticks end.now duration names) fault) (IsCountedFault fault) }
 {
-    let mut layout = Layout::new(alloc, Limits { ticks, origin: 0 });
+    let mut builder = RunsBuilder::new(alloc, Limits { ticks, origin: 0 });
     match end {
         End::Unbounded => match names {
             None => {
-                layout.go_on(0, duration)?;
-                Ok(layout)
+                builder.go_on(0, duration)?;
+                Ok(builder)
             }
             Some(count) => {
-                add_some(&mut layout, duration, u128::from(count))?;
-                Ok(layout)
+                add_some(&mut builder, duration, u128::from(count))?;
+                Ok(builder)
             }
         },
         End::At(length) => {
             let count = count_until(*length, ticks, duration, names);
-            add_until(&mut layout, duration, count, *length, ticks)?;
-            Ok(layout)
+            add_until(&mut builder, duration, count, *length, ticks)?;
+            Ok(builder)
         }
     }
 }
@@ -111,57 +110,62 @@ fn count_until(length: Nanos, ticks: u32, duration: u64, names: Option<u64>) -> 
 }
 
 /// Adds the first segments.
-fn add_some(layout: &mut Layout, duration: u64, count: u128) -> Result<(), TimeFault>
+fn add_some(builder: &mut RunsBuilder, duration: u64, count: u128) -> Result<(), TimeFault>
     requires lasting { 0 < duration }
-    requires fresh { IsFresh layout.old }
-    ensures { let limits = layout.old.limits in
-        MatchResult result (λ _. IsRow limits duration count layout.new) (IsRange (list_any (breaks_in limits) (row_of limits duration count))) }
+    requires fresh { IsFresh builder.old }
+    ensures { let limits = builder.old.limits in
+        MatchResult result (λ _. IsRow limits duration count builder.new) (IsRange (list_any (breaks_in limits) (row_of limits duration count))) }
 {
     if count == 0 {
         return Ok(());
     }
-    layout.add(0, duration, count)
+    builder.add(0, duration, count)
 }
 
 /// Adds the first segments, of which the last one ends at the Period's end, where that is earlier.
 fn add_until(
-    layout: &mut Layout,
+    builder: &mut RunsBuilder,
     duration: u64,
     count: u128,
     length: Nanos,
     ticks: u32,
 ) -> Result<(), TimeFault>
     requires lasting { 0 < duration }
-    requires fresh { IsFresh layout.old }
-    requires scale { layout.old.limits.ticks ≡ ticks }
+    requires fresh { IsFresh builder.old }
+    requires scale { builder.old.limits.ticks ≡ ticks }
     ensures { let fault = cut_fault ticks length duration count in
-        MatchResult result (λ _. AreCounted ticks (expansion_of_names ticks (At length) duration count) fault layout.new) (IsCountedFault fault) }
+        MatchResult result (λ _. AreCounted ticks (expansion_of_names ticks (At length) duration count) fault builder.new) (IsCountedFault fault) }
 {
     let Some(whole) = count.checked_sub(1) else {
         return Ok(());
     };
-    add_some(layout, duration, whole)?;
-    if u128::from(length.0) * u128::from(ticks) <= layout.former() * SECOND {
+    add_some(builder, duration, whole)?;
+    if u128::from(length.0) * u128::from(ticks) <= builder.former() * SECOND {
         return Err(TimeFault::ListLength);
     }
-    add_last(layout, duration, length, ticks)
+    add_last(builder, duration, length, ticks)
 }
 
 /// Adds a segment behind the others, which ends at the Period's end, where that is earlier.
-fn add_last(layout: &mut Layout, duration: u64, length: Nanos, ticks: u32) -> Result<(), TimeFault>
+fn add_last(
+    builder: &mut RunsBuilder,
+    duration: u64,
+    length: Nanos,
+    ticks: u32,
+) -> Result<(), TimeFault>
     requires lasting { 0 < duration }
-    requires laid { IsInTime layout.old }
-    requires closed { IsNone layout.old.endless }
-    requires scale { layout.old.limits.ticks ≡ ticks }
-    requires origin { layout.old.limits.origin ≡ 0 }
-    requires begins { layout.old.former * 1000000000 < length * ticks }
-    ensures { let x = last_extent ticks length layout.old.former duration in
-        MatchResult result (λ _. IsLast layout.old x layout.new) (IsRange (breaks_in layout.old.limits x)) }
+    requires laid { IsInTime builder.old }
+    requires closed { IsNone builder.old.endless }
+    requires scale { builder.old.limits.ticks ≡ ticks }
+    requires origin { builder.old.limits.origin ≡ 0 }
+    requires begins { builder.old.former * 1000000000 < length * ticks }
+    ensures { let x = last_extent ticks length builder.old.former duration in
+        MatchResult result (λ _. IsLast builder.old x builder.new) (IsRange (breaks_in builder.old.limits x)) }
 {
-    let start = layout.former();
+    let start = builder.former();
     let bound = u128::from(length.0) * u128::from(ticks);
     if (start + u128::from(duration)) * SECOND <= bound {
-        return layout.add(start, duration, 1);
+        return builder.add(start, duration, 1);
     }
     if is_broken(length, start, ticks) {
         return Err(TimeFault::Range);
@@ -174,7 +178,7 @@ fn add_last(layout: &mut Layout, duration: u64, length: Nanos, ticks: u32) -> Re
         n: i128::from(length.0),
         scale: 1_000_000_000,
     };
-    layout.add_one(start, end)
+    builder.add_one(start, end)
 }
 
 /// Whether a segment breaks the limits that begins at a media time and ends at the Period's end.

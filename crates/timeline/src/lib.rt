@@ -1,24 +1,24 @@
 //! Segments in order: when each one begins and ends, and which number and address it has.
 //!
-//! The segments of a Representation are kept as stretches of equal segments, and never one by one: a
+//! The segments of a Representation are kept as runs of equal segments, and never one by one: a
 //! place among them is found by dividing, and a walk goes on from a place by adding.
 #![tactic(auto)]
 
 mod bound;
+mod builder;
 mod cursor;
 mod durations;
 mod entry;
 mod fault;
 mod laws;
-mod layout;
 mod limits;
 mod listing;
 mod names;
 mod plain;
+mod run;
 mod runs;
 mod span;
 mod spans;
-mod stretch;
 mod time_walk;
 mod timelines;
 mod walk;

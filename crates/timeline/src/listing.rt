@@ -66,7 +66,7 @@ impl<'a> Model for Listing<'a> {
 
     ghost use Rattle.timeline.specs.Listed.{IsWithin};
 
-    ghost view = { λ l. record { course = l.runs.now; left = l.walk } };
+    ghost view = { λ l. record { timeline = l.runs.now; left = l.walk } };
 
     ghost invariant = { λ l. IsWithin l.runs.now l.walk };
 }
@@ -76,7 +76,7 @@ impl<'a> Listing<'a> {
 
     pub(crate) fn over(runs: &'a Runs, walk: TimeWalk<'a>) -> Listing<'a>
         requires { IsWithin runs.now walk }
-        ensures course { result.course ≡ runs.now }
+        ensures timeline { result.timeline ≡ runs.now }
         ensures left { result.left ≡ walk.entry }
     {
         Listing { runs, walk }

@@ -2,9 +2,9 @@
 ghost use Rattle.std.specs.Prelude.{◌≡◌, ◌-◌, ◌<◌, ◌^◌, ◌+ℤ◌, pos, min, MatchOption};
 
 use crate::bound::Bound;
-use crate::layout::Layout;
+use crate::builder::RunsBuilder;
 use crate::limits::Limits;
-use crate::stretch::{Endless, Stretch};
+use crate::run::{Endless, Run};
 use crate::{Cursor, Listing, Names, Scale, TimeFault, TimeWalk, Window};
 use exact_time::Tick;
 use std::marker::Model;
@@ -14,10 +14,10 @@ use std::marker::Model;
 /// In a contract it is what its segments are at every instant, their numbers and their names.
 #[derive(Debug, Drop)]
 pub struct Runs {
-    pub(crate) stretches: Vec<Stretch>,
+    pub(crate) runs: Vec<Run>,
     /// The segments behind them that go on to an open end.
     pub(crate) endless: Option<Endless>,
-    /// How many segments the stretches have.
+    /// How many segments the runs have.
     pub(crate) total: u64,
     pub(crate) scale: Scale,
     /// The media time of the Period's start: `@presentationTimeOffset` in a timeline, otherwise 0.
@@ -26,13 +26,13 @@ pub struct Runs {
 }
 
 impl Model for Runs {
-    ghost use Rattle.timeline.specs.Expansions.{Course};
+    ghost use Rattle.timeline.specs.Expansions.{SegmentTimeline};
 
-    ghost Value = { Course };
+    ghost Value = { SegmentTimeline };
 
-    ghost use Rattle.timeline.specs.Kept.{course_of, IsKept};
+    ghost use Rattle.timeline.specs.Kept.{timeline_of, IsKept};
 
-    ghost view = { course_of };
+    ghost view = { timeline_of };
 
     ghost invariant = { IsKept };
 }
@@ -40,16 +40,16 @@ impl Model for Runs {
 impl Runs {
     ghost use Rattle.exact_time.specs.Tick.{time_of};
     ghost use Rattle.bridge_io.specs.Answer.{Gives};
-    ghost use Rattle.timeline.specs.Courses.{course_from, course_if_paired};
+    ghost use Rattle.timeline.specs.SegmentTimelines.{timeline_from, timeline_if_paired};
     ghost use Rattle.timeline.specs.Faults.{refusal};
     ghost use Rattle.timeline.specs.Laws.{EndsRise};
-    ghost use Rattle.timeline.specs.Layouts.{IsLaidOut, members_so_far};
+    ghost use Rattle.timeline.specs.Building.{IsLaidOut, members_so_far};
     ghost use Rattle.timeline.specs.Listed.{IsWindowOf, IsReached, IsFirstListed, IsPlaceAfter, answered_count, is_out_of_range, expansion, listed_from};
     ghost use Rattle.timeline.specs.declared.window.Window.{Window};
     ghost use Rattle.timeline.specs.Bounds.{time_of_bound};
     ghost use Rattle.timeline.specs.Places.{IsLastBegun, closed_count, closed_total, reached_count, count_until, open_extents};
     ghost use Rattle.timeline.specs.Ratios.{natural};
-    ghost use Rattle.timeline.specs.Stretches.{IsTail, extents_of_some};
+    ghost use Rattle.timeline.specs.RunSegments.{IsTail, extents_of_some};
 
     /// How many segments are listed in a window. It is Range exactly where segments that go on to an open end reach
     /// one, by the window's `until`, that breaks the limits of a segment. It takes no memory.
@@ -59,7 +59,7 @@ impl Runs {
         requires { IsWindowOf self.now window.now }
         ensures { result ≡ answered_count self.now window.now }
     {
-        let _ = &self.stretches; // opens the value, for what it keeps
+        let _ = &self.runs; // opens the value, for what it keeps
         if self.is_broken(window) {
             return Err(TimeFault::Range);
         }
@@ -75,7 +75,7 @@ impl Runs {
         requires reached { IsReached self.now window.now }
         ensures { IsFirstListed window.now (expansion self.now window.now) result }
     {
-        let _ = &self.stretches; // opens the value, for what it keeps
+        let _ = &self.runs; // opens the value, for what it keeps
         Cursor::at(self.place(window.low()))
     }
 
@@ -86,7 +86,7 @@ impl Runs {
         ensures { (window : Window) → IsWindowOf self.now window → IsReached self.now window →
             IsPlaceAfter (time_of end) (expansion self.now window) result }
     {
-        let _ = &self.stretches; // opens the value, for what it keeps
+        let _ = &self.runs; // opens the value, for what it keeps
         Cursor::at(self.place(Bound::tick(end)))
     }
 
@@ -102,7 +102,7 @@ impl Runs {
         let left = self.finish(window).saturating_sub(begin);
         let tail = self.tail(window);
         TimeWalk::from(
-            self.stretches.as_slice(),
+            self.runs.as_slice(),
             tail,
             begin,
             left,
@@ -117,23 +117,23 @@ impl Runs {
         requires window { IsWindowOf self.now window.now }
         requires reached { IsReached self.now window.now }
         ensures segments { result.left ≡ listed_from from.now self.now window.now }
-        ensures course { result.course ≡ self.now }
+        ensures timeline { result.timeline ≡ self.now }
     {
-        let _ = &self.stretches; // opens the value, for what it keeps
+        let _ = &self.runs; // opens the value, for what it keeps
         Listing::over(self, self.walk(from, window))
     }
 
-    pub(crate) fn of(layout: Layout, scale: Scale, origin: u64, names: Names) -> Runs
-        requires laid { IsLaidOut layout }
-        requires ticks { layout.limits.ticks ≡ scale.ticks }
-        requires origin { layout.limits.origin ≡ origin }
-        requires rising { EndsRise (members_so_far layout) }
-        ensures { result ≡ course_from scale origin names (members_so_far layout) }
+    pub(crate) fn of(builder: RunsBuilder, scale: Scale, origin: u64, names: Names) -> Runs
+        requires laid { IsLaidOut builder }
+        requires ticks { builder.limits.ticks ≡ scale.ticks }
+        requires origin { builder.limits.origin ≡ origin }
+        requires rising { EndsRise (members_so_far builder) }
+        ensures { result ≡ timeline_from scale origin names (members_so_far builder) }
     {
         Runs {
-            stretches: layout.stretches,
-            endless: layout.endless,
-            total: layout.total,
+            runs: builder.runs,
+            endless: builder.endless,
+            total: builder.total,
             scale,
             origin,
             names,
@@ -142,21 +142,21 @@ impl Runs {
 
     /// The segments with their names, unless these are a list of another length.
     pub(crate) fn paired(
-        layout: Layout,
+        builder: RunsBuilder,
         scale: Scale,
         origin: u64,
         names: Names,
     ) -> Result<Runs, TimeFault>
-        requires laid { IsLaidOut layout }
-        requires ticks { layout.limits.ticks ≡ scale.ticks }
-        requires origin { layout.limits.origin ≡ origin }
-        requires rising { EndsRise (members_so_far layout) }
-        ensures { Gives (λ runs. runs) refusal result (course_if_paired scale origin names (members_so_far layout)) }
+        requires laid { IsLaidOut builder }
+        requires ticks { builder.limits.ticks ≡ scale.ticks }
+        requires origin { builder.limits.origin ≡ origin }
+        requires rising { EndsRise (members_so_far builder) }
+        ensures { Gives (λ runs. runs) refusal result (timeline_if_paired scale origin names (members_so_far builder)) }
     {
-        if !layout.is_paired(names.len()) {
+        if !builder.is_paired(names.len()) {
             return Err(TimeFault::ListLength);
         }
-        Ok(Runs::of(layout, scale, origin, names))
+        Ok(Runs::of(builder, scale, origin, names))
     }
 
     /// The segment's media time, for a template that asks for it.
@@ -177,23 +177,23 @@ impl Runs {
         place.min(u128::from(u64::MAX)) as u64
     }
 
-    /// How many segments of the stretches end at or before a bound.
+    /// How many segments of the runs end at or before a bound.
     fn ended_by(&self, bound: Bound) -> u64
         ensures { result ≡ closed_count self.now (time_of_bound bound) }
     {
         match self.last_begun(bound) {
-            Some(stretch) => stretch.before + stretch.ended_by(bound),
+            Some(begun) => begun.before + begun.ended_by(bound),
             None => 0,
         }
     }
 
-    /// The last stretch of which a segment ends at or before a bound. As ends rise, all before it do too.
-    fn last_begun(&self, bound: Bound) -> Option<&Stretch>
+    /// The last run of which a segment ends at or before a bound. As ends rise, all before it do too.
+    fn last_begun(&self, bound: Bound) -> Option<&Run>
         ensures { MatchOption result (closed_count self.now (time_of_bound bound) ≡ 0) (λ s. IsLastBegun self.now (time_of_bound bound) s.now) }
     {
-        let stretches = self.stretches.as_slice();
-        let begun = stretches.partition_point(|stretch| stretch.first_ends_by(bound));
-        stretches[..begun].last()
+        let runs = self.runs.as_slice();
+        let begun = runs.partition_point(|run| run.first_ends_by(bound));
+        runs[..begun].last()
     }
 
     /// The place behind the last listed segment.
@@ -209,7 +209,7 @@ impl Runs {
     }
 
     /// The segments that go on to an open end and are reached.
-    fn tail(&self, window: &Window) -> Option<Stretch>
+    fn tail(&self, window: &Window) -> Option<Run>
         requires window { IsWindowOf self.now window.now }
         requires reached { IsReached self.now window.now }
         ensures extents { extents_of_some result ≡ open_extents self.now window.now }

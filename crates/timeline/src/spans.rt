@@ -2,17 +2,16 @@
 ghost use Rattle.std.specs.Prelude.{◌≡◌, ◌<◌, ◌^◌, ◌*◌, pos, ◌*ℤ◌, false, Some, None, MatchResult, unsigned_abs};
 ghost use Rattle.bridge_io.specs.Answer.{Gives};
 ghost use Rattle.exact_time.specs.Tick.{time_of};
-ghost use Rattle.exact_time.specs.Time.{difference, seconds};
+ghost use Rattle.exact_time.specs.Time.{difference, seconds, before};
 ghost use Rattle.timeline.specs.Durations.{expansion_of_list, extent_of};
 ghost use Rattle.timeline.specs.Expansions.{lasting};
 ghost use Rattle.timeline.specs.Faults.{is_apart, lasts_no_time};
 ghost use Rattle.timeline.specs.Limits.{span_breaks_limits};
-ghost use Rattle.timeline.specs.Ratios.{before};
 ghost use Rattle.timeline.specs.Reaches.{IsTheirFault};
-ghost use Rattle.timeline.specs.Stretches.{one_extent};
+ghost use Rattle.timeline.specs.RunSegments.{one_extent};
 ghost use Rattle.timeline.specs.Spans.{AreInRow, fault_of_span, have_no_time};
 
-use crate::layout::Layout;
+use crate::builder::RunsBuilder;
 use crate::limits::{FARTHEST, LONGEST, Limits};
 use crate::{Names, Runs, Scale, Span, SpanList, TimeFault};
 use exact_time::Tick;
@@ -20,7 +19,7 @@ use std::alloc::Global;
 
 impl Runs {
     ghost use Rattle.timeline.specs.Faults.{refusal};
-    ghost use Rattle.timeline.specs.Courses.{course_of_list, IsList};
+    ghost use Rattle.timeline.specs.SegmentTimelines.{timeline_of_spans, IsList};
 
     /// Segments with these times, each with its name of a list. They are numbered by the scale, and the spans' own
     /// numbers aren't read.
@@ -34,14 +33,14 @@ impl Runs {
         names: Names,
     ) -> Result<Runs, TimeFault>
         requires { IsList names }
-        ensures { Gives (λ runs. runs) refusal result (course_of_list times.now scale names) }
+        ensures { Gives (λ runs. runs) refusal result (timeline_of_spans times.now scale names) }
     {
         let spans = times.as_slice();
         if have_no_time(spans) {
             return Err(TimeFault::ZeroDuration);
         }
-        let layout = in_row(alloc, spans, scale.ticks)?;
-        Runs::paired(layout, scale, 0, names)
+        let builder = in_row(alloc, spans, scale.ticks)?;
+        Runs::paired(builder, scale, 0, names)
     }
 }
 
@@ -59,23 +58,23 @@ fn lasts_no_time(span: &Span) -> bool
 }
 
 /// The segments in a row.
-fn in_row(alloc: Global, spans: &[Span], ticks: u32) -> Result<Layout, TimeFault>
+fn in_row(alloc: Global, spans: &[Span], ticks: u32) -> Result<RunsBuilder, TimeFault>
     requires lasting { have_no_time spans.now ≡ false }
     requires positive { 0 < ticks }
     ensures { let members = expansion_of_list spans.now in
         MatchResult result (AreInRow ticks members) (IsTheirFault span_breaks_limits members) }
 {
     let limits = Limits { ticks, origin: 0 };
-    let mut layout = Layout::new(alloc, limits);
+    let mut builder = RunsBuilder::new(alloc, limits);
     let mut former = None;
     let mut rest = spans;
     while let Some((span, later)) = rest.split_first() {
         judge(span, former)?;
-        layout.add_one(span.start, span.end)?;
+        builder.add_one(span.start, span.end)?;
         former = Some(span.end);
         rest = later;
     }
-    Ok(layout)
+    Ok(builder)
 }
 
 /// Judges a span on its limits and on its distance from the end of the one before it.

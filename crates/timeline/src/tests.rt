@@ -1,5 +1,5 @@
 ghost use Rattle.std.specs.Prelude.{◌≡◌, ◌<◌, IfOk};
-ghost use Rattle.timeline.specs.Courses.{IsList};
+ghost use Rattle.timeline.specs.SegmentTimelines.{IsList};
 ghost use Rattle.timeline.specs.Listed.{IsWindowOf};
 
 use super::*;

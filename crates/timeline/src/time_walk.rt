@@ -1,9 +1,9 @@
 // Times of segments one by one.
 ghost use Rattle.std.specs.Prelude.{◌≡◌, ◌+◌, ◌<◌, ◌^◌, ◌++◌, length};
-ghost use Rattle.timeline.specs.Stretches.{AreLaid, ArePassed, IsSplit, all_extents};
+ghost use Rattle.timeline.specs.RunSegments.{AreLaid, ArePassed, IsSplit, all_extents};
 
 use crate::Span;
-use crate::stretch::Stretch;
+use crate::run::Run;
 use std::marker::Model;
 
 /// The times and numbers of segments in order. The next ones take a few additions each, and no division.
@@ -11,11 +11,11 @@ use std::marker::Model;
 /// In a contract it is the times of the segments that are left.
 #[derive(Debug, Drop)]
 pub struct TimeWalk<'a> {
-    /// What is left of the stretch that the next segment stands in.
-    now: Option<Stretch>,
-    later: &'a [Stretch],
-    /// The segments behind those of the stretches.
-    tail: Option<Stretch>,
+    /// What is left of the run that the next segment stands in.
+    now: Option<Run>,
+    later: &'a [Run],
+    /// The segments behind those of the runs.
+    tail: Option<Run>,
     /// How many segments are left in all.
     left: u64,
     first_number: u64,
@@ -38,27 +38,27 @@ impl<'a> TimeWalk<'a> {
     ghost use Rattle.std.specs.Prelude.{[], Some, slice_get, MatchOption, take, drop};
     ghost use Rattle.timeline.specs.Expansions.{numbered};
     ghost use Rattle.timeline.specs.Listed.{timing_of};
-    ghost use Rattle.timeline.specs.Stretches.{extents_of_some, AreLaidWith};
+    ghost use Rattle.timeline.specs.RunSegments.{extents_of_some, AreLaidWith};
 
     /// So many segments from a place on.
     pub(crate) fn from(
-        stretches: &'a [Stretch],
-        tail: Option<Stretch>,
+        runs: &'a [Run],
+        tail: Option<Run>,
         place: u64,
         left: u64,
         first_number: u64,
     ) -> TimeWalk<'a>
-        requires laid { 0 < left → AreLaidWith stretches.now tail (place + left) }
+        requires laid { 0 < left → AreLaidWith runs.now tail (place + left) }
         requires countable { 0 < left → first_number + (place + left) < 2 ^ 64 }
-        ensures { result ≡ numbered (first_number + place) (take left (drop place (all_extents stretches.now ++ extents_of_some tail))) }
+        ensures { result ≡ numbered (first_number + place) (take left (drop place (all_extents runs.now ++ extents_of_some tail))) }
     {
         if left == 0 {
             return TimeWalk::at_end(first_number);
         }
-        let passed = ended_by_place(stretches, place);
-        match split(&stretches[passed..], tail) {
-            (Some(stretch), later, tail) => TimeWalk {
-                now: Some(stretch.from(place)),
+        let passed = ended_by_place(runs, place);
+        match split(&runs[passed..], tail) {
+            (Some(first), later, tail) => TimeWalk {
+                now: Some(first.from(place)),
                 later,
                 tail,
                 left,
@@ -88,11 +88,11 @@ impl<'a> TimeWalk<'a> {
         if self.left == 0 {
             return None;
         }
-        let stretch = self.now?;
+        let current = self.now?;
         Some(Span {
-            start: stretch.start,
-            end: stretch.end,
-            number: self.first_number + stretch.before,
+            start: current.start,
+            end: current.end,
+            number: self.first_number + current.before,
         })
     }
 
@@ -100,35 +100,32 @@ impl<'a> TimeWalk<'a> {
     pub(crate) fn advance(&mut self)
         ensures { self.new ≡ drop 1 self.old }
     {
-        let Some(stretch) = self.now else {
+        let Some(current) = self.now else {
             return;
         };
         self.left = self.left.saturating_sub(1);
-        match stretch.behind_first() {
+        match current.behind_first() {
             Some(rest) => self.now = Some(rest),
             None => (self.now, self.later, self.tail) = split(self.later, self.tail),
         }
     }
 }
 
-/// How many stretches stand before a place, from their first segment to their last one.
-fn ended_by_place(stretches: &[Stretch], place: u64) -> usize
-    requires { AreLaid 0 stretches.now (length (all_extents stretches.now)) }
-    ensures { ArePassed place stretches.now result }
+/// How many runs stand before a place, from their first segment to their last one.
+fn ended_by_place(runs: &[Run], place: u64) -> usize
+    requires { AreLaid 0 runs.now (length (all_extents runs.now)) }
+    ensures { ArePassed place runs.now result }
 {
-    stretches.partition_point(|stretch| stretch.before.saturating_add(stretch.count) <= place)
+    runs.partition_point(|run| run.before.saturating_add(run.count) <= place)
 }
 
-/// The first stretch, and those behind it.
-fn split(
-    stretches: &[Stretch],
-    tail: Option<Stretch>,
-) -> (Option<Stretch>, &[Stretch], Option<Stretch>)
-    ensures { IsSplit stretches.now tail result.0 result.1.now result.2 }
+/// The first run, and those behind it.
+fn split(runs: &[Run], tail: Option<Run>) -> (Option<Run>, &[Run], Option<Run>)
+    ensures { IsSplit runs.now tail result.0 result.1.now result.2 }
 {
-    match stretches.split_first() {
-        Some((stretch, later)) => (Some(*stretch), later, tail),
-        None => (tail, stretches, None),
+    match runs.split_first() {
+        Some((first, later)) => (Some(*first), later, tail),
+        None => (tail, runs, None),
     }
 }
 

@@ -3,12 +3,12 @@ ghost use Rattle.std.specs.Prelude.{◌≡◌, ◌<◌, ◌^◌, ◌==◌, ◌�
 ghost use Rattle.std.specs.List.{list_any};
 ghost use Rattle.bridge_io.specs.Answer.{Gives};
 ghost use Rattle.timeline.specs.Faults.{ends_open, is_unbounded};
-ghost use Rattle.timeline.specs.Layouts.{AreAdded, IsFaultOf, IsInTime, IsLaidOut};
+ghost use Rattle.timeline.specs.Building.{AreAdded, IsFaultOf, IsInTime, IsLaidOut};
 ghost use Rattle.timeline.specs.Limits.{breaks_limits};
 ghost use Rattle.timeline.specs.Reaches.{AreLaidOut, AreLimitsOf, GoesOn, IsReach, IsTheirFault, IsUpTo, members_of_entry, next_of, start_of};
 ghost use Rattle.timeline.specs.Timelines.{expansion_of_timeline, extent_from, reach_of};
 
-use crate::layout::Layout;
+use crate::builder::RunsBuilder;
 use crate::limits::Limits;
 use crate::{End, Names, Runs, SEntry, SList, Scale, TimeFault};
 use exact_time::ceil_count;
@@ -27,7 +27,7 @@ enum Reach {
 
 impl Runs {
     ghost use Rattle.timeline.specs.Faults.{refusal};
-    ghost use Rattle.timeline.specs.Courses.{course_of_timeline};
+    ghost use Rattle.timeline.specs.SegmentTimelines.{timeline_of_entries};
 
     /// The segments of a SegmentTimeline (ISO/IEC 23009-1, 5.3.9.6).
     ///
@@ -43,7 +43,7 @@ impl Runs {
         scale: Scale,
         names: Names,
     ) -> Result<Runs, TimeFault>
-        ensures { Gives (λ runs. runs) refusal result (course_of_timeline list.now end live scale names) }
+        ensures { Gives (λ runs. runs) refusal result (timeline_of_entries list.now end live scale names) }
     {
         let entries = list.as_slice();
         if have_no_time(entries) {
@@ -52,8 +52,8 @@ impl Runs {
         if lack_end(entries, end, live) {
             return Err(TimeFault::NoEnd);
         }
-        let layout = laid_out(alloc, entries, &end, scale)?;
-        Runs::paired(layout, scale, scale.offset, names)
+        let builder = laid_out(alloc, entries, &end, scale)?;
+        Runs::paired(builder, scale, scale.offset, names)
     }
 }
 
@@ -82,7 +82,12 @@ fn goes_on(entries: &[SEntry]) -> bool
 }
 
 /// The segments of the S elements in a row.
-fn laid_out(alloc: Global, entries: &[SEntry], end: &End, scale: Scale) -> Result<Layout, TimeFault>
+fn laid_out(
+    alloc: Global,
+    entries: &[SEntry],
+    end: &End,
+    scale: Scale,
+) -> Result<RunsBuilder, TimeFault>
     requires { list_any (λ s. s.d == 0) entries.now ≡ false }
     ensures { let members = expansion_of_timeline scale end.now entries.now in
         MatchResult result (AreLaidOut scale members) (IsTheirFault (breaks_limits scale.ticks scale.offset) members) }
@@ -91,40 +96,40 @@ fn laid_out(alloc: Global, entries: &[SEntry], end: &End, scale: Scale) -> Resul
         ticks: scale.ticks,
         origin: scale.offset,
     };
-    let mut layout = Layout::new(alloc, limits);
+    let mut builder = RunsBuilder::new(alloc, limits);
     let mut rest = entries;
     while let Some((entry, later)) = rest.split_first() {
-        add_entry(&mut layout, entry, later, end, scale)?;
+        add_entry(&mut builder, entry, later, end, scale)?;
         rest = later;
     }
-    Ok(layout)
+    Ok(builder)
 }
 
 /// Adds the segments of an S, which others follow.
 fn add_entry(
-    layout: &mut Layout,
+    builder: &mut RunsBuilder,
     entry: &SEntry,
     later: &[SEntry],
     end: &End,
     scale: Scale,
 ) -> Result<(), TimeFault>
     requires lasting { 0 < entry.now.d }
-    requires closed { IsNone layout.old.endless }
-    requires laid { IsInTime layout.old }
-    requires limits { AreLimitsOf scale layout.old.limits }
-    ensures members { let members = members_of_entry scale end.now layout.old.former entry.now later.now in
-        MatchResult result (λ _. AreAdded layout.old members layout.new) (λ fault. IsFaultOf layout.old members fault) }
-    ensures limits { layout.new.limits ≡ layout.old.limits }
-    ensures laid { OnOk result (IsLaidOut layout.new) }
-    ensures goes_on { OnOk result (GoesOn layout.new later.now) }
-    ensures former { OnOk result ((layout.new.former ≡ next_of scale end.now layout.old.former entry.now later.now) ⊎ (later.now ≡ [])) }
+    requires closed { IsNone builder.old.endless }
+    requires laid { IsInTime builder.old }
+    requires limits { AreLimitsOf scale builder.old.limits }
+    ensures members { let members = members_of_entry scale end.now builder.old.former entry.now later.now in
+        MatchResult result (λ _. AreAdded builder.old members builder.new) (λ fault. IsFaultOf builder.old members fault) }
+    ensures limits { builder.new.limits ≡ builder.old.limits }
+    ensures laid { OnOk result (IsLaidOut builder.new) }
+    ensures goes_on { OnOk result (GoesOn builder.new later.now) }
+    ensures former { OnOk result ((builder.new.former ≡ next_of scale end.now builder.old.former entry.now later.now) ⊎ (later.now ≡ [])) }
 {
-    let start = start_of(entry, layout.former());
+    let start = start_of(entry, builder.former());
     match reach_of(entry, start, later, end, scale) {
-        Reach::Count(count) => layout.add(start, entry.d, count),
-        Reach::Open => layout.go_on(start, entry.d),
+        Reach::Count(count) => builder.add(start, entry.d, count),
+        Reach::Open => builder.go_on(start, entry.d),
         Reach::Nowhere => {
-            layout.judge(start, entry.d)?;
+            builder.judge(start, entry.d)?;
             Err(TimeFault::Step)
         }
     }

@@ -1,6 +1,6 @@
 use Rattle.std.proofs.Common.{ap}
 use Rattle.exact_time.specs.Rounding.{differences}
-use Rattle.exact_time.specs.TimeOrder.{IsAtMost_refl}
+use Rattle.exact_time.proofs.TimeOrder.{IsAtMost_refl}
 use Rattle.exact_time.proofs.Printed.{floors-same}
 use Rattle.exact_time.proofs.laws.same_times_print_alike.Goals as goal
 

@@ -4,7 +4,7 @@ use Rattle.exact_time.specs.Time.{difference}
 use Rattle.exact_time.specs.Floor.{IsFloorIn, floor_in}
 use Rattle.exact_time.specs.Rounding.{printed, differences}
 use Rattle.exact_time.specs.Laws.{SumsAreFloors}
-use Rattle.exact_time.specs.TimeOrder.{IsAtMost_refl}
+use Rattle.exact_time.proofs.TimeOrder.{IsAtMost_refl}
 use Rattle.exact_time.proofs.Floors.{floor_in-difference_self, IsFloorIn-difference, IsFloorIn-next}
 use Rattle.exact_time.proofs.Printed.{sum-printed, rising-get, floors}
 use Rattle.exact_time.proofs.laws.sums_are_floors.Goals as goal

@@ -1,6 +1,6 @@
 use Rattle.std.proofs.Common.{sym, ◌∙◌, ap}
 use Rattle.exact_time.specs.Rounding.{differences}
-use Rattle.exact_time.specs.TimeOrder.{IsAtMost_refl}
+use Rattle.exact_time.proofs.TimeOrder.{IsAtMost_refl}
 use Rattle.exact_time.proofs.Floors.{floor_in-difference_self}
 use Rattle.exact_time.proofs.Printed.{printed-whole, floors}
 use Rattle.exact_time.proofs.laws.whole_units_stay.Goals as goal

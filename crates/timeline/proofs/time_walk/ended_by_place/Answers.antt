@@ -2,15 +2,15 @@ use Rattle.std.proofs.Common.{◌≡◌, ◌+◌, min, leb, Bool, true, false, l
 use Rattle.std.proofs.lemmas.Bool.{leb-true, le-leb}
 use Rattle.std.proofs.lemmas.List.Sorted.{IsPartitionPoint-from_clause}
 use Rattle.std.specs.List.Sorted.{IsPartitionedBy, IsPartitionPoint}
-use Rattle.timeline.specs.Stretches.{all_extents}
-use Rattle.timeline.specs.declared.stretch.Stretch.{Stretch}
+use Rattle.timeline.specs.RunSegments.{all_extents}
+use Rattle.timeline.specs.declared.run.Run.{Run}
 use Rattle.timeline.proofs.WalkLemmas.{ends_laid, passed_at}
 use Rattle.timeline.proofs.time_walk.ended_by_place.Goals as goal
 
 pub returns : goal.returns
 returns c =
-    let xs = c.args.stretches.now in
-    let ends : Stretch → Bool = λ s. leb (min (s.before + s.count) 18446744073709551615) c.args.place in
+    let xs = c.args.runs.now in
+    let ends : Run → Bool = λ s. leb (min (s.before + s.count) 18446744073709551615) c.args.place in
     let sorted : IsPartitionedBy ends xs = λ i j d order within early.
     le-leb (min ((get_or xs i d).before + (get_or xs i d).count) 18446744073709551615) c.args.place
     (omega (arith, ends_laid 0 (length (all_extents xs)) xs i j d c.requires order within, leb-true (min ((get_or xs j d).before + (get_or xs j d).count) 18446744073709551615) c.args.place early)) in

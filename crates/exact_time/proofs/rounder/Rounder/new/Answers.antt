@@ -1,6 +1,6 @@
 use Rattle.std.proofs.Common.{sym}
 use Rattle.exact_time.specs.Tick.{time_of}
-use Rattle.exact_time.specs.TimeOrder.{IsAtMost_refl}
+use Rattle.exact_time.proofs.TimeOrder.{IsAtMost_refl}
 use Rattle.exact_time.proofs.Floors.{floor_in-difference_self}
 use Rattle.exact_time.proofs.rounder.Rounder.new.Goals as goal
 

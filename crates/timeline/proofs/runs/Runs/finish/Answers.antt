@@ -1,5 +1,5 @@
 use Rattle.std.proofs.Common.{◌∙◌}
-use Rattle.timeline.proofs.RunLemmas.{some_high, none_high, finish_none_is, finish_some_is}
+use Rattle.timeline.proofs.RunsLemmas.{some_high, none_high, finish_none_is, finish_some_is}
 use Rattle.timeline.proofs.runs.Runs.finish.Goals as goal
 
 pub returns-in-Some : goal.returns-in-Some

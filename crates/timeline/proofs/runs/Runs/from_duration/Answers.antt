@@ -4,4 +4,4 @@ use Rattle.timeline.proofs.runs.Runs.from_duration.Goals as goal
 
 pub of-requires-clause-rising : goal.of-requires-clause-rising
 of-requires-clause-rising c =
-    duration_rises c.args.scale.ticks c.args.duration c.args.end c.len-2.result c.in_ok-layout.layout c.args.scale.positive (omega (arith, c.if-duration-eq0.false)) c.in_ok-layout.ensures
+    duration_rises c.args.scale.ticks c.args.duration c.args.end c.len-2.result c.in_ok-builder.builder c.args.scale.positive (omega (arith, c.if-duration-eq0.false)) c.in_ok-builder.ensures

@@ -2,8 +2,8 @@ use Rattle.std.proofs.Common.{◌≡◌, ℕ, ◌*◌, ltb, ◌∙◌, refl, sym
 use Rattle.std.proofs.lemmas.Int.{ints}
 use Rattle.std.proofs.lemmas.Bool.{le-ltb, and_left}
 use Rattle.timeline.specs.Bounds.{time_of_bound}
-use Rattle.timeline.specs.Stretches.{endless_count}
-use Rattle.timeline.proofs.RunLemmas.{some_high, none_open_broken, broken_is, last_broken}
+use Rattle.timeline.specs.RunSegments.{endless_count}
+use Rattle.timeline.proofs.RunsLemmas.{some_high, none_open_broken, broken_is, last_broken}
 use Rattle.timeline.proofs.runs.Runs.is_broken.Goals as goal
 
 pub returns-in_default-2 : goal.returns-in_default-2

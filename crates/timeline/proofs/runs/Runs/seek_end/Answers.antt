@@ -1,7 +1,6 @@
 use Rattle.std.proofs.Common.{ℕ, subst, sym, ap, ◌∙◌}
-use Rattle.exact_time.specs.Time.{Time}
+use Rattle.exact_time.specs.Time.{Time, at_most}
 use Rattle.exact_time.specs.Tick.{time_of}
-use Rattle.timeline.specs.Ratios.{at_most}
 use Rattle.timeline.specs.Listed.{IsPlaceAfter, expansion}
 use Rattle.timeline.proofs.SeekLemmas.{seek_end_is}
 use Rattle.timeline.proofs.runs.Runs.seek_end.Goals as goal

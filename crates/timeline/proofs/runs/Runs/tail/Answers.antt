@@ -1,6 +1,6 @@
 use Rattle.std.proofs.Common.{◌∙◌, subst, ℕ}
-use Rattle.timeline.specs.Stretches.{IsTail}
-use Rattle.timeline.proofs.RunLemmas.{some_high, none_open_tail, tail_room, tail_extents, tail_before}
+use Rattle.timeline.specs.RunSegments.{IsTail}
+use Rattle.timeline.proofs.RunsLemmas.{some_high, none_open_tail, tail_room, tail_extents, tail_before}
 use Rattle.timeline.proofs.runs.Runs.tail.Goals as goal
 
 pub returns-in_default-2-clause-extents : goal.returns-in_default-2-clause-extents

@@ -1,22 +1,22 @@
 use Rattle.std.proofs.Common.{◌≡◌, ℕ, ◌+◌, ◌-◌, ◌<◌, ◌^◌, List, ◌++◌, max, take, drop, sym, ap, subst, ◌∙◌, arith}
-use Rattle.timeline.specs.Expansions.{Course, Extent, numbered}
-use Rattle.timeline.specs.Stretches.{AreLaidFrom, all_extents, extents_of_some}
-use Rattle.timeline.specs.declared.stretch.Stretch.{Stretch}
+use Rattle.timeline.specs.Expansions.{SegmentTimeline, Extent, numbered}
+use Rattle.timeline.specs.RunSegments.{AreLaidFrom, all_extents, extents_of_some}
+use Rattle.timeline.specs.declared.run.Run.{Run}
 use Rattle.timeline.specs.Listed.{instant_of}
-use Rattle.timeline.proofs.CourseLemmas.{open_at}
+use Rattle.timeline.proofs.SegmentTimelineLemmas.{open_at}
 use Rattle.timeline.proofs.SeekLemmas.{walk_laid, walk_all, walk_countable, walk_is}
 use Rattle.timeline.proofs.runs.Runs.walk.Goals as goal
 
 pub from-requires-clause-laid : goal.from-requires-clause-laid
 from-requires-clause-laid c = λ some.
-    subst (λ (xs : List Stretch). AreLaidFrom 0 xs c.tail-tail.result (c.max-begin.result + c.saturating_sub-left.result)) (sym c.as_slice.ensures.value)
+    subst (λ (xs : List Run). AreLaidFrom 0 xs c.tail-tail.result (c.max-begin.result + c.saturating_sub-left.result)) (sym c.as_slice.ensures.value)
     (walk_laid c.self.inside c.self.invariant c.args.self.now c.self.view_is c.args.window.now c.requires.window c.requires.reached c.tail-tail.result c.max-begin.result c.saturating_sub-left.result
     c.tail-tail.ensures.tail c.tail-tail.ensures.extents
     (c.saturating_sub-left.ensures ∙ ap (λ (n : ℕ). n - c.max-begin.result) c.finish.ensures) some)
 
 pub from-requires-clause-countable : goal.from-requires-clause-countable
 from-requires-clause-countable c = λ some.
-    let first : c.self.inside.scale.start_number ≡ c.args.self.now.first_number = ap (λ (course : Course). course.first_number) c.self.view_is in
+    let first : c.self.inside.scale.start_number ≡ c.args.self.now.first_number = ap (λ (timeline : SegmentTimeline). timeline.first_number) c.self.view_is in
     let small : c.self.inside.scale.start_number < 2 ^ 63 = c.self.inside.scale.countable in
     omega (
       arith,
@@ -29,12 +29,12 @@ pub returns : goal.returns
 returns c =
     let begin : ℕ = c.max-begin.result in
     let left : ℕ = c.saturating_sub-left.result in
-    let first : c.self.inside.scale.start_number ≡ c.args.self.now.first_number = ap (λ (course : Course). course.first_number) c.self.view_is in
+    let first : c.self.inside.scale.start_number ≡ c.args.self.now.first_number = ap (λ (timeline : SegmentTimeline). timeline.first_number) c.self.view_is in
     let all = walk_all c.self.inside c.self.invariant c.args.self.now c.self.view_is c.args.window.now c.requires.window c.requires.reached c.tail-tail.result c.tail-tail.ensures.extents in
     c.from.ensures
-    ∙ ap (λ (xs : List Stretch). numbered (c.self.inside.scale.start_number + begin) (take left (drop begin (all_extents xs ++ extents_of_some c.tail-tail.result)))) c.as_slice.ensures.value
+    ∙ ap (λ (xs : List Run). numbered (c.self.inside.scale.start_number + begin) (take left (drop begin (all_extents xs ++ extents_of_some c.tail-tail.result)))) c.as_slice.ensures.value
     ∙ ap (λ (xs : List Extent). numbered (c.self.inside.scale.start_number + begin) (take left (drop begin xs))) all
-    ∙ ap (λ (n : ℕ). numbered (n + begin) (take left (drop begin (all_extents c.self.inside.stretches.items ++ open_at (instant_of c.args.window.now) c.self.inside.endless)))) first
+    ∙ ap (λ (n : ℕ). numbered (n + begin) (take left (drop begin (all_extents c.self.inside.runs.items ++ open_at (instant_of c.args.window.now) c.self.inside.endless)))) first
     ∙ walk_is c.self.inside c.self.invariant c.args.self.now c.self.view_is c.args.window.now c.requires.window c.requires.reached c.low.result c.low.ensures c.args.from.now begin left
     (c.max-begin.ensures ∙ ap (λ (n : ℕ). max n c.place-2.result) c.place.ensures ∙ ap (max c.args.from.now) c.place-2.ensures)
     (c.saturating_sub-left.ensures ∙ ap (λ (n : ℕ). n - begin) c.finish.ensures)

@@ -1,6 +1,6 @@
 use Rattle.std.proofs.Common.{ℕ, ◌+◌, ◌++◌, take, drop, ◌∙◌, sym, ap, arith}
 use Rattle.timeline.specs.Expansions.{numbered}
-use Rattle.timeline.specs.Stretches.{all_extents, extents_of, extents_of_some}
+use Rattle.timeline.specs.RunSegments.{all_extents, extents_of, extents_of_some}
 use Rattle.timeline.specs.Walks.{place_of}
 use Rattle.timeline.proofs.WalkLemmas.{left_in, stands_in, goes_on_in, goes_on_behind, stands_behind, next_place}
 use Rattle.timeline.proofs.time_walk.TimeWalk.advance.Goals as goal
@@ -8,7 +8,7 @@ use Rattle.timeline.proofs.time_walk.TimeWalk.advance.Goals as goal
 pub returns-in-Some-behind_first : goal.returns-in-Some-behind_first
 returns-in-Some-behind_first c =
     let walk = c.self.inside in
-    let s = c.in-Some.stretch in
+    let s = c.in-Some.current in
     let stands = stands_in walk s c.in-Some.is c.self.invariant in
     ap (λ (n : ℕ). numbered (walk.first_number + c.in-Some-behind_first.rest.before) (take n (extents_of c.in-Some-behind_first.rest ++ (all_extents walk.later.now ++ extents_of_some walk.tail)))) c.saturating_sub-self-inside.ensures
     ∙ goes_on_in walk.first_number walk.left s c.in-Some-behind_first.rest walk.later.now walk.tail stands.0 c.in-Some-behind_first.ensures
@@ -17,7 +17,7 @@ returns-in-Some-behind_first c =
 pub returns-in-None : goal.returns-in-None
 returns-in-None c =
     let walk = c.self.inside in
-    let s = c.in-Some.stretch in
+    let s = c.in-Some.current in
     let stands = stands_in walk s c.in-Some.is c.self.invariant in
     ap (λ (n : ℕ). numbered (walk.first_number + place_of c.split.result.0) (take n (extents_of_some c.split.result.0 ++ (all_extents c.split.result.1.now ++ extents_of_some c.split.result.2)))) c.saturating_sub-self-inside.ensures
     ∙ goes_on_behind walk.first_number walk.left s walk.later.now c.split.result.1.now walk.tail c.split.result.0 c.split.result.2 stands.0 c.in-None.ensures stands.2 c.split.ensures
@@ -26,7 +26,7 @@ returns-in-None c =
 pub invariant_of-self-in-None : goal.invariant_of-self-in-None
 invariant_of-self-in-None c =
     let walk = c.self.inside in
-    let s = c.in-Some.stretch in
+    let s = c.in-Some.current in
     let stands = stands_in walk s c.in-Some.is c.self.invariant in
     record {
       stands = stands_behind (record { now = c.split.result.0; later = c.split.result.1; tail = c.split.result.2; left = c.saturating_sub-self-inside.result; first_number = walk.first_number })

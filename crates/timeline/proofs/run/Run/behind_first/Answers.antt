@@ -1,0 +1,10 @@
+use Rattle.std.proofs.Common.{arith}
+use Rattle.std.proofs.lemmas.Int.{ints}
+use Rattle.timeline.proofs.RunLemmas.{moved_to}
+use Rattle.timeline.proofs.run.Run.behind_first.Goals as goal
+
+pub returns : goal.returns
+returns c =
+    let s = c.args.self in
+    moved_to s _ 1 s.end c.later.result c.requires (omega arith) (omega arith) (omega arith)
+    (omega (arith, ints, c.requires.in_ticks (omega arith))) (omega (arith, c.requires.one_scale (omega arith))) (omega (arith, ints)) c.later.ensures.scale

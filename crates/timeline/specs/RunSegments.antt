@@ -1,0 +1,88 @@
+-- The segments that a run stands for.
+use Rattle.std.specs.Prelude.{◌≡◌, ℕ, ◌+◌, ◌-◌, ◌*◌, ◌<◌, ◌≤◌, ◌^◌, pos, ◌+ℤ◌, ◌<ℤ◌, List, [], ◌∷◌, length, drop, slice_index_or, flat_map, count_by, Option, Some, None}
+use Rattle.exact_time.specs.Time.{Time, at_most}
+use Rattle.exact_time.specs.Tick.{time_of}
+use Rattle.exact_time.specs.declared.tick.Tick.{Tick}
+use Rattle.timeline.specs.Expansions.{Extent, repeated, ended_by}
+use Rattle.timeline.specs.declared.run.Run.{Run}
+use Rattle.timeline.specs.declared.run.Endless.{Endless}
+
+abbrev pub one_extent : Tick → Tick → Extent
+one_extent start end = record { start = time_of start; end = time_of end }
+
+abbrev pub extents_of : Run → List Extent
+extents_of s = repeated s.count (one_extent s.start s.end)
+
+abbrev pub extents_of_some : Option Run → List Extent
+extents_of_some None = []
+extents_of_some (Some s) = extents_of s
+
+-- where several segments stand, they last `step` ticks of one scale
+pub record IsRun (s : Run) : Type 0 where
+  pub lasting : 0 < s.step
+  pub one_scale : 1 < s.count → s.start.scale ≡ s.end.scale
+  pub in_ticks : 1 < s.count → s.end.n ≡ s.start.n +ℤ pos s.step
+  pub near : (s.end.n +ℤ pos (s.count * s.step)) <ℤ pos (2 ^ 64)
+  pub countable : s.before + s.count < 2 ^ 64
+
+-- the segments of a run from a place on, of which there are some
+pub record IsRestOf (whole : Run) (place : ℕ) (rest : Run) : Type 0 where
+  pub is : IsRun rest
+  pub some : 0 < rest.count
+  pub placed : rest.before ≡ place
+  pub end : rest.before + rest.count ≡ whole.before + whole.count
+  pub extents : extents_of rest ≡ drop (place - whole.before) (extents_of whole)
+
+-- how many of these segments end at or before a time
+abbrev pub count_ended : Time → List Extent → ℕ
+count_ended time xs = count_by (λ x. at_most x.end time) xs
+
+-- the first one of segments that go on without end
+abbrev pub first_of : Endless → Extent
+first_of e = record { start = time_of e.start; end = record { ticks = e.start.n +ℤ pos e.step; scale = e.start.scale } }
+
+pub record IsEndless (e : Endless) : Type 0 where
+  pub lasting : 0 < e.step
+
+-- so many of the segments are a run
+pub record HasRoom (e : Endless) (count : ℕ) : Type 0 where
+  pub near : 0 < count → (e.start.n +ℤ pos ((count + 1) * e.step)) <ℤ pos (2 ^ 64)
+  pub countable : e.before + count < 2 ^ 64
+
+abbrev pub endless_count : Endless → Time → ℕ
+endless_count e instant = ended_by instant (first_of e)
+
+abbrev pub endless_extents : Endless → Time → List Extent
+endless_extents e instant = repeated (endless_count e instant) (first_of e)
+
+abbrev pub all_extents : List Run → List Extent
+all_extents runs = flat_map extents_of runs
+
+-- no run is empty, and each knows how many segments stand before it; `total` stand before their end
+abbrev pub AreLaid : ℕ → List Run → ℕ → Type 0
+AreLaid before [] total = before ≡ total
+AreLaid before (s ∷ later) total = (s.before ≡ before) × (0 < s.count) × IsRun s × AreLaid (before + s.count) later total
+
+abbrev pub IsTail : ℕ → Option Run → Type 0
+IsTail total None = Unit {0}
+IsTail total (Some s) = (s.before ≡ total) × (0 < s.count) × IsRun s
+
+-- so many segments stand before the first run, `finish` of all the segments are wanted, and they are there
+pub record AreLaidFrom (before : ℕ) (runs : List Run) (tail : Option Run) (finish : ℕ) : Type 0 where
+  pub laid : AreLaid before runs (before + length (all_extents runs))
+  pub tail_is : IsTail (before + length (all_extents runs)) tail
+  pub enough : finish ≤ before + length (all_extents runs) + length (extents_of_some tail)
+
+abbrev pub AreLaidWith : List Run → Option Run → ℕ → Type 0
+AreLaidWith runs tail finish = AreLaidFrom 0 runs tail finish
+
+-- what stands behind a run is split into the next one and what stands behind that
+abbrev pub IsSplit : List Run → Option Run → Option Run → List Run → Option Run → Type 0
+IsSplit [] tail now later rest = (now ≡ tail) × (later ≡ []) × (rest ≡ None)
+IsSplit (s ∷ runs) tail now later rest = (now ≡ Some s) × (later ≡ runs) × (rest ≡ tail)
+
+-- so many runs end at or before a place, and the next one doesn't
+pub record ArePassed (place : ℕ) (runs : List Run) (count : ℕ) : Type 0 where
+  pub within : count ≤ length runs
+  pub passed : (k : ℕ) (s : Run) → k < count → (slice_index_or runs k s).before + (slice_index_or runs k s).count ≤ place
+  pub next : (s : Run) → count < length runs → place < (slice_index_or runs count s).before + (slice_index_or runs count s).count
