@@ -35,5 +35,8 @@ before-true x y h = grind (arith, ints, nat_tests)
 pub before-false : (x y : Time) → before x y ≡ false → IsAtMost y x
 before-false x y h = grind (arith, ints, nat_tests)
 
+pub not_before-from : (x y : Time) → IsAtMost y x → before x y ≡ false
+not_before-from x y h = grind (arith, ints, nat_tests)
+
 pub before-from : (x y : Time) → IsBefore x y → before x y ≡ true
 before-from x y h = grind (arith, ints, nat_tests)

@@ -35,6 +35,9 @@ none_le-difference u x y h = units_le_in u 0 x y (omega (arith, mul-le-mul_left 
 pub le_units_out : (u k : ℕ) (x y : Time) → IsAtMost (difference x y) (in_units u k) → share x y * u ≤ k * (x.scale * y.scale) + share y x * u
 le_units_out u k x y h = omega (arith, share_le_out (difference x y) (in_units u k) h, ap (λ n. n * u) (difference_out x y))
 
+pub le_units_in : (u k : ℕ) (x y : Time) → share x y * u ≤ k * (x.scale * y.scale) + share y x * u → IsAtMost (difference x y) (in_units u k)
+le_units_in u k x y h = share_le_in (difference x y) (in_units u k) (omega (arith, ap (λ n. n * u) (difference_out x y)))
+
 -- from f to e is at most c units, and from s to e at least k + c: from s to f at least k
 pub units_le-before : (u k c : ℕ) (e f s : Time) → IsTime e → IsAtMost (difference e f) (in_units u c) → IsAtMost (in_units u (k + c)) (difference e s) → IsAtMost (in_units u k) (difference f s)
 units_le-before u k c e f s positive short long = units_le_in u k f s (le_of_mul-le-mul_left {k = e.scale} (omega (
@@ -49,6 +52,14 @@ units_le-after u k c e f s positive short long = units_le_in u (k + c) e s (le_o
   arith,
   mul-le-mul_left s.scale (units_le_out u c e f short),
   mul-le-mul_left e.scale (units_le_out u k f s long),
+)) positive)
+
+-- from s to f is at most k units, and from f to e at most c: from s to e at most k + c
+pub le_units-add : (u k c : ℕ) (e f s : Time) → IsTime f → IsAtMost (difference e f) (in_units u c) → IsAtMost (difference f s) (in_units u k) → IsAtMost (difference e s) (in_units u (k + c))
+le_units-add u k c e f s positive near nearer = le_units_in u (k + c) e s (le_of_mul-le-mul_left {k = f.scale} (omega (
+  arith,
+  mul-le-mul_left s.scale (le_units_out u c e f near),
+  mul-le-mul_left e.scale (le_units_out u k f s nearer),
 )) positive)
 
 -- more, less what is less, is more

@@ -15,7 +15,7 @@ use Rattle.timeline.specs.RunSegments.{AreLaid, all_extents, extents_of, one_ext
 use Rattle.timeline.specs.declared.runs.Runs.TheInside.{Inside}
 use Rattle.timeline.specs.declared.run.Run.{Run}
 use Rattle.timeline.proofs.SegmentTimelineLemmas.{open_at, extents-parts, closed-parts}
-use Rattle.timeline.proofs.KeptLemmas.{all_append, scales_laid, scales_open, length-laid, run_at}
+use Rattle.timeline.proofs.KeptLemmas.{kept_rises, all_append, scales_laid, scales_open, length-laid, run_at}
 use Rattle.timeline.proofs.Repeats.{count_ended-in}
 use Rattle.timeline.proofs.Splits.{SplitsAt, splits_front, splits_rest}
 use Rattle.timeline.proofs.PlaceLemmas.{HasScale, ends_of, ends_by_time, none_ended, front_ended, splits_rising, count_ended-append, count_ended-le}
@@ -97,7 +97,7 @@ splits_closed t r kept =
     let xs : List Extent = all_extents r.runs.items in
     let ends : List Extent = open_at t r.endless in
     let scales = all_append HasScale xs ends (scales_laid 0 r.runs.items r.total kept.laid) (scales_open t r.endless) in
-    let rising = subst (λ (ys : List Extent). AreRising (ends_of ys)) (extents-parts t xs r.endless) (kept.rising t) in
+    let rising = subst (λ (ys : List Extent). AreRising (ends_of ys)) (extents-parts t xs r.endless) (kept_rises r kept t) in
     (min (count_ended t (xs ++ ends)) (length xs), splits_front (ends_by_time t) (count_ended t (xs ++ ends)) xs ends (splits_rising t (xs ++ ends) scales rising))
 
 pub sorted_begun : (t : Time) (r : Inside) → IsKept r → IsPartitionedBy (begun t) r.runs.items

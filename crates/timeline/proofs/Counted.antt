@@ -18,15 +18,15 @@ use Rattle.timeline.specs.Ratios.{earlier, steps_to_cover}
 use Rattle.timeline.specs.Expansions.{Extent, Member, Closed, Endless, lasting, repeated, repeat_of}
 use Rattle.timeline.specs.Durations.{cut_at, extent_at, extents_by, expansion_of_names}
 use Rattle.timeline.specs.Faults.{begins_late, extents_break, fault_if, is_apart, is_too_many, members_by, or_fault, refusal, segment_fault}
-use Rattle.timeline.specs.Laws.{EndsRise}
+use Rattle.timeline.specs.Steady.{AreLasting, IsSteady}
 use Rattle.timeline.specs.Building.{AreAdded, IsFaultOf, IsInTime, breaks_in, extent_in, former_end, members_so_far, placed_in}
 use Rattle.timeline.specs.Limits.{breaks_limits}
 use Rattle.timeline.specs.Rows.{AreCounted, IsCountedFault, IsFresh, IsLast, IsRange, IsRow, count_until, counted_fault, cut_fault, last_extent, row_of}
 use Rattle.timeline.proofs.Ratios.{steps_to_cover-is, ceiling-is}
 use Rattle.exact_time.proofs.TimeOrder.{before-is, at_most-from, not_at_most-from}
-use Rattle.timeline.proofs.Judged.{former_end-none, former_end-some, head_breaks, head_passes, repeat-extent_in, touching}
+use Rattle.timeline.proofs.Judged.{not_long, former_end-none, former_end-some, head_breaks, head_passes, repeat-extent_in, touching}
 use Rattle.timeline.proofs.Reached.{IfSome-map}
-use Rattle.timeline.proofs.ExpansionsRise.{durations_rise, last_covers}
+use Rattle.timeline.proofs.ExpansionsRise.{IsOneRow, durations_row, row_lasting, row_steady, last_covers}
 
 pub count_until-is : (length ticks duration n : ℕ) → 0 < duration → IsCeiling (length * ticks) (duration * 1000000000) n → n ≡ steps_to_cover (nanoseconds (pos length)) (in_units ticks duration)
 count_until-is length ticks duration n some is =
@@ -375,10 +375,21 @@ second_none (Some f) late none = cc
 second_none None true none = cc
 second_none None false none = refl
 
-pub duration_rises : (ticks d : ℕ) (end : End) (names : Option ℕ) (l : RunsBuilder) → 0 < ticks → 0 < d → AreCounted ticks (members_by ticks end d names) (counted_fault ticks end d names) l → EndsRise (members_so_far l)
-duration_rises ticks d end names l positive some are =
-    subst (λ (ms : List Member). EndsRise ms) (sym are.members_are)
-    (durations_rise ticks d end names positive some (second_none (fault_if (extents_break (breaks_limits ticks 0) (members_by ticks end d names)) Range) (is_too_many ticks end d names) are.judged))
+first_none : (broken late : Bool) → or_fault (fault_if broken Range) (fault_if late ListLength) ≡ None → broken ≡ false
+first_none true late none = cc
+first_none false late none = refl
+
+module _ (ticks d : ℕ) (end : End) (names : Option ℕ) (l : RunsBuilder) (positive : 0 < ticks) (some : 0 < d) (are : AreCounted ticks (members_by ticks end d names) (counted_fault ticks end d names) l) where
+  one_row : IsOneRow (members_so_far l)
+  one_row = subst (λ (ms : List Member). IsOneRow ms) (sym are.members_are)
+      (durations_row ticks d positive some end names (second_none (fault_if (extents_break (breaks_limits ticks 0) (members_by ticks end d names)) Range) (is_too_many ticks end d names) are.judged))
+
+  pub duration_lasting : AreLasting (members_so_far l)
+  duration_lasting = row_lasting (members_so_far l) one_row
+
+  pub duration_steady : IsSteady (members_so_far l)
+  duration_steady = row_steady (breaks_limits ticks 0) (not_long ticks 0) (members_so_far l) one_row
+      (ap (extents_break (breaks_limits ticks 0)) are.members_are ∙ first_none (extents_break (breaks_limits ticks 0) (members_by ticks end d names)) (is_too_many ticks end d names) are.judged)
 
 -- ---- the parts of the code
 

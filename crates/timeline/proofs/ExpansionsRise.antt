@@ -1,11 +1,11 @@
 -- The ends of each kind of expansion rise.
-use Rattle.std.proofs.Common.{◌≡◌, ℕ, zero, suc, ◌+◌, ◌-◌, ◌*◌, ◌<◌, Bool, true, false, cond, ℤ, pos, negsuc, List, [], ◌∷◌, ◌++◌, map, Option, Some, None, refl, ap, inl, inr, arith}
-use Rattle.std.specs.Prelude.{◌==◌, ◌||◌, unwrap_or}
+use Rattle.std.proofs.Common.{◌≡◌, ℕ, zero, suc, ◌+◌, ◌-◌, ◌*◌, ◌<◌, Bool, true, false, cond, ℤ, pos, negsuc, List, [], ◌∷◌, ◌++◌, map, Option, Some, None, refl, ◌∙◌, sym, ap, subst, inl, inr, arith}
+use Rattle.std.specs.Prelude.{◌==◌, ◌||◌, ◌⊎◌, unwrap_or}
 use Rattle.std.specs.List.{list_any}
 use Rattle.std.proofs.lemmas.Int.{ints}
 use Rattle.std.proofs.lemmas.Bool.Decides.{nat_tests}
 use Rattle.std.proofs.Math.Nat.{mul-lt-mul_of_pos_left}
-use Rattle.exact_time.specs.Time.{Time, IsBefore, in_units, before, at_most, nanoseconds}
+use Rattle.exact_time.specs.Time.{Time, IsTime, IsBefore, in_units, before, at_most, nanoseconds}
 use Rattle.exact_time.proofs.TimeOrder.{before_or_at_most, at_most-false}
 use Rattle.timeline.specs.declared.entry.SEntry.{SEntry}
 use Rattle.timeline.specs.declared.entry.Scale.{Scale}
@@ -13,13 +13,17 @@ use Rattle.timeline.specs.declared.entry.End.{End}
 use Rattle.timeline.specs.declared.entry.End.TheVariants.{At, Unbounded}
 use Rattle.timeline.specs.declared.span.Span.{Span}
 use Rattle.timeline.specs.Ratios.{earlier, steps_to_cover}
-use Rattle.timeline.specs.Expansions.{Extent, Member, Closed, Short, Endless, extents, ended_by, repeated, repeat_of}
+use Rattle.timeline.specs.Expansions.{Extent, Member, Closed, Short, Endless, repeated, repeat_of}
 use Rattle.timeline.specs.Timelines.{Reach, Counted, UpTo, Unending, Nowhere, extent_from, reach_of, reach_of_next, count_of, count_up_to, members_of, members_from, expansion_of_timeline}
 use Rattle.timeline.specs.Durations.{extent_at, extents_by, cut_at, expansion_of_names, expansion_of_list, extent_of}
-use Rattle.timeline.specs.Faults.{lasts_no_time, begins_late}
+use Rattle.timeline.specs.Faults.{lasts_no_time, begins_late, extents_break, is_apart, is_too_many, members_by, segment_fault}
+use Rattle.timeline.specs.Limits.{too_long}
+use Rattle.timeline.specs.declared.fault.TimeFault.TheVariants.{Step}
 use Rattle.timeline.specs.Laws.{EndsRise, TimelinesRise, DurationsRise, ListsRise}
 use Rattle.timeline.proofs.Ratios.{steps_to_cover-is, ceiling, ceiling-le}
-use Rattle.timeline.proofs.Rises.{LastsTicks, Lasts-from_ticks, LastsTicks-repeat, RisesAfter, rising-from, repeated_rises, AreLasting, alone, ends_rise}
+use Rattle.timeline.proofs.Rises.{Lasts-from_ticks, LastsTicks-repeat, ends_rise, first_false, no_step, touching_own}
+use Rattle.timeline.specs.Steady.{Lasts, LastsTicks, AreLasting, IsSteady}
+use Rattle.timeline.proofs.Judged.{head_passes}
 
 pub neither : (a b : Bool) → (a || b) ≡ false → (a ≡ false) × (b ≡ false)
 neither true b h = cc
@@ -27,7 +31,7 @@ neither false b h = (refl, h)
 
 -- ---- times given one by one
 
-spans_last : (spans : List Span) → list_any (λ span. lasts_no_time (extent_of span)) spans ≡ false → AreLasting (expansion_of_list spans)
+pub spans_last : (spans : List Span) → list_any (λ span. lasts_no_time (extent_of span)) spans ≡ false → AreLasting (expansion_of_list spans)
 spans_last [] none = tt
 spans_last (span ∷ spans) none =
     let split = neither (lasts_no_time (extent_of span)) (list_any (λ s. lasts_no_time (extent_of s)) spans) none in
@@ -68,7 +72,7 @@ last_reach scale end (negsuc r) (next ∷ later) is = absurd (not_unending scale
 not_zero : (d : ℕ) → (d == 0) ≡ false → 0 < d
 not_zero d h = grind (arith, nat_tests)
 
-entries_last : (scale : Scale) (end : End) (former : ℕ) (entries : List SEntry) → list_any (λ s. s.d == 0) entries ≡ false → AreLasting (members_from scale end former entries)
+pub entries_last : (scale : Scale) (end : End) (former : ℕ) (entries : List SEntry) → list_any (λ s. s.d == 0) entries ≡ false → AreLasting (members_from scale end former entries)
 entries_last scale end former [] some = tt
 entries_last scale end former (s ∷ later) some =
     let split = neither (s.d == 0) (list_any (λ e. e.d == 0) later) some in
@@ -84,37 +88,95 @@ timelines_rise scale end entries some step = ends_rise (expansion_of_timeline sc
 
 -- ---- durations
 
-extents_closed : (instant : Time) (xs : List Extent) → extents instant (map Closed xs) ≡ xs
-extents_closed instant [] = refl
-extents_closed instant (x ∷ xs) = ap (λ (ys : List Extent). x ∷ ys) (extents_closed instant xs)
+-- each segment begins where the one before it ends
+abbrev pub AreJoined : Time → List Extent → Type 0
+AreJoined former [] = Unit {0}
+AreJoined former (x ∷ xs) = (x.start ≡ former) × Lasts x × AreJoined x.end xs
 
-after_none : (former : Time) (xs : List Extent) → RisesAfter (Some former) xs → RisesAfter None xs
-after_none former [] rises = tt
-after_none former (x ∷ xs) (first, rises) = rises
+-- segments in a row, or those of an open end
+abbrev pub IsOneRow : List Member → Type 0
+IsOneRow members = ((former : Time) × (xs : List Extent) × AreJoined former xs × (members ≡ map Closed xs)) ⊎ ((x : Extent) × LastsTicks x × (members ≡ Endless x ∷ []))
 
-closed_rise : (former : Time) (xs : List Extent) → RisesAfter (Some former) xs → EndsRise (map Closed xs)
-closed_rise former xs rises instant = rw (extents_closed instant xs) (rising-from xs (after_none former xs rises))
+joined_lasting : (former : Time) (xs : List Extent) → AreJoined former xs → AreLasting (map Closed xs)
+joined_lasting former [] joined = tt
+joined_lasting former (x ∷ xs) (at, is, joined) = (is, joined_lasting x.end xs joined)
+
+joined_steady : (breaks : Extent → Bool) → ((x : Extent) → breaks x ≡ false → too_long x ≡ false) → (former : Time) (xs : List Extent) → AreJoined former xs → extents_break breaks (map Closed xs) ≡ false →
+    segment_fault too_long (Some former) (map Closed xs) ≡ None
+joined_steady breaks weaker former [] joined none = refl
+joined_steady breaks weaker former (x ∷ xs) (at, is, joined) none =
+    let split = neither (breaks x) (extents_break breaks (map Closed xs)) none in
+    head_passes too_long (Some former) x (map Closed xs) (weaker x split.0) (ap (λ (f : Time). is_apart (Some f) x) (sym at) ∙ touching_own x is)
+    ∙ joined_steady breaks weaker x.end xs joined split.1
+
+from_first : (former : Time) (xs : List Extent) → segment_fault too_long (Some former) (map Closed xs) ≡ None → segment_fault too_long None (map Closed xs) ≡ None
+from_first former [] none = refl
+from_first former (x ∷ xs) none =
+    let kept = first_false (too_long x) (cond (is_apart (Some former) x) (Some Step) (segment_fault too_long (Some x.end) (map Closed xs))) none in
+    let near = no_step (is_apart (Some former) x) (segment_fault too_long (Some x.end) (map Closed xs)) kept.1 in
+    head_passes too_long None x (map Closed xs) kept.0 refl ∙ near.1
+
+pub row_lasting : (members : List Member) → IsOneRow members → AreLasting members
+row_lasting members is = elim is [
+  | inl row ↦ subst (λ (ms : List Member). AreLasting ms) (sym row.3) (joined_lasting row.0 row.1 row.2)
+  | inr alone ↦ subst (λ (ms : List Member). AreLasting ms) (sym alone.2) (alone.1, refl)
+]
+
+pub row_steady : (breaks : Extent → Bool) → ((x : Extent) → breaks x ≡ false → too_long x ≡ false) → (members : List Member) → IsOneRow members → extents_break breaks members ≡ false → IsSteady members
+row_steady breaks weaker members is none = elim is [
+  | inl row ↦
+      subst (λ (ms : List Member). IsSteady ms) (sym row.3)
+      (from_first row.0 row.1 (joined_steady breaks weaker row.0 row.1 row.2 (ap (extents_break breaks) (sym row.3) ∙ none)))
+  | inr alone ↦ subst (λ (ms : List Member). IsSteady ms) (sym alone.2) refl
+]
+
+joined_step : (former : Time) (xs : List Extent) → AreJoined former xs → segment_fault (λ _. false) (Some former) (map Closed xs) ≡ None
+joined_step former [] joined = refl
+joined_step former (x ∷ xs) (at, is, joined) =
+    head_passes (λ _. false) (Some former) x (map Closed xs) refl (ap (λ (f : Time). is_apart (Some f) x) (sym at) ∙ touching_own x is) ∙ joined_step x.end xs joined
+
+joined_rise : (former : Time) (xs : List Extent) → AreJoined former xs → EndsRise (map Closed xs)
+joined_rise former [] joined = ends_rise [] tt refl
+joined_rise former (x ∷ xs) (at, is, joined) =
+    ends_rise (Closed x ∷ map Closed xs) (is, joined_lasting x.end xs joined) (head_passes (λ _. false) None x (map Closed xs) refl refl ∙ joined_step x.end xs joined)
+
+row_rises : (members : List Member) → IsOneRow members → EndsRise members
+row_rises members is = elim is [
+  | inl row ↦ subst (λ (ms : List Member). EndsRise ms) (sym row.3) (joined_rise row.0 row.1 row.2)
+  | inr alone ↦ subst (λ (ms : List Member). EndsRise ms) (sym alone.2) (ends_rise (Endless alone.0 ∷ []) (alone.1, refl) refl)
+]
 
 module _ (ticks duration : ℕ) (positive : 0 < ticks) (some : 0 < duration) where
   more : (k : ℕ) → IsBefore (in_units ticks (k * duration)) (in_units ticks ((k + 1) * duration))
   more k = omega (arith, ints, mul-lt-mul_of_pos_left {m = k * duration} {n = (k + 1) * duration} (omega arith) positive)
 
-  by_rises : (count k : ℕ) → RisesAfter (Some (in_units ticks (k * duration))) (extents_by ticks duration k count)
+  by_joined : (count k : ℕ) → AreJoined (in_units ticks (k * duration)) (extents_by ticks duration k count)
   unfolding extents_by
-  by_rises zero k = tt
-  by_rises (suc count) k = (more k, by_rises count (k + 1))
+  by_joined zero k = tt
+  by_joined (suc count) k = (refl, record { start_is = positive; end_is = positive; ends = more k }, by_joined count (k + 1))
 
-  module _ (bound : Time) where
+  module _ (bound : Time) (is_bound : IsTime bound) where
     before_earlier : (former end : Time) → IsBefore former end → IsBefore former bound → IsBefore former (earlier end bound)
     before_earlier former end first second = elim (before bound end) as (λ b. IsBefore former (cond b bound end)) [ true ↦ second | false ↦ first ]
 
-    cut_rises : (count k last : ℕ) → k + count ≡ last + 1 → IsBefore (in_units ticks (last * duration)) bound → RisesAfter (Some (in_units ticks (k * duration))) (cut_at bound (extents_by ticks duration k count))
+    IsTime-earlier : (end : Time) → IsTime end → IsTime (earlier end bound)
+    IsTime-earlier end is_end = elim (before bound end) as (λ b. IsTime (cond b bound end)) [ true ↦ is_bound | false ↦ is_end ]
+
+    cut_joined : (count k last : ℕ) → k + count ≡ last + 1 → IsBefore (in_units ticks (last * duration)) bound → AreJoined (in_units ticks (k * duration)) (cut_at bound (extents_by ticks duration k count))
     unfolding extents_by
-    cut_rises zero k last is within = tt
-    cut_rises (suc zero) k last is within =
-        let same : k ≡ last = omega arith in
-        (before_earlier (in_units ticks (k * duration)) (in_units ticks ((k + 1) * duration)) (more k) (rw same within), tt)
-    cut_rises (suc (suc count)) k last is within = (more k, cut_rises (suc count) (k + 1) last (omega arith) within)
+    cut_joined zero k last is within = tt
+    cut_joined (suc zero) k last is within =
+        let same : k ≡ last = omega arith in (
+          refl,
+          record {
+            start_is = positive;
+            end_is = IsTime-earlier (in_units ticks ((k + 1) * duration)) positive;
+            ends = before_earlier (in_units ticks (k * duration)) (in_units ticks ((k + 1) * duration)) (more k) (rw same within);
+          },
+          tt,
+        )
+    cut_joined (suc (suc count)) k last is within =
+        (refl, record { start_is = positive; end_is = positive; ends = more k }, cut_joined (suc count) (k + 1) last (omega arith) within)
 
   pub last_covers : (length last : ℕ) → steps_to_cover (nanoseconds (pos length)) (in_units ticks duration) ≡ last + 1 → IsBefore (in_units ticks (last * duration)) (nanoseconds (pos length))
   last_covers length last is = elim (before_or_at_most (in_units ticks (last * duration)) (nanoseconds (pos length))) [
@@ -126,11 +188,15 @@ module _ (ticks duration : ℕ) (positive : 0 < ticks) (some : 0 < duration) whe
   ]
 
   -- so many segments, of which the last one begins before the time that it is cut at
-  names_rise : (length count : ℕ) → (0 < count → IsBefore (in_units ticks ((count - 1) * duration)) (nanoseconds (pos length))) → EndsRise (expansion_of_names ticks (At length) duration count)
+  names_row : (length count : ℕ) → (0 < count → IsBefore (in_units ticks ((count - 1) * duration)) (nanoseconds (pos length))) → IsOneRow (expansion_of_names ticks (At length) duration count)
   unfolding extents_by
-  names_rise length zero within = λ instant. tt
-  names_rise length (suc count) within = closed_rise (in_units ticks (0 * duration)) (cut_at (nanoseconds (pos length)) (extents_by ticks duration 0 (suc count)))
-      (cut_rises (nanoseconds (pos length)) (suc count) 0 (suc count - 1) (omega arith) (within (omega arith)))
+  names_row length zero within = inl (in_units ticks 0, [], tt, refl)
+  names_row length (suc count) within = inl (
+    in_units ticks (0 * duration),
+    cut_at (nanoseconds (pos length)) (extents_by ticks duration 0 (suc count)),
+    cut_joined (nanoseconds (pos length)) (omega arith) (suc count) 0 (suc count - 1) (omega arith) (within (omega arith)),
+    refl,
+  )
 
   first_lasts : LastsTicks (extent_at ticks duration 0)
   first_lasts = record { one_scale = refl; end_is = positive; rises = omega (arith, ints) }
@@ -138,13 +204,14 @@ module _ (ticks duration : ℕ) (positive : 0 < ticks) (some : 0 < duration) whe
   begins_early : (length count : ℕ) → begins_late ticks (At length) duration count ≡ false → 0 < count → IsBefore (in_units ticks ((count - 1) * duration)) (nanoseconds (pos length))
   begins_early length count few has = at_most-false (nanoseconds (pos length)) (in_units ticks ((count - 1) * duration)) (grind (arith, nat_tests))
 
+  -- the segments of a duration
+  pub durations_row : (end : End) (names : Option ℕ) → is_too_many ticks end duration names ≡ false → IsOneRow (members_by ticks end duration names)
+  durations_row Unbounded None few = inr (extent_at ticks duration 0, first_lasts, refl)
+  durations_row (At length) None few =
+      let count : ℕ = steps_to_cover (nanoseconds (pos length)) (in_units ticks duration) in
+      names_row length count (λ has. last_covers length (count - 1) (omega arith))
+  durations_row Unbounded (Some count) few = inl (in_units ticks (0 * duration), extents_by ticks duration 0 count, by_joined count 0, refl)
+  durations_row (At length) (Some count) few = names_row length count (begins_early length count few)
+
 pub durations_rise : DurationsRise
-durations_rise ticks duration Unbounded None positive some few =
-    let x : Extent = extent_at ticks duration 0 in
-    λ instant. rising-from (extents instant (Endless x ∷ [])) (alone None instant x [] refl (repeated_rises (ended_by instant x) x (first_lasts ticks duration positive some)))
-durations_rise ticks duration (At length) None positive some few =
-    let count : ℕ = steps_to_cover (nanoseconds (pos length)) (in_units ticks duration) in
-    names_rise ticks duration positive some length count (λ has. last_covers ticks duration positive some length (count - 1) (omega arith))
-durations_rise ticks duration Unbounded (Some count) positive some few =
-    closed_rise (in_units ticks (0 * duration)) (extents_by ticks duration 0 count) (by_rises ticks duration positive some count 0)
-durations_rise ticks duration (At length) (Some count) positive some few = names_rise ticks duration positive some length count (begins_early ticks duration positive some length count few)
+durations_rise ticks duration end names positive some few = row_rises (members_by ticks end duration names) (durations_row ticks duration positive some end names few)

@@ -1,17 +1,17 @@
 -- Judging segments in ticks of one scale.
-use Rattle.std.proofs.Common.{◌≡◌, ℕ, zero, suc, ◌+◌, ◌-◌, ◌*◌, ◌<◌, ◌≤◌, ◌^◌, Bool, true, false, not, cond, ltb, List, ◌∷◌, ◌++◌, map, ℤ, pos, negsuc, ◌+ℤ◌, ◌-ℤ◌, ◌*ℤ◌, Option, Some, None, refl, ◌∙◌, sym, ap, inl, inr, arith}
+use Rattle.std.proofs.Common.{◌≡◌, ℕ, zero, suc, ◌+◌, ◌-◌, ◌*◌, ◌<◌, ◌≤◌, ◌^◌, Bool, true, false, cond, ltb, List, ◌∷◌, ◌++◌, map, ℤ, pos, negsuc, ◌+ℤ◌, ◌-ℤ◌, ◌*ℤ◌, Option, Some, None, refl, ◌∙◌, sym, ap, inl, inr, arith}
 use Rattle.std.specs.Prelude.{unsigned_abs, ◌||◌, ◌⊎◌, ◌==◌}
 use Rattle.std.proofs.lemmas.Int.{ints}
-use Rattle.std.proofs.lemmas.Bool.{cases_lt, cases_Bool, cond-true, cond-false, le-leb, lt-leb, not-true, eq-eqb, ne_eqb}
+use Rattle.std.proofs.lemmas.Bool.{cases_lt, cases_Bool, cond-true, cond-false, le-leb, lt-leb, eq-eqb, ne_eqb}
 use Rattle.std.proofs.Math.Nat.{mul-le-mul_left, mul-lt-mul_of_pos_left, one-le-mul}
-use Rattle.exact_time.specs.Time.{Time, IsBefore, IsAtMost, seconds, before, at_most}
-use Rattle.exact_time.proofs.TimeOrder.{IsAtMost-trans, before_then_at_most, before_excludes, at_most-true, at_most-false, at_most-from, not_at_most-from, before-is}
+use Rattle.exact_time.specs.Time.{Time, IsAtMost, seconds, before, at_most}
+use Rattle.exact_time.proofs.TimeOrder.{before-true, before-from, IsAtMost-trans, before_then_at_most, before_excludes, at_most-true, at_most-false, at_most-from}
 use Rattle.timeline.specs.declared.fault.TimeFault.{TimeFault}
 use Rattle.timeline.specs.declared.fault.TimeFault.TheVariants.{Step, Range}
 use Rattle.timeline.specs.declared.builder.RunsBuilder.{RunsBuilder}
 use Rattle.timeline.specs.declared.limits.Limits.{Limits}
 use Rattle.timeline.specs.Expansions.{Extent, Member, Closed, lasting, repeat_of, repeated}
-use Rattle.timeline.specs.Limits.{breaks_limits, media_extent}
+use Rattle.timeline.specs.Limits.{breaks_limits, media_extent, too_long}
 use Rattle.timeline.specs.Faults.{is_apart, segment_fault}
 use Rattle.timeline.specs.Building.{placed_in, extent_in, breaks_in, fault_of, former_end}
 use Rattle.timeline.proofs.Ratios.{int_add-mul, int_le-mul}
@@ -29,14 +29,6 @@ abs_of_negated : (z : ℤ) (n : ℕ) → z +ℤ pos n ≡ pos 0 → unsigned_abs
 abs_of_negated (pos a) n h = omega (arith, ints)
 abs_of_negated (negsuc a) n h = omega (arith, ints)
 
--- ---- tests
-
-before-from : (x y : Time) → IsBefore x y → before x y ≡ true
-before-from x y h = before-is x y ∙ ap not (not_at_most-from y x h)
-
-IsBefore-true : (x y : Time) → before x y ≡ true → IsBefore x y
-IsBefore-true x y h = at_most-false y x (not-true (at_most y x) (sym (before-is x y) ∙ h))
-
 one_of_three : (a b c p q r : Bool) → (a ≡ true → p ≡ true) → (b ≡ true → q ≡ true) → (c ≡ true → r ≡ true) → (a || b || c) ≡ true → (p || q || r) ≡ true
 one_of_three a b c true q r f g h some = refl
 one_of_three a b c false true r f g h some = refl
@@ -49,6 +41,16 @@ one_of_three false false false false false false f g h some = some
 pub first_of_none : (a b c : Bool) → (a || b || c) ≡ false → a ≡ false
 first_of_none true b c none = none
 first_of_none false b c none = refl
+
+pub second_of_none : (a b c : Bool) → (a || b || c) ≡ false → b ≡ false
+second_of_none true b c none = cc
+second_of_none false true c none = none
+second_of_none false false c none = refl
+
+-- what keeps the limits isn't too long
+pub not_long : (ticks origin : ℕ) (x : Extent) → breaks_limits ticks origin x ≡ false → too_long x ≡ false
+not_long ticks origin x kept =
+    second_of_none (at_most (record { ticks = pos (2 ^ 63) -ℤ pos origin; scale = ticks }) x.end) (too_long x) (before (seconds 100000000000) x.end) kept
 
 -- ---- the fault of the first member
 
@@ -146,7 +148,7 @@ module _ (l : Limits) where
       (at_most bound (placed_in l (later + d))) (before (seconds 1000000) (lasting (extent_in l later d))) (before (seconds 100000000000) (placed_in l (later + d)))
       (λ h. at_most-from bound (placed_in l (later + d)) (IsAtMost-trans bound (placed_in l (s + d)) (placed_in l (later + d)) some (at_most-true bound (placed_in l (s + d)) h) not_after))
       (λ h. ap (before (seconds 1000000)) (lasting-extent_in later d ∙ sym (lasting-extent_in s d)) ∙ h)
-      (λ h. before-from (seconds 100000000000) (placed_in l (later + d)) (before_then_at_most (seconds 100000000000) (placed_in l (s + d)) (placed_in l (later + d)) some (IsBefore-true (seconds 100000000000) (placed_in l (s + d)) h) not_after))
+      (λ h. before-from (seconds 100000000000) (placed_in l (later + d)) (before_then_at_most (seconds 100000000000) (placed_in l (s + d)) (placed_in l (later + d)) some (before-true (seconds 100000000000) (placed_in l (s + d)) h) not_after))
 
   -- a segment within the limits ends before 2^63 ticks
   pub within-end : (d e : ℕ) → 0 < t → breaks_limits t o (media_extent l e d) ≡ false → e < 2 ^ 63

@@ -11,9 +11,12 @@ use Rattle.exact_time.specs.Time.{Time}
 use Rattle.timeline.specs.Ratios.{natural}
 use Rattle.timeline.specs.Bounds.{IsNear}
 use Rattle.timeline.specs.Expansions.{Extent, repeated, repeat_of}
-use Rattle.timeline.specs.Limits.{breaks_limits}
+use Rattle.timeline.specs.Limits.{breaks_limits, too_long}
+use Rattle.timeline.specs.Laws.{EndsRise}
+use Rattle.timeline.specs.declared.runs.Runs.TheInside.{Inside}
+use Rattle.timeline.proofs.Rises.{ends_rise, no_step_from}
 use Rattle.timeline.specs.RunSegments.{IsRun, AreLaid, IsEndless, HasRoom, all_extents, extents_of, one_extent, endless_count, endless_extents, first_of}
-use Rattle.timeline.specs.Kept.{Follows, FollowsOn}
+use Rattle.timeline.specs.Kept.{Follows, FollowsOn, IsKept, timeline_of}
 use Rattle.timeline.specs.declared.run.Run.{Run}
 use Rattle.timeline.specs.declared.run.Endless.{Endless}
 use Rattle.timeline.proofs.Repeats.{row, repeat-row, length-repeated, natural-pos}
@@ -228,3 +231,8 @@ alike_open_breaks ticks origin total s t e alike positive_s positive_t follows =
     let bounds = tick_bounds e.start.n e.start.bounded in
     alike_breaks s t alike positive_s positive_t e.start.scale origin e.start.n e.step e.start.positive follows.is.lasting bounds.0 bounds.1 follows.short
     ∙ sym (open_breaks-some ticks origin total e t follows)
+
+-- ---- the ends rise
+
+pub kept_rises : (r : Inside) → IsKept r → EndsRise (timeline_of r).members
+kept_rises r kept = ends_rise (timeline_of r).members kept.lasting (no_step_from too_long None (timeline_of r).members kept.steady)

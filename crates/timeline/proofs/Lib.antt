@@ -10,6 +10,7 @@ pub mod LimitLemmas
 pub mod Naming
 pub mod NumberedLemmas
 pub mod OpenLemmas
+pub mod Paced
 pub mod PlaceLemmas
 pub mod Ratios
 pub mod Reached

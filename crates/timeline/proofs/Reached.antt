@@ -25,16 +25,17 @@ use Rattle.timeline.specs.Expansions.{Extent, Member, Closed, Short, Endless as 
 use Rattle.timeline.specs.Timelines.{UpTo, placed, extent_from, count_up_to, members_of, reach_of, reach_of_next, reach_of_end, members_from, expansion_of_timeline}
 use Rattle.timeline.specs.declared.names.Names.{Names}
 use Rattle.timeline.specs.SegmentTimelines.{timeline_of_entries, timeline_if_paired}
-use Rattle.timeline.specs.Laws.{EndsRise}
-use Rattle.timeline.specs.Limits.{breaks_limits}
+use Rattle.timeline.specs.Steady.{AreLasting, IsSteady}
+use Rattle.timeline.specs.Limits.{breaks_limits, too_long}
 use Rattle.timeline.specs.Faults.{ends_open, is_apart, is_unbounded, refusal, segment_fault}
 use Rattle.timeline.specs.Building.{IsFaultOf, breaks_in, extent_in, fault_of, former_end, members_so_far}
 use Rattle.timeline.specs.Reaches.{IsUpTo, IsReach, AreLaidOut, AreLimitsOf, IsSoFar, IsTheirFault, members_of_entry, next_of, start_of}
 use Rattle.timeline.proofs.Ratios.{steps_to_cover-is, ceiling-is, int_le-mul, int_add-mul}
 use Rattle.exact_time.proofs.TimeOrder.{at_most-from, not_at_most-from}
 use Rattle.timeline.proofs.Laid.{refusal_some}
-use Rattle.timeline.proofs.Rises.{no_step_from}
-use Rattle.timeline.proofs.ExpansionsRise.{timelines_rise}
+use Rattle.timeline.proofs.Rises.{steady_from}
+use Rattle.timeline.proofs.Judged.{not_long}
+use Rattle.timeline.proofs.ExpansionsRise.{entries_last}
 
 positive_from : (count length step : ℕ) → IsCeiling length step count → 0 < length → 0 < count
 positive_from zero length step is some = absurd (omega (arith, is.enough))
@@ -185,10 +186,13 @@ members_nowhere scale end former s later start is short = ap (λ (n : ℕ). memb
 pub judged_by : (scale : Scale) (l : RunsBuilder) (members : List Member) → AreLaidOut scale members l → segment_fault (breaks_limits scale.ticks scale.offset) None members ≡ None
 judged_by scale l members are = fault_by (breaks_limits scale.ticks scale.offset) (breaks_in l.limits) (λ x. sym (breaks_in-of scale l.limits are.limits x)) None members ∙ are.judged
 
-pub timeline_rises : (scale : Scale) (end : End) (entries : List SEntry) (l : RunsBuilder) → list_any (λ s. s.d == 0) entries ≡ false → AreLaidOut scale (expansion_of_timeline scale end entries) l → EndsRise (members_so_far l)
-timeline_rises scale end entries l lasting are =
-    subst (λ (ms : List Member). EndsRise ms) (sym are.members_are)
-    (timelines_rise scale end entries lasting (no_step_from (breaks_in l.limits) None (expansion_of_timeline scale end entries) are.judged))
+module _ (scale : Scale) (end : End) (entries : List SEntry) (l : RunsBuilder) (are : AreLaidOut scale (expansion_of_timeline scale end entries) l) where
+  pub timeline_lasting : list_any (λ s. s.d == 0) entries ≡ false → AreLasting (members_so_far l)
+  timeline_lasting some = subst (λ (ms : List Member). AreLasting ms) (sym are.members_are) (entries_last scale end 0 entries some)
+
+  pub timeline_steady : IsSteady (members_so_far l)
+  timeline_steady = subst (λ (ms : List Member). IsSteady ms) (sym are.members_are)
+      (steady_from (breaks_in l.limits) too_long (λ x kept. not_long l.limits.ticks l.limits.origin x kept) None (expansion_of_timeline scale end entries) are.judged)
 
 pub timeline_built : (entries : List SEntry) (end : End) (live : Bool) (scale : Scale) (names : Names) (l : RunsBuilder) → list_any (λ s. s.d == 0) entries ≡ false → (not live && is_unbounded end && ends_open entries) ≡ false →
     AreLaidOut scale (expansion_of_timeline scale end entries) l → timeline_of_entries entries end live scale names ≡ timeline_if_paired scale scale.offset names (members_so_far l)

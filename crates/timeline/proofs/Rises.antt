@@ -1,34 +1,21 @@
 -- Each segment ends after the one before it, where none is apart from it.
 use Rattle.std.proofs.Common.{◌≡◌, ℕ, zero, suc, ◌+◌, ◌*◌, ◌<◌, ◌≤◌, Bool, true, false, cond, ℤ, pos, negsuc, ◌+ℤ◌, ◌-ℤ◌, ◌*ℤ◌, ◌≤ℤ◌, ◌<ℤ◌, List, [], ◌∷◌, map, Option, Some, None, refl, ◌∙◌, ap, inl, inr, arith}
 use Rattle.std.specs.Prelude.{unsigned_abs}
-use Rattle.std.proofs.lemmas.Int.{ints, by_lt_z}
+use Rattle.std.proofs.lemmas.Int.{ints}
 use Rattle.std.proofs.lemmas.Bool.{cond-false}
 use Rattle.std.proofs.lemmas.List.{append-nil}
 use Rattle.std.proofs.Math.Nat.{mul-le-mul_left, one-le-mul}
 use borrow.Author.Differences.{up, down}
 use Rattle.exact_time.specs.Time.{Time, IsTime, IsBefore, IsAtMost, cross, difference, before, AreRising}
-use Rattle.exact_time.proofs.TimeOrder.{share, share_le_out, before_or_at_most, before_excludes}
+use Rattle.exact_time.proofs.TimeOrder.{share, share_le_out, before-false, not_before-from, before_or_at_most, before_excludes}
 use Rattle.timeline.specs.declared.fault.TimeFault.{TimeFault}
 use Rattle.timeline.specs.declared.fault.TimeFault.TheVariants.{Step, Range}
 use Rattle.timeline.specs.Ratios.{earlier}
 use Rattle.timeline.specs.Expansions.{Extent, Member, Closed, Short, Endless, extents, ended_by, lasting, repeat_of, repeated}
 use Rattle.timeline.specs.Faults.{is_apart, segment_fault}
+use Rattle.timeline.specs.Steady.{Lasts, LastsTicks, AreLasting}
 use Rattle.timeline.specs.Laws.{EndsRise}
-
-pub IsAtMost-not_before : (x y : Time) → before x y ≡ false → IsAtMost y x
-IsAtMost-not_before x y h = by_lt_z (cross x y) (cross y x) (λ below. absurd (grind (arith, ints))) (λ above. above)
-
--- a segment that lasts some time
-pub record Lasts (x : Extent) : Type 0 where
-  pub start_is : IsTime x.start
-  pub end_is : IsTime x.end
-  pub ends : IsBefore x.start x.end
-
--- of which the start and the end are ticks of one scale
-pub record LastsTicks (x : Extent) : Type 0 where
-  pub one_scale : x.start.scale ≡ x.end.scale
-  pub end_is : IsTime x.end
-  pub rises : x.start.ticks <ℤ x.end.ticks
+use Rattle.timeline.proofs.Ratios.{int_le-mul}
 
 pub Lasts-from_ticks : (x : Extent) → LastsTicks x → Lasts x
 Lasts-from_ticks x is = record {
@@ -68,8 +55,17 @@ ends_after former x is is_former near = elim (before_or_at_most former x.end) [
   | inl earlier ↦ earlier
   | inr late ↦
       let twice_gap : Time = record { ticks = pos (2 * unsigned_abs (difference x.start former).ticks); scale = (difference x.start former).scale } in
-      absurd (before_excludes (lasting x) twice_gap (farther former x is is_former late) (IsAtMost-not_before (lasting x) twice_gap near))
+      absurd (before_excludes (lasting x) twice_gap (farther former x is is_former late) (before-false (lasting x) twice_gap near))
 ]
+
+-- a segment isn't apart from its own start
+pub touching_own : (x : Extent) → Lasts x → is_apart (Some x.start) x ≡ false
+touching_own x is =
+    let none : Time = record { ticks = pos 0; scale = x.start.scale * x.start.scale } in
+    let zero : (difference x.start x.start).ticks ≡ pos 0 = omega (arith, ints) in
+    let lasts : pos 0 ≤ℤ (lasting x).ticks = omega (arith, ints, is.ends) in
+    ap (λ (z : ℤ). before (lasting x) (record { ticks = pos (2 * unsigned_abs z); scale = x.start.scale * x.start.scale })) zero
+    ∙ not_before-from (lasting x) none (let times = int_le-mul (pos 0) (lasting x).ticks (x.start.scale * x.start.scale) lasts in omega (arith, ints))
 
 -- ---- rising ends
 
@@ -107,30 +103,31 @@ repeated_rises (suc count) x is = repeated_after count (repeat_of x) (LastsTicks
 
 -- ---- members
 
--- each lasts some time, and nothing follows on those that go on to an open end
-abbrev pub AreLasting : List Member → Type 0
-AreLasting [] = Unit {0}
-AreLasting (Closed x ∷ later) = Lasts x × AreLasting later
-AreLasting (Short x ∷ later) = AreLasting later
-AreLasting (Endless x ∷ later) = LastsTicks x × (later ≡ [])
-
-abbrev IsSomeTime : Option Time → Type 0
+abbrev pub IsSomeTime : Option Time → Type 0
 IsSomeTime None = Unit {0}
 IsSomeTime (Some former) = IsTime former
 
-pub alone : (former : Option Time) (instant : Time) (x : Extent) (later : List Member) → later ≡ [] → RisesAfter former (repeated (ended_by instant x) x) →
+alone : (former : Option Time) (instant : Time) (x : Extent) (later : List Member) → later ≡ [] → RisesAfter former (repeated (ended_by instant x) x) →
     RisesAfter former (extents instant (Endless x ∷ later))
 alone former instant x later none rises = rw (none, append-nil) rises
 
-no_range : (holds : Bool) (rest : Option TimeFault) → cond holds (Some Range) rest ≡ None → rest ≡ None
+pub no_range : (holds : Bool) (rest : Option TimeFault) → cond holds (Some Range) rest ≡ None → rest ≡ None
 no_range true rest h = cc
 no_range false rest h = h
+
+pub first_false : (holds : Bool) (rest : Option TimeFault) → cond holds (Some Range) rest ≡ None → (holds ≡ false) × (rest ≡ None)
+first_false true rest h = cc
+first_false false rest h = (refl, h)
+
+pub short_none : (holds : Bool) → cond holds (Some Range) (Some Step) ≡ None → ⊥
+short_none true h = cc
+short_none false h = cc
 
 short_range : (holds : Bool) → cond holds (Some Range) (Some Step) ≡ None → Some Step ≡ None
 short_range true h = cc
 short_range false h = h
 
-no_step : (holds : Bool) (rest : Option TimeFault) → cond holds (Some Step) rest ≡ None → (holds ≡ false) × (rest ≡ None)
+pub no_step : (holds : Bool) (rest : Option TimeFault) → cond holds (Some Step) rest ≡ None → (holds ≡ false) × (rest ≡ None)
 no_step true rest h = cc
 no_step false rest h = (refl, h)
 
@@ -150,6 +147,20 @@ members_rise (Endless x ∷ later) (Some former) (is, last) is_former none insta
 
 pub ends_rise : (members : List Member) → AreLasting members → segment_fault (λ _. false) None members ≡ None → EndsRise members
 ends_rise members last none instant = rising-from (extents instant members) (members_rise members None last tt none instant)
+
+-- what has no fault by one test has none by a weaker one
+pub steady_from : (breaks long : Extent → Bool) → ((x : Extent) → breaks x ≡ false → long x ≡ false) → (former : Option Time) (members : List Member) →
+    segment_fault breaks former members ≡ None → segment_fault long former members ≡ None
+steady_from breaks long weaker former [] none = refl
+steady_from breaks long weaker former (Closed x ∷ later) none =
+    let kept = first_false (breaks x) (cond (is_apart former x) (Some Step) (segment_fault breaks (Some x.end) later)) none in
+    let near = no_step (is_apart former x) (segment_fault breaks (Some x.end) later) kept.1 in
+    cond-false (long x) (Some Range) (cond (is_apart former x) (Some Step) (segment_fault long (Some x.end) later)) (weaker x kept.0)
+    ∙ cond-false (is_apart former x) (Some Step) (segment_fault long (Some x.end) later) near.0 ∙ steady_from breaks long weaker (Some x.end) later near.1
+steady_from breaks long weaker former (Short x ∷ later) none = absurd (short_none (breaks x) none)
+steady_from breaks long weaker former (Endless x ∷ later) none =
+    let near = no_step (is_apart former x) (segment_fault breaks former later) none in
+    cond-false (is_apart former x) (Some Step) (segment_fault long former later) near.0 ∙ steady_from breaks long weaker former later near.1
 
 -- what has no fault has no step
 pub no_step_from : (breaks : Extent → Bool) (former : Option Time) (members : List Member) → segment_fault breaks former members ≡ None → segment_fault (λ _. false) former members ≡ None

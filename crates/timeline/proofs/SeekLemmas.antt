@@ -1,12 +1,13 @@
 -- The count, the first place and the listed segments of a `Runs`.
 use Rattle.std.proofs.Common.{◌≡◌, ℕ, ◌+◌, ◌-◌, ◌<◌, ◌≤◌, ◌^◌, min, max, Bool, true, false, List, [], ◌∷◌, ◌++◌, length, take, drop, ◌∙◌, sym, ap, subst, inl, inr, arith, length-take, length-drop, length-append}
-use Rattle.std.specs.Prelude.{Option, Some, None, IfSome, IsSome, filter, slice_get, All, not}
+use Rattle.std.specs.Prelude.{Option, IsSome, filter, slice_get, All, not}
 use Rattle.std.specs.List.{AllByRecursion}
 use Rattle.std.proofs.lemmas.Bool.{cases_lt}
-use Rattle.std.proofs.lemmas.List.Elements.{filter_agree, All-filter, All-drop, All-from_recursion, recursion_from_All}
+use Rattle.std.proofs.lemmas.List.Elements.{filter_agree, All-filter, All-weaker, All-drop, All-from_recursion, recursion_from_All}
 use Rattle.exact_time.specs.Time.{Time, at_most, before}
 use Rattle.timeline.specs.Bounds.{StandsFor, time_of_bound, low_of}
-use Rattle.timeline.specs.Expansions.{SegmentTimeline, Extent, Timing, numbered}
+use Rattle.timeline.specs.Expansions.{SegmentTimeline, Extent, Member, Timing, extents, numbered}
+use Rattle.timeline.specs.Steady.{AreLasting, ArePaced, IsSteady}
 use Rattle.timeline.specs.Listed.{expansion, is_until, is_listed, listed, listed_from, instant_of, IsWindowOf, IsReached, IsFirstListed, IsPlaceAfter, IsWithin, CanBeNamed}
 use Rattle.timeline.specs.Places.{reached_count, count_until, closed_total, open_extents}
 use Rattle.timeline.specs.RunSegments.{AreLaid, AreLaidFrom, IsTail, count_ended, all_extents, extents_of_some}
@@ -16,8 +17,9 @@ use Rattle.timeline.specs.declared.runs.Runs.TheInside.{Inside}
 use Rattle.timeline.specs.declared.run.Run.{Run}
 use Rattle.timeline.specs.declared.window.Window.{Window}
 use Rattle.exact_time.proofs.TimeOrder.{before-is}
-use Rattle.timeline.proofs.Splits.{SplitsAt, IsPlaceOf, between, splits_before, splits_behind, filter-before, first-between, take-place, drop-place, slice_get-place, left-place}
-use Rattle.timeline.proofs.SegmentTimelineLemmas.{open_at}
+use Rattle.timeline.proofs.Splits.{SplitsAt, IsPlaceOf, between, splits_before, splits_after, filter-before, first-between, take-place, drop-place, left-place}
+use Rattle.timeline.proofs.SegmentTimelineLemmas.{open_at, extents-parts}
+use Rattle.timeline.proofs.Paced.{listed_paced}
 use Rattle.timeline.proofs.KeptLemmas.{length-laid, all_append, StartsTimed}
 use Rattle.timeline.proofs.NumberedLemmas.{length-numbered, drop-numbered, take-numbered, splits-numbered}
 use Rattle.timeline.proofs.WindowLemmas.{expansion_is, long_all, splits_low, splits_high, splits_at, until_within, listed_is, listed_between, place_is, reached_is}
@@ -118,24 +120,18 @@ module _ (r : Inside) (kept : IsKept r) (timeline : SegmentTimeline) (view : tim
 
   -- ---- `seek_end`
 
-  end_after : (t : Time) (x : Timing) → at_most x.end t ≡ false → before t x.end ≡ true
-  end_after t x late = before-is t x.end ∙ ap not late
-
-  after_some : (t : Time) (o : Option Timing) → IfSome o (λ x. at_most x.end t ≡ false) → IfSome o (λ x. before t x.end ≡ true)
-  after_some t None late = tt
-  after_some t (Some x) late = end_after t x late
-
   pub seek_end_is : (bound : Bound) (t : Time) → StandsFor bound t → IsPlaceAfter t (expansion timeline window) (place bound)
   seek_end_is bound t stands =
       let here = placed bound t stands in
-      let splits : SplitsAt (λ (x : Timing). at_most x.end t) (count_ended t all) whole =
+      let ends : Timing → Bool = λ x. at_most x.end t in
+      let splits : SplitsAt ends (count_ended t all) whole =
       splits-numbered (λ (end : Time). at_most end t) (count_ended t all) timeline.first_number all
       (splits_at timeline window r.total (all_extents r.runs.items) r.endless (members_are r kept timeline view window is_window) (parts r kept timeline view window is_window) is_window is_reached t) in
       subst (λ (xs : List Timing). IsPlaceAfter t xs (place bound)) (sym whole_is) (record {
         none_before = subst (λ (xs : List Timing). All (λ x. at_most x.end t ≡ true) xs) (sym (take-place (place bound) (count_ended t all) whole here))
-            (splits_before (λ (x : Timing). at_most x.end t) (count_ended t all) whole splits);
-        stands = after_some t (slice_get whole (place bound)) (subst (λ (o : Option Timing). IfSome o (λ x. at_most x.end t ≡ false)) (sym (slice_get-place (place bound) (count_ended t all) whole here))
-            (splits_behind (λ (x : Timing). at_most x.end t) (count_ended t all) whole splits));
+            (splits_before ends (count_ended t all) whole splits);
+        all_behind = subst (λ (xs : List Timing). All (λ x. before t x.end ≡ true) xs) (sym (drop-place (place bound) (count_ended t all) whole here))
+            (All-weaker (λ (x : Timing). at_most x.end t ≡ false) (λ x. before t x.end ≡ true) (λ x late. before-is t x.end ∙ ap not late) (drop (count_ended t all) whole) (splits_after ends (count_ended t all) whole splits));
       })
 
   -- ---- `walk`
@@ -181,6 +177,13 @@ module _ (r : Inside) (kept : IsKept r) (timeline : SegmentTimeline) (view : tim
 
   pub walk_countable : (begin left : ℕ) → timeline.first_number < 2 ^ 63 → left ≡ finish - begin → 0 < left → timeline.first_number + (begin + left) < 2 ^ 64
   walk_countable begin left small left_is some = omega (arith, few_all, left_is, some)
+
+  pub walk_paced : (number left begin : ℕ) → ArePaced (numbered number (take left (drop begin all)))
+  walk_paced number left begin =
+      let same = ap (λ (c : SegmentTimeline). c.members) view in
+      listed_paced timeline window all number left begin
+      (ap (extents (instant_of window)) (members_are r kept timeline view window is_window) ∙ extents-parts (instant_of window) (all_extents r.runs.items) r.endless)
+      (subst (λ (ms : List Member). AreLasting ms) same kept.lasting) (subst (λ (ms : List Member). IsSteady ms) same kept.steady) is_reached
 
   -- ---- `resume`
 

@@ -1,5 +1,5 @@
 -- Segments whose times are given one by one.
-use Rattle.std.proofs.Common.{◌≡◌, ℕ, ◌+◌, ◌*◌, ◌<◌, ◌≤◌, ◌^◌, Bool, true, false, ltb, List, [], ◌∷◌, ◌++◌, ℤ, pos, ◌-ℤ◌, ◌*ℤ◌, ◌<ℤ◌, Option, Some, None, refl, ◌∙◌, sym, ap, subst, arith}
+use Rattle.std.proofs.Common.{◌≡◌, ℕ, ◌+◌, ◌*◌, ◌<◌, ◌≤◌, ◌^◌, Bool, true, false, ltb, List, [], ◌∷◌, ◌++◌, ℤ, pos, ◌-ℤ◌, ◌*ℤ◌, ◌<ℤ◌, Option, Some, None, ◌∙◌, sym, ap, subst, arith}
 use Rattle.std.specs.Prelude.{int_le, int_lt, unsigned_abs, ◌||◌, IsNone, option_map, length}
 use Rattle.std.proofs.lemmas.List.{append_assoc}
 use Rattle.std.proofs.lemmas.Bool.{lt-ltb, le-ltb, ltb-false}
@@ -13,24 +13,19 @@ use Rattle.timeline.specs.declared.limits.Limits.{Limits}
 use Rattle.timeline.specs.declared.span.Span.{Span}
 use Rattle.timeline.specs.Expansions.{Member, Closed, lasting}
 use Rattle.timeline.specs.Durations.{extent_of, expansion_of_list}
-use Rattle.timeline.specs.Laws.{EndsRise}
+use Rattle.timeline.specs.Steady.{AreLasting, IsSteady}
 use Rattle.timeline.specs.Building.{IsLaidOut, members_so_far}
 use Rattle.timeline.specs.Reaches.{IsTheirFault}
 use Rattle.timeline.specs.Spans.{AreInRow, IsRowSoFar, fault_of_span, have_no_time}
 use Rattle.timeline.specs.RunSegments.{one_extent}
 use Rattle.timeline.specs.Faults.{is_apart, lasts_no_time, segment_fault}
-use Rattle.timeline.specs.Limits.{span_breaks_limits}
+use Rattle.timeline.specs.Limits.{span_breaks_limits, too_long}
 use Rattle.timeline.proofs.LimitLemmas.{int_le-cancel}
-use Rattle.timeline.proofs.Judged.{ltb-mul, fault_of_two, none_of_two, head_passes}
+use Rattle.timeline.proofs.Judged.{second_of_none, not_long, ltb-mul, fault_of_two, none_of_two, head_passes}
 use Rattle.timeline.proofs.Laid.{refusal_some}
-use Rattle.timeline.proofs.Rises.{no_step_from}
-use Rattle.timeline.proofs.ExpansionsRise.{lists_rise, neither}
+use Rattle.timeline.proofs.Rises.{steady_from}
+use Rattle.timeline.proofs.ExpansionsRise.{spans_last, neither}
 use Rattle.timeline.proofs.Ratios.{not_int_le-from}
-
-second_of_none : (a b c : Bool) → (a || b || c) ≡ false → b ≡ false
-second_of_none true b c none = cc
-second_of_none false true c none = none
-second_of_none false false c none = refl
 
 module _ (start end : Tick) (lasts : ℕ) (is_lasting : (lasting (one_extent start end)).ticks ≡ pos lasts) where
   abbrev s : ℕ
@@ -110,6 +105,10 @@ row_more ticks spans l former rest span later new so_far at none added total lim
           ∙ head_passes span_breaks_limits (option_map time_of former) (extent_of span) (expansion_of_list later) kept.0 kept.1;
     }
 
-pub list_rises : (ticks : ℕ) (spans : List Span) (l : RunsBuilder) → have_no_time spans ≡ false → AreInRow ticks (expansion_of_list spans) l → EndsRise (members_so_far l)
-list_rises ticks spans l lasting are =
-    subst (λ (ms : List Member). EndsRise ms) (sym are.members_are) (lists_rise spans lasting (no_step_from span_breaks_limits None (expansion_of_list spans) are.judged))
+module _ (ticks : ℕ) (spans : List Span) (l : RunsBuilder) (lasting : have_no_time spans ≡ false) (are : AreInRow ticks (expansion_of_list spans) l) where
+  pub list_lasting : AreLasting (members_so_far l)
+  list_lasting = subst (λ (ms : List Member). AreLasting ms) (sym are.members_are) (spans_last spans lasting)
+
+  pub list_steady : IsSteady (members_so_far l)
+  list_steady = subst (λ (ms : List Member). IsSteady ms) (sym are.members_are)
+      (steady_from span_breaks_limits too_long (λ x kept. not_long x.end.scale 0 x kept) None (expansion_of_list spans) are.judged)

@@ -27,6 +27,12 @@ splits_before test zero xs is = All-nil (λ x. test x ≡ true)
 splits_before test (suc k) [] is = absurd is
 splits_before test (suc k) (x ∷ xs) is = All-cons (λ y. test y ≡ true) x (take k xs) is.0 (splits_before test k xs is.1)
 
+pub splits_after : {X : Type 0} (test : X → Bool) (k : ℕ) (xs : List X) → SplitsAt test k xs → All (λ x. test x ≡ false) (drop k xs)
+splits_after test zero [] is = All-nil (λ x. test x ≡ false)
+splits_after test zero (x ∷ xs) is = All-cons (λ y. test y ≡ false) x xs is.0 (splits_after test zero xs is.1)
+splits_after test (suc k) [] is = absurd is
+splits_after test (suc k) (x ∷ xs) is = splits_after test k xs is.1
+
 pub splits_behind : {X : Type 0} (test : X → Bool) (k : ℕ) (xs : List X) → SplitsAt test k xs → IfSome (slice_get xs k) (λ x. test x ≡ false)
 splits_behind test zero [] is = tt
 splits_behind test zero (x ∷ xs) is = is.0

@@ -26,7 +26,7 @@ use Rattle.std.proofs.lemmas.List.Sums.{sum_by-cons}
 use Rattle.timeline.proofs.Splits.{SplitsAt, splits_same, splits_all, splits_within, between, filter-between, IsPlaceOf}
 use Rattle.timeline.proofs.SegmentTimelineLemmas.{open_at, open_count, open_breaks_limits, members_of_parts, extents-parts, reached-parts, is_open-parts, out_of_range-parts}
 use Rattle.timeline.proofs.PlaceLemmas.{HasScale, ends_of, splits_rising, count_ended-append, count_ended-le, count_ended-open, LastsSome, place_of-parts}
-use Rattle.timeline.proofs.KeptLemmas.{EndsNear, AreReached, reached_open, alike_open, all_append, near_laid, scales_laid, length-laid, scales_open, lasts_some}
+use Rattle.timeline.proofs.KeptLemmas.{EndsNear, AreReached, reached_open, alike_open, all_append, near_laid, scales_laid, length-laid, scales_open, lasts_some, kept_rises}
 use Rattle.timeline.proofs.NumberedLemmas.{splits-numbered, count-numbered, count_all}
 
 -- what a timeline's closed segments and its open end have
@@ -45,7 +45,7 @@ parts_of r kept = record {
   long = omega (arith, length-laid 0 r.runs.items r.total kept.laid);
   follows = kept.follows;
   small = kept.countable;
-  rising = kept.rising;
+  rising = kept_rises r kept;
 }
 
 -- ---- the bounds of a window

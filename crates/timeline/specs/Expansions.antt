@@ -71,11 +71,13 @@ abbrev pub is_open : List Member → Bool
 is_open members = list_any goes_on members
 
 -- The segments of a Representation in one Period at every instant, their numbers and their names. `ticks` make a
--- second, and `origin` is the media time of the Period's start.
+-- second, `origin` is the media time of the Period's start, and `offset` is `@presentationTimeOffset`, which has no part
+-- in the times of a duration.
 pub record SegmentTimeline : Type 0 where
   pub members : List Member
   pub ticks : ℕ
   pub origin : ℕ
+  pub offset : ℕ
   pub first_number : ℕ
   pub names : Names
 

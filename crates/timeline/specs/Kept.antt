@@ -2,7 +2,7 @@
 use Rattle.std.specs.Prelude.{◌≡◌, ℕ, ◌+◌, ◌*◌, ◌<◌, ◌≤◌, ◌^◌, pos, ◌+ℤ◌, ◌≤ℤ◌, List, [], ◌∷◌, ◌++◌, map, All, Option, Some, None}
 use Rattle.timeline.specs.Expansions.{SegmentTimeline, Member, Closed, Endless as GoesOn}
 use Rattle.timeline.specs.RunSegments.{AreLaid, IsEndless, all_extents, first_of}
-use Rattle.timeline.specs.Laws.{EndsRise}
+use Rattle.timeline.specs.Steady.{AreLasting, IsSteady}
 use Rattle.timeline.specs.Ratios.{natural}
 use Rattle.timeline.specs.declared.run.Endless.{Endless}
 use Rattle.timeline.specs.declared.runs.Runs.TheInside.{Inside}
@@ -16,6 +16,7 @@ timeline_of r = record {
   members = map Closed (all_extents r.runs.items) ++ endless_members r.endless;
   ticks = r.scale.ticks;
   origin = r.origin;
+  offset = r.scale.offset;
   first_number = r.scale.start_number;
   names = r.names;
 }
@@ -38,5 +39,6 @@ pub record IsKept (r : Inside) : Type 0 where
   pub laid : AreLaid 0 r.runs.items r.total
   pub follows : FollowsOn r.scale.ticks r.origin r.total r.endless
   pub countable : r.total ≤ 2 ^ 63
-  pub rising : EndsRise (timeline_of r).members
+  pub lasting : AreLasting (timeline_of r).members
+  pub steady : IsSteady (timeline_of r).members
   pub timed : All (λ x. natural (x.start.ticks +ℤ pos r.origin) < 2 ^ 64) (all_extents r.runs.items)

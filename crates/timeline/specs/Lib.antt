@@ -15,6 +15,7 @@ pub mod Ratios
 pub mod Reaches
 pub mod Rows
 pub mod Spans
+pub mod Steady
 pub mod RunSegments
 pub mod Timelines
 pub mod Walks

@@ -4,12 +4,16 @@ use Rattle.exact_time.specs.Time.{seconds, before, at_most}
 use Rattle.timeline.specs.Expansions.{Extent, lasting}
 use Rattle.timeline.specs.declared.limits.Limits.{Limits}
 
+-- whether a segment lasts longer than 1,000,000 s
+abbrev pub too_long : Extent → Bool
+too_long x = before (seconds 1000000) (lasting x)
+
 -- A segment breaks the limits that ends at a media time of 2^63 ticks or more, lasts longer than 1,000,000 s, or ends
 -- more than 10^11 s after the Period's start.
 abbrev pub breaks_limits : ℕ → ℕ → Extent → Bool
 breaks_limits ticks origin x =
     at_most (record { ticks = pos (2 ^ 63) -ℤ pos origin; scale = ticks }) x.end
-    || before (seconds 1000000) (lasting x)
+    || too_long x
     || before (seconds 100000000000) x.end
 
 -- the ticks of a time that is given are its own

@@ -67,13 +67,18 @@ pub record IsFirstListed (window : Window) (xs : List Timing) (place : ℕ) : Ty
   pub none_before : listed window (take place xs) ≡ []
   pub stands : (listed window xs ≡ []) ⊎ IsSome (slice_get (listed window (take 1 (drop place xs))) 0)
 
--- a place before the first segment that ends after a time; at the end or behind it, where there is none
+-- a place behind all segments that end by a time, and before all that end after it; at the end or behind it, where there
+-- are none of these
 pub record IsPlaceAfter (time : Time) (xs : List Timing) (place : ℕ) : Type 0 where
   pub none_before : All (λ x. at_most x.end time ≡ true) (take place xs)
-  pub stands : IfSome (slice_get xs place) (λ x. before time x.end ≡ true)
+  pub all_behind : All (λ x. before time x.end ≡ true) (drop place xs)
 
 abbrev pub timing_of : Span → Timing
 timing_of span = record { start = time_of span.start; end = time_of span.end; number = span.number }
+
+-- `@presentationTimeOffset` in seconds
+abbrev pub offset_of : SegmentTimeline → Time
+offset_of timeline = record { ticks = pos timeline.offset; scale = timeline.ticks }
 
 -- the segment's media time
 abbrev pub media_time : SegmentTimeline → Timing → ℕ

@@ -19,7 +19,7 @@ unless_fault (Some fault) timeline = Err fault
 
 abbrev pub timeline_from : Scale → ℕ → Names → List Member → SegmentTimeline
 timeline_from scale origin names members =
-    record { members = members; ticks = scale.ticks; origin = origin; first_number = scale.start_number; names = names }
+    record { members = members; ticks = scale.ticks; origin = origin; offset = scale.offset; first_number = scale.start_number; names = names }
 
 -- the segments with their names, unless these are a list of another length
 abbrev pub timeline_if_paired : Scale → ℕ → Names → List Member → Result SegmentTimeline TimeFault

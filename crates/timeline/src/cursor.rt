@@ -18,7 +18,16 @@ impl Model for Cursor {
 }
 
 impl Cursor {
-    ghost use Rattle.std.specs.Prelude.{◌≡◌};
+    ghost use Rattle.std.specs.Prelude.{◌≡◌, ◌-◌};
+
+    /// The place so many segments before this one, at most the first one of all.
+    pub fn back(self, count: u64) -> Cursor
+        ensures { result ≡ self - count }
+    {
+        Cursor {
+            place: self.place.saturating_sub(count),
+        }
+    }
 
     pub(crate) fn at(place: u64) -> Cursor
         ensures { result ≡ place }

@@ -42,6 +42,14 @@ impl Segment {
         self.part.range
     }
 
+    /// Where it lies, and which bytes of the file it is, in the place of the segment.
+    pub fn into_part(self) -> Part
+        ensures { result ≡ self.part }
+    {
+        let Segment { part, span: _ } = self;
+        part
+    }
+
     /// When it begins and ends, and its number.
     pub fn span(&self) -> Span
         ensures { timing_of result ≡ self.now.times }

@@ -42,11 +42,12 @@ impl Runs {
     ghost use Rattle.bridge_io.specs.Answer.{Gives};
     ghost use Rattle.timeline.specs.SegmentTimelines.{timeline_from, timeline_if_paired};
     ghost use Rattle.timeline.specs.Faults.{refusal};
-    ghost use Rattle.timeline.specs.Laws.{EndsRise};
+    ghost use Rattle.timeline.specs.Steady.{AreLasting, ArePaced, IsSteady};
     ghost use Rattle.timeline.specs.Building.{IsLaidOut, members_so_far};
-    ghost use Rattle.timeline.specs.Listed.{IsWindowOf, IsReached, IsFirstListed, IsPlaceAfter, answered_count, is_out_of_range, expansion, listed_from};
+    ghost use Rattle.timeline.specs.Listed.{IsWindowOf, IsReached, IsFirstListed, IsPlaceAfter, answered_count, is_out_of_range, expansion, listed_from, offset_of};
     ghost use Rattle.timeline.specs.declared.window.Window.{Window};
-    ghost use Rattle.timeline.specs.Bounds.{time_of_bound};
+    ghost use Rattle.timeline.specs.Bounds.{low_of, time_of_bound};
+    ghost use Rattle.timeline.specs.Expansions.{is_open};
     ghost use Rattle.timeline.specs.Places.{IsLastBegun, closed_count, closed_total, reached_count, count_until, open_extents};
     ghost use Rattle.timeline.specs.Ratios.{natural};
     ghost use Rattle.timeline.specs.RunSegments.{IsTail, extents_of_some};
@@ -67,20 +68,43 @@ impl Runs {
         Ok(finish.saturating_sub(self.place(window.low())))
     }
 
-    /// The place of the first listed segment. It takes no memory.
+    /// Whether the segments go on to an end that isn't known yet. Then a window needs its `until`. It takes no memory.
+    pub fn is_open(&self) -> bool
+        ensures { result ≡ is_open self.now.members }
+    {
+        self.endless.is_some()
+    }
+
+    /// `@presentationTimeOffset` in seconds (ISO/IEC 23009-1, 5.3.9.2), the media time of the Period's start. It takes no
+    /// memory.
+    pub fn offset(&self) -> Tick
+        ensures { time_of result ≡ offset_of self.now }
+    {
+        let _ = &self.runs; // opens the value, for what it keeps
+        Tick {
+            n: i128::from(self.scale.offset),
+            scale: self.scale.ticks,
+        }
+    }
+
+    /// The place of the first listed segment: it is behind all segments that end by the Period's start or by the
+    /// window's `after`, and before all others, also before those that only a later `until` lists. It takes no memory.
     ///
     /// Requires that `until` is given where the Period's end is open, and that `count` doesn't answer Range.
     pub fn seek(&self, window: &Window) -> Cursor
         requires window { IsWindowOf self.now window.now }
         requires reached { IsReached self.now window.now }
-        ensures { IsFirstListed window.now (expansion self.now window.now) result }
+        ensures first { IsFirstListed window.now (expansion self.now window.now) result }
+        ensures place { (other : Window) → IsWindowOf self.now other → IsReached self.now other →
+            IsPlaceAfter (low_of window.now) (expansion self.now other) result }
     {
         let _ = &self.runs; // opens the value, for what it keeps
         Cursor::at(self.place(window.low()))
     }
 
-    /// The place of the first segment that ends after a time, counted from the Period's start. Where there is none,
-    /// the place is that of the expansion's end or behind it. Where the end is open, this is so for every window for
+    /// The place of the first segment that ends after a time, counted from the Period's start. All segments before it end
+    /// by that time, and all from it on end later. Where there are none of these, the place is that of the expansion's end
+    /// or behind it. Where the end is open, this is so for every window for
     /// which `count` doesn't answer Range. It takes no memory.
     pub fn seek_end(&self, end: Tick) -> Cursor
         ensures { (window : Window) → IsWindowOf self.now window → IsReached self.now window →
@@ -90,13 +114,15 @@ impl Runs {
         Cursor::at(self.place(Bound::tick(end)))
     }
 
-    /// The times and numbers of the listed segments from a place on. It takes no memory.
+    /// The times and numbers of the listed segments from a place on. Their ends may be given to a `Rounder` that begins
+    /// at the first one's start. It takes no memory.
     ///
     /// Requires that `until` is given where the Period's end is open, and that `count` doesn't answer Range.
     pub fn walk(&self, from: &Cursor, window: &Window) -> TimeWalk<'_>
         requires window { IsWindowOf self.now window.now }
         requires reached { IsReached self.now window.now }
-        ensures { result ≡ listed_from from.now self.now window.now }
+        ensures listed { result ≡ listed_from from.now self.now window.now }
+        ensures paced { ArePaced result }
     {
         let begin = from.place().max(self.place(window.low()));
         let left = self.finish(window).saturating_sub(begin);
@@ -117,6 +143,7 @@ impl Runs {
         requires window { IsWindowOf self.now window.now }
         requires reached { IsReached self.now window.now }
         ensures segments { result.left ≡ listed_from from.now self.now window.now }
+        ensures paced { ArePaced result.left }
         ensures timeline { result.timeline ≡ self.now }
     {
         let _ = &self.runs; // opens the value, for what it keeps
@@ -127,7 +154,8 @@ impl Runs {
         requires laid { IsLaidOut builder }
         requires ticks { builder.limits.ticks ≡ scale.ticks }
         requires origin { builder.limits.origin ≡ origin }
-        requires rising { EndsRise (members_so_far builder) }
+        requires lasting { AreLasting (members_so_far builder) }
+        requires steady { IsSteady (members_so_far builder) }
         ensures { result ≡ timeline_from scale origin names (members_so_far builder) }
     {
         Runs {
@@ -150,7 +178,8 @@ impl Runs {
         requires laid { IsLaidOut builder }
         requires ticks { builder.limits.ticks ≡ scale.ticks }
         requires origin { builder.limits.origin ≡ origin }
-        requires rising { EndsRise (members_so_far builder) }
+        requires lasting { AreLasting (members_so_far builder) }
+        requires steady { IsSteady (members_so_far builder) }
         ensures { Gives (λ runs. runs) refusal result (timeline_if_paired scale origin names (members_so_far builder)) }
     {
         if !builder.is_paired(names.len()) {

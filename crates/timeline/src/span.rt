@@ -3,7 +3,7 @@ use exact_time::Tick;
 
 /// When a segment begins and ends, counted from the Period's start, and its number. A segment that begins before its
 /// Period has a negative start.
-#[derive(Clone, Copy, Debug)]
+#[derive(Clone, Copy, Debug, PartialEq, Eq)]
 pub struct Span {
     pub start: Tick,
     pub end: Tick,

@@ -5,11 +5,14 @@ use Rattle.timeline.specs.declared.entry.SEntry.{SEntry}
 use Rattle.timeline.specs.Expansions.{SegmentTimeline}
 use Rattle.timeline.specs.SegmentTimelines.{timeline_of_entries}
 use Rattle.timeline.specs.Faults.{refusal}
-use Rattle.timeline.proofs.Reached.{timeline_rises, timeline_built}
+use Rattle.timeline.proofs.Reached.{timeline_lasting, timeline_steady, timeline_built}
 use Rattle.timeline.proofs.runs.Runs.from_timeline.Goals as goal
 
-pub paired-requires-clause-rising : goal.paired-requires-clause-rising
-paired-requires-clause-rising c = timeline_rises c.args.scale c.args.end c.as_slice-entries.result.now c.in_ok-builder.builder (sym c.if-have_no_time.ensures) c.in_ok-builder.ensures
+pub paired-requires-clause-lasting : goal.paired-requires-clause-lasting
+paired-requires-clause-lasting c = timeline_lasting c.args.scale c.args.end c.as_slice-entries.result.now c.in_ok-builder.builder c.in_ok-builder.ensures (sym c.if-have_no_time.ensures)
+
+pub paired-requires-clause-steady : goal.paired-requires-clause-steady
+paired-requires-clause-steady c = timeline_steady c.args.scale c.args.end c.as_slice-entries.result.now c.in_ok-builder.builder c.in_ok-builder.ensures
 
 pub returns : goal.returns
 returns c =

@@ -6,5 +6,5 @@ use Rattle.timeline.proofs.runs.Runs.resume.Goals as goal
 
 pub over-requires : goal.over-requires
 over-requires c =
-    subst (λ (xs : List Timing). IsWithin c.args.self.now xs) (sym c.walk.ensures)
+    subst (λ (xs : List Timing). IsWithin c.args.self.now xs) (sym c.walk.ensures.listed)
     (within_is c.self.inside c.self.invariant c.args.self.now c.self.view_is c.args.window.now c.requires.window c.requires.reached c.args.from.now)

@@ -1,10 +1,11 @@
 use Rattle.std.proofs.Common.{◌≡◌, ℕ, ◌+◌, ◌-◌, ◌<◌, ◌^◌, List, ◌++◌, max, take, drop, sym, ap, subst, ◌∙◌, arith}
-use Rattle.timeline.specs.Expansions.{SegmentTimeline, Extent, numbered}
+use Rattle.timeline.specs.Expansions.{SegmentTimeline, Extent, Timing, numbered}
 use Rattle.timeline.specs.RunSegments.{AreLaidFrom, all_extents, extents_of_some}
 use Rattle.timeline.specs.declared.run.Run.{Run}
 use Rattle.timeline.specs.Listed.{instant_of}
 use Rattle.timeline.proofs.SegmentTimelineLemmas.{open_at}
-use Rattle.timeline.proofs.SeekLemmas.{walk_laid, walk_all, walk_countable, walk_is}
+use Rattle.timeline.proofs.SeekLemmas.{walk_laid, walk_all, walk_countable, walk_is, walk_paced}
+use Rattle.timeline.specs.Steady.{ArePaced}
 use Rattle.timeline.proofs.runs.Runs.walk.Goals as goal
 
 pub from-requires-clause-laid : goal.from-requires-clause-laid
@@ -25,8 +26,8 @@ from-requires-clause-countable c = λ some.
           (omega (arith, small, first)) (c.saturating_sub-left.ensures ∙ ap (λ (n : ℕ). n - c.max-begin.result) c.finish.ensures) some,
     )
 
-pub returns : goal.returns
-returns c =
+pub returns-clause-listed : goal.returns-clause-listed
+returns-clause-listed c =
     let begin : ℕ = c.max-begin.result in
     let left : ℕ = c.saturating_sub-left.result in
     let first : c.self.inside.scale.start_number ≡ c.args.self.now.first_number = ap (λ (timeline : SegmentTimeline). timeline.first_number) c.self.view_is in
@@ -38,3 +39,14 @@ returns c =
     ∙ walk_is c.self.inside c.self.invariant c.args.self.now c.self.view_is c.args.window.now c.requires.window c.requires.reached c.low.result c.low.ensures c.args.from.now begin left
     (c.max-begin.ensures ∙ ap (λ (n : ℕ). max n c.place-2.result) c.place.ensures ∙ ap (max c.args.from.now) c.place-2.ensures)
     (c.saturating_sub-left.ensures ∙ ap (λ (n : ℕ). n - begin) c.finish.ensures)
+
+pub returns-clause-paced : goal.returns-clause-paced
+returns-clause-paced c =
+    let begin : ℕ = c.max-begin.result in
+    let left : ℕ = c.saturating_sub-left.result in
+    let all = walk_all c.self.inside c.self.invariant c.args.self.now c.self.view_is c.args.window.now c.requires.window c.requires.reached c.tail-tail.result c.tail-tail.ensures.extents in
+    let walk = c.from.ensures
+    ∙ ap (λ (xs : List Run). numbered (c.self.inside.scale.start_number + begin) (take left (drop begin (all_extents xs ++ extents_of_some c.tail-tail.result)))) c.as_slice.ensures.value
+    ∙ ap (λ (xs : List Extent). numbered (c.self.inside.scale.start_number + begin) (take left (drop begin xs))) all in
+    subst (λ (xs : List Timing). ArePaced xs) (sym walk)
+    (walk_paced c.self.inside c.self.invariant c.args.self.now c.self.view_is c.args.window.now c.requires.window c.requires.reached (c.self.inside.scale.start_number + begin) left begin)

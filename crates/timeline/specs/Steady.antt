@@ -1,0 +1,36 @@
+-- Segments that last some time, no more than 1,000,000 s, and lie near one another.
+use Rattle.std.specs.Prelude.{◌≡◌, ◌<ℤ◌, List, [], ◌∷◌, map, None}
+use Rattle.exact_time.specs.Time.{IsTime, IsBefore}
+use Rattle.exact_time.specs.Rounding.{IsRising, AreNear}
+use Rattle.timeline.specs.Expansions.{Extent, Timing, Member, Closed, Short, Endless}
+use Rattle.timeline.specs.Faults.{segment_fault}
+use Rattle.timeline.specs.Limits.{too_long}
+
+-- a segment that lasts some time
+pub record Lasts (x : Extent) : Type 0 where
+  pub start_is : IsTime x.start
+  pub end_is : IsTime x.end
+  pub ends : IsBefore x.start x.end
+
+-- of which the start and the end are ticks of one scale
+pub record LastsTicks (x : Extent) : Type 0 where
+  pub one_scale : x.start.scale ≡ x.end.scale
+  pub end_is : IsTime x.end
+  pub rises : x.start.ticks <ℤ x.end.ticks
+
+-- each lasts some time, and nothing follows on those that go on to an open end
+abbrev pub AreLasting : List Member → Type 0
+AreLasting [] = Unit {0}
+AreLasting (Closed x ∷ later) = Lasts x × AreLasting later
+AreLasting (Short x ∷ later) = AreLasting later
+AreLasting (Endless x ∷ later) = LastsTicks x × (later ≡ [])
+
+-- none is too long or apart from the one before it
+abbrev pub IsSteady : List Member → Type 0
+IsSteady members = segment_fault too_long None members ≡ None
+
+-- From the first segment's start on no end is before the one before it, or more than 2,000,000 s after it. So the ends
+-- may be given to a `Rounder` that begins at that start.
+abbrev pub ArePaced : List Timing → Type 0
+ArePaced [] = Unit {0}
+ArePaced (x ∷ xs) = IsRising x.start (map (λ y. y.end) (x ∷ xs)) × AreNear x.start (map (λ y. y.end) (x ∷ xs))
