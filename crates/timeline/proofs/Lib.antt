@@ -9,6 +9,7 @@ pub mod Laid
 pub mod LimitLemmas
 pub mod Naming
 pub mod NumberedLemmas
+pub mod OpenEnds
 pub mod OpenLemmas
 pub mod Paced
 pub mod PlaceLemmas

@@ -9,6 +9,7 @@ pub mod Building
 pub mod Limits
 pub mod Listed
 pub mod Names
+pub mod OpenEnds
 pub mod Places
 pub mod Plain
 pub mod Ratios

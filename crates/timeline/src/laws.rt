@@ -1,6 +1,7 @@
 //! Laws of the definitions. The functions do nothing: what they ensure is the law.
 
 ghost use Rattle.timeline.specs.Laws.{TimelinesRise, DurationsRise, ListsRise};
+ghost use Rattle.timeline.specs.OpenEnds.{TimelinesEnd, DurationsEnd, ListsEnd, EndedIsReached, StepsAreGreatest};
 
 /// Each segment of an expansion ends after the one before it, where no segment lasts no time, none is apart from the
 /// one before it, and none begins at or after a time that it is cut at.
@@ -8,4 +9,18 @@ pub fn ends_rise()
     ensures timelines { TimelinesRise }
     ensures durations { DurationsRise }
     ensures lists { ListsRise }
+{}
+
+/// What a constructor of `Runs` gives for a static MPD, for a Period whose end is known, or for listed names isn't open.
+/// What isn't open meets the conditions of every window.
+pub fn closed_ends()
+    ensures timelines { TimelinesEnd }
+    ensures durations { DurationsEnd }
+    ensures lists { ListsEnd }
+    ensures reached { EndedIsReached }
+{}
+
+/// Of the segments that go on to an open end, as many are there by an instant as end by it.
+pub fn open_ends()
+    ensures { StepsAreGreatest }
 {}

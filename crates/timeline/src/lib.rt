@@ -28,7 +28,7 @@ use bridge_io::Sequence;
 pub use cursor::Cursor;
 pub use entry::{End, SEntry, Scale};
 pub use fault::{ListFault, TimeFault};
-pub use laws::ends_rise;
+pub use laws::{closed_ends, ends_rise, open_ends};
 pub use listing::{Listing, Segment};
 pub use names::{Names, RefPart};
 pub use plain::{PlainRuns, PlainSpan};

@@ -1,0 +1,40 @@
+-- When segments go on to an end that isn't known yet, and how many of them there are by an instant.
+use Rattle.std.specs.Prelude.{◌≡◌, ◌↔◌, ℕ, ◌<◌, Bool, false, ◌&&◌, List, slice_get, IfSome, is_none, Ok}
+use Rattle.exact_time.specs.Time.{Time, IsTime, IsAtMost}
+use Rattle.timeline.specs.declared.entry.SEntry.{SEntry}
+use Rattle.timeline.specs.declared.entry.Scale.{Scale}
+use Rattle.timeline.specs.declared.entry.End.{End}
+use Rattle.timeline.specs.declared.names.Names.{Names}
+use Rattle.timeline.specs.declared.span.Span.{Span}
+use Rattle.timeline.specs.declared.window.Window.{Window}
+use Rattle.timeline.specs.Expansions.{Extent, SegmentTimeline, ended_by, is_open, repeated}
+use Rattle.timeline.specs.Faults.{is_unbounded}
+use Rattle.timeline.specs.Listed.{IsReached, IsWindowOf}
+use Rattle.timeline.specs.Names.{count_of}
+use Rattle.timeline.specs.SegmentTimelines.{timeline_of_entries, timeline_of_duration, timeline_of_spans}
+use Rattle.timeline.specs.Steady.{LastsTicks}
+
+-- segments may go on only in a dynamic MPD, to an open end, and where a template names them
+abbrev pub may_be_open : Bool → End → Names → Bool
+may_be_open live end names = live && is_unbounded end && is_none (count_of names)
+
+abbrev pub TimelinesEnd : Type 0
+TimelinesEnd = (entries : List SEntry) (end : End) (live : Bool) (scale : Scale) (names : Names) (timeline : SegmentTimeline) →
+    timeline_of_entries entries end live scale names ≡ Ok timeline → may_be_open live end names ≡ false → is_open timeline.members ≡ false
+
+abbrev pub DurationsEnd : Type 0
+DurationsEnd = (duration : ℕ) (end : End) (live : Bool) (scale : Scale) (names : Names) (timeline : SegmentTimeline) →
+    timeline_of_duration duration end live scale names ≡ Ok timeline → may_be_open live end names ≡ false → is_open timeline.members ≡ false
+
+abbrev pub ListsEnd : Type 0
+ListsEnd = (spans : List Span) (scale : Scale) (names : Names) (timeline : SegmentTimeline) → timeline_of_spans spans scale names ≡ Ok timeline → is_open timeline.members ≡ false
+
+-- what has an end needs no `until`, and `count` never answers Range
+abbrev pub EndedIsReached : Type 0
+EndedIsReached = (timeline : SegmentTimeline) (window : Window) → is_open timeline.members ≡ false → IsWindowOf timeline window × IsReached timeline window
+
+-- Of segments that follow one another, the first `ended_by` are those that end by the instant: it is the greatest number
+-- of steps of which the last one ends by then.
+abbrev pub StepsAreGreatest : Type 0
+StepsAreGreatest = (instant : Time) (x : Extent) (n k : ℕ) → IsTime instant → LastsTicks x → k < n →
+    IfSome (slice_get (repeated n x) k) (λ y. IsAtMost y.end instant ↔ (k < ended_by instant x))
