@@ -1,6 +1,7 @@
 #!/usr/bin/env bash
 # Times the reading of an MPD of 8 MB with 200,000 S elements: mpd_text's `read_tree`, the Rust crate roxmltree 0.16 and libxml2's
-# tree. Each is a program of its own that reads the file; the shortest of eleven runs counts, with its largest memory.
+# tree; and `read_tree` with a walk behind it that asks each S for its `t`, `d` and `r` with their places. Each is a program of its
+# own that reads the file; the shortest of eleven runs counts, with its largest memory.
 #
 # It wants `rt`, cargo, python3, and Debian's packages librust-roxmltree-dev and libxml2-utils.
 set -euo pipefail
@@ -23,15 +24,46 @@ cp -r "$here/crates/bridge_io" "$here/crates/byte_scan" "$here/crates/mpd_text" 
 printf 'bridge_io: thiserror\nbyte_scan:\nmpd_text: bridge_io byte_scan thiserror\nreads: bridge_io mpd_text\n' > "$work/ours/crates.txt"
 mkdir -p "$work/ours/crates/reads/src"
 cat > "$work/ours/crates/reads/src/main.rt" <<'RS'
-//! Reads the tree of a file.
+//! Reads the tree of a file. With the word `walk` it then asks each element of the timeline for its attributes.
 #![tactic(auto)]
 
 use bridge_io::{FolderStore, Name, slurp};
-use mpd_text::read_tree;
+use mpd_text::{Node, Tree, read_tree};
+use std::env;
 use std::process::ExitCode;
+
+/// The sum of the bytes and lines at which the `t`, `d` and `r` of an S stand.
+fn sum_of_places(element: &Node) -> u64 {
+    let mut sum = 0u64;
+    for name in ["t", "d", "r"] {
+        if let Some(attr) = element.attribute(name) {
+            sum = sum.wrapping_add(attr.place.at).wrapping_add(attr.place.line);
+        }
+    }
+    sum
+}
+
+fn walk(tree: &Tree) -> u64 {
+    let mut timeline = tree.root();
+    for _ in 0..5 {
+        if let Some(first) = timeline.children().next() {
+            timeline = first;
+        }
+    }
+    let mut sum = 0u64;
+    for element in timeline.children() {
+        sum = sum.wrapping_add(sum_of_places(&element));
+    }
+    sum
+}
+
+fn is_walk(rt: &HostRuntime) -> bool {
+    env::args(rt).map_or(false, |mut words| words.nth(1).is_some())
+}
 
 fn main(rt: HostRuntime) -> ExitCode {
     let alloc = rt.alloc();
+    let is_walk = is_walk(&rt);
     let Ok(name) = Name::read(alloc, "m.mpd") else {
         return ExitCode::from(1);
     };
@@ -42,6 +74,7 @@ fn main(rt: HostRuntime) -> ExitCode {
         return ExitCode::from(1);
     };
     match read_tree(alloc, bytes.as_slice()) {
+        Ok(tree) if is_walk && walk(&tree) == 0 => ExitCode::from(1),
         Ok(_) => ExitCode::from(0),
         Err(_) => ExitCode::from(1),
     }
@@ -80,5 +113,6 @@ size = os.path.getsize("m.mpd")
 print(f"{name}: {best * 1000:.0f} ms, {peak / 1024:.1f} MB, {peak * 1024 / size:.1f} bytes of memory a byte of {size}")
 PY
 python3 "$work/measure.py" read_tree "$work" "$ours"
+python3 "$work/measure.py" "read_tree and a walk" "$work" "$ours" walk
 python3 "$work/measure.py" roxmltree "$work" "$work/rox/target/release/rox"
 python3 "$work/measure.py" xmllint "$work" xmllint --noout --huge m.mpd

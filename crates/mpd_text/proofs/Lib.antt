@@ -3,6 +3,7 @@ pub mod BoundLemmas
 pub mod EscapeLemmas
 pub mod ForestLemmas
 pub mod KeptLemmas
+pub mod LineLemmas
 pub mod NodeLemmas
 pub mod OpeningLemmas
 pub mod HoldingLemmas

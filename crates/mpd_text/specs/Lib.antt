@@ -7,6 +7,7 @@ pub mod Faults
 pub mod Fronts
 pub mod Grammar
 pub mod Growth
+pub mod Lines
 pub mod ManyNames
 pub mod Names
 pub mod Nodes

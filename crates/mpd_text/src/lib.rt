@@ -9,6 +9,7 @@ mod escape;
 mod fault;
 mod growing;
 mod laws;
+mod lines;
 mod many_names;
 mod marked;
 mod markup;

@@ -45,6 +45,7 @@ use crate::class::starts_name;
 use crate::clean::clean;
 use crate::decode::{Value, read_data, read_value};
 use crate::growing::Growing;
+use crate::lines::Lines;
 use crate::many_names::{FEW, ManyNames, name_of};
 use crate::marked::Marked;
 use crate::markup::{beginning_end, comment_end, expect_end, misc_end};
@@ -479,10 +480,12 @@ impl<'a> Reader<'a> {
             ..
         } = self;
         let source = String::from_str(alloc, text)?;
+        let lines = Lines::new(alloc, text.as_bytes())?;
         let (elements, attributes) = growing.finish();
         Ok(Tree {
             source,
             read,
+            lines,
             elements,
             attributes,
         })

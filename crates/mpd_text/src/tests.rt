@@ -200,6 +200,24 @@ fn trees(rt: HostRuntime) -> Result<(), Fail> {
     Ok(())
 }
 
+// Elements and attributes line by line, over many blocks of counted lines.
+#[test]
+fn lines(rt: HostRuntime) -> Result<(), Fail> {
+    let alloc = rt.alloc();
+    let rows = "<b c=''\n/>".repeat(alloc, 40)?;
+    let tree = read_tree(alloc, format!(in alloc; "<a>\n{rows}</a>")?.as_bytes())?;
+    let mut walk = tree.root().children();
+    for row in 0..40 {
+        let element = walk.next().ok_or("an element")?;
+        let (at, line) = (4 + 10 * row, 2 + row);
+        assert_eq!(rt; element.place(), Place { at, line });
+        let place = element.attribute("c").map(|attr| attr.place);
+        assert_eq!(rt; place, Some(Place { at: at + 3, line }));
+    }
+    assert!(rt; walk.next().is_none());
+    Ok(())
+}
+
 #[test]
 fn escapes(rt: HostRuntime) -> Result<(), Fail> {
     let alloc = rt.alloc();

@@ -1,6 +1,7 @@
 // The tree that a text spells, in document order.
-ghost use Rattle.std.specs.Prelude.{◌≡◌, ◌≤◌, ◌++◌, All, length, vec_len};
+ghost use Rattle.std.specs.Prelude.{◌≡◌, ◌≤◌, ◌/◌, ◌++◌, All, length, vec_len};
 ghost use Rattle.std.specs.String.{string_bytes};
+ghost use Rattle.mpd_text.specs.Lines.{AreCounted, block_size};
 ghost use Rattle.mpd_text.specs.Rows.{
   IsKept,
   IsElementKept,
@@ -13,8 +14,8 @@ ghost use Rattle.mpd_text.specs.Rows.{
 
 use crate::TextFault;
 use crate::attr::Attr;
+use crate::lines::Lines;
 use crate::node::Node;
-use crate::places::place_at;
 use bridge_io::Place;
 
 /// Bytes of the kept text: of the source, or, counted on from its end, of what was read otherwise than it stands
@@ -78,8 +79,10 @@ pub struct Tree {
     pub(crate) source: String,
     // What is read otherwise than it stands in the source: texts of elements, and values with references.
     pub(crate) read: String,
+    pub(crate) lines: Lines,
     pub(crate) elements: Vec<ElementRow>,
     pub(crate) attributes: Vec<AttributeRow>,
+    ghost counted: { AreCounted (string_bytes source) (length (string_bytes source) / block_size) lines.before.items },
     ghost elements_kept: { All (IsElementKept (string_bytes source) (string_bytes source ++ string_bytes read)) elements.items },
     ghost attributes_kept: { All (IsAttributeKept (string_bytes source) (string_bytes source ++ string_bytes read)) attributes.items },
     ghost attributes_within: { All (HasAttributesWithin (vec_len attributes)) elements.items },
@@ -116,7 +119,7 @@ impl Tree {
         requires { at ≤ length (string_bytes self.now.source) }
         ensures { result ≡ place_of (string_bytes self.now.source) at }
     {
-        place_at(self.source.as_bytes(), at)
+        self.lines.place_of(self.source.as_bytes(), at)
     }
 
     pub(crate) fn attr(&self, row: &AttributeRow) -> Attr<'_>
