@@ -13,6 +13,7 @@ pub mod ShowingLemmas
 pub mod GrowthLemmas
 pub mod ReaderShows
 pub mod SetLemmas
+pub mod ReadOn
 pub mod ReadBack
 pub mod NameLemmas
 pub mod RunLemmas

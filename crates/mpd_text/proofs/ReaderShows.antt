@@ -102,19 +102,22 @@ end_shows old mid new text o os shown same growing loose more moved new_same new
     }))
 
 -- want of memory tells nothing of the text
+pub told_as : (P : TextFault → Type 0) (f : TextFault) → P f → IfSome (refusal f) P
+told_as P Memory is = tt
+told_as P (NotUtf8 p) is = is
+told_as P (BadChar p) is = is
+told_as P (Cut p) is = is
+told_as P (Syntax p) is = is
+told_as P (TagMismatch p) is = is
+told_as P (DoubleAttribute p) is = is
+told_as P (Entity p) is = is
+told_as P (Doctype p) is = is
+told_as P (Cdata p) is = is
+told_as P (Instruction p) is = is
+told_as P (Depth p) is = is
+
 pub told : (bytes : List ℕ) (f : TextFault) → IsStuck bytes f → IfSome (refusal f) (IsStuck bytes)
-told bytes Memory stuck = tt
-told bytes (NotUtf8 p) stuck = stuck
-told bytes (BadChar p) stuck = stuck
-told bytes (Cut p) stuck = stuck
-told bytes (Syntax p) stuck = stuck
-told bytes (TagMismatch p) stuck = stuck
-told bytes (DoubleAttribute p) stuck = stuck
-told bytes (Entity p) stuck = stuck
-told bytes (Doctype p) stuck = stuck
-told bytes (Cdata p) stuck = stuck
-told bytes (Instruction p) stuck = stuck
-told bytes (Depth p) stuck = stuck
+told bytes f stuck = told_as (IsStuck bytes) f stuck
 
 -- more is kept while a tag is read
 pub tag_kept : (old new : Reader) (t : Tag) (os : List Opened) → new.text.now ≡ old.text.now → Appends (string_bytes old.read) (string_bytes new.read) → new.growing ≡ old.growing → string_bytes new.loose ≡ string_bytes old.loose → TagShown (view_of old) t os → TagShown (view_of new) t os

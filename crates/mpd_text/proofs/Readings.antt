@@ -3,7 +3,6 @@ use Rattle.std.proofs.Common.{◌≡◌, ◌≢◌, ℕ, zero, suc, ◌<◌, Boo
 use Rattle.std.specs.List.{starts_with}
 use Rattle.std.specs.Option.{option_and_then}
 use Rattle.std.specs.Str.{is_utf8}
-use Rattle.std.specs.Str.Lossy.{utf8_valid_len}
 use Rattle.std.proofs.lemmas.Str.{IsUtf8-from_is_utf8, is_utf8-from_IsUtf8}
 use Rattle.std.proofs.lemmas.Option.{slice_get_within}
 use Rattle.std.proofs.lemmas.List.{take_all}
@@ -12,15 +11,17 @@ use Rattle.std.proofs.lemmas.Bool.{cases_lt}
 use Rattle.bridge_io.specs.declared.place.Place.{Place}
 use Rattle.bridge_io.specs.Places.{place_of}
 use Rattle.mpd_text.specs.declared.fault.TextFault.{TextFault}
-use Rattle.mpd_text.specs.declared.fault.TextFault.TheVariants.{NotUtf8, BadChar}
+use Rattle.mpd_text.specs.declared.fault.TextFault.TheVariants.{BadChar}
 use Rattle.mpd_text.specs.Characters.{first_bad_character}
 use Rattle.mpd_text.specs.Trees.{Element}
 use Rattle.mpd_text.specs.Grammar.{IsClean, Spells, past}
 use Rattle.mpd_text.specs.Fronts.{Kind, Context, IsOpen, before_root, after_root}
-use Rattle.mpd_text.specs.Faults.{IsLongestOpen, IsDecided, IsCut, HasFault, ReadsAs, HasOneReading, fault_of}
+use Rattle.mpd_text.specs.Faults.{IsLongestOpen, IsDecided, IsCut, HasFault, ReadsAs, fault_of}
+use Rattle.mpd_text.specs.Meaning.{IsOneReading, read_on, read_unless_bad, reading_of}
 use Rattle.mpd_text.specs.Steps.{inside, behind, Mode, at_mark_1, at_mark_2, at_mark_end, at_content, State, start, run, step, next_mode, state_at, context_at, context_of, context_of_mode, Reaches, IsStuckAt, HasBrokenMark, IsUnfinished, IsStuck, Finishes}
 use Rattle.mpd_text.proofs.Holds.{Holds}
 use Rattle.mpd_text.proofs.NameLemmas.{tests, true_is_not_false}
+use Rattle.mpd_text.proofs.ReadOn.{finished_is_read, stuck_is_read}
 use Rattle.mpd_text.proofs.RunLemmas.{run_front}
 use Rattle.mpd_text.proofs.SoundSteps.{holds}
 use Rattle.mpd_text.proofs.SoundOpen.{read_is_open, finished_is_document}
@@ -233,8 +234,8 @@ stops_in_mark bytes stop (inr is) =
     subst Reading (sym (whole.1 ∙ ap (λ s. s ++ stop.2 ∷ whole.0) front)) (broken_reading (239 ∷ 187 ∷ stop.2 ∷ whole.0) refl (third_differs stop.2 whole.0 other))
 
 -- the reading of a text
-reading_of : (bytes : List ℕ) → Reading bytes
-reading_of bytes = elim (reads start bytes) [
+stops_or_ends : (bytes : List ℕ) → Reading bytes
+stops_or_ends bytes = elim (reads start bytes) [
   | inl whole ↦ elim (context_or_mark whole.0.mode whole.0.here) [
     | inl some ↦ ended_reading bytes whole.0.mode whole.0.here some.0 whole.1 some.1
     | inr mark ↦ ends_in_mark bytes whole.0 whole.1 mark
@@ -328,23 +329,24 @@ reads_once bytes (Ok a) (Err g) x y = absurd (document_no_fault bytes a g x y)
 reads_once bytes (Err f) (Ok b) x y = absurd (document_no_fault bytes b f y x)
 reads_once bytes (Err f) (Err g) x y = ap Err (fault_once bytes f g x y)
 
-is_one : (bytes : List ℕ) (r : Result Element TextFault) → ReadsAs bytes r → HasOneReading bytes
-is_one bytes r is = record { reading = r; is_read = is; only = λ other also. reads_once bytes other r also is }
+is_one : (bytes : List ℕ) (r : Result Element TextFault) → ReadsAs bytes r → IsOneReading bytes r
+is_one bytes r is = record { is_read = is; only = λ other also. reads_once bytes other r also is }
 
-clean_reading : (bytes : List ℕ) → IsClean bytes → Reading bytes → HasOneReading bytes
-clean_reading bytes clean (inl (root, f)) = is_one bytes (Ok root) (finished_spells bytes root clean f)
-clean_reading bytes clean (inr (f, stuck)) = is_one bytes (Err f) (stuck_has_fault bytes f clean stuck)
+clean_reads : (bytes : List ℕ) → IsClean bytes → Reading bytes → ReadsAs bytes (read_on bytes start bytes)
+clean_reads bytes clean (inl (root, f)) = subst (ReadsAs bytes) (sym (finished_is_read bytes root f)) (finished_spells bytes root clean f)
+clean_reads bytes clean (inr (f, stuck)) = subst (ReadsAs bytes) (sym (stuck_is_read bytes f stuck)) (stuck_has_fault bytes f clean stuck)
 
-utf8_reading : (bytes : List ℕ) → IsUtf8 bytes → (o : Option ℕ) → first_bad_character bytes ≡ o → HasOneReading bytes
-utf8_reading bytes utf8 None e = clean_reading bytes (record { utf8 = utf8; no_bad_character = e }) (reading_of bytes)
-utf8_reading bytes utf8 (Some at) e = is_one bytes (Err (BadChar (place_of bytes at))) (inr (inl (record { utf8 = utf8; at = at; is_first = e; fault_is = refl })))
+utf8_reads : (bytes : List ℕ) → IsUtf8 bytes → (o : Option ℕ) → first_bad_character bytes ≡ o → ReadsAs bytes (read_unless_bad bytes o)
+utf8_reads bytes utf8 None e = clean_reads bytes (record { utf8 = utf8; no_bad_character = e }) (stops_or_ends bytes)
+utf8_reads bytes utf8 (Some at) e = inr (inl (record { utf8 = utf8; at = at; is_first = e; fault_is = refl }))
 
 -- each text has one reading
-pub one_reading : (bytes : List ℕ) → HasOneReading bytes
-one_reading bytes = elim (tests (is_utf8 bytes)) [
-  | inl is ↦ utf8_reading bytes (IsUtf8-from_is_utf8 bytes is) (first_bad_character bytes) refl
-  | inr not_so ↦ is_one bytes (Err (NotUtf8 (place_of bytes (utf8_valid_len bytes)))) (inl (record {
+pub one_reading : (bytes : List ℕ) → IsOneReading bytes (reading_of bytes)
+unfolding reading_of
+one_reading bytes = is_one bytes (reading_of bytes) (elim (tests (is_utf8 bytes)) [
+  | inl is ↦ rw is (utf8_reads bytes (IsUtf8-from_is_utf8 bytes is) (first_bad_character bytes) refl)
+  | inr not_so ↦ rw not_so (inl (record {
     not_utf8 = λ utf8. true_is_not_false (sym (is_utf8-from_IsUtf8 bytes utf8) ∙ not_so);
     fault_is = refl;
   }))
-]
+])

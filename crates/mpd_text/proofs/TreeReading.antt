@@ -1,25 +1,62 @@
 -- From positions to trees and faults.
-use Rattle.std.proofs.Common.{◌≡◌, List, ℕ, Result, Ok, Err, IfOk, IfErr, IfSome, sym, subst}
+use Rattle.std.proofs.Common.{◌≡◌, true, List, ℕ, None, Result, Ok, Err, IfOk, IfErr, IfSome, ◌⊎◌, inl, inr, refl, sym, ap, ◌∙◌, subst}
 use Rattle.std.specs.Result.{IsErrAnd}
+use Rattle.std.specs.Str.{is_utf8}
+use Rattle.std.proofs.lemmas.Str.{is_utf8-from_IsUtf8}
+use Rattle.bridge_io.specs.Answer.{Gives}
 use Rattle.mpd_text.specs.declared.fault.TextFault.{TextFault}
-use Rattle.mpd_text.specs.Faults.{HasFault, refusal}
-use Rattle.mpd_text.specs.Grammar.{IsClean}
-use Rattle.mpd_text.specs.Steps.{IsStuck}
+use Rattle.mpd_text.specs.declared.fault.TextFault.TheVariants.{Memory}
+use Rattle.mpd_text.specs.declared.tree.Tree.{Tree}
+use Rattle.mpd_text.specs.Characters.{first_bad_character}
+use Rattle.mpd_text.specs.Faults.{HasBadCharacter, HasFault, IsNotUtf8, ReadsAs, refusal}
+use Rattle.mpd_text.specs.Grammar.{IsClean, Spells}
+use Rattle.mpd_text.specs.Meaning.{read_on, reading_of}
+use Rattle.mpd_text.specs.Nodes.{root_of}
+use Rattle.mpd_text.specs.Steps.{IsStuck, Finishes, start}
+use Rattle.mpd_text.specs.Trees.{Element}
 use Rattle.mpd_text.proofs.Decoding.{told as mapped}
-use Rattle.mpd_text.proofs.ReaderShows.{told}
-use Rattle.mpd_text.proofs.Readings.{stuck_has_fault}
+use Rattle.mpd_text.proofs.ReadOn.{finished_is_read, stuck_is_read}
+use Rattle.mpd_text.proofs.ReaderShows.{told_as}
+use Rattle.mpd_text.proofs.Readings.{one_reading}
+
+-- what is read of a text without bad characters
+clean_is_read : (text : List ℕ) → IsClean text → reading_of text ≡ read_on text start text
+unfolding reading_of
+clean_is_read text clean =
+    let utf8 : is_utf8 text ≡ true = is_utf8-from_IsUtf8 text clean.utf8 in
+    let none : first_bad_character text ≡ None = clean.no_bad_character in
+    rw (utf8, none) refl
 
 -- a fault that is passed on
-pub passed_on : {T : Type 0} (r : Result T TextFault) (f : TextFault) (Q : TextFault → Type 0) → IsErrAnd r (λ g. g ≡ f) → Q f → IfErr r Q
-passed_on (Ok x) f Q e q = absurd e
-passed_on (Err g) f Q e q = subst Q (sym e) q
+passed_on : (r : Result Tree TextFault) (f : TextFault) (meaning : Result Element TextFault) → IsErrAnd r (λ g. g ≡ f) → IfSome (refusal f) (λ g. meaning ≡ Err g) → Gives root_of refusal r meaning
+passed_on (Ok tree) f meaning e is = absurd e
+passed_on (Err g) f meaning e is = subst (λ h. IfSome (refusal h) (λ k. meaning ≡ Err k)) (sym e) is
 
-pub told_fault : (bytes : List ℕ) (f : TextFault) → IsClean bytes → IfSome (refusal f) (IsStuck bytes) → IfSome (refusal f) (HasFault bytes)
-told_fault bytes f clean stuck = mapped (refusal f) (IsStuck bytes) (HasFault bytes) (λ g s. stuck_has_fault bytes g clean s) stuck
+-- the reading stops
+pub stopped : (text bytes : List ℕ) (r : Result Tree TextFault) (f : TextFault) → IsClean text → bytes ≡ text → IsErrAnd r (λ g. g ≡ f) → IfSome (refusal f) (IsStuck bytes) → Gives root_of refusal r (reading_of text)
+stopped text bytes r f clean same e stuck =
+    passed_on r f (reading_of text) e
+    (mapped (refusal f) (IsStuck text) (λ g. reading_of text ≡ Err g) (λ g s. clean_is_read text clean ∙ stuck_is_read text g s) (subst (λ b. IfSome (refusal f) (IsStuck b)) same stuck))
 
-pub stuck_fault : (bytes : List ℕ) (f : TextFault) → IsClean bytes → IsStuck bytes f → IfSome (refusal f) (HasFault bytes)
-stuck_fault bytes f clean stuck = told_fault bytes f clean (told bytes f stuck)
+-- the reading comes to its end
+pub ended_with : (text bytes : List ℕ) (root : Element) (r : Result Tree TextFault) → IsClean text → bytes ≡ text → Finishes bytes root → IfOk r (λ tree. root_of tree ≡ root) → IfErr r (λ f. f ≡ Memory) → Gives root_of refusal r (reading_of text)
+ended_with text bytes root (Ok tree) clean same f shown memory =
+    clean_is_read text clean ∙ finished_is_read text root (subst (λ b. Finishes b root) same f) ∙ ap Ok (sym shown)
+ended_with text bytes root (Err g) clean same f shown memory = subst (λ h. IfSome (refusal h) (λ k. reading_of text ≡ Err k)) (sym memory) tt
 
-pub ok_more : {T : Type 0} (r : Result T TextFault) (P Q : T → Type 0) → ((x : T) → P x → Q x) → IfOk r P → IfOk r Q
-ok_more (Ok x) P Q h p = h x p
-ok_more (Err f) P Q h p = tt
+-- bytes that are no text
+pub refused_before : (bytes : List ℕ) (r : Result Tree TextFault) (f : TextFault) → IsErrAnd r (λ g. g ≡ f) → IsNotUtf8 bytes f ⊎ HasBadCharacter bytes f → Gives root_of refusal r (reading_of bytes)
+refused_before bytes r f e h = passed_on r f (reading_of bytes) e (told_as (λ g. reading_of bytes ≡ Err g) f (sym ((one_reading bytes).only (Err f) (fault h))))
+  where
+    fault : IsNotUtf8 bytes f ⊎ HasBadCharacter bytes f → HasFault bytes f
+    fault (inl other) = inl other
+    fault (inr bad) = inr (inl bad)
+
+-- the answer is that of the grammar
+pub given_tree : (bytes : List ℕ) (r : Result Tree TextFault) → Gives root_of refusal r (reading_of bytes) → IfOk r (λ tree. Spells (root_of tree) bytes)
+given_tree bytes (Ok tree) is = subst (ReadsAs bytes) is (one_reading bytes).is_read
+given_tree bytes (Err f) is = tt
+
+pub given_fault : (bytes : List ℕ) (r : Result Tree TextFault) → Gives root_of refusal r (reading_of bytes) → IfErr r (λ fault. IfSome (refusal fault) (HasFault bytes))
+given_fault bytes (Ok tree) is = tt
+given_fault bytes (Err f) is = mapped (refusal f) (λ g. reading_of bytes ≡ Err g) (HasFault bytes) (λ g e. subst (ReadsAs bytes) e (one_reading bytes).is_read) is

@@ -84,12 +84,6 @@ abbrev pub ReadsAs : List ℕ → Result Element TextFault → Type 0
 ReadsAs bytes (Ok root) = Spells root bytes
 ReadsAs bytes (Err fault) = HasFault bytes fault
 
--- exactly one tree is spelled by the bytes, and they have no fault; or they spell none, and have exactly one fault
-pub record HasOneReading (bytes : List ℕ) : Type 0 where
-  pub reading : Result Element TextFault
-  pub is_read : ReadsAs bytes reading
-  pub only : (other : Result Element TextFault) → ReadsAs bytes other → other ≡ reading
-
 -- want of memory tells nothing of the text
 abbrev pub refusal : TextFault → Option TextFault
 refusal Memory = None

@@ -1,5 +1,9 @@
--- The grammar of the text of an MPD: the part of XML 1.0 without document types, CDATA sections and processing
+-- The grammar of the text of an MPD: XML 1.0 in UTF-8 without document types, CDATA sections and processing
 -- instructions. A place is where some bytes begin in the file, and is carried along with them.
+--
+-- It takes some texts that XML 1.0 does not: `]]>` in content (2.4), a comment that ends in `--->` (2.5), names with any
+-- character from U+0080 on at any place (2.3), and any declaration (2.8): its content isn't read, and an encoding that is
+-- declared there changes nothing.
 use Rattle.std.specs.Prelude.{◌≡◌, ◌≤◌, ℕ, suc, ◌+◌, ◌==◌, Bool, IsTrue, not, ◌⊎◌, List, [], ◌∷◌, ◌++◌, map, length, count_by, codes, Some, None, IsUtf8, bytes_eq, ⊤}
 use Rattle.std.specs.List.{list_any}
 use Rattle.bridge_io.specs.declared.place.Place.{Place}

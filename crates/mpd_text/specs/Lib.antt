@@ -9,6 +9,7 @@ pub mod Grammar
 pub mod Growth
 pub mod Lines
 pub mod ManyNames
+pub mod Meaning
 pub mod Names
 pub mod Nodes
 pub mod Opening

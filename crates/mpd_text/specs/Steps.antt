@@ -1,5 +1,5 @@
--- How a text is read byte by byte, from the left and without looking ahead. No public call's clause speaks of it: the
--- clauses of the reader's parts do.
+-- How a text is read byte by byte, from the left and without looking ahead. What a text reads as is a function by it, and
+-- the clauses of the reader's parts say where they stand in it.
 use Rattle.std.specs.Prelude.{◌≡◌, ◌≢◌, ◌≤◌, ℕ, ◌==◌, ◌&&◌, Bool, true, false, ◌⊎◌, List, [], ◌∷◌, ◌++◌, map, length, take, codes, slice_get, nat_eq, nat_lt, if◌then◌else◌, Option, Some, None, option_and_then, bytes_eq, encode_utf8}
 use Rattle.std.specs.List.{starts_with}
 use Rattle.bridge_io.specs.declared.place.Place.{Place}

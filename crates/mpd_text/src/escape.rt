@@ -35,7 +35,12 @@ fn push_escaped(written: &mut String, character: char) -> Result<(), NoMemory>
     Ok(())
 }
 
-/// The text with `&`, `<`, `>` and `"` written as `&amp;`, `&lt;`, `&gt;` and `&quot;`.
+/// The text with `&`, `<`, `>` and `"` written as `&amp;`, `&lt;`, `&gt;` and `&quot;` (XML 1.0 2.4 and 4.6), for
+/// content and for values in `"`.
+///
+/// # Errors
+///
+/// [`NoMemory`] where memory is wanting.
 pub fn escaped(alloc: Global, text: &str) -> Result<Text, NoMemory>
     ensures { IfOk result (λ written. written ≡ escape_all text.now) }
 {

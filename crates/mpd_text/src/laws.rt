@@ -1,12 +1,12 @@
 // Laws over the definitions.
-ghost use Rattle.std.specs.Prelude.{◌<◌, ℕ, List};
-ghost use Rattle.std.specs.List.{AllByRecursion};
+ghost use Rattle.std.specs.Prelude.{ℕ, List};
 ghost use Rattle.mpd_text.specs.Escapes.{IsReadBack};
-ghost use Rattle.mpd_text.specs.Faults.{HasOneReading};
+ghost use Rattle.mpd_text.specs.Meaning.{IsOneReading, reading_of};
 
-/// Bytes are spelled by exactly one tree and have no fault, or are spelled by none and have exactly one fault.
+/// Bytes are spelled by exactly one tree and have no fault, or are spelled by none and have exactly one fault; and
+/// `reading_of` them is this tree or this fault.
 pub fn one_reading()
-    ensures { (bytes : List ℕ) → AllByRecursion (λ b. b < 256) bytes → HasOneReading bytes }
+    ensures { (bytes : List ℕ) → IsOneReading bytes (reading_of bytes) }
 {}
 
 /// An escaped text without characters below U+0020 reads back as the text, as a value in `"`.

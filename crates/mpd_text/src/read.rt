@@ -1,7 +1,9 @@
 // From bytes to a tree.
 ghost use Rattle.std.specs.Prelude.{IfOk, IfErr, IfSome};
+ghost use Rattle.bridge_io.specs.Answer.{Gives};
 ghost use Rattle.mpd_text.specs.Faults.{HasFault, refusal};
-ghost use Rattle.mpd_text.specs.Grammar.{Spells};
+ghost use Rattle.mpd_text.specs.Grammar.{IsClean, Spells};
+ghost use Rattle.mpd_text.specs.Meaning.{reading_of};
 ghost use Rattle.mpd_text.specs.Nodes.{root_of};
 
 use crate::TextFault;
@@ -12,12 +14,32 @@ use crate::tree::Tree;
 use std::alloc::Global;
 
 /// The tree that the bytes spell as an XML 1.0 text in UTF-8, without document type, CDATA section and processing
-/// instruction; or why they spell none, and where.
+/// instruction, and with at most 32 elements inside one another.
+///
+/// It is wider than XML 1.0 in four places: `]]>` may stand in content (2.4), a comment may end in `--->` (2.5), a name
+/// may have any character from U+0080 on at any place (2.3), and the declaration's content isn't read (2.8), so that an
+/// encoding that is declared there changes nothing.
+///
+/// # Errors
+///
+/// The one fault of the bytes, with its place, in the order that [`TextFault`] tells; [`TextFault::Depth`] is that of
+/// an element inside of 32 others. [`TextFault::Memory`] where memory is wanting, or a place in the text or a count of
+/// its elements or attributes has no number below 2^32.
 pub fn read_tree(alloc: Global, bytes: &[u8]) -> Result<Tree, TextFault>
+    ensures reading { Gives root_of refusal result (reading_of bytes.now) }
     ensures tree { IfOk result (λ tree. Spells (root_of tree) bytes.now) }
     ensures fault { IfErr result (λ fault. IfSome (refusal fault) (HasFault bytes.now)) }
 {
     let text = clean(bytes)?;
+    read_text(alloc, text)
+}
+
+/// The tree of a text without a character that no text may have.
+fn read_text(alloc: Global, text: &str) -> Result<Tree, TextFault>
+    requires { IsClean text.now }
+    ensures { Gives root_of refusal result (reading_of text.now) }
+{
+    let bytes = text.as_bytes();
     let beginning = beginning_end(bytes)?;
     let root = misc_end(bytes, beginning)?;
     let mut reader = Reader::new(alloc, text);

@@ -2,4 +2,4 @@ use Rattle.mpd_text.proofs.Readings.{one_reading}
 use Rattle.mpd_text.proofs.laws.one_reading.Goals as goal
 
 pub returns : goal.returns
-returns c = λ bytes fit. one_reading bytes
+returns c = one_reading
