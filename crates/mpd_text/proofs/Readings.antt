@@ -1,5 +1,5 @@
 -- Each text has one reading: the tree that it spells, or the fault at which its reading stops.
-use Rattle.std.proofs.Common.{◌≡◌, ◌≢◌, ℕ, zero, suc, ◌<◌, Bool, false, ◌==◌, nat_eq, List, [], ◌∷◌, ◌++◌, length, take, Option, Some, None, Result, Ok, Err, refl, sym, ◌∙◌, ap, subst, if◌then◌else◌, arith, inl, inr, ◌⊎◌, IsUtf8, slice_get}
+use Rattle.std.proofs.Common.{◌≡◌, ◌≢◌, ℕ, zero, suc, ◌<◌, Bool, true, false, ◌==◌, nat_eq, List, [], ◌∷◌, ◌++◌, length, take, Option, Some, None, Result, Ok, Err, refl, sym, ◌∙◌, ap, subst, if◌then◌else◌, arith, inl, inr, ◌⊎◌, IsUtf8, slice_get}
 use Rattle.std.specs.List.{starts_with}
 use Rattle.std.specs.Option.{option_and_then}
 use Rattle.std.specs.Str.{is_utf8}
@@ -11,12 +11,12 @@ use Rattle.std.proofs.lemmas.Bool.{cases_lt}
 use Rattle.bridge_io.specs.declared.place.Place.{Place}
 use Rattle.bridge_io.specs.Places.{place_of}
 use Rattle.mpd_text.specs.declared.fault.TextFault.{TextFault}
-use Rattle.mpd_text.specs.declared.fault.TextFault.TheVariants.{BadChar}
+use Rattle.mpd_text.specs.declared.fault.TextFault.TheVariants.{BadChar, Cdata, Depth, Doctype, DoubleAttribute, Entity, Instruction, Memory, Syntax, TagMismatch}
 use Rattle.mpd_text.specs.Characters.{first_bad_character}
 use Rattle.mpd_text.specs.Trees.{Element}
 use Rattle.mpd_text.specs.Grammar.{IsClean, Spells, past}
-use Rattle.mpd_text.specs.Fronts.{Kind, Context, IsOpen, before_root, after_root}
-use Rattle.mpd_text.specs.Faults.{IsLongestOpen, IsDecided, IsCut, HasFault, ReadsAs, fault_of}
+use Rattle.mpd_text.specs.Fronts.{Kind, Context, IsOpen, before_root, after_root, undecided, in_attribute, in_reference, in_end_tag}
+use Rattle.mpd_text.specs.Faults.{IsLongestOpen, IsDecided, IsCut, HasFault, ReadsAs, fault_of, refusal}
 use Rattle.mpd_text.specs.Meaning.{IsOneReading, read_on, read_unless_bad, reading_of}
 use Rattle.mpd_text.specs.Steps.{inside, behind, Mode, at_mark_1, at_mark_2, at_mark_end, at_content, State, start, run, step, next_mode, state_at, context_at, context_of, context_of_mode, Reaches, IsStuckAt, HasBrokenMark, IsUnfinished, IsStuck, Finishes}
 use Rattle.mpd_text.proofs.Holds.{Holds}
@@ -247,15 +247,8 @@ stops_or_ends bytes = elim (reads start bytes) [
 ]
 
 -- a text has no two readings
-root_in : Mode → Option Element
-root_in (at_content (behind root) cr) = Some root
-root_in mode = None
-
 finished_once : (bytes : List ℕ) (a b : Element) → Finishes bytes a → Finishes bytes b → a ≡ b
-unfolding root_in
-finished_once bytes a b f g =
-    let same = same_some (record { here = f.here; mode = at_content (behind a) f.behind_cr }) (record { here = g.here; mode = at_content (behind b) g.behind_cr }) (run start bytes) f.reached g.reached in
-    same_some a b (Some a) refl (ap (λ s. root_in s.mode) same)
+finished_once bytes a b f g = let same : ◌≡◌ {A = Result Element TextFault} (Ok a) (Ok b) = sym (finished_is_read bytes a f) ∙ finished_is_read bytes b g in cc
 
 longest_once : (bytes : List ℕ) (m n : ℕ) (c d : Context) → IsLongestOpen bytes m c → IsLongestOpen bytes n d → (m ≡ n) × (c ≡ d)
 longest_once bytes m n c d f g = elim (cases_lt m n) [
@@ -350,3 +343,29 @@ one_reading bytes = is_one bytes (reading_of bytes) (elim (tests (is_utf8 bytes)
     fault_is = refl;
   }))
 ])
+
+-- no fault of a text is want of memory
+apart : (f : TextFault) → refusal f ≡ Some f → f ≢ Memory
+apart f told e = none_is_some f (ap refusal (sym e) ∙ told)
+
+chosen : (b : Bool) (f g : TextFault) → f ≢ Memory → g ≢ Memory → (if b then f else g) ≢ Memory
+chosen true f g one other = one
+chosen false f g one other = other
+
+told_fault : (kind : Kind) (names : List (List ℕ)) (byte : ℕ) (first here : Place) → fault_of kind names byte first here ≢ Memory
+told_fault (undecided piece) names byte first here =
+    chosen _ _ _ (apart (Instruction first) refl) (chosen _ _ _ (apart (Depth first) refl) (chosen _ _ _ (apart (Doctype first) refl) (chosen _ _ _ (apart (Cdata first) refl) (chosen _ _ _ (apart (Instruction first) refl) (apart (Syntax here) refl)))))
+told_fault (in_attribute others name) names byte first here = chosen _ _ _ (apart (DoubleAttribute first) refl) (apart (Syntax here) refl)
+told_fault in_reference names byte first here = apart (Entity first) refl
+told_fault (in_end_tag []) names byte first here = apart (Syntax here) refl
+told_fault (in_end_tag (b ∷ bs)) names byte first here = chosen _ _ _ (apart (TagMismatch first) refl) (apart (Syntax here) refl)
+told_fault kind names byte first here = apart (Syntax here) refl
+
+pub no_memory : (bytes : List ℕ) → reading_of bytes ≢ Err Memory
+no_memory bytes e = fault (subst (ReadsAs bytes) e (one_reading bytes).is_read)
+  where
+    fault : HasFault bytes Memory → ⊥
+    fault (inl h) = let is = h.fault_is in cc
+    fault (inr (inl h)) = let is = h.fault_is in cc
+    fault (inr (inr (clean, inl h))) = told_fault h.context.kind h.context.names h.byte _ _ (sym h.fault_is)
+    fault (inr (inr (clean, inr h))) = let is = h.fault_is in cc

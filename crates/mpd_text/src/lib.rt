@@ -26,7 +26,7 @@ mod tree;
 pub use attr::Attr;
 pub use escape::escaped;
 pub use fault::TextFault;
-pub use laws::{one_reading, reads_back};
+pub use laws::{no_memory, one_reading, reads_back};
 pub use node::{AttrWalk, Node, NodeWalk};
 pub use read::read_tree;
 pub use tree::Tree;

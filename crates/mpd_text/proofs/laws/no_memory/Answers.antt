@@ -1,0 +1,5 @@
+use Rattle.mpd_text.proofs.Readings.{no_memory}
+use Rattle.mpd_text.proofs.laws.no_memory.Goals as goal
+
+pub returns : goal.returns
+returns c = no_memory
