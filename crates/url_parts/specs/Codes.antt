@@ -1,18 +1,23 @@
--- The classes of codes in a codecs list (RFC 6381), by the four characters that stand before the first `.`.
-use Rattle.std.specs.Prelude.{ℕ, ◌==◌, Bool, List, map, bytes_eq, if◌then◌else◌}
+-- The classes of codes in a codecs list (RFC 6381, 3.3), by the characters that stand before the first `.`.
+use Rattle.std.specs.Prelude.{ℕ, ◌==◌, Bool, List, [], ◌∷◌, bytes_eq, codes, if◌then◌else◌}
 use Rattle.std.specs.List.{list_any, before_first}
 use Rattle.url_parts.specs.declared.code.CodeClass.{CodeClass}
 use Rattle.url_parts.specs.declared.code.CodeClass.TheVariants.{Video, Audio, Text, Unknown}
-use Rattle.url_parts.specs.declared.code.TheConstants.{VIDEO, AUDIO, TEXT}
 
 abbrev pub video_names : List (List ℕ)
-video_names = map (λ name. name.now) VIDEO
+video_names =
+    codes "avc1" ∷ codes "avc2" ∷ codes "avc3" ∷ codes "avc4" ∷ codes "hev1" ∷ codes "hvc1" ∷ codes "dvh1" ∷
+    codes "dvhe" ∷ codes "dvav" ∷ codes "dva1" ∷ codes "av01" ∷ codes "vp08" ∷ codes "vp09" ∷ codes "vvc1" ∷
+    codes "vvi1" ∷ codes "mp4v" ∷ []
 
 abbrev pub audio_names : List (List ℕ)
-audio_names = map (λ name. name.now) AUDIO
+audio_names =
+    codes "mp4a" ∷ codes "ac-3" ∷ codes "ec-3" ∷ codes "ac-4" ∷ codes "Opus" ∷ codes "opus" ∷ codes "fLaC" ∷
+    codes "flac" ∷ codes "alac" ∷ codes "mha1" ∷ codes "mha2" ∷ codes "mhm1" ∷ codes "mhm2" ∷ codes "dtsc" ∷
+    codes "dtse" ∷ codes "dtsh" ∷ codes "dtsl" ∷ codes "dtsx" ∷ codes "dtsy" ∷ []
 
 abbrev pub text_names : List (List ℕ)
-text_names = map (λ name. name.now) TEXT
+text_names = codes "stpp" ∷ codes "wvtt" ∷ []
 
 abbrev pub is_among : List ℕ → List (List ℕ) → Bool
 is_among name names = list_any (λ listed. bytes_eq listed name) names

@@ -56,10 +56,12 @@ impl Address {
     }
 }
 
-/// A file, or a range of its bytes.
+/// A file, or a range of its bytes (ISO/IEC 23009-1, 5.3.9.2.2; RFC 8216, 4.3.2.2).
 #[derive(Debug, Drop)]
 pub struct Part {
+    /// Where the file lies.
     pub address: Address,
+    /// Which of its bytes; all of them where there is none.
     pub range: Option<Range>,
 }
 

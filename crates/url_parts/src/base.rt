@@ -41,7 +41,8 @@ impl Base {
     ghost use Rattle.bridge_io.specs.Names.{is_name};
     ghost use Rattle.url_parts.specs.Addresses.{absolute, resolve, beside, unless_long, IsAddress, IsBase};
 
-    /// Reads an absolute URL as a base.
+    /// Reads an absolute URL as a base. Refused, Scheme and TooLong come exactly where they hold of the text, the first
+    /// of them in this order.
     #[tactic(auto, unfolding(crate::specs::Addresses::absolute))]
     pub fn of(alloc: Global, text: &str) -> Result<Base, UrlFault>
         ensures { Gives (λ base. base) refusal result (absolute text.now) }
@@ -52,7 +53,8 @@ impl Base {
     /// The base that a reference gives against this one.
     ///
     /// A reference that begins with `http://` or `https://` is read without the base, with which the URL Standard
-    /// gives the same.
+    /// gives the same. Refused, Scheme and TooLong come exactly where they hold of the reference against this base, the
+    /// first of them in this order.
     pub fn deeper(&self, alloc: Global, reference: &str) -> Result<Base, UrlFault>
         ensures { Gives (λ base. base) refusal result (resolve self.now reference.now) }
     {
@@ -61,7 +63,8 @@ impl Base {
 
     /// The address that a reference gives against this base.
     ///
-    /// A name stands right behind the base's folder, so that nothing of it is parsed.
+    /// A name stands right behind the base's folder, so that nothing of it is parsed. Refused, Scheme and TooLong come
+    /// exactly where they hold of the reference against this base, the first of them in this order.
     #[tactic(auto, using(crate::proofs::Relative::resolve_name))]
     pub fn join(&self, alloc: Global, reference: &str) -> Result<Address, UrlFault>
         ensures { Gives (λ address. address) refusal result (resolve self.now reference.now) }
@@ -75,8 +78,8 @@ impl Base {
     /// The address of a name in the base's folder: the base's text without query and fragment, up to and with its
     /// last `/`, followed by the name.
     ///
-    /// It is refused exactly where this text isn't the one that the URL Standard writes for it, and then exactly where
-    /// it has more than 2,048 bytes.
+    /// TooLong comes exactly where this text has more than 2,048 bytes. Refused would come where the text isn't the one
+    /// that the URL Standard writes for it: of a base and a name it always is (`laws::name_beside`).
     #[tactic(auto, using(crate::proofs::Relative::beside_name))]
     pub fn beside(&self, alloc: Global, name: &Name) -> Result<Address, UrlFault>
         ensures { Gives (λ address. address) refusal result (beside self.now name.now) }
@@ -229,8 +232,11 @@ fn join_texts(alloc: Global, front: &str, back: &str) -> Result<String, AllocErr
     Ok(text)
 }
 
-/// The rest of an address after a folder's text, without query and fragment, where that is a name. So no name leads
-/// out of the folder.
+/// The rest of an address after a folder's text, without query and fragment, where that is a name.
+///
+/// Where the base's text is its own folder, so that it ends in `/` and has no query and no fragment, the name is that
+/// of the file: against the base it gives the address without query and fragment (`laws::name_of_local_file`). For
+/// another base it is the rest of the text alone.
 pub fn local_name(alloc: Global, folder: &Base, address: &Address) -> Result<Option<Name>, NoMemory>
     ensures { IfOk result (λ name. name ≡ local_name_of folder.now address.now) }
 {

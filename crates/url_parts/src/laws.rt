@@ -1,9 +1,9 @@
 //! Laws of addresses.
-ghost use Rattle.std.specs.Prelude.{◌≡◌, ℕ, List, Ok};
-ghost use Rattle.url_parts.specs.Addresses.{resolve, beside};
+ghost use Rattle.std.specs.Prelude.{◌≡◌, ℕ, List, ◌++◌, Ok, Some};
+ghost use Rattle.url_parts.specs.Addresses.{resolve, beside, folder_of, unless_long, without_tail, local_name_of};
 ghost use Rattle.url_parts.specs.Laws.{NeedsNoBase, IsGivenAgain, GoesOn};
 
-use crate::Base;
+use crate::{Address, Base};
 use bridge_io::Name;
 
 /// The URL Standard reads a reference that begins with `http://` or `https://` alike with any base and without one.
@@ -29,6 +29,24 @@ pub fn name_address(base: &Base, name: &Name)
 {
     let _ = base.as_str();
     let _ = name.as_str();
+}
+
+/// The address of a name beside a base is the folder's text and the name, and is refused for its length alone.
+#[tactic(auto, using(crate::proofs::Relative::beside_name))]
+pub fn name_beside(base: &Base, name: &Name)
+    ensures { beside base.now name.now ≡ unless_long (folder_of base.now ++ name.now) }
+{
+    let _ = base.as_str();
+    let _ = name.as_str();
+}
+
+/// A name that is found under a base whose text is its own folder gives the address without query and fragment.
+pub fn name_of_local_file(folder: &Base, address: &Address)
+    ensures { (name : List ℕ) → folder_of folder.now ≡ folder.now → local_name_of folder.now address.now ≡ Some name
+        → resolve folder.now name ≡ Ok (without_tail address.now) }
+{
+    let _ = folder.as_str();
+    let _ = address.as_str();
 }
 
 /// References that are resolved one after another go on from what those before them gave.
