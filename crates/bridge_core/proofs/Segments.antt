@@ -1,8 +1,6 @@
 -- The text of segments that are given one by one.
-use Rattle.std.proofs.Common.{◌≡◌, ℕ, ◌+◌, ◌-◌, List, [], ◌∷◌, ◌++◌, Option, refl, ap, sym, ◌∙◌, append_assoc}
+use Rattle.std.proofs.Common.{◌≡◌, ℕ, ◌+◌, ◌-◌, List, [], ◌∷◌, ◌++◌, refl, ap, sym, ◌∙◌, append_assoc}
 use Rattle.std.proofs.Common.{arith}
-use Rattle.bridge_io.specs.Outside.{Files}
-use Rattle.bridge_io.specs.Written.{HasFront, front_of_more}
 use Rattle.plain_mpd.specs.declared.plain.Plain.{Plain}
 use Rattle.timeline.specs.declared.plain.PlainSpan.{PlainSpan}
 use Rattle.timeline.specs.Plain.{spans_from}
@@ -15,11 +13,6 @@ spans-segments base plain start number (d ∷ ds) =
     let lasts : (start + d) - start ≡ d = omega arith in
     ap (λ k. segment_text base plain number k ++ spans_text base plain (spans_from (start + d) (number + 1) ds)) lasts
     ∙ ap (λ rest. segment_text base plain number d ++ rest) (spans-segments base plain (start + d) (number + 1) ds)
-
--- a front of what is written is a front of what it goes on to
-pub front_of_whole : (name text done rest whole : List ℕ) (first now : Option Files) → done ++ rest ≡ whole → HasFront name (text ++ done) first now → HasFront name (text ++ whole) first now
-front_of_whole name text done rest whole first now goes front =
-    rw (← goes, ← append_assoc) (front_of_more name (text ++ done) rest first now front)
 
 -- what is written goes on to the whole after one more segment, too
 pub goes_on : (base : List ℕ) (plain : Plain) (done line : List ℕ) (span : PlainSpan) (spans later : List PlainSpan) (whole : List ℕ)

@@ -1,47 +1,49 @@
 -- What a run leaves follows from how its work ended and what the report got.
-use Rattle.std.proofs.Common.{◌≡◌, ◌⊎◌, ℕ, List, [], ◌∷◌, length, Option, None, Some, inl, inr, refl}
+use Rattle.std.proofs.Common.{◌≡◌, ◌⊎◌, ℕ, ◌+◌, List, [], ◌∷◌, length, Option, None, Some, inl, inr, refl, arith}
 use Rattle.std.proofs.Math.Seq.{take-length}
+use Rattle.std.proofs.lemmas.List.{take_all}
+use Rattle.std.proofs.lemmas.Option.{slice_get-get_or}
 use Rattle.bridge_io.specs.Fault.{Rose}
-use Rattle.bridge_io.specs.Outside.{Files, put, Changes, Appends, AppendsFront}
+use Rattle.bridge_io.specs.InOrder.{put_all, begun_whole}
+use Rattle.bridge_io.specs.Outside.{Files, Changes, Appends, AppendsFront}
 use Rattle.bridge_core.specs.declared.status.Status.{Status}
 use Rattle.bridge_core.specs.declared.status.Status.TheVariants as status
 use Rattle.bridge_core.specs.declared.report.Ending.{Ending}
 use Rattle.bridge_core.specs.declared.report.Ending.TheVariants as ending
 use Rattle.bridge_core.specs.Outcome.{Outcome, NoJob, Refusal, Finished}
-use Rattle.bridge_core.specs.Run.{put_all, AreBegun, MayBeCut, files_of, IsRun, IsFinished}
+use Rattle.bridge_core.specs.Run.{MayLeave, MayBeCut, files_of, IsRun, IsFinished}
 use Rattle.bridge_core.specs.Endings.{line_told, Tells, IsEnding}
-use Rattle.bridge_core.proofs.Stops.{none_begun}
 
 -- a whole piece is a front of itself
 whole_front : (line : List ℕ) (r r' : Option (List ℕ)) → Appends line r r' → AppendsFront line r r'
 whole_front line r r' appends = (length line, rw (take-length line) appends)
 
--- files that were all put were begun
-all_begun : (files : List (List ℕ × List ℕ)) (before after : Option Files) → Changes (put_all files) before after → AreBegun files before after
-all_begun [] None after changes = changes
-all_begun [] (Some files) after changes = changes
-all_begun (f ∷ fs) None after changes = inr (inr (None, refl, all_begun fs None after changes))
-all_begun (f ∷ fs) (Some files) after changes = inr (inr (Some (put f.0 f.1 files), refl, all_begun fs (Some (put f.0 f.1 files)) after changes))
+-- files that were all put were begun, where there are any
+all_begun : (files : List (List ℕ × List ℕ)) (before after : Option Files) → Changes (put_all files) before after → MayLeave files before after
+all_begun [] None after changes = inl changes
+all_begun [] (Some files) after changes = inl changes
+all_begun (f ∷ fs) before after changes =
+    inr (begun_whole (f ∷ fs) (length fs) _ before after (slice_get-get_or (f ∷ fs) (length fs) f (omega arith)) (rw (take_all (length fs + 1) (f ∷ fs) (omega arith)) changes))
 
 -- what was begun, however the work ended
-begun : (outcome : Outcome) (told : Ending) (before after : Option Files) → IsEnding outcome told before after → AreBegun (files_of outcome) before after
+begun : (outcome : Outcome) (told : Ending) (before after : Option Files) → IsEnding outcome told before after → MayLeave (files_of outcome) before after
 begun NoJob (ending.Done line) before after is = absurd is
 begun NoJob (ending.Refused line) before after is = absurd is
-begun NoJob ending.Words before after is = is
+begun NoJob ending.Words before after is = inl is
 begun NoJob ending.ReadFault before after is = absurd is
 begun NoJob ending.WriteFault before after is = absurd is
 begun NoJob ending.Memory before after is = is
 begun (Refusal line) (ending.Done l) before after is = absurd is
-begun (Refusal line) (ending.Refused l) before after is = is.1
+begun (Refusal line) (ending.Refused l) before after is = inl is.1
 begun (Refusal line) ending.Words before after is = absurd is
-begun (Refusal line) ending.ReadFault before after is = is
+begun (Refusal line) ending.ReadFault before after is = inl is
 begun (Refusal line) ending.WriteFault before after is = absurd is
 begun (Refusal line) ending.Memory before after is = is
 begun (Finished files report) (ending.Done line) before after is = all_begun files before after is.1
 begun (Finished files report) (ending.Refused line) before after is = absurd is
 begun (Finished files report) ending.Words before after is = absurd is
-begun (Finished files report) ending.ReadFault before after is = none_begun files before after is
-begun (Finished files report) ending.WriteFault before after is = is
+begun (Finished files report) ending.ReadFault before after is = inl is
+begun (Finished files report) ending.WriteFault before after is = inr is
 begun (Finished files report) ending.Memory before after is = is
 
 -- the line that was told is one that may be cut
@@ -61,7 +63,7 @@ may_be_cut outcome ending.Memory before after is = inr (inr (inr refl))
 
 -- want of memory
 wanting : (outcome : Outcome) (line : List ℕ) (before after : Option Files) (f f' : ℕ) (r r' : Option (List ℕ))
-    → AreBegun (files_of outcome) before after → MayBeCut outcome line → AppendsFront line r r' → IsRun outcome status.Memory before after f f' r r'
+    → MayLeave (files_of outcome) before after → MayBeCut outcome line → AppendsFront line r r' → IsRun outcome status.Memory before after f f' r r'
 wanting NoJob line before after f f' r r' files cut front = (files, (line, cut, front))
 wanting (Refusal l) line before after f f' r r' files cut front = (files, (line, cut, front))
 wanting (Finished fs report) line before after f f' r r' files cut front = (files, (line, cut, front))
@@ -99,9 +101,9 @@ told_line (Finished fs report) ending.Words end before after f f' r r' is tells 
 
 -- want of memory before any file was begun
 pub memory_at_first : (outcome : Outcome) (files : Option Files) → IsEnding outcome ending.Memory files files
-memory_at_first NoJob files = refl
-memory_at_first (Refusal line) files = refl
-memory_at_first (Finished fs report) files = none_begun fs files files refl
+memory_at_first NoJob files = inl refl
+memory_at_first (Refusal line) files = inl refl
+memory_at_first (Finished fs report) files = inl refl
 
 -- a run that ends with a read fault did no more than to read
 pub read_fault_told : (told : Ending) (end : Status) (f f' : ℕ) (r r' : Option (List ℕ)) → Tells told end f f' r r' → end ≡ status.ReadFault → told ≡ ending.ReadFault

@@ -9,7 +9,8 @@ use Rattle.bridge_core.specs.declared.report.Ending.TheVariants as ending
 use Rattle.bridge_io.specs.Outside.{Files, Changes}
 use Rattle.bridge_io.specs.declared.no_memory.NoMemory.{NoMemory}
 use Rattle.bridge_core.specs.Outcome.{Outcome, NoJob, Refusal, Finished}
-use Rattle.bridge_core.specs.Run.{put_all, AreBegun, files_of}
+use Rattle.bridge_io.specs.InOrder.{put_all, AreBegun}
+use Rattle.bridge_core.specs.Run.{MayLeave, files_of}
 use Rattle.bridge_core.specs.Report.{words_line, read_fault_line, write_fault_line, memory_line}
 
 abbrev pub line_told : Ending → List ℕ
@@ -48,7 +49,7 @@ IsEnding NoJob ending.Words before after = after ≡ before
 IsEnding (Finished files report) ending.ReadFault before after = after ≡ before
 IsEnding (Refusal line) ending.ReadFault before after = after ≡ before
 IsEnding (Finished files report) ending.WriteFault before after = AreBegun files before after
-IsEnding outcome ending.Memory before after = AreBegun (files_of outcome) before after
+IsEnding outcome ending.Memory before after = MayLeave (files_of outcome) before after
 IsEnding outcome other before after = ⊥
 
 -- the line of a refusal; another ending tells nothing of the manifest

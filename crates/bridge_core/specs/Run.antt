@@ -1,23 +1,16 @@
 -- What a run leaves, by its status.
-use Rattle.std.specs.Prelude.{◌≡◌, ◌⊎◌, ℕ, List, [], ◌∷◌, Option}
+use Rattle.std.specs.Prelude.{◌≡◌, ◌⊎◌, ℕ, List, [], Option}
 use Rattle.bridge_io.specs.Fault.{Rose}
-use Rattle.bridge_io.specs.Outside.{Files, put, Changes, Appends, AppendsFront}
-use Rattle.bridge_io.specs.Written.{HasFront}
+use Rattle.bridge_io.specs.InOrder.{put_all, AreBegun}
+use Rattle.bridge_io.specs.Outside.{Files, Changes, Appends, AppendsFront}
 use Rattle.bridge_core.specs.declared.status.Status.{Status}
 use Rattle.bridge_core.specs.declared.status.Status.TheVariants as status
 use Rattle.bridge_core.specs.Outcome.{Outcome, NoJob, Refusal, Finished}
 use Rattle.bridge_core.specs.Report.{words_line, read_fault_line, write_fault_line, memory_line}
 
--- the files with some files put, the first of them first
-abbrev pub put_all : List (List ℕ × List ℕ) → Files → Files
-put_all [] files = files
-put_all (f ∷ fs) files = put_all fs (put f.0 f.1 files)
-
--- Of some files, put one after another, those that were begun are fronts of their texts: all of them but the last one
--- begun are whole. Every other file is as before.
-abbrev pub AreBegun : List (List ℕ × List ℕ) → Option Files → Option Files → Type 0
-AreBegun [] before after = after ≡ before
-AreBegun (f ∷ fs) before after = (after ≡ before) ⊎ (HasFront f.0 f.1 before after ⊎ ((mid : Option Files) × Changes (put f.0 f.1) before mid × AreBegun fs mid after))
+-- All files are as before, or some of these, which are put in order, are put and the next one is begun.
+abbrev pub MayLeave : List (List ℕ × List ℕ) → Option Files → Option Files → Type 0
+MayLeave files before after = (after ≡ before) ⊎ AreBegun files before after
 
 -- The sink got a line, or a front of it where its count of faults rose.
 abbrev pub IsTold : List ℕ → ℕ → ℕ → Option (List ℕ) → Option (List ℕ) → Type 0
@@ -50,7 +43,7 @@ IsRun (Finished files report) status.WriteFault before after f f' r r' =
     (AreBegun files before after × IsTold write_fault_line f f' r r')
     ⊎ (Changes (put_all files) before after × Rose f f' × AppendsFront report r r')
 IsRun outcome status.Memory before after f f' r r' =
-    AreBegun (files_of outcome) before after × ((line : List ℕ) × MayBeCut outcome line × AppendsFront line r r')
+    MayLeave (files_of outcome) before after × ((line : List ℕ) × MayBeCut outcome line × AppendsFront line r r')
 IsRun outcome other before after f f' r r' = ⊥
 
 -- a job whose input is read and built

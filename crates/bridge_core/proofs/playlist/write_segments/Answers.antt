@@ -1,10 +1,10 @@
 use Rattle.std.proofs.Common.{◌≡◌, ◌∙◌, ◌++◌, ◌-◌, ap, [], refl, append_assoc, arith}
 use Rattle.std.proofs.lemmas.List.{append-nil}
-use Rattle.bridge_io.specs.Written.{target, HasFront, front_of_behind}
+use Rattle.bridge_io.specs.Written.{target, HasFront, front_of_behind, front_of_whole}
 use Rattle.timeline.specs.Plain.{spans_left}
 use Rattle.bridge_core.specs.Playlist.{segment_text, spans_text}
 use Rattle.bridge_core.proofs.Files.{on_err}
-use Rattle.bridge_core.proofs.Segments.{spans-segments, front_of_whole, goes_on}
+use Rattle.bridge_core.proofs.Segments.{spans-segments, goes_on}
 use Rattle.bridge_core.proofs.playlist.write_segments.Goals as goal
 
 pub loop-span-init : goal.loop-span-init
