@@ -5,6 +5,7 @@ ghost use Rattle.std.specs.Prelude.{◌≡◌, ◌<◌};
 
 use bridge_core::{Status, bridge};
 use bridge_io::{FolderStore, Ledger, NoMemory, Sequence, StdSink, StdSource, Steps, Text};
+use std::io::ErrorKind;
 use std::marker::Brand;
 use std::process::ExitCode;
 use std::sync::ledger::Blank;
@@ -15,7 +16,7 @@ fn main(rt: HostRuntime) -> ExitCode {
     ExitCode::from(status.number())
 }
 
-/// Runs the command over the real files and streams. There is no answer where memory is wanting for these.
+/// Runs the command over the real files and streams. An error is want of memory for the words or for these objects.
 fn start<L: Ledger>(rt: HostRuntime, blank: Blank) -> Result<Status, NoMemory>
     requires name { blank.name ≡ L.name }
     requires parts { blank.parts ≡ L.parts }
@@ -37,10 +38,15 @@ fn start<L: Ledger>(rt: HostRuntime, blank: Blank) -> Result<Status, NoMemory>
     ))
 }
 
-/// The command's words without the program's own name.
+/// The command's words without the program's own name. There are none, which is no job, where one isn't UTF-8.
 fn words(rt: &HostRuntime) -> Result<Sequence<Text>, NoMemory> {
     let mut words = Sequence::new(rt.alloc());
-    for word in env::args(rt).map_err(|_| NoMemory)?.skip(1) {
+    let given = match env::args(rt) {
+        Ok(given) => given,
+        Err(error) if error.kind() == ErrorKind::OutOfMemory => return Err(NoMemory),
+        Err(_) => return Ok(words),
+    };
+    for word in given.skip(1) {
         words.push(Text::from(word))?;
     }
     Ok(words)
