@@ -43,6 +43,7 @@ fn playlist(alloc: Global, run: &Run) -> Result<Option<usize>, Fail> {
 fn ends_as_the_words_and_the_file_say(rt: HostRuntime) -> Result<(), Fail> {
     let alloc = rt.alloc();
     let whole = Some(PLAYLIST.len());
+    let none: &[&str] = &[];
     let short: &[&str] = &WORDS[..2];
     let bare: &[&str] = &["hls", "m.mpd", "--base=h.example"];
     let absent: &[&str] = &["hls", "n.mpd", "--base=https://h.example/"];
@@ -70,6 +71,8 @@ fn ends_as_the_words_and_the_file_say(rt: HostRuntime) -> Result<(), Fail> {
             None,
         ),
         (short, PLAIN, Status::Words, "words\n", None),
+        // So `main` runs where a word isn't UTF-8.
+        (none, PLAIN, Status::Words, "words\n", None),
     ] {
         let run = run_words(
             alloc,
@@ -82,6 +85,21 @@ fn ends_as_the_words_and_the_file_say(rt: HostRuntime) -> Result<(), Fail> {
         assert_eq!(rt; playlist(alloc, &run)?, written, "{report}");
     }
     Ok(())
+}
+
+#[test]
+fn exits_with_the_number_of_the_status(rt: HostRuntime) {
+    for (status, number) in [
+        (Status::Done, 0),
+        (Status::Refused, 1),
+        (Status::Words, 2),
+        (Status::ReadFault, 3),
+        (Status::WriteFault, 4),
+        (Status::Memory, 5),
+        (Status::Differ, 6),
+    ] {
+        assert_eq!(rt; status.number(), number);
+    }
 }
 
 #[test]
