@@ -1,0 +1,7 @@
+pub mod Ascii
+pub mod Filling
+pub mod Follows
+pub mod Lines
+pub mod Named
+pub mod Reading
+pub mod Taken

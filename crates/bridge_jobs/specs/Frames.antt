@@ -1,0 +1,170 @@
+-- Streams of frames.
+use Rattle.std.specs.Prelude.{◌≡◌, ℕ, ◌+◌, ◌-◌, ◌*◌, ◌^◌, ◌<◌, ◌≤◌, ◌==◌, zero, suc, nat_le, List, [], ◌∷◌, length, take, drop, count_by, bytes_eq, if◌then◌else◌, Option, Some, None, IsNone, IfSome, Result, Ok, Err, MatchResult}
+use Rattle.bridge_io.specs.declared.place.Place.{Place}
+use Rattle.bridge_jobs.specs.Headers.{header_of, body_length}
+use Rattle.bridge_jobs.specs.declared.header.Header.{Header}
+use Rattle.bridge_jobs.specs.declared.header.Header.TheVariants as header
+use Rattle.bridge_jobs.specs.declared.frame.Frame.{Frame}
+use Rattle.bridge_jobs.specs.declared.frame.Frame.TheVariants as frame
+use Rattle.bridge_jobs.specs.declared.frame.FramePos.{FramePos}
+use Rattle.bridge_jobs.specs.declared.frame.FrameFault.{FrameFault}
+use Rattle.bridge_jobs.specs.declared.frame.FrameFault.TheVariants as fault
+
+-- a fault of the source and want of memory tell nothing of the stream
+abbrev pub refusal : FrameFault → Option FrameFault
+refusal fault.Fault = None
+refusal fault.Memory = None
+refusal told = Some told
+
+-- the place behind some bytes
+abbrev pub behind : Place → List ℕ → Place
+behind place bytes = record {
+  at = place.at + length bytes;
+  line = place.line + count_by (λ b. b == 10) bytes;
+}
+
+-- a header has at most so many bytes with its LF
+abbrev pub most_header : ℕ
+most_header = 64
+
+-- a stream has at most so many frames
+abbrev pub most_frames : ℕ
+most_frames = 10_000_000
+
+-- ---- one frame
+
+-- the front of some bytes up to and with the first LF, and so many bytes at most
+unfoldable pub line_within : ℕ → List ℕ → List ℕ
+line_within zero bytes = []
+line_within (suc most) [] = []
+line_within (suc most) (b ∷ bytes) = if b == 10 then b ∷ [] else b ∷ line_within most bytes
+
+-- the line without its LF, where that is its last byte
+abbrev pub without_end : List ℕ → Option (List ℕ)
+without_end line =
+    if bytes_eq (drop (length line - 1) line) (10 ∷ []) then Some (take (length line - 1) line) else None
+
+-- a complete line that is no header is refused at its first byte
+abbrev pub header_or_fault : Place → Option Header → Result Header FrameFault
+header_or_fault place (Some header) = Ok header
+header_or_fault place None = Err (fault.Header place)
+
+-- and so is a line that is too long; one that the stream's end cuts is refused at that end
+abbrev pub header_by_line : Place → List ℕ → Option (List ℕ) → Result Header FrameFault
+header_by_line place line (Some text) = header_or_fault place (header_of text)
+header_by_line place line None =
+    if length line == most_header then Err (fault.Header place) else Err (fault.Cut (behind place line))
+
+unfoldable pub header_at : Place → List ℕ → Result Header FrameFault
+header_at place line = header_by_line place line (without_end line)
+
+abbrev pub with_body : Header → List ℕ → Frame
+with_body (header.Mpd now length) body = frame.Mpd now body
+with_body (header.Reset now length) body = frame.Reset now body
+with_body (header.Tick now) body = frame.Tick now
+
+-- the frame of a header, the place behind it, and the bytes from there on, where the body begins at a place; a stream
+-- that ends inside the body is refused at its end
+unfoldable pub body_of : Place → Header → List ℕ → Result (Frame × Place × List ℕ) FrameFault
+body_of place header bytes =
+    let body = take (body_length header) bytes in
+    if nat_le (body_length header) (length bytes)
+    then Ok (with_body header body, behind place body, drop (body_length header) bytes)
+    else Err (fault.Cut (behind place bytes))
+
+-- a frame, where the next one begins, and the bytes from there on
+pub record Framed : Type 0 where
+  pub frame : Frame
+  pub after : FramePos
+  pub rest : List ℕ
+
+abbrev pub framed_as : Frame → FramePos → List ℕ → Framed
+framed_as frame at rest = record { frame = frame; after = at; rest = rest }
+
+-- one frame more
+abbrev pub counted : ℕ → Result (Frame × Place × List ℕ) FrameFault → Result Framed FrameFault
+counted frames (Ok x) = Ok (framed_as x.0 (record { place = x.1; frames = frames + 1 }) x.2)
+counted frames (Err e) = Err e
+
+abbrev pub framed_if : FramePos → List ℕ → List ℕ → Result Header FrameFault → Result Framed FrameFault
+framed_if at line bytes (Ok header) = counted at.frames (body_of (behind at.place line) header bytes)
+framed_if at line bytes (Err e) = Err e
+
+-- the frame of a line and the bytes behind it
+unfoldable pub frame_by_line : FramePos → List ℕ → List ℕ → Result Framed FrameFault
+frame_by_line at line bytes = framed_if at line bytes (header_at at.place line)
+
+-- the frame that bytes begin with
+unfoldable pub frame_at : FramePos → List ℕ → Result Framed FrameFault
+frame_at at bytes =
+    let line = line_within most_header bytes in
+    frame_by_line at line (drop (length line) bytes)
+
+abbrev pub some_framed : Result Framed FrameFault → Result (Option Framed) FrameFault
+some_framed (Ok framed) = Ok (Some framed)
+some_framed (Err e) = Err e
+
+-- the frame that bytes begin with, none where there are no bytes; a byte behind the last frame is refused
+unfoldable pub next_frame : FramePos → List ℕ → Result (Option Framed) FrameFault
+next_frame at [] = Ok None
+next_frame at (b ∷ bytes) = if at.frames == most_frames then Err (fault.TooMany at.place) else some_framed (frame_at at (b ∷ bytes))
+
+-- ---- the whole stream
+
+-- the frames of a stream, and why it ends where it isn't whole
+pub record Stream : Type 0 where
+  pub frames : List Frame
+  pub fault : Option FrameFault
+
+abbrev pub with_frame : Frame → Stream → Stream
+with_frame frame stream = record stream { frames = frame ∷ stream.frames }
+
+abbrev pub stream_by : (Framed → Stream) → Result (Option Framed) FrameFault → Stream
+stream_by more (Ok None) = record { frames = []; fault = None }
+stream_by more (Ok (Some framed)) = with_frame framed.frame (more framed)
+stream_by more (Err e) = record { frames = []; fault = Some e }
+
+-- the frames of bytes that begin at a place, each of which takes one of so many bytes at least
+unfoldable pub frames_within : ℕ → FramePos → List ℕ → Stream
+frames_within zero at bytes = record { frames = []; fault = None }
+frames_within (suc most) at bytes = stream_by (λ framed. frames_within most framed.after framed.rest) (next_frame at bytes)
+
+abbrev pub frames_from : FramePos → List ℕ → Stream
+frames_from at bytes = frames_within (suc (length bytes)) at bytes
+
+abbrev pub start : FramePos
+start = record { place = record { at = 0; line = 1 }; frames = 0 }
+
+-- the frames of a stream from its first byte on
+abbrev pub frames_of : List ℕ → Stream
+frames_of bytes = frames_from start bytes
+
+-- ---- what a call answers
+
+-- where a next frame may begin: each frame has moved the place by less than 2^27 bytes
+pub record IsFramePos (at : FramePos) : Type 0 where
+  pub frames : at.frames ≤ most_frames
+  pub place : at.place.at ≤ at.frames * 2 ^ 27
+  pub line : at.place.line ≤ at.place.at + 1
+
+-- a place that can be counted on behind some bytes
+pub record IsNear (place : Place) (bytes : List ℕ) : Type 0 where
+  pub at : place.at + length bytes < 2 ^ 64
+  pub line : place.line + length bytes < 2 ^ 64
+
+-- a place behind another by so many bytes at most, and by no more lines than bytes
+pub record IsBehind (most : ℕ) (before after : Place) : Type 0 where
+  pub at : after.at ≤ before.at + most
+  pub line : after.line + before.at ≤ before.line + after.at
+
+-- Of the bytes that were there the call gives what the definition says, and leaves what stands behind it.
+abbrev pub ReadsFrom : {X Y : Type 0} → (X → List ℕ → Y) → Result X FrameFault → Option (List ℕ) → Option (List ℕ) → (List ℕ → Result Y FrameFault) → Type 0
+ReadsFrom value result before after meaning =
+    (bytes : List ℕ) → before ≡ Some bytes → MatchResult result
+    (λ x. (rest : List ℕ) × (after ≡ Some rest) × (meaning bytes ≡ Ok (value x rest)))
+    (λ e. IfSome (refusal e) (λ f. meaning bytes ≡ Err f))
+
+-- no frame was read
+abbrev pub IsNoFrame : Result (Option Frame) FrameFault → Type 0
+IsNoFrame (Ok frame) = IsNone frame
+IsNoFrame (Err e) = Unit {0}

@@ -1,0 +1,162 @@
+-- The job that words are.
+use Rattle.std.specs.Prelude.{ℕ, ℤ, ◌-◌, ◌&&◌, nat_le, Bool, codes, List, [], ◌∷◌, length, if◌then◌else◌, Option, Some, None, option_and_then, option_map, unwrap_or, IfSome, IsTrue}
+use Rattle.std.specs.Result.{result_ok}
+use Rattle.clap.specs.Words.{Row, Text, first_of}
+use Rattle.iso_time.specs.Instant.{instant_of}
+use Rattle.bridge_io.specs.Names.{is_name}
+use Rattle.bridge_jobs.specs.declared.verb.Verb.{Verb}
+use Rattle.bridge_jobs.specs.declared.verb.Verb.TheVariants as verb
+use Rattle.bridge_jobs.specs.declared.jobs.Job.{Job}
+use Rattle.bridge_jobs.specs.declared.jobs.Job.TheVariants as job
+use Rattle.bridge_jobs.specs.Numbers.{decimal_of}
+use Rattle.bridge_jobs.specs.Verbs.{verb_of, values_of}
+
+infixl 10 ◌>>=◌
+abbrev pub ◌>>=◌ : {A B : Type 0} → Option A → (A → Option B) → Option B
+found >>= next = option_and_then next found
+
+-- ---- values
+
+-- the name of a file that a text is
+abbrev pub name_in : Text → Option Text
+name_in text = if is_name text then Some text else None
+
+-- so many bytes leave room for what stands behind a folder's name in the name of a file
+abbrev pub is_folder : Text → Bool
+is_folder text = is_name text && nat_le (length text) 242
+
+abbrev pub folder_in : Text → Option Text
+folder_in text = if is_folder text then Some text else None
+
+-- one character of `3` to `9`
+abbrev pub digits_in : Text → Option ℕ
+digits_in (c ∷ []) = if nat_le 51 c && nat_le c 57 then Some (c - 48) else None
+digits_in _ = None
+
+-- 1 to 10 digits, with a number below 2^32
+abbrev pub seed_in : Text → Option ℕ
+seed_in text = decimal_of 10 text
+
+abbrev pub instant_in : Text → Option ℤ
+instant_in text = result_ok (instant_of text)
+
+-- a value that may be left out is the one that is read, or none; one that can't be read is no job
+abbrev pub optional : {A : Type 0} → (Text → Option A) → Option Text → Option (Option A)
+optional read None = Some None
+optional read (Some text) = option_map Some (read text)
+
+-- ---- parameters by their names
+
+unfoldable pub file_of : Text → List Row → Option Text
+file_of id rows = first_of id rows >>= name_in
+
+unfoldable pub base_of : List Row → Option Text
+base_of rows = first_of (codes "base") rows
+
+unfoldable pub now_of : List Row → Option (Option ℤ)
+now_of rows = optional instant_in (first_of (codes "now") rows)
+
+unfoldable pub out_of : List Row → Option Text
+out_of rows = folder_in (unwrap_or (first_of (codes "out") rows) (codes "out"))
+
+-- 6 digits, unless others are written
+abbrev pub digits_or_six : Option Text → Option ℕ
+digits_or_six None = Some 6
+digits_or_six (Some text) = digits_in text
+
+unfoldable pub digits_of : List Row → Option ℕ
+digits_of rows = digits_or_six (first_of (codes "digits") rows)
+
+unfoldable pub seed_of : List Row → Option ℕ
+seed_of rows = first_of (codes "seed") rows >>= seed_in
+
+-- ---- jobs
+
+unfoldable pub hls_of : List Row → Option Job
+hls_of rows = do
+  mpd ← file_of (codes "mpd") rows
+  base ← base_of rows
+  now ← now_of rows
+  out ← out_of rows
+  digits ← digits_of rows
+  Some (job.Hls mpd base now out digits)
+
+unfoldable pub dash_of : List Row → Option Job
+dash_of rows = do
+  master ← file_of (codes "master") rows
+  base ← base_of rows
+  out ← out_of rows
+  Some (job.Dash master base out)
+
+unfoldable pub follow_of : List Row → Option Job
+follow_of rows = do
+  name ← file_of (codes "name") rows
+  base ← base_of rows
+  out ← out_of rows
+  digits ← digits_of rows
+  Some (job.Follow name base out digits)
+
+unfoldable pub show_of : List Row → Option Job
+show_of rows = do
+  file ← file_of (codes "file") rows
+  base ← base_of rows
+  now ← now_of rows
+  digits ← digits_of rows
+  Some (job.Show file base now digits)
+
+unfoldable pub check_of : List Row → Option Job
+check_of rows = do
+  mpd ← file_of (codes "mpd") rows
+  master ← file_of (codes "master") rows
+  base ← base_of rows
+  digits ← digits_of rows
+  Some (job.Check mpd master base digits)
+
+unfoldable pub reload_of : List Row → Option Job
+reload_of rows = do
+  old ← file_of (codes "old") rows
+  new ← file_of (codes "new") rows
+  base ← base_of rows
+  Some (job.Reload old new base)
+
+unfoldable pub make_of : List Row → Option Job
+make_of rows = do
+  seed ← seed_of rows
+  out ← out_of rows
+  digits ← digits_of rows
+  Some (job.Make seed out digits)
+
+abbrev pub job_by : Verb → List Row → Option Job
+job_by verb.Hls rows = hls_of rows
+job_by verb.Dash rows = dash_of rows
+job_by verb.Follow rows = follow_of rows
+job_by verb.Show rows = show_of rows
+job_by verb.Check rows = check_of rows
+job_by verb.Reload rows = reload_of rows
+job_by verb.Make rows = make_of rows
+
+-- the command of the first word
+abbrev pub first_verb : List Text → Option Verb
+first_verb [] = None
+first_verb (word ∷ rest) = verb_of word
+
+-- the first word is the command's, and the rest is read by it
+unfoldable pub job_of : List Text → Option Job
+job_of words = do
+  command ← first_verb words
+  values ← values_of command words
+  job_by command values
+
+-- the folder of the files that a job writes
+abbrev pub folder_of : Job → Option Text
+folder_of (job.Hls mpd base now out digits) = Some out
+folder_of (job.Dash master base out) = Some out
+folder_of (job.Follow name base out digits) = Some out
+folder_of (job.Show file base now digits) = None
+folder_of (job.Check mpd master base digits) = None
+folder_of (job.Reload old new base) = None
+folder_of (job.Make seed out digits) = Some out
+
+-- and it leaves room for their names
+abbrev pub HasFolder : Job → Type 0
+HasFolder job = IfSome (folder_of job) (λ folder. IsTrue (is_folder folder))

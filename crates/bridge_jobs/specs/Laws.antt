@@ -1,0 +1,41 @@
+-- Laws of jobs and of streams of frames.
+use Rattle.std.specs.Prelude.{◌≡◌, ℕ, ◌<◌, IsTrue, codes, List, ◌∷◌, ◌++◌, length, Some, Ok}
+use Rattle.std.specs.Fmt.{decimal}
+use Rattle.bridge_io.specs.Names.{is_name}
+use Rattle.bridge_io.specs.Places.{place_of}
+use Rattle.bridge_jobs.specs.Jobs.{is_folder}
+use Rattle.bridge_jobs.specs.Frames.{Framed, frames_from, next_frame, stream_by}
+use Rattle.bridge_jobs.specs.declared.frame.FramePos.{FramePos}
+
+-- ---- the names of the files that are written
+
+abbrev pub in_folder : List ℕ → List ℕ → List ℕ
+in_folder folder file = folder ++ 47 ∷ file
+
+-- `t<track>.m3u8`
+abbrev pub playlist_of : ℕ → List ℕ
+playlist_of track = 116 ∷ decimal track ++ codes ".m3u8"
+
+-- in a folder that a job may have, the files that are written have names
+pub record FoldersHoldFiles (folder : List ℕ) : Type 0 where
+  pub playlists : (track : ℕ) → track < 200 → IsTrue (is_name (in_folder folder (playlist_of track)))
+  pub master : IsTrue (is_name (in_folder folder (codes "master.m3u8")))
+  pub manifest : IsTrue (is_name (in_folder folder (codes "manifest.mpd")))
+  pub source : IsTrue (is_name (in_folder folder (codes "source.mpd")))
+  pub live : IsTrue (is_name (in_folder folder (codes "live.mpd")))
+
+abbrev pub FoldersHoldTheirFiles : Type 0
+FoldersHoldTheirFiles = (folder : List ℕ) → IsTrue (is_folder folder) → FoldersHoldFiles folder
+
+-- ---- streams of frames
+
+-- the frames of a stream are its first one and those of what stands behind it, or its end
+abbrev pub FramesFollow : Type 0
+FramesFollow =
+    (at : FramePos) (bytes : List ℕ) → frames_from at bytes ≡ stream_by (λ framed. frames_from framed.after framed.rest) (next_frame at bytes)
+
+-- places are those of bytes in the whole stream
+abbrev pub PlacesAreOfTheStream : Type 0
+PlacesAreOfTheStream =
+    (front bytes : List ℕ) (at : FramePos) (framed : Framed) → at.place ≡ place_of (front ++ bytes) (length front) → next_frame at bytes ≡ Ok (Some framed)
+    → (piece : List ℕ) × (bytes ≡ piece ++ framed.rest) × (framed.after.place ≡ place_of (front ++ bytes) (length (front ++ piece)))

@@ -1,0 +1,9 @@
+pub mod FrameFaults
+pub mod Frames
+pub mod Headers
+pub mod Inputs
+pub mod Jobs
+pub mod Laws
+pub mod Numbers
+pub mod Parameters
+pub mod Verbs

@@ -1,0 +1,64 @@
+-- The commands and what their words may be.
+use Rattle.std.specs.Prelude.{true, codes, bytes_eq, List, [], ◌∷◌, fold, if◌then◌else◌, Option, Some, None}
+use Rattle.clap.specs.Words.{App, Kinds, Row, Rule, Text, fault_of, matches_of, new_app, new_rule, with_rule}
+use Rattle.bridge_jobs.specs.declared.verb.Verb.{Verb}
+use Rattle.bridge_jobs.specs.declared.verb.Verb.TheVariants.{Hls, Dash, Follow, Show, Check, Reload, Make}
+
+-- a word by its place, which is required
+abbrev pub positional : Text → Rule
+positional name = record (new_rule name) { required = true }
+
+-- `--name=value` or `--name value`
+abbrev pub option : Text → Rule
+option name = record (new_rule name) { long = Some name }
+
+abbrev pub required_option : Text → Rule
+required_option name = record (option name) { required = true }
+
+-- what stands behind each command's word
+abbrev pub parameters_of : Verb → List Rule
+parameters_of Hls = positional (codes "mpd") ∷ required_option (codes "base") ∷ option (codes "now") ∷ option (codes "out") ∷ option (codes "digits") ∷ []
+parameters_of Dash = positional (codes "master") ∷ required_option (codes "base") ∷ option (codes "out") ∷ []
+parameters_of Follow = positional (codes "name") ∷ required_option (codes "base") ∷ option (codes "out") ∷ option (codes "digits") ∷ []
+parameters_of Show = positional (codes "file") ∷ required_option (codes "base") ∷ option (codes "now") ∷ option (codes "digits") ∷ []
+parameters_of Check = positional (codes "mpd") ∷ positional (codes "master") ∷ required_option (codes "base") ∷ option (codes "digits") ∷ []
+parameters_of Reload = positional (codes "old") ∷ positional (codes "new") ∷ required_option (codes "base") ∷ []
+parameters_of Make = required_option (codes "seed") ∷ option (codes "out") ∷ option (codes "digits") ∷ []
+
+-- the command's word
+abbrev pub word_of : Verb → Text
+word_of Hls = codes "hls"
+word_of Dash = codes "dash"
+word_of Follow = codes "follow"
+word_of Show = codes "show"
+word_of Check = codes "check"
+word_of Reload = codes "reload"
+word_of Make = codes "make"
+
+-- the command that a word is
+abbrev pub verb_of : Text → Option Verb
+verb_of word =
+    if bytes_eq word (codes "hls") then Some Hls
+    else if bytes_eq word (codes "dash") then Some Dash
+    else if bytes_eq word (codes "follow") then Some Follow
+    else if bytes_eq word (codes "show") then Some Show
+    else if bytes_eq word (codes "check") then Some Check
+    else if bytes_eq word (codes "reload") then Some Reload
+    else if bytes_eq word (codes "make") then Some Make
+    else None
+
+-- the simple command of `clap` with these parameters
+abbrev pub app_with : Text → List Rule → App
+app_with word parameters = fold with_rule (new_app word) parameters
+
+abbrev pub app_of_verb : Verb → App
+app_of_verb verb = app_with (word_of verb) (parameters_of verb)
+
+-- the matches, where nothing is at fault
+abbrev pub unless_at_fault : Kinds → List Row → Option (List Row)
+unless_at_fault [] rows = Some rows
+unless_at_fault (kind ∷ kinds) rows = None
+
+-- what the words, of which the first is the command's, give its parameters, where it takes them
+unfoldable pub values_of : Verb → List Text → Option (List Row)
+values_of verb words = unless_at_fault (fault_of (app_of_verb verb) words) (matches_of (app_of_verb verb) words)

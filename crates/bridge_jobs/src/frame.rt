@@ -1,0 +1,212 @@
+// Frames of a stream.
+ghost use Rattle.std.specs.Prelude.{◌≡◌, ◌≤◌, ◌<◌, ◌^◌, length, IfOk, IsErrOf};
+ghost use Rattle.std.specs.Option.{option_map};
+ghost use Rattle.bridge_io.specs.Fault.{HasCause};
+ghost use Rattle.bridge_jobs.specs.declared.frame.FrameFault.TheVariants.{Fault};
+ghost use Rattle.bridge_jobs.specs.Frames.{IsFramePos, IsNoFrame, IsNear, IsBehind, ReadsFrom, framed_as, next_frame, frame_by_line, body_of, header_at, behind, with_body, most_frames, most_header};
+ghost use Rattle.bridge_jobs.specs.Headers.{body_length};
+
+use crate::header::Header;
+use crate::input::{read_line, read_up_to};
+use bridge_io::{Bytes, Fail, Place, Source};
+use iso_time::Instant;
+use std::alloc::{AllocError, Global};
+use thiserror::Error;
+
+/// How many bytes a header has at most, with its LF.
+const MAX_HEADER: usize = 64;
+
+/// How many frames a stream has at most.
+const MAX_FRAMES: u64 = 10_000_000;
+
+/// One frame of a followed presentation.
+#[derive(Debug, Drop)]
+pub enum Frame {
+    /// A new version of the MPD.
+    Mpd {
+        /// When it was read.
+        now: Instant,
+        /// Its bytes.
+        body: Bytes,
+    },
+    /// A new version of the MPD, behind versions that were missed: a new section begins.
+    Reset {
+        /// When it was read.
+        now: Instant,
+        /// Its bytes.
+        body: Bytes,
+    },
+    /// The MPD stays, and time goes on.
+    Tick {
+        /// The instant that was reached.
+        now: Instant,
+    },
+}
+
+/// Where a next frame may begin in a stream.
+#[derive(Clone, Copy, Debug, PartialEq, Eq)]
+pub struct FramePos {
+    /// The place behind the frames so far.
+    pub place: Place,
+    /// How many frames there were so far.
+    pub frames: u64,
+}
+
+impl FramePos {
+    /// Before the first frame.
+    pub const START: FramePos = FramePos {
+        place: Place { at: 0, line: 1 },
+        frames: 0,
+    };
+}
+
+/// Why no frame was read.
+#[derive(Clone, Copy, Debug, PartialEq, Eq, Error)]
+pub enum FrameFault {
+    /// A line is no header: the place of its first byte.
+    #[error("not a frame's header")]
+    Header(Place),
+    /// The stream ends inside a frame: the place of that end.
+    #[error("the stream ends inside a frame")]
+    Cut(Place),
+    /// A byte follows the 10,000,000th frame: its place.
+    #[error("more than 10,000,000 frames")]
+    TooMany(Place),
+    /// A read failed.
+    #[error("the input can't be read")]
+    Fault,
+    /// Memory is wanting.
+    #[error("out of memory")]
+    Memory,
+}
+
+impl From<Fail> for FrameFault {
+    ghost use Rattle.bridge_jobs.specs.FrameFaults.{fault_of};
+
+    ghost from_gives = { λ fail e. e ≡ fault_of fail };
+
+    fn from(fail: Fail) -> FrameFault {
+        match fail {
+            Fail::Failed => FrameFault::Fault,
+            Fail::Memory => FrameFault::Memory,
+        }
+    }
+}
+
+impl From<AllocError> for FrameFault {
+    ghost use Rattle.bridge_jobs.specs.declared.frame.FrameFault.TheVariants.{Memory};
+
+    ghost from_gives = { λ _ e. e ≡ Memory };
+
+    fn from(_: AllocError) -> FrameFault {
+        FrameFault::Memory
+    }
+}
+
+/// Reads the next frame of a stream, and moves the place behind it. There is none exactly where the stream ends at a
+/// frame's end. The place stays where no frame is read.
+///
+/// A frame is a header, at most 64 bytes with its LF, and a body of the length that the header tells, at most
+/// 8,388,608 bytes. A stream has at most 10,000,000 frames.
+pub fn read_frame<I: Source>(
+    alloc: Global,
+    input: &mut I,
+    at: &mut FramePos,
+) -> Result<Option<Frame>, FrameFault>
+    requires { IsFramePos at.old }
+    ensures frame { ReadsFrom (λ frame rest. option_map (λ f. framed_as f at.new rest) frame) result (I.remaining input.old) (I.remaining input.new) (next_frame at.old) }
+    ensures stays { IsNoFrame result → at.new ≡ at.old }
+    ensures kept { IsFramePos at.new }
+    ensures cause { HasCause Fault (I.faults input.old) (I.faults input.new) result }
+{
+    let line = read_line(alloc, input, MAX_HEADER)?;
+    if line.is_empty() {
+        return Ok(None);
+    }
+    if at.frames == MAX_FRAMES {
+        return Err(FrameFault::TooMany(at.place));
+    }
+    let (frame, after) = read_framed(alloc, input, *at, line.as_slice())?;
+    *at = after;
+    Ok(Some(frame))
+}
+
+/// Reads the frame whose first line was read, and answers it with the place behind it.
+fn read_framed<I: Source>(
+    alloc: Global,
+    input: &mut I,
+    at: FramePos,
+    line: &[u8],
+) -> Result<(Frame, FramePos), FrameFault>
+    requires pos { IsFramePos at }
+    requires more { at.frames < most_frames }
+    requires line { length line.now ≤ most_header }
+    ensures frame { ReadsFrom (λ x rest. framed_as x.0 x.1 rest) result (I.remaining input.old) (I.remaining input.new) (frame_by_line at line.now) }
+    ensures kept { IfOk result (λ x. IsFramePos x.1) }
+    ensures cause { HasCause Fault (I.faults input.old) (I.faults input.new) result }
+{
+    let header = header_at(at.place, line)?;
+    let body_at = behind(at.place, line);
+    let (frame, place) = read_body(alloc, input, body_at, &header)?;
+    let frames = at.frames + 1;
+    Ok((frame, FramePos { place, frames }))
+}
+
+#[tactic(auto, unfolding(crate::specs::Frames::header_at))]
+fn header_at(place: Place, line: &[u8]) -> Result<Header, FrameFault>
+    requires { IsNear place line.now }
+    ensures header { result ≡ header_at place line.now }
+    ensures told { IsErrOf result Fault → ⊥ }
+    ensures small { IfOk result (λ header. body_length header ≤ 8388608) }
+{
+    match line.strip_suffix(b"\n".as_slice()) {
+        Some(text) => Header::of(text).ok_or(FrameFault::Header(place)),
+        None if line.len() == MAX_HEADER => Err(FrameFault::Header(place)),
+        None => Err(FrameFault::Cut(behind(place, line))),
+    }
+}
+
+/// Reads the body that begins at a place, and answers the frame with the place behind it.
+fn read_body<I: Source>(
+    alloc: Global,
+    input: &mut I,
+    place: Place,
+    header: &Header,
+) -> Result<(Frame, Place), FrameFault>
+    requires at { place.at < 2 ^ 62 }
+    requires line { place.line < 2 ^ 62 }
+    requires small { body_length header.now ≤ 8388608 }
+    ensures frame { ReadsFrom (λ x rest. (x.0, x.1, rest)) result (I.remaining input.old) (I.remaining input.new) (body_of place header.now) }
+    ensures place { IfOk result (λ x. IsBehind (body_length header.now) place x.1) }
+    ensures cause { HasCause Fault (I.faults input.old) (I.faults input.new) result }
+{
+    let length = header.length();
+    let body = read_up_to(alloc, input, length)?;
+    let after = behind(place, body.as_slice());
+    if body.len() < length {
+        return Err(FrameFault::Cut(after));
+    }
+    Ok((framed(header, Bytes::from(body)), after))
+}
+
+fn behind(place: Place, bytes: &[u8]) -> Place
+    requires { IsNear place bytes.now }
+    ensures place { result ≡ behind place bytes.now }
+    ensures within { IsBehind (length bytes.now) place result }
+{
+    let lines = bytes.iter().filter(|byte| **byte == b'\n').count();
+    Place {
+        at: place.at + bytes.len() as u64,
+        line: place.line + lines as u64,
+    }
+}
+
+fn framed(header: &Header, body: Bytes) -> Frame
+    ensures { result ≡ with_body header.now body }
+{
+    match header {
+        Header::Mpd { now, .. } => Frame::Mpd { now: *now, body },
+        Header::Reset { now, .. } => Frame::Reset { now: *now, body },
+        Header::Tick { now } => Frame::Tick { now: *now },
+    }
+}

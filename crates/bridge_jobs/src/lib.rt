@@ -1,0 +1,18 @@
+//! What the bridge is asked to do: the words of its command line, and the frames of a followed presentation.
+#![tactic(auto)]
+
+mod decimal;
+mod frame;
+mod header;
+mod input;
+mod jobs;
+pub mod laws;
+#[cfg(test)]
+mod tests;
+mod values;
+mod verb;
+mod words;
+
+pub use frame::{Frame, FrameFault, FramePos, read_frame};
+pub use jobs::Job;
+pub use words::job;

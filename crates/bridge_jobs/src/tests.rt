@@ -1,0 +1,294 @@
+use super::*;
+use bridge_io::{Bytes, CallList, MemSource, Text};
+use iso_time::Instant;
+use std::alloc::{AllocError, Global};
+use std::test::Fail;
+
+fn told(alloc: Global, words: &[&str]) -> Result<String, Fail> {
+    let mut texts = Vec::new(alloc);
+    for word in words {
+        texts.push(Text::copy_of(alloc, word)?)?;
+    }
+    match job(alloc, texts.as_slice())? {
+        Some(job) => Ok(shown(alloc, &job)?),
+        None => Ok(String::from_str(alloc, "none")?),
+    }
+}
+
+fn instant_of(now: &Option<Instant>) -> i128 {
+    match now {
+        Some(now) => now.0,
+        None => 0,
+    }
+}
+
+/// A job in one line: its fields in order, with 0 for no instant.
+fn shown(alloc: Global, job: &Job) -> Result<String, AllocError> {
+    match job {
+        Job::Hls {
+            mpd,
+            base,
+            now,
+            out,
+            digits,
+        } => {
+            let (now, digits) = (instant_of(now), digits.count());
+            format!(in alloc;
+                "hls {} {} {now} {} {digits}",
+                mpd.as_str(),
+                base.as_str(),
+                out.as_str()
+            )
+        }
+        Job::Dash { master, base, out } => {
+            format!(in alloc;
+                "dash {} {} {}",
+                master.as_str(),
+                base.as_str(),
+                out.as_str()
+            )
+        }
+        Job::Follow {
+            name,
+            base,
+            out,
+            digits,
+        } => {
+            let digits = digits.count();
+            format!(in alloc;
+                "follow {} {} {} {digits}",
+                name.as_str(),
+                base.as_str(),
+                out.as_str()
+            )
+        }
+        Job::Show {
+            file,
+            base,
+            now,
+            digits,
+        } => {
+            let (now, digits) = (instant_of(now), digits.count());
+            format!(in alloc; "show {} {} {now} {digits}", file.as_str(), base.as_str())
+        }
+        Job::Check {
+            mpd,
+            master,
+            base,
+            digits,
+        } => {
+            let digits = digits.count();
+            format!(in alloc;
+                "check {} {} {} {digits}",
+                mpd.as_str(),
+                master.as_str(),
+                base.as_str()
+            )
+        }
+        Job::Reload { old, new, base } => {
+            format!(in alloc;
+                "reload {} {} {}",
+                old.as_str(),
+                new.as_str(),
+                base.as_str()
+            )
+        }
+        Job::Make { seed, out, digits } => {
+            let digits = digits.count();
+            format!(in alloc; "make {seed} {} {digits}", out.as_str())
+        }
+    }
+}
+
+#[test]
+fn words_are_read(rt: HostRuntime) -> Result<(), Fail> {
+    let rows = [
+        (
+            ["hls", "m.mpd", "--base=b", "--digits=9"].as_slice(),
+            "hls m.mpd b 0 out 9",
+        ),
+        (
+            [
+                "hls",
+                "--now",
+                "1970-01-01T00:00:01Z",
+                "--base",
+                "b",
+                "m.mpd",
+            ]
+            .as_slice(),
+            "hls m.mpd b 1000000000 out 6",
+        ),
+        (
+            ["dash", "m.m3u8", "--base=", "--out=a/b"].as_slice(),
+            "dash m.m3u8  a/b",
+        ),
+        (
+            ["follow", "live.mpd", "--base=-b"].as_slice(),
+            "follow live.mpd -b out 6",
+        ),
+        (["show", "--base=b", "--", "-m"].as_slice(), "show -m b 0 6"),
+        (
+            ["check", "m.mpd", "--base=b", "-"].as_slice(),
+            "check m.mpd - b 6",
+        ),
+        (["reload", "o", "n", "--base=b"].as_slice(), "reload o n b"),
+        (
+            ["make", "--seed=4294967295", "--out", "-"].as_slice(),
+            "make 4294967295 - 6",
+        ),
+        (["make", "--seed=4294967296"].as_slice(), "none"),
+        (["hls", "m.mpd"].as_slice(), "none"),
+        (["hls", "m.mpd", "--base=b", "--base=b"].as_slice(), "none"),
+        (["hls", "m.mpd", "--base", "-b"].as_slice(), "none"),
+        (
+            ["hls", "m.mpd", "--base=b", "--digits=10"].as_slice(),
+            "none",
+        ),
+        (["hls", "../m.mpd", "--base=b"].as_slice(), "none"),
+        (
+            ["dash", "m.m3u8", "--base=b", "--digits=6"].as_slice(),
+            "none",
+        ),
+        (["hls", "--help"].as_slice(), "none"),
+        (["--base=b", "hls", "m.mpd"].as_slice(), "none"),
+    ];
+    for (words, expected) in rows {
+        let told = told(rt.alloc(), words)?;
+        assert_eq!(rt; told.as_str(), expected);
+    }
+    Ok(())
+}
+
+fn add_frame(told: &mut String, frame: &Frame) -> Result<(), AllocError> {
+    match frame {
+        Frame::Mpd { now, body } => write!(told, "mpd {} {} ", now.0, body.len()),
+        Frame::Reset { now, body } => write!(told, "reset {} {} ", now.0, body.len()),
+        Frame::Tick { now } => write!(told, "tick {} ", now.0),
+    }
+}
+
+fn add_fault(told: &mut String, fault: FrameFault) -> Result<(), AllocError> {
+    match fault {
+        FrameFault::Header(place) => write!(told, "header {} {}", place.at, place.line),
+        FrameFault::Cut(place) => write!(told, "cut {} {}", place.at, place.line),
+        FrameFault::TooMany(place) => write!(told, "too many {} {}", place.at, place.line),
+        FrameFault::Fault => write!(told, "fault"),
+        FrameFault::Memory => write!(told, "memory"),
+    }
+}
+
+/// The frames of a stream, and how it ends.
+fn read_all(alloc: Global, stream: &[u8], failing: CallList) -> Result<String, Fail> {
+    let mut bytes = Bytes::new(alloc);
+    bytes.extend(stream)?;
+    let mut input = MemSource::new(bytes, failing);
+    let mut at = FramePos::START;
+    let mut told = String::new(alloc);
+    for _ in 0..9 {
+        match read_frame(alloc, &mut input, &mut at) {
+            Ok(Some(frame)) => add_frame(&mut told, &frame)?,
+            Ok(None) => {
+                told.push_str("end")?;
+                break;
+            }
+            Err(fault) => {
+                add_fault(&mut told, fault)?;
+                break;
+            }
+        }
+    }
+    Ok(told)
+}
+
+const STREAM: &[u8] =
+    b"mpd 2024-01-01T00:00:20Z 5\na\nb\ncreset 2024-01-01T00:00:30 0000002\n\n\ntick 2024-01-01T00:00:22.5+00:00\n";
+
+/// What a front of the stream ends by: its frames end at bytes 32, 68 and 101.
+fn front_told(alloc: Global, len: usize, line: usize) -> Result<String, AllocError> {
+    let mut told = String::new(alloc);
+    if len >= 32 {
+        told.push_str("mpd 1704067220000000000 5 ")?;
+    }
+    if len >= 68 {
+        told.push_str("reset 1704067230000000000 2 ")?;
+    }
+    if len == 101 {
+        told.push_str("tick 1704067222500000000 ")?;
+    }
+    if len == 0 || len == 32 || len == 68 || len == 101 {
+        told.push_str("end")?;
+    } else {
+        write!(told, "cut {len} {line}")?;
+    }
+    Ok(told)
+}
+
+#[test]
+fn streams_are_cut_at_each_byte(rt: HostRuntime) -> Result<(), Fail> {
+    for len in 0..=STREAM.len() {
+        let front = &STREAM[..len];
+        let line = front
+            .iter()
+            .filter(|byte| **byte == b'\n')
+            .count()
+            .saturating_add(1);
+        let told = read_all(rt.alloc(), front, CallList::new(rt.alloc()))?;
+        let expected = front_told(rt.alloc(), len, line)?;
+        assert_eq!(rt; told.as_str(), expected.as_str());
+    }
+    Ok(())
+}
+
+#[test]
+fn headers_are_refused(rt: HostRuntime) -> Result<(), Fail> {
+    let rows: [(&[u8], &str); 21] = [
+        (b"", "end"),
+        (b"\n", "header 0 1"),
+        (b"tick 2024-01-01T00:00:20Z\r\n", "header 0 1"),
+        (
+            b"tick 2024-01-01T00:00:20Z\nmpd 2024-01-01T00:00:20Z 1\n\ntick  2024-01-01T00:00:20Z\n",
+            "tick 1704067220000000000 mpd 1704067220000000000 1 header 54 4",
+        ),
+        (b"tick 2024-01-01T00:00:20Z \n", "header 0 1"),
+        (b"tick 2024-01-01T00:00:20Z 0\n", "header 0 1"),
+        (b"tick 2024-02-30T00:00:20Z\n", "header 0 1"),
+        (b"tick \xff2024-01-01T00:00:20Z\n", "header 0 1"),
+        (b"Tick 2024-01-01T00:00:20Z\n", "header 0 1"),
+        (b"mpd 2024-01-01T00:00:20Z\n", "header 0 1"),
+        (b"mpd  2024-01-01T00:00:20Z 1\na", "header 0 1"),
+        (b"mpd 2024-01-01T00:00:20Z  1\na", "header 0 1"),
+        (b"mpd 2024-01-01T00:00:20Z \na", "header 0 1"),
+        (b"mpd 2024-01-01T00:00:20Z +1\na", "header 0 1"),
+        (b"mpd 2024-01-01T00:00:20Z 00000001\na", "header 0 1"),
+        (b"mpd 2024-01-01T00:00:20Z 8388609\n", "header 0 1"),
+        (b"mpd 2024-01-01T00:00:20Z 8388608\n", "cut 33 2"),
+        (b"reset 2024-01-01T00:00:20Z 1\r\na", "header 0 1"),
+        (
+            b"reset 2024-01-01T00:00:20.00000000000000000000000+00:00 0000001\nx",
+            "reset 1704067220000000000 1 end",
+        ),
+        (
+            b"reset 2024-01-01T00:00:20.000000000000000000000000+00:00 0000001\nx",
+            "header 0 1",
+        ),
+        (
+            b"aaaaaaaaaaaaaaaaaaaaaaaaaaaaaaaaaaaaaaaaaaaaaaaaaaaaaaaaaaaaaaaaa",
+            "header 0 1",
+        ),
+    ];
+    for (stream, expected) in rows {
+        let told = read_all(rt.alloc(), stream, CallList::new(rt.alloc()))?;
+        assert_eq!(rt; told.as_str(), expected);
+    }
+    Ok(())
+}
+
+#[test]
+fn a_failed_read_is_a_fault(rt: HostRuntime) -> Result<(), Fail> {
+    let mut failing = CallList::new(rt.alloc());
+    failing.push(30)?;
+    let told = read_all(rt.alloc(), STREAM, failing)?;
+    assert_eq!(rt; told.as_str(), "mpd 1704067220000000000 5 fault");
+    Ok(())
+}

@@ -1,0 +1,149 @@
+// The commands and what their words may be.
+ghost use Rattle.std.specs.Prelude.{◌≡◌, map, false, IfOk};
+ghost use Rattle.clap.specs.Words.{app_of, rule_of};
+
+use clap::{Arg, Command};
+use std::alloc::{AllocError, Global};
+
+/// A command: the first word of a command line.
+#[derive(Clone, Copy, Debug, PartialEq, Eq)]
+pub enum Verb {
+    /// An MPD to playlists.
+    Hls,
+    /// Playlists to an MPD.
+    Dash,
+    /// Frames of a live MPD to playlists that slide.
+    Follow,
+    /// The tracks and sections of an MPD or of a master playlist.
+    Show,
+    /// Whether an MPD and a master playlist mean the same.
+    Check,
+    /// Whether a media playlist lawfully reloads another.
+    Reload,
+    /// An MPD of many segments, to playlists.
+    Make,
+}
+
+/// A word or two behind a command's own word, by its name.
+#[derive(Clone, Copy, Debug)]
+pub enum Parameter {
+    /// A word, known by its place.
+    Positional(&'static str),
+    /// `--name=value` or `--name value`, which can't be left out.
+    Required(&'static str),
+    /// `--name=value` or `--name value`, which may be left out.
+    Optional(&'static str),
+}
+
+use Parameter::{Optional, Positional, Required};
+
+static HLS: [Parameter; 5] = [
+    Positional("mpd"),
+    Required("base"),
+    Optional("now"),
+    Optional("out"),
+    Optional("digits"),
+];
+
+static DASH: [Parameter; 3] = [Positional("master"), Required("base"), Optional("out")];
+
+static FOLLOW: [Parameter; 4] = [
+    Positional("name"),
+    Required("base"),
+    Optional("out"),
+    Optional("digits"),
+];
+
+static SHOW: [Parameter; 4] = [
+    Positional("file"),
+    Required("base"),
+    Optional("now"),
+    Optional("digits"),
+];
+
+static CHECK: [Parameter; 4] = [
+    Positional("mpd"),
+    Positional("master"),
+    Required("base"),
+    Optional("digits"),
+];
+
+static RELOAD: [Parameter; 3] = [Positional("old"), Positional("new"), Required("base")];
+
+static MAKE: [Parameter; 3] = [Required("seed"), Optional("out"), Optional("digits")];
+
+impl Parameter {
+    ghost use Rattle.bridge_jobs.specs.Parameters.{rule_of_parameter};
+
+    fn argument<'a>(self, alloc: Global) -> Arg<'a>
+        ensures rule { rule_of result ≡ rule_of_parameter self }
+        ensures local { result.global ≡ false }
+    {
+        match self {
+            Positional(name) => Arg::new(alloc, name).required(true),
+            Required(name) => Arg::new(alloc, name).long(name).required(true),
+            Optional(name) => Arg::new(alloc, name).long(name),
+        }
+    }
+}
+
+impl Verb {
+    ghost use Rattle.std.specs.Option.{option_map};
+    ghost use Rattle.bridge_jobs.specs.Verbs.{app_of_verb, parameters_of, verb_of, word_of};
+    ghost use Rattle.bridge_jobs.specs.Parameters.{rule_of_parameter};
+
+    /// The command that a word is.
+    pub fn of(word: &str) -> Option<Verb>
+        ensures { result ≡ verb_of word.now }
+    {
+        match word {
+            "hls" => Some(Verb::Hls),
+            "dash" => Some(Verb::Dash),
+            "follow" => Some(Verb::Follow),
+            "show" => Some(Verb::Show),
+            "check" => Some(Verb::Check),
+            "reload" => Some(Verb::Reload),
+            "make" => Some(Verb::Make),
+            _ => None,
+        }
+    }
+
+    fn word<'a>(self) -> &'a str
+        ensures { result.now ≡ word_of self }
+    {
+        match self {
+            Verb::Hls => "hls",
+            Verb::Dash => "dash",
+            Verb::Follow => "follow",
+            Verb::Show => "show",
+            Verb::Check => "check",
+            Verb::Reload => "reload",
+            Verb::Make => "make",
+        }
+    }
+
+    fn parameters(self) -> &'static [Parameter]
+        ensures { map rule_of_parameter result.now ≡ parameters_of self }
+    {
+        match self {
+            Verb::Hls => &HLS,
+            Verb::Dash => &DASH,
+            Verb::Follow => &FOLLOW,
+            Verb::Show => &SHOW,
+            Verb::Check => &CHECK,
+            Verb::Reload => &RELOAD,
+            Verb::Make => &MAKE,
+        }
+    }
+
+    /// The command's syntax, for `clap`.
+    pub fn syntax<'a>(self, alloc: Global) -> Result<Command<'a>, AllocError>
+        ensures { IfOk result (λ command. app_of command ≡ app_of_verb self) }
+    {
+        let mut command: Command<'a> = Command::new(alloc, self.word());
+        for parameter in self.parameters() {
+            command = command.arg(parameter.argument(alloc))?;
+        }
+        Ok(command)
+    }
+}
