@@ -1,0 +1,101 @@
+-- Scans of bytes from a place on.
+use Rattle.std.proofs.Common.{◌≡◌, ◌≢◌, ◌≤◌, ℕ, suc, ◌+◌, ◌-◌, ◌<◌, Bool, true, false, List, [], ◌∷◌, length, take, drop, position, get_or, Option, Some, None, Ok, Err, unwrap_or, refl, sym, ◌∙◌, ap, arith, inl, inr, cond, eqb, min, IsUtf8, IsCharBoundary}
+use Rattle.std.specs.List.{position_or_len, before_first, after_first}
+use Rattle.std.specs.Str.{is_utf8}
+use Rattle.std.specs.Str.Lossy.{utf8_valid_len}
+use Rattle.std.proofs.lemmas.Str.{IsUtf8-from_is_utf8, is_utf8-from_IsUtf8, IsCharBoundary-end, IsCharBoundary-before_ascii}
+use Rattle.std.proofs.lemmas.Bool.{eqb-true, cases_Bool}
+use Rattle.std.proofs.lemmas.Bool.Decides.{nat_tests}
+use Rattle.std.proofs.lemmas.List.{drop-drop, take_rest}
+use Rattle.std.proofs.lemmas.List.Quantifiers.{position-Some}
+use Rattle.std.proofs.lemmas.List.Splits.{slice_split_first, slice_split_none}
+use Rattle.std.proofs.lemmas.List.Sums.{fails_before_first}
+use Rattle.std.proofs.lemmas.Grind.{common_steps}
+use Rattle.byte_scan.specs.Class.{is_outside}
+use Rattle.byte_scan.specs.declared.class.Class.TheVariants.{Playlist}
+use Rattle.byte_scan.specs.Lines.{is_line_feed}
+use Rattle.bridge_io.specs.Places.{place_of}
+use Rattle.bridge_io.specs.declared.place.Place.{Place}
+use Rattle.hls_lines.specs.Attributes.{ends_value}
+use Rattle.hls_lines.specs.Characters.{begins_with_high_control, high_control_from, first_control, first_of}
+use Rattle.hls_lines.specs.Lines.{clean, text_lines, said_from, with_line, line_of, trimmed, behind}
+use Rattle.hls_lines.specs.Marks.{after_mark}
+use Rattle.hls_lines.specs.declared.fault.LineFault.TheVariants.{NotUtf8, BadChar}
+
+-- ---- control characters
+
+not_here : (at : ℕ) (bytes : List ℕ) → begins_with_high_control bytes ≡ false → high_control_from at bytes ≡ high_control_from (suc at) (drop 1 bytes)
+not_here at [] h = refl
+not_here at (b ∷ bs) h = rw h refl
+
+-- one place on
+pub not_at : (bytes : List ℕ) (at : ℕ) → begins_with_high_control (take (length bytes - at) (drop at bytes)) ≡ false
+    → high_control_from at (drop at bytes) ≡ high_control_from (at + 1) (drop (at + 1) bytes)
+not_at bytes at h = not_here at (drop at bytes) (rw take_rest at h) ∙ simp (drop-drop) (grind (arith, common_steps))
+
+high_within : (from : ℕ) (bytes : List ℕ) (at : ℕ) → high_control_from from bytes ≡ Some at → at < from + length bytes
+high_within from [] at e = cc
+high_within from (b ∷ bs) at e = elim (cases_Bool (begins_with_high_control (b ∷ bs))) [
+  | inl begins ↦ let found : Some from ≡ Some at = rw begins at e in let same : from ≡ at = cc in omega arith
+  | inr other ↦ let more : high_control_from (suc from) bs ≡ Some at = rw other at e in omega (arith, high_within (suc from) bs at more)
+]
+
+first_within : (size : ℕ) (one other : Option ℕ) (at : ℕ) → ((k : ℕ) → one ≡ Some k → k < size) → ((k : ℕ) → other ≡ Some k → k < size) → first_of one other ≡ Some at → at < size
+first_within size None other at h k e = k at e
+first_within size (Some x) None at h k e = h at e
+first_within size (Some x) (Some y) at h k e = let m : min x y ≡ at = cc in omega (arith, h x refl)
+
+pub control_within : (bytes : List ℕ) (at : ℕ) → first_control bytes ≡ Some at → at ≤ length bytes
+control_within bytes at e = let within = first_within (length bytes) (position (is_outside Playlist) bytes) (high_control_from 0 bytes) at
+    (λ k found. (position-Some (is_outside Playlist) bytes k 0 found).0) (λ k found. let within = high_within 0 bytes k found in omega arith) e in omega arith
+
+not_utf8 : (bytes : List ℕ) → ¬ (IsUtf8 bytes) → is_utf8 bytes ≡ false
+not_utf8 bytes never = elim (cases_Bool (is_utf8 bytes)) [ inl is ↦ absurd (never (IsUtf8-from_is_utf8 bytes is)) | inr other ↦ other ]
+
+pub clean-bad : (bytes : List ℕ) → ¬ (IsUtf8 bytes) → clean bytes ≡ Err (NotUtf8 (place_of bytes (utf8_valid_len bytes)))
+unfolding clean
+clean-bad bytes never = rw (not_utf8 bytes never) refl
+
+pub clean-control : (bytes : List ℕ) (at : ℕ) → IsUtf8 bytes → first_control bytes ≡ Some at → clean bytes ≡ Err (BadChar (place_of bytes at))
+unfolding clean
+clean-control bytes at is e = rw (is_utf8-from_IsUtf8 bytes is, e) refl
+
+pub clean-good : (bytes : List ℕ) → IsUtf8 bytes → first_control bytes ≡ None → clean bytes ≡ Ok bytes
+unfolding clean
+clean-good bytes is e = rw (is_utf8-from_IsUtf8 bytes is, e) refl
+
+-- ---- single bytes
+
+pub after_found : (mark : ℕ) (text rest : List ℕ) → text ≡ mark ∷ rest → Some rest ≡ after_mark mark text
+after_found mark [] rest e = cc
+after_found mark (b ∷ bs) rest e = grind (arith, common_steps)
+
+mark_or_not : (b mark : ℕ) (bs : List ℕ) (same : Bool) → eqb b mark ≡ same → (b ≡ mark → ⊥) → None ≡ cond same (Some bs) None
+mark_or_not b mark bs true e other = absurd (other (eqb-true b mark e))
+mark_or_not b mark bs false e other = refl
+
+pub after_none : (mark : ℕ) (text : List ℕ) → ((rest : List ℕ) → text ≢ mark ∷ rest) → None ≡ after_mark mark text
+after_none mark [] e = refl
+after_none mark (b ∷ bs) e = mark_or_not b mark bs (eqb b mark) refl (λ same. e bs (ap (λ x. x ∷ bs) same))
+
+ends_ascii : (b : ℕ) → ends_value b ≡ true → b < 128
+ends_ascii b e = grind (arith, nat_tests)
+
+-- a value without quotes ends between two characters
+pub value_boundary : (text : List ℕ) (o : Option ℕ) → o ≡ position ends_value text → IsCharBoundary text (unwrap_or o (length text))
+value_boundary text None e = IsCharBoundary-end text
+value_boundary text (Some at) e =
+    let found = position-Some ends_value text at 0 (sym e) in
+    IsCharBoundary-before_ascii text at found.0 (ends_ascii (get_or text at 0) found.1)
+
+-- ---- lines
+
+-- the first line ends by LF
+pub first_cut : (place : Place) (text front back : List ℕ) → front ≡ before_first is_line_feed text → back ≡ after_first is_line_feed text → position_or_len is_line_feed text < length text
+    → text_lines place text ≡ with_line (line_of (trimmed front) place) (text_lines (behind front place) back)
+first_cut place text front back front_is back_is less = rw (front_is, back_is) (ap (said_from place) (slice_split_first is_line_feed text 0 less))
+
+-- or it is the last one
+pub last_cut : (place : Place) (text : List ℕ) → position_or_len is_line_feed text ≡ length text
+    → text_lines place text ≡ with_line (line_of (trimmed text) place) (text_lines place [])
+last_cut place text none = ap (said_from place) (slice_split_none is_line_feed text (λ k d h. fails_before_first is_line_feed text k d (omega arith)))

@@ -1,0 +1,25 @@
+-- The characters that no playlist may have (RFC 8216 4.1).
+use Rattle.std.specs.Prelude.{ℕ, suc, ◌==◌, ◌&&◌, nat_le, min, Bool, false, List, [], ◌∷◌, position, if◌then◌else◌, Option, Some, None}
+use Rattle.byte_scan.specs.Class.{is_outside}
+use Rattle.byte_scan.specs.declared.class.Class.TheVariants.{Playlist}
+
+-- the bytes begin with a character U+0080 to U+009F
+abbrev pub begins_with_high_control : List ℕ → Bool
+begins_with_high_control [] = false
+begins_with_high_control (lead ∷ []) = false
+begins_with_high_control (lead ∷ next ∷ rest) = lead == 194 && nat_le 128 next && nat_le next 159
+
+-- where such a character begins for the first time in bytes that stand at a place
+abbrev pub high_control_from : ℕ → List ℕ → Option ℕ
+high_control_from at [] = None
+high_control_from at (b ∷ bs) = if begins_with_high_control (b ∷ bs) then Some at else high_control_from (suc at) bs
+
+-- the first of two places
+abbrev pub first_of : Option ℕ → Option ℕ → Option ℕ
+first_of None other = other
+first_of (Some one) None = Some one
+first_of (Some one) (Some other) = Some (min one other)
+
+-- where the first control character begins that is no tab, LF or CR
+abbrev pub first_control : List ℕ → Option ℕ
+first_control bytes = first_of (position (is_outside Playlist) bytes) (high_control_from 0 bytes)

@@ -1,0 +1,55 @@
+// Why a playlist's text is refused.
+ghost use Rattle.std.specs.Prelude.{◌≡◌};
+ghost use Rattle.hls_lines.specs.declared.fault.LineFault.TheVariants.{Memory};
+
+use bridge_io::{NoMemory, Place};
+use std::alloc::{AllocError, AllocFailed};
+use thiserror::Error;
+
+/// Why bytes have no lines of a playlist, or a text no attributes. The first three are tried in this order over the
+/// whole file.
+#[derive(Clone, Copy, Debug, PartialEq, Eq, Error)]
+pub enum LineFault {
+    /// The file is not UTF-8 (RFC 8216 4.1): the first byte of the first bad sequence.
+    #[error("not UTF-8")]
+    NotUtf8(Place),
+    /// A control character other than tab, LF and CR (RFC 8216 4.1, which lets no tab through either): its first byte.
+    #[error("a control character")]
+    BadChar(Place),
+    /// The first line is not `#EXTM3U` (RFC 8216 4.3.1.1): the file's first byte.
+    #[error("no playlist")]
+    Header(Place),
+    /// A text that is no attribute list (RFC 8216 4.2): the place that was handed in.
+    #[error("not a list of attributes")]
+    Attribute(Place),
+    /// An attribute list in which a name stands twice (RFC 8216 4.2): the place that was handed in.
+    #[error("an attribute that stands twice")]
+    DoubleAttribute(Place),
+    /// Memory is wanting, which says nothing of the text.
+    #[error("out of memory")]
+    Memory,
+}
+
+impl From<NoMemory> for LineFault {
+    ghost from_gives = { λ _ fault. fault ≡ Memory };
+
+    fn from(_: NoMemory) -> LineFault {
+        LineFault::Memory
+    }
+}
+
+impl From<AllocError> for LineFault {
+    ghost from_gives = { λ _ fault. fault ≡ Memory };
+
+    fn from(_: AllocError) -> LineFault {
+        LineFault::Memory
+    }
+}
+
+impl<T: Drop> From<AllocFailed<T>> for LineFault {
+    ghost from_gives = { λ _ fault. fault ≡ Memory };
+
+    fn from(_: AllocFailed<T>) -> LineFault {
+        LineFault::Memory
+    }
+}

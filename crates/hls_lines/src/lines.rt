@@ -1,0 +1,196 @@
+// The lines of a playlist.
+ghost use Rattle.std.specs.Prelude.{◌≡◌, ◌+◌, ◌-◌, ◌^◌, ◌≤◌, ◌⊎◌, ◌<◌, [], length, take, slice_index, option_map, IfNone};
+ghost use Rattle.std.specs.List.{suffix_len};
+ghost use Rattle.hls_lines.specs.Lines.{is_blank, line_of, trimmed, marked_line, behind, has_header, text_lines, with_line};
+ghost use Rattle.hls_lines.specs.Bounds.{HasRoom};
+ghost use Rattle.hls_lines.specs.Said.{said};
+
+use crate::LineFault;
+use crate::clean::clean;
+use crate::marks::after;
+use bridge_io::Place;
+use std::marker::Model;
+
+/// A line of a playlist that is neither blank nor a comment (RFC 8216 4.1), without the spaces, tabs and CRs at its end.
+#[derive(Clone, Copy, Debug, PartialEq, Eq)]
+pub enum Line<'a> {
+    /// A line that begins with `#EXT`.
+    Tag {
+        /// What stands between the `#` and the first `:`, or the end.
+        name: &'a str,
+        /// What stands behind the first `:`; empty where there is none.
+        rest: &'a str,
+        /// The line's first byte.
+        place: Place,
+    },
+    /// A line that doesn't begin with `#`.
+    Uri {
+        /// The whole line.
+        text: &'a str,
+        /// The line's first byte.
+        place: Place,
+    },
+}
+
+/// The lines of a playlist that are left: in a contract the list of them.
+///
+/// Lines end by LF, CRLF or the end of the file. Blank lines and comments, which begin with `#` and not with `#EXT`, are
+/// passed over. The first line is the tag `EXTM3U`.
+#[derive(Debug, Drop)]
+pub struct Lines<'a> {
+    rest: &'a str,
+    place: Place,
+}
+
+impl<'a> Model for Lines<'a> {
+    ghost use Rattle.std.specs.Prelude.{List, length};
+    ghost use Rattle.hls_lines.specs.Lines.{PlaylistLine, text_lines};
+    ghost use Rattle.hls_lines.specs.Bounds.{HasRoom};
+
+    ghost Value = { List PlaylistLine };
+
+    ghost view = { λ lines. text_lines lines.place lines.rest.now };
+
+    ghost invariant = { λ lines. HasRoom lines.place (length lines.rest.now) };
+}
+
+/// The file's first byte.
+const START: Place = Place { at: 0, line: 1 };
+
+impl<'a> Lines<'a> {
+    ghost use Rattle.hls_lines.specs.Lines.{lines_of, with_line};
+
+    /// The lines of a playlist (RFC 8216 4.1 and 4.3.1.1).
+    ///
+    /// The faults [`LineFault::NotUtf8`], [`LineFault::BadChar`] and [`LineFault::Header`] are tried in this order over
+    /// the whole file; there are no others. It takes no memory.
+    #[tactic(auto, unfolding(crate::specs::Lines::lines_of))]
+    pub fn new(bytes: &'a [u8]) -> Result<Lines<'a>, LineFault>
+        ensures { result ≡ lines_of bytes.now }
+    {
+        let rest = clean(bytes)?;
+        if !has_header(rest) {
+            return Err(LineFault::Header(START));
+        }
+        let place = START;
+        Ok(Lines { rest, place })
+    }
+
+    /// The next line; none where no line is left. It takes no memory.
+    pub fn next(&mut self) -> Option<Line<'a>>
+        ensures line { self.old ≡ with_line (option_map said result) self.new }
+        ensures end { IfNone result (self.new ≡ []) }
+    {
+        while !self.rest.is_empty() {
+            let place = self.place;
+            let first = first_line(self.rest, place);
+            self.rest = first.rest;
+            self.place = first.next;
+            if let Some(line) = read_line(first.line, place) {
+                return Some(line);
+            }
+        }
+        None
+    }
+}
+
+/// The first line of a text, what follows it, and where that stands.
+#[derive(Clone, Copy)]
+struct FirstLine<'a> {
+    line: &'a str,
+    rest: &'a str,
+    next: Place,
+}
+
+fn first_line(text: &str, place: Place) -> FirstLine<'_>
+    requires room { HasRoom place (length text.now) }
+    ensures lines { text_lines place text.now
+        ≡ with_line (line_of (trimmed result.line.now) place) (text_lines result.next result.rest.now) }
+    ensures room { HasRoom result.next (length result.rest.now) }
+    ensures shorter { 0 < length text.now → length result.rest.now < length text.now }
+{
+    match text.split_once('\n') {
+        Some((line, rest)) => FirstLine {
+            line,
+            rest,
+            next: behind(line, place),
+        },
+        None => FirstLine {
+            line: text,
+            rest: "",
+            next: place,
+        },
+    }
+}
+
+/// The place of the line that follows.
+fn behind(line: &str, place: Place) -> Place
+    requires at { place.at + length line.now + 1 < 2 ^ 64 }
+    requires line { place.line + 1 < 2 ^ 64 }
+    ensures { result ≡ behind line.now place }
+{
+    Place {
+        at: place.at + line.len() as u64 + 1,
+        line: place.line + 1,
+    }
+}
+
+/// What a line says, if anything.
+fn read_line(line: &str, place: Place) -> Option<Line<'_>>
+    ensures { option_map said result ≡ line_of (trimmed line.now) place }
+{
+    let text = trimmed(line);
+    if text.is_empty() {
+        return None;
+    }
+    match after(text, '#') {
+        Some(marked) => marked_line(marked, place),
+        None => Some(Line::Uri { text, place }),
+    }
+}
+
+/// What a `#` begins: a tag or a comment.
+fn marked_line(text: &str, place: Place) -> Option<Line<'_>>
+    ensures { option_map said result ≡ marked_line text.now place }
+{
+    if !text.starts_with("EXT") {
+        return None;
+    }
+    let (name, rest) = text.split_once(':').unwrap_or((text, ""));
+    Some(Line::Tag { name, rest, place })
+}
+
+/// A line without the spaces, tabs and CRs at its end.
+fn trimmed(line: &str) -> &str
+    ensures { result.now ≡ trimmed line.now }
+{
+    &line[..trimmed_len(line.as_bytes())]
+}
+
+fn trimmed_len(line: &[u8]) -> usize
+    ensures len { result ≡ length line.now - suffix_len is_blank line.now }
+    ensures end { (result ≡ length line.now) ⊎ (slice_index line.now result < 128) }
+{
+    let mut len = line.len();
+    while len > 0 && is_blank(line[len - 1]) {
+        len -= 1;
+    }
+    len
+}
+
+fn is_blank(byte: u8) -> bool
+    ensures { result ≡ is_blank byte }
+{
+    matches!(byte, b' ' | b'\t' | b'\r')
+}
+
+/// Whether the first line is `#EXTM3U`.
+fn has_header(text: &str) -> bool
+    ensures { result ≡ has_header text.now }
+{
+    let line = match text.split_once('\n') {
+        Some((line, _)) => line,
+        None => text,
+    };
+    trimmed(line) == "#EXTM3U"
+}
