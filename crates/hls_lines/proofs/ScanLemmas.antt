@@ -1,6 +1,6 @@
 -- Scans of bytes from a place on.
-use Rattle.std.proofs.Common.{◌≡◌, ◌≢◌, ◌≤◌, ℕ, suc, ◌+◌, ◌-◌, ◌<◌, Bool, true, false, List, [], ◌∷◌, length, take, drop, position, get_or, Option, Some, None, Ok, Err, unwrap_or, refl, sym, ◌∙◌, ap, arith, inl, inr, cond, eqb, min, IsUtf8, IsCharBoundary}
-use Rattle.std.specs.List.{position_or_len, before_first, after_first}
+use Rattle.std.proofs.Common.{◌≡◌, ◌≢◌, ◌≤◌, ℕ, suc, ◌+◌, ◌-◌, ◌<◌, Bool, true, false, List, [], ◌∷◌, length, take, drop, position, get_or, Option, Some, None, count_by, Ok, Err, unwrap_or, refl, sym, ◌∙◌, ap, arith, inl, inr, cond, eqb, min, IsUtf8, IsCharBoundary}
+use Rattle.std.specs.List.{position_or_len, before_first, after_first, slice_split}
 use Rattle.std.specs.Str.{is_utf8}
 use Rattle.std.specs.Str.Lossy.{utf8_valid_len}
 use Rattle.std.proofs.lemmas.Str.{IsUtf8-from_is_utf8, is_utf8-from_IsUtf8, IsCharBoundary-end, IsCharBoundary-before_ascii}
@@ -8,8 +8,8 @@ use Rattle.std.proofs.lemmas.Bool.{eqb-true, cases_Bool}
 use Rattle.std.proofs.lemmas.Bool.Decides.{nat_tests}
 use Rattle.std.proofs.lemmas.List.{drop-drop, take_rest}
 use Rattle.std.proofs.lemmas.List.Quantifiers.{position-Some}
-use Rattle.std.proofs.lemmas.List.Splits.{slice_split_first, slice_split_none}
-use Rattle.std.proofs.lemmas.List.Sums.{fails_before_first}
+use Rattle.std.proofs.lemmas.List.Splits.{slice_split_first, slice_split_none, length-slice_split}
+use Rattle.std.proofs.lemmas.List.Sums.{fails_before_first, count_by-le-length}
 use Rattle.std.proofs.lemmas.Grind.{common_steps}
 use Rattle.byte_scan.specs.Class.{is_outside}
 use Rattle.byte_scan.specs.declared.class.Class.TheVariants.{Playlist}
@@ -18,7 +18,7 @@ use Rattle.bridge_io.specs.Places.{place_of}
 use Rattle.bridge_io.specs.declared.place.Place.{Place}
 use Rattle.hls_lines.specs.Attributes.{ends_value}
 use Rattle.hls_lines.specs.Characters.{begins_with_high_control, high_control_from, first_control, first_of}
-use Rattle.hls_lines.specs.Lines.{clean, text_lines, said_from, with_line, line_of, trimmed, behind}
+use Rattle.hls_lines.specs.Lines.{PlaylistLine, is_uri, clean, text_lines, said_from, with_line, line_of, trimmed, behind}
 use Rattle.hls_lines.specs.Marks.{after_mark}
 use Rattle.hls_lines.specs.declared.fault.LineFault.TheVariants.{NotUtf8, BadChar}
 
@@ -99,3 +99,15 @@ first_cut place text front back front_is back_is less = rw (front_is, back_is) (
 pub last_cut : (place : Place) (text : List ℕ) → position_or_len is_line_feed text ≡ length text
     → text_lines place text ≡ with_line (line_of (trimmed text) place) (text_lines place [])
 last_cut place text none = ap (said_from place) (slice_split_none is_line_feed text (λ k d h. fails_before_first is_line_feed text k d (omega arith)))
+
+with_fewer : (o : Option PlaylistLine) (others : List PlaylistLine) (n : ℕ) → length others ≤ n → length (with_line o others) ≤ n + 1
+with_fewer None others n h = omega arith
+with_fewer (Some said) others n h = omega arith
+
+said_fewer : (place : Place) (lines : List (List ℕ)) → length (said_from place lines) ≤ length lines
+said_fewer place [] = omega arith
+said_fewer place (line ∷ lines) = omega (arith, with_fewer (line_of (trimmed line) place) (said_from (behind line place) lines) (length lines) (said_fewer (behind line place) lines))
+
+-- no more lines than one more than the bytes
+pub few_lines : (place : Place) (text : List ℕ) → length (text_lines place text) ≤ length text + 1
+few_lines place text = omega (arith, said_fewer place (slice_split is_line_feed text), length-slice_split is_line_feed text, count_by-le-length is_line_feed text)

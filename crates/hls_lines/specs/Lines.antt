@@ -1,5 +1,5 @@
 -- The lines of a playlist (RFC 8216 4.1): tags and URIs, without blank lines and comments.
-use Rattle.std.specs.Prelude.{ℕ, ◌+◌, ◌-◌, ◌==◌, ◌||◌, Bool, List, [], ◌∷◌, length, take, codes, bytes_eq, nat_eq, if◌then◌else◌, unwrap_or, Option, Some, None, Result, Ok, Err}
+use Rattle.std.specs.Prelude.{ℕ, ◌+◌, ◌-◌, ◌==◌, ◌||◌, Bool, true, false, List, [], ◌∷◌, length, take, codes, bytes_eq, nat_eq, if◌then◌else◌, unwrap_or, Option, Some, None, Result, Ok, Err}
 use Rattle.std.specs.List.{starts_with, before_first, slice_split, suffix_len}
 use Rattle.std.specs.Str.{is_utf8}
 use Rattle.std.specs.Str.Lossy.{utf8_valid_len}
@@ -16,6 +16,10 @@ pub data PlaylistLine : Type 0 where
   -- a tag's name without its `#`, and what follows its first `:`
   tag : (name rest : List ℕ) (place : Place) → PlaylistLine
   uri : (text : List ℕ) (place : Place) → PlaylistLine
+
+abbrev pub is_uri : PlaylistLine → Bool
+is_uri (tag name rest place) = false
+is_uri (uri text place) = true
 
 -- space, tab or CR
 abbrev pub is_blank : ℕ → Bool

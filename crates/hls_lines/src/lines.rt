@@ -1,7 +1,7 @@
 // The lines of a playlist.
-ghost use Rattle.std.specs.Prelude.{◌≡◌, ◌+◌, ◌-◌, ◌^◌, ◌≤◌, ◌⊎◌, ◌<◌, [], length, take, slice_index, option_map, IfNone};
+ghost use Rattle.std.specs.Prelude.{◌≡◌, ◌+◌, ◌-◌, ◌^◌, ◌≤◌, ◌⊎◌, ◌<◌, [], length, take, slice_index, option_map, count_by, IfNone};
 ghost use Rattle.std.specs.List.{suffix_len};
-ghost use Rattle.hls_lines.specs.Lines.{is_blank, line_of, trimmed, marked_line, behind, has_header, text_lines, with_line};
+ghost use Rattle.hls_lines.specs.Lines.{is_blank, line_of, trimmed, marked_line, behind, has_header, text_lines, with_line, is_uri};
 ghost use Rattle.hls_lines.specs.Bounds.{HasRoom};
 ghost use Rattle.hls_lines.specs.Said.{said};
 
@@ -91,6 +91,34 @@ impl<'a> Lines<'a> {
             }
         }
         None
+    }
+}
+
+impl<'a> Lines<'a> {
+    /// The same lines once more. It takes no memory.
+    pub fn copy(&self) -> Lines<'a>
+        ensures lines { result ≡ self.now }
+        ensures few { length self.now ≤ 2 ^ 63 }
+    {
+        Lines {
+            rest: self.rest,
+            place: self.place,
+        }
+    }
+
+    /// How many lines with a URI are left. It takes no memory.
+    pub fn count_uris(&self) -> usize
+        ensures count { result ≡ count_by is_uri self.now }
+        ensures few { length self.now ≤ 2 ^ 63 }
+    {
+        let mut lines = self.copy();
+        let mut count = 0;
+        while let Some(line) = lines.next() {
+            if matches!(line, Line::Uri { .. }) {
+                count += 1;
+            }
+        }
+        count
     }
 }
 
