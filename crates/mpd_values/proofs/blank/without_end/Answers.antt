@@ -1,0 +1,17 @@
+use Rattle.std.proofs.Common.{ℕ, zero, suc, ◌-◌, ◌≡◌, arith, length, List, IsCharBoundary, rules}
+use Rattle.std.specs.List.{suffix_len}
+use Rattle.std.proofs.lemmas.List.Sums.{suffix_len-le-length}
+use Rattle.mpd_values.specs.declared.blank.Blank.{Blank}
+use Rattle.mpd_values.specs.Blanks.{is_blank}
+use Rattle.mpd_values.proofs.Boundaries.{before_end}
+use Rattle.mpd_values.proofs.blank.without_end.Goals as goal
+
+pub overflow_sub-text : goal.overflow_sub-text
+overflow_sub-text c = omega (arith, suffix_len-le-length (is_blank c.args.blank) c.args.text.now)
+
+cut_at : (blank : Blank) (text : List ℕ) (n : ℕ) → n ≡ suffix_len (is_blank blank) text → IsCharBoundary text (length text - n)
+cut_at blank text zero is = search rules
+cut_at blank text (suc n) is = before_end blank text (suc n) is (omega arith)
+
+pub range-requires-clause-end_boundary : goal.range-requires-clause-end_boundary
+range-requires-clause-end_boundary c = cut_at c.args.blank c.args.text.now _ c.end_len.ensures
