@@ -75,10 +75,10 @@ module _ (breaks : Extent → Bool) where
 -- ---- media times of one scale
 
 module _ (l : Limits) where
-  abbrev o : ℕ
+  abbrev pub o : ℕ
   o = l.origin
 
-  abbrev t : ℕ
+  abbrev pub t : ℕ
   t = l.ticks
 
   abbrev media : ℕ → ℤ
@@ -130,7 +130,7 @@ module _ (l : Limits) where
 
   -- ---- limits
 
-  abbrev breaks : ℕ → ℕ → Bool
+  abbrev pub breaks : ℕ → ℕ → Bool
   breaks s d = breaks_in l (extent_in l s d)
 
   pub media_extent-in : (s d e : ℕ) → e ≡ s + d → media_extent l e d ≡ extent_in l s d
@@ -139,7 +139,7 @@ module _ (l : Limits) where
       ap (λ (n : ℕ). record { start = placed_in l n; end = placed_in l e }) start ∙ ap (λ (n : ℕ). record { start = placed_in l s; end = placed_in l n }) is
 
   -- segments of one duration break the limits from some one on
-  breaks-mono : (s later d : ℕ) → 0 < t → s ≤ later → breaks s d ≡ true → breaks later d ≡ true
+  pub breaks-mono : (s later d : ℕ) → 0 < t → s ≤ later → breaks s d ≡ true → breaks later d ≡ true
   breaks-mono s later d some le =
       let bound : Time = placed_in l (2 ^ 63) in
       let not_after : IsAtMost (placed_in l (s + d)) (placed_in l (later + d)) = int_le-mul (media (s + d)) (media (later + d)) t (omega (arith, ints)) in
@@ -166,7 +166,7 @@ module _ (l : Limits) where
   fault_of-none former x none = none_of_two (breaks_in l x) (is_apart former x) none
 
   -- the first one has no fault, so the last one tells whether one breaks the limits
-  run_fault : (d count s : ℕ) (former : Option Time) (later : List Member) → 0 < t → breaks s d ≡ false → is_apart former (extent_in l s d) ≡ false →
+  pub run_fault : (d count s : ℕ) (former : Option Time) (later : List Member) → 0 < t → breaks s d ≡ false → is_apart former (extent_in l s d) ≡ false →
       segment_fault (breaks_in l) former (map Closed (repeated (suc count) (extent_in l s d)) ++ later) ≡ cond (breaks (s + count * d) d) (Some Range) (segment_fault (breaks_in l) (Some (placed_in l (s + suc count * d))) later)
   unfolding repeated
   run_fault d zero s former later some kept near =

@@ -15,9 +15,8 @@ use Rattle.timeline.specs.Limits.{breaks_limits, too_long}
 use Rattle.timeline.specs.Laws.{EndsRise}
 use Rattle.timeline.specs.declared.runs.Runs.TheInside.{Inside}
 use Rattle.timeline.proofs.Rises.{ends_rise, no_step_from}
-use Rattle.timeline.specs.RunSegments.{IsRun, AreLaid, IsEndless, HasRoom, all_extents, extents_of, one_extent, endless_count, endless_extents, first_of}
+use Rattle.timeline.specs.RunSegments.{IsRun, AreLaid, IsEndless, HasRoom, all_extents, extents_of, endless_count, endless_extents, first_of, TimedRun, head_of}
 use Rattle.timeline.specs.Kept.{Follows, FollowsOn, IsKept, timeline_of}
-use Rattle.timeline.specs.declared.run.Run.{Run}
 use Rattle.timeline.specs.declared.run.Endless.{Endless}
 use Rattle.timeline.proofs.Repeats.{row, repeat-row, length-repeated, natural-pos}
 use Rattle.timeline.proofs.LimitLemmas.{breaks_ticks, open_breaks}
@@ -56,52 +55,52 @@ pub tick_bounds : (z : ℤ) → unsigned_abs z < 2 ^ 64 → (z <ℤ pos (2 ^ 64)
 tick_bounds (pos n) h = (omega (arith, ints), omega (arith, ints))
 tick_bounds (negsuc n) h = (omega (arith, ints), omega (arith, ints))
 
-near_one : (s : Run) → EndsNear (one_extent s.start s.end)
-near_one s =
-    let bounds = tick_bounds s.end.n s.end.bounded in
-    let scale : 0 < s.end.scale = s.end.positive in
-    near-from s.end.n s.end.scale s.end.positive (omega (arith, ints, bounds.0)) bounds.1
+near_one : (s : TimedRun) → IsRun s → EndsNear (head_of s)
+near_one s is =
+    let bounds = tick_bounds s.end.ticks is.end_near in
+    let scale : 0 < s.end.scale = is.end_is in
+    near-from s.end.ticks s.end.scale is.end_is (omega (arith, ints, bounds.0)) bounds.1
 
-pub near_run : (s : Run) → IsRun s → AllByRecursion EndsNear (extents_of s)
+pub near_run : (s : TimedRun) → IsRun s → AllByRecursion EndsNear (extents_of s)
 unfolding repeated
 near_run s is = elim (cases_order s.count 1) [
-  | inl one ↦ subst (λ (n : ℕ). AllByRecursion EndsNear (repeated n (one_extent s.start s.end))) (sym one) (near_one s, tt)
+  | inl one ↦ subst (λ (n : ℕ). AllByRecursion EndsNear (repeated n (head_of s))) (sym one) (near_one s is, tt)
   | inr other ↦ elim other [
-    | inl fewer ↦ let none : 0 ≡ s.count = omega arith in subst (λ (n : ℕ). AllByRecursion EndsNear (repeated n (one_extent s.start s.end))) none tt
+    | inl fewer ↦ let none : 0 ≡ s.count = omega arith in subst (λ (n : ℕ). AllByRecursion EndsNear (repeated n (head_of s))) none tt
     | inr several ↦
-        let bounds = tick_bounds s.start.n s.start.bounded in
-        let scale : 0 < s.end.scale = s.end.positive in
+        let bounds = tick_bounds s.start.ticks is.start_near in
+        let scale : 0 < s.end.scale = is.end_is in
         let ticks = is.in_ticks several in
         subst (λ (x : Extent). AllByRecursion EndsNear (repeated s.count x)) (sym (one_extent-row s is several))
-        (near_rows s.count s.end.scale s.start.n s.step s.end.positive bounds.1 (omega (arith, ints, is.near)))
+        (near_rows s.count s.end.scale s.start.ticks s.step is.end_is bounds.1 (omega (arith, ints, is.near)))
   ]
 ]
 
-pub length-laid : (before : ℕ) (runs : List Run) (total : ℕ) → AreLaid before runs total → before + length (all_extents runs) ≡ total
+pub length-laid : (before : ℕ) (runs : List TimedRun) (total : ℕ) → AreLaid before runs total → before + length (all_extents runs) ≡ total
 length-laid before [] total laid = omega (arith, laid)
 length-laid before (s ∷ later) total (at, some, is, laid) = omega (
   arith,
   length-append (extents_of s) (all_extents later),
-  length-repeated s.count (one_extent s.start s.end),
+  length-repeated s.count (head_of s),
   length-laid (before + s.count) later total laid,
 )
 
-pub near_laid : (before : ℕ) (runs : List Run) (total : ℕ) → AreLaid before runs total → AllByRecursion EndsNear (all_extents runs)
+pub near_laid : (before : ℕ) (runs : List TimedRun) (total : ℕ) → AreLaid before runs total → AllByRecursion EndsNear (all_extents runs)
 near_laid before [] total laid = tt
 near_laid before (s ∷ later) total (at, some, is, laid) = all_append EndsNear (extents_of s) (all_extents later) (near_run s is) (near_laid (before + s.count) later total laid)
 
-pub scales_laid : (before : ℕ) (runs : List Run) (total : ℕ) → AreLaid before runs total → AllByRecursion HasScale (all_extents runs)
+pub scales_laid : (before : ℕ) (runs : List TimedRun) (total : ℕ) → AreLaid before runs total → AllByRecursion HasScale (all_extents runs)
 scales_laid before [] total laid = tt
 scales_laid before (s ∷ later) total (at, some, is, laid) =
-    all_append HasScale (extents_of s) (all_extents later) (scales_repeated s.count (one_extent s.start s.end) s.end.positive) (scales_laid (before + s.count) later total laid)
+    all_append HasScale (extents_of s) (all_extents later) (scales_repeated s.count (head_of s) is.end_is) (scales_laid (before + s.count) later total laid)
 
-pub runs_laid : (before : ℕ) (runs : List Run) (total : ℕ) → AreLaid before runs total → AllByRecursion IsRun runs
+pub runs_laid : (before : ℕ) (runs : List TimedRun) (total : ℕ) → AreLaid before runs total → AllByRecursion IsRun runs
 runs_laid before [] total laid = tt
 runs_laid before (s ∷ later) total (at, some, is, laid) = (is, runs_laid (before + s.count) later total laid)
 
-pub run_at : (runs : List Run) (total i : ℕ) (s : Run) → AreLaid 0 runs total → i < length runs → s ≡ get_or runs i s → IsRun s
+pub run_at : (runs : List TimedRun) (total i : ℕ) (s : TimedRun) → AreLaid 0 runs total → i < length runs → s ≡ get_or runs i s → IsRun s
 run_at runs total i s laid within read =
-    subst (λ (x : Run). IsRun x) (sym read) (All-from_recursion IsRun runs (runs_laid 0 runs total laid) i s within)
+    subst (λ (x : TimedRun). IsRun x) (sym read) (All-from_recursion IsRun runs (runs_laid 0 runs total laid) i s within)
 
 -- ---- the segments that go on to an open end
 

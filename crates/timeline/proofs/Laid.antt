@@ -1,71 +1,77 @@
 -- Stretches in a row.
+use Rattle.timeline.specs.declared.shared_timeline.Laid.{Laid}
+use Rattle.timeline.specs.declared.run_table.RunTable.{RunTable}
+use Rattle.timeline.specs.declared.run.Run.{Run}
+use Rattle.timeline.specs.RunTables.{media_of, runs_at}
 use Rattle.std.proofs.Common.{◌≡◌, ℕ, zero, suc, ◌+◌, ◌-◌, ◌*◌, ◌<◌, ◌≤◌, ◌^◌, min, ltb, Bool, false, List, [], ◌∷◌, ◌++◌, map, length, pos, ◌+ℤ◌, ◌-ℤ◌, Option, Some, None, refl, ◌∙◌, sym, ap, subst, inl, inr, arith}
-use Rattle.std.specs.Prelude.{All, IsNone, IfSome, MatchResult, Result, Ok, Err, not, ◌&&◌, ◌==◌, ◌⊎◌}
+use Rattle.std.specs.Prelude.{unsigned_abs, All, IsNone, IfSome, MatchResult, Result, Ok, Err, not, ◌&&◌, ◌==◌, ◌⊎◌}
 use Rattle.std.specs.Int.{abs_diff}
 use Rattle.std.specs.Result.{IsErr, IsErrAnd}
 use Rattle.std.proofs.lemmas.Bool.{cases_lt, ltb-false}
 use Rattle.std.proofs.lemmas.Int.{ints}
 use Rattle.std.proofs.lemmas.Grind.{flat_map-append}
-use Rattle.std.proofs.lemmas.List.{map-append, append-nil, length-append, length-map}
+use Rattle.std.proofs.lemmas.List.{append_assoc, map-append, append-nil, length-append, length-map}
 use Rattle.std.proofs.lemmas.List.Elements.{All-nil, All-cons, All-append}
 use Rattle.std.proofs.Math.Nat.{mul-le-mul_right}
 use Rattle.exact_time.specs.Time.{Time}
-use Rattle.exact_time.specs.Tick.{time_of}
 use Rattle.timeline.specs.declared.fault.TimeFault.{TimeFault}
 use Rattle.timeline.specs.declared.fault.TimeFault.TheVariants.{Memory}
 use Rattle.timeline.specs.declared.builder.RunsBuilder.{RunsBuilder}
 use Rattle.timeline.specs.declared.limits.Limits.{Limits}
-use Rattle.timeline.specs.declared.run.Run.{Run}
 use Rattle.timeline.specs.declared.run.Endless.{Endless as GoesOn}
 use Rattle.timeline.specs.Ratios.{natural}
 use Rattle.timeline.specs.Expansions.{Extent, Member, Closed, is_open, repeated, repeat_of}
-use Rattle.timeline.specs.RunSegments.{AreLaid, IsRun, all_extents, extents_of, one_extent}
+use Rattle.timeline.specs.RunSegments.{AreLaid, IsRun, all_extents, extents_of, TimedRun, head_of, placed_run, timed}
 use Rattle.timeline.specs.Kept.{endless_members, FollowsOn}
 use Rattle.timeline.specs.Limits.{breaks_limits, media_extent}
 use Rattle.timeline.specs.Faults.{is_apart, refusal, segment_fault, are_paired}
-use Rattle.timeline.specs.Building.{placed_in, extent_in, breaks_in, fault_of, former_end, IsFaultOf, IsLaidOut, members_so_far}
+use Rattle.timeline.specs.Building.{placed_in, extent_in, breaks_in, fault_of, former_end, IsFaultOf, IsLaidOut, members_so_far, runs_in}
 use Rattle.timeline.proofs.Repeats.{length-repeated}
 use Rattle.timeline.proofs.Judged.{repeat-extent_in, head_fault, is_apart-in, former_end-some, within-end}
 
 -- ---- one more run
 
-pub laid-push : (before : ℕ) (ss : List Run) (total : ℕ) (s : Run) → AreLaid before ss total → s.before ≡ total → 0 < s.count → IsRun s → AreLaid before (ss ++ s ∷ []) (total + s.count)
+pub laid-push : (before : ℕ) (ss : List TimedRun) (total : ℕ) (s : TimedRun) → AreLaid before ss total → s.before ≡ total → 0 < s.count → IsRun s → AreLaid before (ss ++ s ∷ []) (total + s.count)
 laid-push before [] total s laid place some is = (place ∙ sym laid, some, is, ap (λ (n : ℕ). n + s.count) laid)
 laid-push before (x ∷ xs) total s laid place some is = (laid.0, laid.1, laid.2, laid-push (before + x.count) xs total s laid.3 place some is)
 
-pub laid-length : (before : ℕ) (ss : List Run) (total : ℕ) → AreLaid before ss total → before + length (all_extents ss) ≡ total
+pub laid-length : (before : ℕ) (ss : List TimedRun) (total : ℕ) → AreLaid before ss total → before + length (all_extents ss) ≡ total
 laid-length before [] total laid = omega (arith, laid)
 laid-length before (x ∷ xs) total laid =
-    omega (arith, laid-length (before + x.count) xs total laid.3, length-append (extents_of x) (all_extents xs), length-repeated x.count (one_extent x.start x.end))
+    omega (arith, laid-length (before + x.count) xs total laid.3, length-append (extents_of x) (all_extents xs), length-repeated x.count (head_of x))
 
-extents-push : (ss : List Run) (s : Run) → all_extents (ss ++ s ∷ []) ≡ all_extents ss ++ extents_of s
+pub extents-push : (ss : List TimedRun) (s : TimedRun) → all_extents (ss ++ s ∷ []) ≡ all_extents ss ++ extents_of s
 extents-push ss s = flat_map-append extents_of ss (s ∷ []) ∙ ap (λ (xs : List Extent). all_extents ss ++ xs) (append-nil (extents_of s))
 
-none_of : (e : Option GoesOn) → IsNone e → endless_members e ≡ []
+pub none_of : (e : Option GoesOn) → IsNone e → endless_members e ≡ []
 none_of None is = refl
 none_of (Some e) is = cc
 
-pub members-push : (ss : List Run) (s : Run) (e : Option GoesOn) → IsNone e →
+pub members-push : (ss : List TimedRun) (s : TimedRun) (e : Option GoesOn) → IsNone e →
     map Closed (all_extents (ss ++ s ∷ [])) ++ endless_members e ≡ (map Closed (all_extents ss) ++ endless_members e) ++ map Closed (extents_of s)
 members-push ss s e none =
     rw (none_of e none, append-nil, append-nil, extents-push ss s, map-append)
 
 -- ---- a run of segments of one scale
 
-module _ (l : Limits) (s d count : ℕ) (x : Run) (start : time_of x.start ≡ placed_in l s) (end : time_of x.end ≡ placed_in l (s + d)) (lasts : x.step ≡ d) (number : x.count ≡ count) where
+module _ (l : Limits) (s d count : ℕ) (x : TimedRun) (start : x.start ≡ placed_in l s) (end : x.end ≡ placed_in l (s + d)) (lasts : x.step ≡ d) (number : x.count ≡ count) where
   pub extents_of-in : extents_of x ≡ repeated count (extent_in l s d)
   extents_of-in =
-      ap (λ (n : ℕ). repeated n (one_extent x.start x.end)) number
-      ∙ ap (λ (a : Time). repeated count (record { start = a; end = time_of x.end })) start
+      ap (λ (n : ℕ). repeated n (head_of x)) number
+      ∙ ap (λ (a : Time). repeated count (record { start = a; end = x.end })) start
       ∙ ap (λ (b : Time). repeated count (record { start = placed_in l s; end = b })) end
 
-  pub IsRun-in : 0 < d → 0 < count → s + count * d < 2 ^ 63 → x.before + count < 2 ^ 64 → IsRun x
-  IsRun-in some has near countable =
-      let start_ticks : x.start.n ≡ pos s -ℤ pos l.origin = ap (λ (a : Time). a.ticks) start in
-      let end_ticks : x.end.n ≡ pos (s + d) -ℤ pos l.origin = ap (λ (a : Time). a.ticks) end in
+  pub IsRun-in : 0 < d → 0 < count → s + count * d < 2 ^ 63 → x.before + count < 2 ^ 64 → unsigned_abs x.start.ticks < 2 ^ 64 → unsigned_abs x.end.ticks < 2 ^ 64 → IsRun x
+  IsRun-in some has near countable start_near end_near =
+      let start_ticks : x.start.ticks ≡ pos s -ℤ pos l.origin = ap (λ (a : Time). a.ticks) start in
+      let end_ticks : x.end.ticks ≡ pos (s + d) -ℤ pos l.origin = ap (λ (a : Time). a.ticks) end in
       let product : x.count * x.step ≡ count * d = ap (λ (n : ℕ). n * x.step) number ∙ ap (λ (n : ℕ). count * n) lasts in
       let least : 1 * d ≤ count * d = mul-le-mul_right d has in
       record {
+        start_is = subst (λ (a : Time). 0 < a.scale) (sym start) l.positive;
+        end_is = subst (λ (a : Time). 0 < a.scale) (sym end) l.positive;
+        start_near = start_near;
+        end_near = end_near;
         lasting = omega (arith, lasts);
         one_scale = λ _. ap (λ (a : Time). a.scale) start ∙ sym (ap (λ (a : Time). a.scale) end);
         in_ticks = λ _. omega (arith, ints, start_ticks, end_ticks, lasts);
@@ -134,10 +140,10 @@ pub none_follows : (ticks origin total : ℕ) (e : Option GoesOn) → IsNone e �
 none_follows ticks origin total None none = tt
 none_follows ticks origin total (Some e) none = cc
 
-module _ (items ss : List Run) (x : Run) (xs : List Extent) (pushed : items ≡ ss ++ x ∷ []) (same : extents_of x ≡ xs) where
+module _ (items ss : List TimedRun) (x : TimedRun) (xs : List Extent) (pushed : items ≡ ss ++ x ∷ []) (same : extents_of x ≡ xs) where
   pub members_after : (e : Option GoesOn) → IsNone e → map Closed (all_extents items) ++ endless_members e ≡ (map Closed (all_extents ss) ++ endless_members e) ++ map Closed xs
   members_after e none =
-      ap (λ (ys : List Run). map Closed (all_extents ys) ++ endless_members e) pushed ∙ members-push ss x e none
+      ap (λ (ys : List TimedRun). map Closed (all_extents ys) ++ endless_members e) pushed ∙ members-push ss x e none
       ∙ ap (λ (ys : List Extent). (map Closed (all_extents ss) ++ endless_members e) ++ map Closed ys) same
 
   pub extents_after : (P : Extent → Type 0) → All P (all_extents ss) → All P xs → All P (all_extents items)
@@ -145,7 +151,7 @@ module _ (items ss : List Run) (x : Run) (xs : List Extent) (pushed : items ≡ 
 
   pub laid_after : (total count : ℕ) → x.count ≡ count → AreLaid 0 ss total → x.before ≡ total → 0 < count → IsRun x → AreLaid 0 items (total + count)
   laid_after total count number laid place some is =
-      subst (λ (ys : List Run). AreLaid 0 ys (total + count)) (sym pushed)
+      subst (λ (ys : List TimedRun). AreLaid 0 ys (total + count)) (sym pushed)
       (subst (λ (n : ℕ). AreLaid 0 (ss ++ x ∷ []) (total + n)) number (laid-push 0 ss total x laid place (omega arith) is))
 
 -- ---- as many as names
@@ -156,7 +162,16 @@ open_closed (x ∷ xs) ys = open_closed xs ys
 
 pub paired_closed : (l : RunsBuilder) (count : ℕ) → IsLaidOut l → IsNone l.endless → are_paired (Some count) (members_so_far l) ≡ (l.total == count)
 paired_closed l count laid none =
-    let all : List Extent = all_extents l.runs.items in
-    let number : length (map Closed all) ≡ l.total = omega (arith, length-map {B = Member} all (λ (x : Extent). Closed x), laid-length 0 l.runs.items l.total laid.laid) in
+    let all : List Extent = all_extents (runs_in l) in
+    let number : length (map Closed all) ≡ l.total = omega (arith, length-map {B = Member} all (λ (x : Extent). Closed x), laid-length 0 (runs_in l) l.total laid.laid) in
     rw (none_of l.endless none, append-nil)
     (ap (λ (b : Bool). not b && (length (map Closed all) == count)) (ap is_open (sym (append-nil (map Closed all))) ∙ open_closed all []) ∙ ap (λ (n : ℕ). n == count) number)
+
+-- ---- a run behind those of a table
+
+pub pushed_own : (ticks origin : ℕ) (old new : RunTable) (run : Run) → new.laid ≡ old.laid → new.own.items ≡ old.own.items ++ run ∷ [] → runs_at ticks origin new ≡ runs_at ticks origin old ++ timed run ∷ []
+pushed_own ticks origin old new run laid own =
+    ap (λ (l : Option Laid). map (placed_run ticks origin) (media_of l) ++ map timed new.own.items) laid
+    ∙ ap (λ (xs : List Run). map (placed_run ticks origin) (media_of old.laid) ++ map timed xs) own
+    ∙ ap (λ (xs : List TimedRun). map (placed_run ticks origin) (media_of old.laid) ++ xs) (map-append timed old.own.items (run ∷ []))
+    ∙ sym (append_assoc (map (placed_run ticks origin) (media_of old.laid)) (map timed old.own.items) (timed run ∷ []))

@@ -7,6 +7,7 @@ pub mod Judged
 pub mod KeptLemmas
 pub mod Laid
 pub mod LimitLemmas
+pub mod Media
 pub mod Naming
 pub mod NumberedLemmas
 pub mod OpenEnds
@@ -19,6 +20,7 @@ pub mod Repeats
 pub mod Rises
 pub mod RunsLemmas
 pub mod SeekLemmas
+pub mod SliceLemmas
 pub mod Spanned
 pub mod Splits
 pub mod RunLemmas

@@ -1,9 +1,9 @@
 -- When segments go on to an end that isn't known yet.
-use Rattle.std.proofs.Common.{◌≡◌, ℕ, zero, suc, ◌+◌, ◌*◌, ◌<◌, ◌≤◌, Bool, true, false, not, cond, ◌&&◌, ◌||◌, List, [], ◌∷◌, ◌++◌, map, ℤ, pos, negsuc, ◌+ℤ◌, ◌-ℤ◌, ◌≤ℤ◌, ◌<ℤ◌, refl, ◌∙◌, sym, ap, subst, inl, inr, arith}
-use Rattle.std.specs.Prelude.{Option, Some, None, IfSome, Result, Ok, Err, ◌↔◌, ◌⊎◌, slice_get, unwrap_or, int_le}
+use Rattle.std.proofs.Common.{◌≡◌, ℕ, ◌+◌, ◌*◌, ◌<◌, Bool, true, false, cond, List, [], ◌∷◌, ◌++◌, map, ℤ, pos, negsuc, ◌+ℤ◌, ◌-ℤ◌, refl, ◌∙◌, sym, ap, subst, inl, inr, arith}
+use Rattle.std.specs.Prelude.{Option, Some, None, IfSome, Ok, ◌↔◌, ◌⊎◌, slice_get, unwrap_or}
 use Rattle.std.specs.List.{list_any}
 use Rattle.std.proofs.lemmas.Int.{ints}
-use Rattle.std.proofs.lemmas.Bool.{cases_Bool, cases_lt, true≢false}
+use Rattle.std.proofs.lemmas.Bool.{cases_lt, true≢false}
 use Rattle.exact_time.specs.Time.{Time, IsAtMost, at_most}
 use Rattle.exact_time.proofs.TimeOrder.{at_most-true, at_most-from}
 use Rattle.timeline.specs.declared.entry.SEntry.{SEntry}
@@ -18,10 +18,9 @@ use Rattle.timeline.specs.Listed.{reaches_fault}
 use Rattle.timeline.specs.OpenEnds.{StepsAreGreatest}
 use Rattle.timeline.specs.Ratios.{natural}
 use Rattle.timeline.specs.SegmentTimelines.{unless_fault}
-use Rattle.timeline.specs.Steady.{LastsTicks}
 use Rattle.timeline.specs.Timelines.{Reach, Counted, UpTo, Unending, Nowhere, count_of, count_up_to, extent_from, members_from, members_of, reach_of, reach_of_next}
 use Rattle.timeline.proofs.Ratios.{floor_ticks, at_most-floor, int_le-true, int_le-from}
-use Rattle.timeline.proofs.Repeats.{again, again-row, ended_by-row, ends_by, ends_by-in, ends_by-out, natural-pos, row, row-is, slice_get-repeated}
+use Rattle.timeline.proofs.Repeats.{again-row, ended_by-row, ends_by-in, ends_by-out, natural-pos, row, row-is, slice_get-repeated}
 
 -- ---- what has no fault
 

@@ -1,6 +1,7 @@
 -- How far the segments of an S go on.
-use Rattle.std.proofs.Common.{◌≡◌, ℕ, zero, suc, ◌+◌, ◌-◌, ◌*◌, ◌<◌, ◌≤◌, Bool, true, false, cond, List, [], ◌∷◌, map, ℤ, pos, negsuc, ◌+ℤ◌, ◌-ℤ◌, ◌*ℤ◌, Option, Some, None, refl, ◌∙◌, sym, ap, subst, arith}
-use Rattle.std.specs.Prelude.{slice_get, IfSome, not, ◌&&◌, ◌==◌}
+use Rattle.std.proofs.lemmas.List.{append_assoc}
+use Rattle.std.proofs.Common.{inl, inr, ◌++◌, ◌≡◌, ℕ, zero, suc, ◌+◌, ◌-◌, ◌*◌, ◌<◌, ◌≤◌, Bool, true, false, cond, List, [], ◌∷◌, map, ℤ, pos, negsuc, ◌+ℤ◌, ◌-ℤ◌, ◌*ℤ◌, Option, Some, None, refl, ◌∙◌, sym, ap, subst, arith}
+use Rattle.std.specs.Prelude.{◌⊎◌, slice_get, IfSome, not, ◌&&◌, ◌==◌}
 use Rattle.std.specs.List.{list_any}
 use Rattle.std.specs.Int.{FitsUnsignedBits}
 use mir.Val.{SFits}
@@ -28,14 +29,14 @@ use Rattle.timeline.specs.SegmentTimelines.{timeline_of_entries, timeline_if_pai
 use Rattle.timeline.specs.Steady.{AreLasting, IsSteady}
 use Rattle.timeline.specs.Limits.{breaks_limits, too_long}
 use Rattle.timeline.specs.Faults.{ends_open, is_apart, is_unbounded, refusal, segment_fault}
-use Rattle.timeline.specs.Building.{IsFaultOf, breaks_in, extent_in, fault_of, former_end, members_so_far}
-use Rattle.timeline.specs.Reaches.{IsUpTo, IsReach, AreLaidOut, AreLimitsOf, IsSoFar, IsTheirFault, members_of_entry, next_of, start_of}
+use Rattle.timeline.specs.Building.{AreAdded, IsLaidOut, IsFaultOf, breaks_in, extent_in, fault_of, former_end, members_so_far}
+use Rattle.timeline.specs.Reaches.{GoesOn as MoreFollow, IsUpTo, IsReach, AreLaidOut, AreLimitsOf, IsSoFar, IsTheirFault, members_of_entry, next_of, start_of}
 use Rattle.timeline.proofs.Ratios.{steps_to_cover-is, ceiling-is, int_le-mul, int_add-mul}
 use Rattle.exact_time.proofs.TimeOrder.{at_most-from, not_at_most-from}
 use Rattle.timeline.proofs.Laid.{refusal_some}
 use Rattle.timeline.proofs.Rises.{steady_from}
 use Rattle.timeline.proofs.Judged.{not_long}
-use Rattle.timeline.proofs.ExpansionsRise.{entries_last}
+use Rattle.timeline.proofs.ExpansionsRise.{entries_last, neither}
 
 positive_from : (count length step : ℕ) → IsCeiling length step count → 0 < length → 0 < count
 positive_from zero length step is some = absurd (omega (arith, is.enough))
@@ -179,6 +180,30 @@ fault_so_far scale end entries l rest s later fault so_far at is =
 pub members_nowhere : (scale : Scale) (end : End) (former : ℕ) (s : SEntry) (later : List SEntry) (start : ℕ) → start ≡ start_of former s →
     members_of (reach_of scale end s.r later) (extent_from scale start s.d) ≡ Short (extent_from scale start s.d) ∷ [] → members_of_entry scale end former s later ≡ Short (extent_from scale start s.d) ∷ []
 members_nowhere scale end former s later start is short = ap (λ (n : ℕ). members_of (reach_of scale end s.r later) (extent_from scale n s.d)) (sym is) ∙ short
+
+-- the segments of one more S are in the row
+pub so_far_more : (scale : Scale) (end : End) (entries : List SEntry) (l new : RunsBuilder) (rest : List SEntry) (s : SEntry) (later : List SEntry) → IsSoFar scale end entries l rest → rest ≡ s ∷ later →
+    AreAdded l (members_of_entry scale end l.former s later) new → new.limits ≡ l.limits → IsLaidOut new → MoreFollow new later → (new.former ≡ next_of scale end l.former s later) ⊎ (later ≡ []) → IsSoFar scale end entries new later
+so_far_more scale end entries l new rest s later so_far at added limits laid goes_on former =
+    let members : List Member = members_of_entry scale end l.former s later in
+    let behind : members_from scale end (next_of scale end l.former s later) later ≡ members_from scale end new.former later = elim former [
+      | inl same ↦ ap (λ (n : ℕ). members_from scale end n later) (sym same)
+      | inr none ↦ ap (members_from scale end (next_of scale end l.former s later)) none ∙ sym (ap (members_from scale end new.former) none)
+    ] in
+    record {
+      limits = subst (λ (k : Limits). AreLimitsOf scale k) (sym limits) so_far.limits;
+      laid = laid;
+      lasting = (neither (s.d == 0) (list_any (λ e. e.d == 0) later) (sym (ap (list_any (λ e. e.d == 0)) at) ∙ so_far.lasting)).1;
+      goes_on = goes_on;
+      members = so_far.members ∙ ap (λ (ss : List SEntry). members_so_far l ++ members_from scale end l.former ss) at
+          ∙ sym (append_assoc (members_so_far l) members (members_from scale end (next_of scale end l.former s later) later))
+          ∙ ap (λ (ms : List Member). ms ++ members_from scale end (next_of scale end l.former s later) later) (sym added.added)
+          ∙ ap (λ (ms : List Member). members_so_far new ++ ms) behind;
+      judged =
+          ap (λ (k : Limits). segment_fault (breaks_in k) None (expansion_of_timeline scale end entries)) limits
+          ∙ so_far.judged ∙ ap (λ (ss : List SEntry). segment_fault (breaks_in l.limits) (former_end l) (members_from scale end l.former ss)) at
+          ∙ added.passed (members_from scale end (next_of scale end l.former s later) later) ∙ ap (segment_fault (breaks_in new.limits) (former_end new)) behind;
+    }
 
 -- ---- a timeline
 

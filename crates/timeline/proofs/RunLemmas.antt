@@ -1,48 +1,51 @@
 -- The segments of a run.
-use Rattle.std.proofs.Common.{◌≡◌, ℕ, ◌+◌, ◌-◌, ◌*◌, ◌<◌, ◌≤◌, [], ◌∷◌, drop, ℤ, pos, ◌+ℤ◌, ◌-ℤ◌, ◌/◌, min, inl, inr, refl, ◌∙◌, sym, ap, subst, arith}
+use Rattle.std.proofs.Common.{◌≡◌, ℕ, ◌+◌, ◌-◌, ◌*◌, ◌<◌, ◌≤◌, ◌^◌, [], ◌∷◌, drop, ℤ, pos, ◌+ℤ◌, ◌-ℤ◌, ◌/◌, min, inl, inr, refl, ◌∙◌, sym, ap, subst, arith}
 use Rattle.std.proofs.lemmas.Int.{ints}
-use Rattle.std.specs.Prelude.{int_le}
+use Rattle.std.specs.Prelude.{int_le, unsigned_abs}
 use Rattle.std.proofs.lemmas.Bool.{cases_Bool, cases_order, cond-true}
 use Rattle.exact_time.specs.Time.{Time}
 use Rattle.timeline.specs.Ratios.{natural}
-use Rattle.exact_time.specs.declared.tick.Tick.{Tick}
 use Rattle.timeline.specs.Expansions.{Extent, repeated}
-use Rattle.timeline.specs.RunSegments.{IsRun, IsRestOf, one_extent, extents_of, count_ended}
-use Rattle.timeline.specs.declared.run.Run.{Run}
+use Rattle.timeline.specs.RunSegments.{IsRun, IsRestOf, extents_of, count_ended, TimedRun, head_of}
 use Rattle.timeline.proofs.Ratios.{floor_ticks, at_most-floor}
 use Rattle.timeline.proofs.Repeats.{again-row, drop-repeated, row, row-is, row-same, ends_by, ends_by-past, count_ended-in, count_ended-out, count_ended-row}
 
 -- several segments are so many ticks of one scale
-pub one_extent-row : (s : Run) → IsRun s → 1 < s.count → one_extent s.start s.end ≡ row s.end.scale s.start.n s.step
-one_extent-row s is several = row-is (one_extent s.start s.end) s.step (is.one_scale several) (is.in_ticks several)
+pub one_extent-row : (s : TimedRun) → IsRun s → 1 < s.count → head_of s ≡ row s.end.scale s.start.ticks s.step
+one_extent-row s is several = row-is (head_of s) s.step (is.one_scale several) (is.in_ticks several)
 
 times_split : (n k step : ℕ) → k ≤ n → (n - k) * step + k * step ≡ n * step
 times_split n k step within = let whole : n ≡ (n - k) + k = omega arith in omega (arith, ap (λ (m : ℕ). m * step) whole)
 
-extents_moved : (s rest : Run) (k : ℕ) → IsRun s → k < s.count → 1 < s.count → rest.start.n ≡ s.start.n +ℤ pos (k * s.step) → rest.step ≡ s.step → rest.count ≡ s.count - k →
-    rest.start.scale ≡ rest.end.scale → rest.end.n ≡ rest.start.n +ℤ pos rest.step → rest.end.scale ≡ s.end.scale → extents_of rest ≡ drop (s.before + k - s.before) (extents_of s)
+extents_moved : (s rest : TimedRun) (k : ℕ) → IsRun s → k < s.count → 1 < s.count → rest.start.ticks ≡ s.start.ticks +ℤ pos (k * s.step) → rest.step ≡ s.step → rest.count ≡ s.count - k →
+    rest.start.scale ≡ rest.end.scale → rest.end.ticks ≡ rest.start.ticks +ℤ pos rest.step → rest.end.scale ≡ s.end.scale → extents_of rest ≡ drop (s.before + k - s.before) (extents_of s)
 extents_moved s rest k is within several start_n step count one_scale in_ticks end_scale =
-    let first : one_extent rest.start rest.end ≡ row s.end.scale (s.start.n +ℤ pos (k * s.step)) s.step =
-    row-is (one_extent rest.start rest.end) rest.step one_scale in_ticks
-    ∙ ap (λ (n : ℕ). row n rest.start.n rest.step) end_scale ∙ row-same s.end.scale rest.start.n (s.start.n +ℤ pos (k * s.step)) rest.step start_n
-    ∙ ap (λ (n : ℕ). row s.end.scale (s.start.n +ℤ pos (k * s.step)) n) step in
+    let first : head_of rest ≡ row s.end.scale (s.start.ticks +ℤ pos (k * s.step)) s.step =
+    row-is (head_of rest) rest.step one_scale in_ticks
+    ∙ ap (λ (n : ℕ). row n rest.start.ticks rest.step) end_scale ∙ row-same s.end.scale rest.start.ticks (s.start.ticks +ℤ pos (k * s.step)) rest.step start_n
+    ∙ ap (λ (n : ℕ). row s.end.scale (s.start.ticks +ℤ pos (k * s.step)) n) step in
     let place : s.before + k - s.before ≡ k = omega arith in
-    ap (repeated rest.count) first ∙ ap (λ (n : ℕ). repeated n (row s.end.scale (s.start.n +ℤ pos (k * s.step)) s.step)) count
+    ap (repeated rest.count) first ∙ ap (λ (n : ℕ). repeated n (row s.end.scale (s.start.ticks +ℤ pos (k * s.step)) s.step)) count
     ∙ sym (ap (λ (n : ℕ). drop n (extents_of s)) place
     ∙ ap (λ (x : Extent). drop k (repeated s.count x)) (one_extent-row s is several)
-    ∙ drop-repeated k s.count (row s.end.scale s.start.n s.step)
-    ∙ ap (repeated (s.count - k)) (again-row k s.end.scale s.start.n s.step))
+    ∙ drop-repeated k s.count (row s.end.scale s.start.ticks s.step)
+    ∙ ap (repeated (s.count - k)) (again-row k s.end.scale s.start.ticks s.step))
 
 -- the run from the k-th segment on
-moved_on : (s rest : Run) (k : ℕ) → IsRun s → 0 < k → k < s.count → rest.start.n ≡ s.start.n +ℤ pos (k * s.step) → rest.start.scale ≡ s.start.scale →
-    rest.end.n ≡ s.end.n +ℤ pos (k * s.step) → rest.end.scale ≡ s.end.scale → rest.step ≡ s.step → rest.count ≡ s.count - k → rest.before ≡ s.before + k → IsRestOf s (s.before + k) rest
-moved_on s rest k is some within start_n start_scale end_n end_scale step count before =
+moved_on : (s rest : TimedRun) (k : ℕ) → IsRun s → 0 < k → k < s.count → rest.start.ticks ≡ s.start.ticks +ℤ pos (k * s.step) → rest.start.scale ≡ s.start.scale →
+    rest.end.ticks ≡ s.end.ticks +ℤ pos (k * s.step) → rest.end.scale ≡ s.end.scale → rest.step ≡ s.step → rest.count ≡ s.count - k → rest.before ≡ s.before + k →
+    unsigned_abs rest.start.ticks < 2 ^ 64 → unsigned_abs rest.end.ticks < 2 ^ 64 → IsRestOf s (s.before + k) rest
+moved_on s rest k is some within start_n start_scale end_n end_scale step count before start_near end_near =
     let several : 1 < s.count = omega arith in
     let one_scale : rest.start.scale ≡ rest.end.scale = omega (arith, is.one_scale several) in
-    let in_ticks : rest.end.n ≡ rest.start.n +ℤ pos rest.step = omega (arith, ints, is.in_ticks several) in
+    let in_ticks : rest.end.ticks ≡ rest.start.ticks +ℤ pos rest.step = omega (arith, ints, is.in_ticks several) in
     let times : rest.count * rest.step + k * s.step ≡ s.count * s.step = rw (count, step) (times_split s.count k s.step (omega arith)) in
     record {
       is = record {
+        start_is = omega (arith, start_scale, is.start_is);
+        end_is = omega (arith, end_scale, is.end_is);
+        start_near = start_near;
+        end_near = end_near;
         lasting = omega (arith, is.lasting);
         one_scale = λ _. one_scale;
         in_ticks = λ _. in_ticks;
@@ -55,11 +58,12 @@ moved_on s rest k is some within start_n start_scale end_n end_scale step count 
       extents = extents_moved s rest k is within several start_n step count one_scale in_ticks (omega (arith, is.one_scale several));
     }
 
-pub moved_to : (s : Run) (place k : ℕ) (start end : Tick) → IsRun s → place ≡ s.before + k → 0 < k → k < s.count → start.n ≡ s.start.n +ℤ pos (k * s.step) → start.scale ≡ s.start.scale →
-    end.n ≡ s.end.n +ℤ pos (k * s.step) → end.scale ≡ s.end.scale → IsRestOf s place (record { start = start; end = end; step = s.step; count = s.count - k; before = place })
-moved_to s place k start end is at some within start_n start_scale end_n end_scale =
+pub moved_to : (s : TimedRun) (place k : ℕ) (start end : Time) → IsRun s → place ≡ s.before + k → 0 < k → k < s.count → start.ticks ≡ s.start.ticks +ℤ pos (k * s.step) → start.scale ≡ s.start.scale →
+    end.ticks ≡ s.end.ticks +ℤ pos (k * s.step) → end.scale ≡ s.end.scale → unsigned_abs start.ticks < 2 ^ 64 → unsigned_abs end.ticks < 2 ^ 64 →
+    IsRestOf s place (record { start = start; end = end; step = s.step; count = s.count - k; before = place })
+moved_to s place k start end is at some within start_n start_scale end_n end_scale start_near end_near =
     subst (λ (n : ℕ). IsRestOf s n (record { start = start; end = end; step = s.step; count = s.count - k; before = place })) (sym at)
-    (moved_on s (record { start = start; end = end; step = s.step; count = s.count - k; before = place }) k is some within start_n start_scale end_n end_scale refl refl at)
+    (moved_on s (record { start = start; end = end; step = s.step; count = s.count - k; before = place }) k is some within start_n start_scale end_n end_scale refl refl at start_near end_near)
 
 -- ---- how many end at or before a time
 
@@ -76,20 +80,20 @@ count_of_one t x step time =
           omega (arith, count_ended-out t x [] (here ∙ late))
     ]
 
-pub count_ended-run : (t : Time) (s : Run) → 0 < t.scale → IsRun s → count_ended t (extents_of s) ≡ min s.count (ends_by (floor_ticks t s.end.scale) s.end.n s.step)
+pub count_ended-run : (t : Time) (s : TimedRun) → 0 < t.scale → IsRun s → count_ended t (extents_of s) ≡ min s.count (ends_by (floor_ticks t s.end.scale) s.end.ticks s.step)
 unfolding repeated
 count_ended-run t s time is = elim (cases_order s.count 1) [
   | inl one ↦
-      ap (λ (n : ℕ). count_ended t (repeated n (one_extent s.start s.end))) one
-      ∙ count_of_one t (one_extent s.start s.end) s.step time
-      ∙ ap (λ (n : ℕ). min n (ends_by (floor_ticks t s.end.scale) s.end.n s.step)) (sym one)
+      ap (λ (n : ℕ). count_ended t (repeated n (head_of s))) one
+      ∙ count_of_one t (head_of s) s.step time
+      ∙ ap (λ (n : ℕ). min n (ends_by (floor_ticks t s.end.scale) s.end.ticks s.step)) (sym one)
   | inr other ↦ elim other [
     | inl fewer ↦
         let none : s.count ≡ 0 = omega arith in
-        ap (λ (n : ℕ). count_ended t (repeated n (one_extent s.start s.end))) none ∙ omega arith
+        ap (λ (n : ℕ). count_ended t (repeated n (head_of s))) none ∙ omega arith
     | inr several ↦
         ap (λ (x : Extent). count_ended t (repeated s.count x)) (one_extent-row s is several)
-        ∙ count_ended-row s.count t s.end.scale s.start.n s.step time is.lasting
+        ∙ count_ended-row s.count t s.end.scale s.start.ticks s.step time is.lasting
         ∙ ap (λ (z : ℤ). min s.count (ends_by (floor_ticks t s.end.scale) z s.step)) (sym (is.in_ticks several))
   ]
 ]

@@ -11,7 +11,7 @@ use Rattle.timeline.specs.Expansions.{SegmentTimeline, Member, extents_at, goes_
 use Rattle.timeline.specs.Listed.{instant_of, IsWindowOf, IsReached, is_out_of_range, reaches_fault}
 use Rattle.timeline.specs.Places.{closed_total, reached_count, count_until, open_extents}
 use Rattle.timeline.specs.RunSegments.{HasRoom, all_extents, endless_count, endless_extents, first_of}
-use Rattle.timeline.specs.Kept.{Follows, FollowsOn, IsKept, timeline_of}
+use Rattle.timeline.specs.Kept.{Follows, FollowsOn, IsKept, timeline_of, runs_of}
 use Rattle.timeline.specs.declared.bound.Bound.{Bound}
 use Rattle.timeline.specs.declared.runs.Runs.TheInside.{Inside}
 use Rattle.timeline.specs.declared.run.Endless.{Endless}
@@ -50,20 +50,20 @@ last_breaks limits e origin end count ticks origins some within end_is =
     ∙ ap (λ (b : Bool). b && breaks_ticks e.start.scale origin (e.start.n +ℤ pos (count * e.step)) e.step) (sym (lt-ltb 0 count some))
 
 module _ (r : Inside) (kept : IsKept r) (timeline : SegmentTimeline) (view : timeline_of r ≡ timeline) (window : Window) (is_window : IsWindowOf timeline window) where
-  pub members_are : timeline.members ≡ members_of_parts (all_extents r.runs.items) r.endless
+  pub members_are : timeline.members ≡ members_of_parts (all_extents (runs_of r)) r.endless
   members_are = sym (ap (λ (c : SegmentTimeline). c.members) view)
 
-  pub parts : Parts timeline.ticks timeline.origin r.total (all_extents r.runs.items) r.endless
-  parts = subst (λ (c : SegmentTimeline). Parts c.ticks c.origin r.total (all_extents r.runs.items) r.endless) view (parts_of r kept)
+  pub parts : Parts timeline.ticks timeline.origin r.total (all_extents (runs_of r)) r.endless
+  parts = subst (λ (c : SegmentTimeline). Parts c.ticks c.origin r.total (all_extents (runs_of r)) r.endless) view (parts_of r kept)
 
   out_of_range_is : is_out_of_range timeline window ≡ open_breaks_limits timeline.ticks timeline.origin (instant_of window) r.endless
-  out_of_range_is = ap (list_any (reaches_fault timeline window)) members_are ∙ out_of_range-parts timeline window (all_extents r.runs.items) r.endless
+  out_of_range_is = ap (list_any (reaches_fault timeline window)) members_are ∙ out_of_range-parts timeline window (all_extents (runs_of r)) r.endless
 
   pub open_extents_is : open_extents timeline window ≡ open_at (instant_of window) r.endless
-  open_extents_is = ap (λ (ms : List Member). flat_map (extents_at (instant_of window)) (filter goes_on ms)) members_are ∙ open_extents-parts (instant_of window) (all_extents r.runs.items) r.endless
+  open_extents_is = ap (λ (ms : List Member). flat_map (extents_at (instant_of window)) (filter goes_on ms)) members_are ∙ open_extents-parts (instant_of window) (all_extents (runs_of r)) r.endless
 
   pub closed_total_is : closed_total timeline ≡ r.total
-  closed_total_is = ap (λ (ms : List Member). closed_total (record timeline { members = ms })) members_are ∙ total-parts (all_extents r.runs.items) r.endless ∙ parts.long
+  closed_total_is = ap (λ (ms : List Member). closed_total (record timeline { members = ms })) members_are ∙ total-parts (all_extents (runs_of r)) r.endless ∙ parts.long
 
   pub none_open_broken : r.endless ≡ None → false ≡ is_out_of_range timeline window
   none_open_broken is = sym (out_of_range_is ∙ ap (open_breaks_limits timeline.ticks timeline.origin (instant_of window)) is)
@@ -118,7 +118,7 @@ module _ (r : Inside) (kept : IsKept r) (timeline : SegmentTimeline) (view : tim
 
   module _ (is_reached : IsReached timeline window) where
     pub finish_none_is : window.until ≡ None → r.total ≡ count_until timeline window
-    finish_none_is no_until = finish_none timeline window r.total (all_extents r.runs.items) r.endless members_are parts is_window is_reached no_until
+    finish_none_is no_until = finish_none timeline window r.total (all_extents (runs_of r)) r.endless members_are parts is_window is_reached no_until
 
     pub finish_some_is : (bound : Bound) → HasUntil window.until bound → min (2 ^ 64 - 1) (reached_count timeline (time_of_bound bound)) ≡ count_until timeline window
-    finish_some_is bound has = finish_some timeline window r.total (all_extents r.runs.items) r.endless members_are parts is_window is_reached has.count bound has.is has.stands
+    finish_some_is bound has = finish_some timeline window r.total (all_extents (runs_of r)) r.endless members_are parts is_window is_reached has.count bound has.is has.stands

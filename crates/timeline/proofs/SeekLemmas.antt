@@ -10,11 +10,10 @@ use Rattle.timeline.specs.Expansions.{SegmentTimeline, Extent, Member, Timing, e
 use Rattle.timeline.specs.Steady.{AreLasting, ArePaced, IsSteady}
 use Rattle.timeline.specs.Listed.{expansion, is_until, is_listed, listed, listed_from, instant_of, IsWindowOf, IsReached, IsFirstListed, IsPlaceAfter, IsWithin, CanBeNamed}
 use Rattle.timeline.specs.Places.{reached_count, count_until, closed_total, open_extents}
-use Rattle.timeline.specs.RunSegments.{AreLaid, AreLaidFrom, IsTail, count_ended, all_extents, extents_of_some}
-use Rattle.timeline.specs.Kept.{IsKept, timeline_of}
+use Rattle.timeline.specs.RunSegments.{AreLaid, AreLaidFrom, IsTail, count_ended, all_extents, extents_of_some, TimedRun}
+use Rattle.timeline.specs.Kept.{IsKept, timeline_of, runs_of}
 use Rattle.timeline.specs.declared.bound.Bound.{Bound}
 use Rattle.timeline.specs.declared.runs.Runs.TheInside.{Inside}
-use Rattle.timeline.specs.declared.run.Run.{Run}
 use Rattle.timeline.specs.declared.window.Window.{Window}
 use Rattle.exact_time.proofs.TimeOrder.{before-is}
 use Rattle.timeline.proofs.Splits.{SplitsAt, IsPlaceOf, between, splits_before, splits_after, filter-before, first-between, take-place, drop-place, left-place}
@@ -32,7 +31,7 @@ named_all timeline number (x ∷ xs) above timed = (record { numbered = above; t
 
 module _ (r : Inside) (kept : IsKept r) (timeline : SegmentTimeline) (view : timeline_of r ≡ timeline) (window : Window) (is_window : IsWindowOf timeline window) (is_reached : IsReached timeline window) where
   abbrev all : List Extent
-  all = all_extents r.runs.items ++ open_at (instant_of window) r.endless
+  all = all_extents (runs_of r) ++ open_at (instant_of window) r.endless
 
   abbrev whole : List Timing
   whole = numbered timeline.first_number all
@@ -41,11 +40,11 @@ module _ (r : Inside) (kept : IsKept r) (timeline : SegmentTimeline) (view : tim
   place bound = min (2 ^ 64 - 1) (reached_count timeline (time_of_bound bound))
 
   whole_is : expansion timeline window ≡ whole
-  whole_is = expansion_is timeline window r.total (all_extents r.runs.items) r.endless (members_are r kept timeline view window is_window) (parts r kept timeline view window is_window) is_window is_reached
+  whole_is = expansion_is timeline window r.total (all_extents (runs_of r)) r.endless (members_are r kept timeline view window is_window) (parts r kept timeline view window is_window) is_window is_reached
 
   pub placed : (bound : Bound) (t : Time) → StandsFor bound t → IsPlaceOf (place bound) (count_ended t all) whole
   placed bound t stands =
-      let here : IsPlaceOf (place bound) (count_ended t all) all = place_is timeline window r.total (all_extents r.runs.items) r.endless (members_are r kept timeline view window is_window) (parts r kept timeline view window is_window) is_window is_reached bound t stands in
+      let here : IsPlaceOf (place bound) (count_ended t all) all = place_is timeline window r.total (all_extents (runs_of r)) r.endless (members_are r kept timeline view window is_window) (parts r kept timeline view window is_window) is_window is_reached bound t stands in
       elim here [ inl same ↦ inl same | inr past ↦ inr (past.0 ∙ sym (length-numbered timeline.first_number all), omega (arith, past.1, length-numbered timeline.first_number all)) ]
 
   abbrev low : Timing → Bool
@@ -63,17 +62,17 @@ module _ (r : Inside) (kept : IsKept r) (timeline : SegmentTimeline) (view : tim
 
   low_splits : SplitsAt low first whole
   low_splits = splits-numbered (λ (t : Time). at_most t (low_of window)) first timeline.first_number all
-      (splits_low timeline window r.total (all_extents r.runs.items) r.endless (members_are r kept timeline view window is_window) (parts r kept timeline view window is_window) is_window is_reached)
+      (splits_low timeline window r.total (all_extents (runs_of r)) r.endless (members_are r kept timeline view window is_window) (parts r kept timeline view window is_window) is_window is_reached)
 
   high_splits : SplitsAt high finish whole
   high_splits = splits-numbered (is_until window.until) finish timeline.first_number all
-      (splits_high timeline window r.total (all_extents r.runs.items) r.endless (members_are r kept timeline view window is_window) (parts r kept timeline view window is_window) is_window is_reached)
+      (splits_high timeline window r.total (all_extents (runs_of r)) r.endless (members_are r kept timeline view window is_window) (parts r kept timeline view window is_window) is_window is_reached)
 
   finish_within : finish ≤ length whole
   finish_within = omega (
     arith,
     length-numbered timeline.first_number all,
-    until_within timeline window r.total (all_extents r.runs.items) r.endless (members_are r kept timeline view window is_window) (parts r kept timeline view window is_window) is_window is_reached,
+    until_within timeline window r.total (all_extents (runs_of r)) r.endless (members_are r kept timeline view window is_window) (parts r kept timeline view window is_window) is_window is_reached,
   )
 
   pub few_all : finish ≤ 2 ^ 63
@@ -81,12 +80,12 @@ module _ (r : Inside) (kept : IsKept r) (timeline : SegmentTimeline) (view : tim
     arith,
     length-numbered timeline.first_number all,
     finish_within,
-    long_all timeline window r.total (all_extents r.runs.items) r.endless (members_are r kept timeline view window is_window) (parts r kept timeline view window is_window) is_window is_reached,
-    (reached_is timeline window r.total (all_extents r.runs.items) r.endless (members_are r kept timeline view window is_window) (parts r kept timeline view window is_window) is_window is_reached).few,
+    long_all timeline window r.total (all_extents (runs_of r)) r.endless (members_are r kept timeline view window is_window) (parts r kept timeline view window is_window) is_window is_reached,
+    (reached_is timeline window r.total (all_extents (runs_of r)) r.endless (members_are r kept timeline view window is_window) (parts r kept timeline view window is_window) is_window is_reached).few,
   )
 
   listed_whole : (from : ℕ) → listed_from from timeline window ≡ take (finish - max from first) (drop (max from first) whole)
-  listed_whole from = listed_is timeline window r.total (all_extents r.runs.items) r.endless (members_are r kept timeline view window is_window) (parts r kept timeline view window is_window) is_window is_reached from
+  listed_whole from = listed_is timeline window r.total (all_extents (runs_of r)) r.endless (members_are r kept timeline view window is_window) (parts r kept timeline view window is_window) is_window is_reached from
 
   -- ---- `count`
 
@@ -126,7 +125,7 @@ module _ (r : Inside) (kept : IsKept r) (timeline : SegmentTimeline) (view : tim
       let ends : Timing → Bool = λ x. at_most x.end t in
       let splits : SplitsAt ends (count_ended t all) whole =
       splits-numbered (λ (end : Time). at_most end t) (count_ended t all) timeline.first_number all
-      (splits_at timeline window r.total (all_extents r.runs.items) r.endless (members_are r kept timeline view window is_window) (parts r kept timeline view window is_window) is_window is_reached t) in
+      (splits_at timeline window r.total (all_extents (runs_of r)) r.endless (members_are r kept timeline view window is_window) (parts r kept timeline view window is_window) is_window is_reached t) in
       subst (λ (xs : List Timing). IsPlaceAfter t xs (place bound)) (sym whole_is) (record {
         none_before = subst (λ (xs : List Timing). All (λ x. at_most x.end t ≡ true) xs) (sym (take-place (place bound) (count_ended t all) whole here))
             (splits_before ends (count_ended t all) whole splits);
@@ -156,24 +155,24 @@ module _ (r : Inside) (kept : IsKept r) (timeline : SegmentTimeline) (view : tim
       ∙ from_place (place bound) from (placed bound (low_of window) stands)
       ∙ sym (listed_whole from)
 
-  pub finish_there : finish ≤ length (all_extents r.runs.items) + length (open_at (instant_of window) r.endless)
-  finish_there = omega (arith, finish_within, length-numbered timeline.first_number all, length-append (all_extents r.runs.items) (open_at (instant_of window) r.endless))
+  pub finish_there : finish ≤ length (all_extents (runs_of r)) + length (open_at (instant_of window) r.endless)
+  finish_there = omega (arith, finish_within, length-numbered timeline.first_number all, length-append (all_extents (runs_of r)) (open_at (instant_of window) r.endless))
 
   -- what a walk asks for
-  pub walk_laid : (tail : Option Run) (begin left : ℕ) → IsTail (closed_total timeline) tail → extents_of_some tail ≡ open_extents timeline window → left ≡ finish - begin → 0 < left →
-      AreLaidFrom 0 r.runs.items tail (begin + left)
+  pub walk_laid : (tail : Option TimedRun) (begin left : ℕ) → IsTail (closed_total timeline) tail → extents_of_some tail ≡ open_extents timeline window → left ≡ finish - begin → 0 < left →
+      AreLaidFrom 0 (runs_of r) tail (begin + left)
   walk_laid tail begin left is_tail extents left_is some =
-      let long : 0 + length (all_extents r.runs.items) ≡ r.total = length-laid 0 r.runs.items r.total kept.laid in
+      let long : 0 + length (all_extents (runs_of r)) ≡ r.total = length-laid 0 (runs_of r) r.total kept.laid in
       let closed : closed_total timeline ≡ r.total = closed_total_is r kept timeline view window is_window in
       let opened : length (extents_of_some tail) ≡ length (open_at (instant_of window) r.endless) = ap length (extents ∙ open_extents_is r kept timeline view window is_window) in
       record {
-        laid = subst (λ (n : ℕ). AreLaid 0 r.runs.items n) (sym long) kept.laid;
+        laid = subst (λ (n : ℕ). AreLaid 0 (runs_of r) n) (sym long) kept.laid;
         tail_is = subst (λ (n : ℕ). IsTail n tail) (closed ∙ sym long) is_tail;
         enough = omega (arith, finish_there, left_is, some, opened);
       }
 
-  pub walk_all : (tail : Option Run) → extents_of_some tail ≡ open_extents timeline window → all_extents r.runs.items ++ extents_of_some tail ≡ all
-  walk_all tail extents = ap (λ (xs : List Extent). all_extents r.runs.items ++ xs) (extents ∙ open_extents_is r kept timeline view window is_window)
+  pub walk_all : (tail : Option TimedRun) → extents_of_some tail ≡ open_extents timeline window → all_extents (runs_of r) ++ extents_of_some tail ≡ all
+  walk_all tail extents = ap (λ (xs : List Extent). all_extents (runs_of r) ++ xs) (extents ∙ open_extents_is r kept timeline view window is_window)
 
   pub walk_countable : (begin left : ℕ) → timeline.first_number < 2 ^ 63 → left ≡ finish - begin → 0 < left → timeline.first_number + (begin + left) < 2 ^ 64
   walk_countable begin left small left_is some = omega (arith, few_all, left_is, some)
@@ -182,15 +181,15 @@ module _ (r : Inside) (kept : IsKept r) (timeline : SegmentTimeline) (view : tim
   walk_paced number left begin =
       let same = ap (λ (c : SegmentTimeline). c.members) view in
       listed_paced timeline window all number left begin
-      (ap (extents (instant_of window)) (members_are r kept timeline view window is_window) ∙ extents-parts (instant_of window) (all_extents r.runs.items) r.endless)
+      (ap (extents (instant_of window)) (members_are r kept timeline view window is_window) ∙ extents-parts (instant_of window) (all_extents (runs_of r)) r.endless)
       (subst (λ (ms : List Member). AreLasting ms) same kept.lasting) (subst (λ (ms : List Member). IsSteady ms) same kept.steady) is_reached
 
   -- ---- `resume`
 
   timed_all : AllByRecursion (StartsTimed timeline.origin) all
-  timed_all = all_append (StartsTimed timeline.origin) (all_extents r.runs.items) (open_at (instant_of window) r.endless)
-      (recursion_from_All (StartsTimed timeline.origin) (all_extents r.runs.items) (subst (λ (c : SegmentTimeline). All (StartsTimed c.origin) (all_extents r.runs.items)) view kept.timed))
-      (reached_is timeline window r.total (all_extents r.runs.items) r.endless (members_are r kept timeline view window is_window) (parts r kept timeline view window is_window) is_window is_reached).timed
+  timed_all = all_append (StartsTimed timeline.origin) (all_extents (runs_of r)) (open_at (instant_of window) r.endless)
+      (recursion_from_All (StartsTimed timeline.origin) (all_extents (runs_of r)) (subst (λ (c : SegmentTimeline). All (StartsTimed c.origin) (all_extents (runs_of r))) view kept.timed))
+      (reached_is timeline window r.total (all_extents (runs_of r)) r.endless (members_are r kept timeline view window is_window) (parts r kept timeline view window is_window) is_window is_reached).timed
 
   pub within_is : (from : ℕ) → IsWithin timeline (listed_from from timeline window)
   within_is from = All-filter (is_listed window) (CanBeNamed timeline) (drop from (expansion timeline window)) (All-drop (CanBeNamed timeline) from (expansion timeline window)

@@ -14,7 +14,7 @@ use Rattle.timeline.specs.Laws.{EndsRise}
 use Rattle.timeline.specs.Listed.{expansion, is_after, is_until, is_listed, listed_from, instant_of, IsWindowOf, IsReached, reaches_fault}
 use Rattle.timeline.specs.Places.{reached_count, reached_by, count_until}
 use Rattle.timeline.specs.RunSegments.{count_ended, all_extents, endless_count, first_of}
-use Rattle.timeline.specs.Kept.{FollowsOn, IsKept}
+use Rattle.timeline.specs.Kept.{FollowsOn, IsKept, runs_of}
 use Rattle.timeline.specs.declared.bound.Bound.{Bound}
 use Rattle.timeline.specs.declared.runs.Runs.TheInside.{Inside}
 use Rattle.timeline.specs.declared.run.Endless.{Endless}
@@ -38,11 +38,11 @@ pub record Parts (ticks origin total : ℕ) (xs : List Extent) (e : Option Endle
   pub small : total ≤ 2 ^ 63
   pub rising : EndsRise (members_of_parts xs e)
 
-pub parts_of : (r : Inside) → IsKept r → Parts r.scale.ticks r.origin r.total (all_extents r.runs.items) r.endless
+pub parts_of : (r : Inside) → IsKept r → Parts r.scale.ticks r.origin r.total (all_extents (runs_of r)) r.endless
 parts_of r kept = record {
-  scales = scales_laid 0 r.runs.items r.total kept.laid;
-  near = near_laid 0 r.runs.items r.total kept.laid;
-  long = omega (arith, length-laid 0 r.runs.items r.total kept.laid);
+  scales = scales_laid 0 (runs_of r) r.total kept.laid;
+  near = near_laid 0 (runs_of r) r.total kept.laid;
+  long = omega (arith, length-laid 0 (runs_of r) r.total kept.laid);
   follows = kept.follows;
   small = kept.countable;
   rising = kept_rises r kept;

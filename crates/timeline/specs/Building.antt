@@ -8,19 +8,23 @@ use Rattle.timeline.specs.declared.limits.Limits.{Limits}
 use Rattle.timeline.specs.Expansions.{Extent, Member, Closed}
 use Rattle.timeline.specs.Limits.{breaks_limits}
 use Rattle.timeline.specs.Faults.{is_apart, refusal, segment_fault}
-use Rattle.timeline.specs.RunSegments.{AreLaid, all_extents}
+use Rattle.timeline.specs.RunSegments.{TimedRun, AreLaid, all_extents}
+use Rattle.timeline.specs.RunTables.{runs_at}
 use Rattle.timeline.specs.Kept.{FollowsOn, endless_members}
 use Rattle.timeline.specs.Ratios.{natural}
 
+abbrev pub runs_in : RunsBuilder → List TimedRun
+runs_in l = runs_at l.limits.ticks l.limits.origin l.table
+
 abbrev pub members_so_far : RunsBuilder → List Member
-members_so_far l = map Closed (all_extents l.runs.items) ++ endless_members l.endless
+members_so_far l = map Closed (all_extents (runs_in l)) ++ endless_members l.endless
 
 -- what a `Runs` keeps of its segments, but for their order
 pub record IsLaidOut (l : RunsBuilder) : Type 0 where
-  pub laid : AreLaid 0 l.runs.items l.total
+  pub laid : AreLaid 0 (runs_in l) l.total
   pub follows : FollowsOn l.limits.ticks l.limits.origin l.total l.endless
   pub countable : l.total ≤ 2 ^ 63
-  pub timed : All (λ x. natural (x.start.ticks +ℤ pos l.limits.origin) < 2 ^ 64) (all_extents l.runs.items)
+  pub timed : All (λ x. natural (x.start.ticks +ℤ pos l.limits.origin) < 2 ^ 64) (all_extents (runs_in l))
 
 -- the segments, of which each lasts a tick at least, end by the media time at which the last one ends
 pub record IsInTime (l : RunsBuilder) : Type 0 where

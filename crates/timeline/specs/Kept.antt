@@ -1,9 +1,10 @@
 -- The segments that a `Runs` keeps.
 use Rattle.std.specs.Prelude.{◌≡◌, ℕ, ◌+◌, ◌*◌, ◌<◌, ◌≤◌, ◌^◌, pos, ◌+ℤ◌, ◌≤ℤ◌, List, [], ◌∷◌, ◌++◌, map, All, Option, Some, None}
 use Rattle.timeline.specs.Expansions.{SegmentTimeline, Member, Closed, Endless as GoesOn}
-use Rattle.timeline.specs.RunSegments.{AreLaid, IsEndless, all_extents, first_of}
+use Rattle.timeline.specs.RunSegments.{TimedRun, AreLaid, IsEndless, all_extents, first_of}
 use Rattle.timeline.specs.Steady.{AreLasting, IsSteady}
 use Rattle.timeline.specs.Ratios.{natural}
+use Rattle.timeline.specs.RunTables.{runs_at}
 use Rattle.timeline.specs.declared.run.Endless.{Endless}
 use Rattle.timeline.specs.declared.runs.Runs.TheInside.{Inside}
 
@@ -11,9 +12,12 @@ abbrev pub endless_members : Option Endless → List Member
 endless_members None = []
 endless_members (Some e) = GoesOn (first_of e) ∷ []
 
+abbrev pub runs_of : Inside → List TimedRun
+runs_of r = runs_at r.scale.ticks r.origin r.table
+
 abbrev pub timeline_of : Inside → SegmentTimeline
 timeline_of r = record {
-  members = map Closed (all_extents r.runs.items) ++ endless_members r.endless;
+  members = map Closed (all_extents (runs_of r)) ++ endless_members r.endless;
   ticks = r.scale.ticks;
   origin = r.origin;
   offset = r.scale.offset;
@@ -36,9 +40,9 @@ FollowsOn ticks origin total None = Unit {0}
 FollowsOn ticks origin total (Some e) = Follows ticks origin total e
 
 pub record IsKept (r : Inside) : Type 0 where
-  pub laid : AreLaid 0 r.runs.items r.total
+  pub laid : AreLaid 0 (runs_of r) r.total
   pub follows : FollowsOn r.scale.ticks r.origin r.total r.endless
   pub countable : r.total ≤ 2 ^ 63
   pub lasting : AreLasting (timeline_of r).members
   pub steady : IsSteady (timeline_of r).members
-  pub timed : All (λ x. natural (x.start.ticks +ℤ pos r.origin) < 2 ^ 64) (all_extents r.runs.items)
+  pub timed : All (λ x. natural (x.start.ticks +ℤ pos r.origin) < 2 ^ 64) (all_extents (runs_of r))

@@ -8,6 +8,7 @@ pub mod Laws
 pub mod Building
 pub mod Limits
 pub mod Listed
+pub mod MediaTimelines
 pub mod Names
 pub mod OpenEnds
 pub mod Places
@@ -18,5 +19,6 @@ pub mod Rows
 pub mod Spans
 pub mod Steady
 pub mod RunSegments
+pub mod RunTables
 pub mod Timelines
 pub mod Walks

@@ -3,8 +3,7 @@ use Rattle.std.specs.Prelude.{◌≡◌, ℕ, ◌+◌, ◌<◌, ◌^◌, List, f
 use Rattle.exact_time.specs.Time.{Time, at_most}
 use Rattle.timeline.specs.Expansions.{SegmentTimeline, Extent, Member, Closed, Short, Endless, ended_by, extents_at, goes_on}
 use Rattle.timeline.specs.Listed.{expansion, instant_of, is_until}
-use Rattle.timeline.specs.RunSegments.{IsRun, extents_of, count_ended}
-use Rattle.timeline.specs.declared.run.Run.{Run}
+use Rattle.timeline.specs.RunSegments.{TimedRun, IsRun, extents_of, count_ended}
 use Rattle.timeline.specs.declared.window.Window.{Window}
 
 abbrev pub closed_by : Time → Member → ℕ
@@ -22,7 +21,7 @@ abbrev pub closed_count : SegmentTimeline → Time → ℕ
 closed_count timeline time = sum_by (closed_by time) timeline.members
 
 -- a run that tells how many segments end at or before a time: all those before it, and some of its own
-pub record IsLastBegun (timeline : SegmentTimeline) (time : Time) (s : Run) : Type 0 where
+pub record IsLastBegun (timeline : SegmentTimeline) (time : Time) (s : TimedRun) : Type 0 where
   pub is : IsRun s
   pub ended : closed_count timeline time ≡ s.before + count_ended time (extents_of s)
   pub fits : closed_count timeline time < 2 ^ 64

@@ -1,32 +1,61 @@
 -- The segments that a run stands for.
-use Rattle.std.specs.Prelude.{◌≡◌, ℕ, ◌+◌, ◌-◌, ◌*◌, ◌<◌, ◌≤◌, ◌^◌, pos, ◌+ℤ◌, ◌<ℤ◌, List, [], ◌∷◌, length, drop, slice_index_or, flat_map, count_by, Option, Some, None}
+use Rattle.std.specs.Prelude.{◌≡◌, ℕ, ◌+◌, ◌-◌, ◌*◌, ◌<◌, ◌≤◌, ◌^◌, pos, ◌+ℤ◌, ◌-ℤ◌, ◌<ℤ◌, unsigned_abs, List, [], ◌∷◌, length, drop, slice_index_or, flat_map, count_by, Option, Some, None}
 use Rattle.exact_time.specs.Time.{Time, at_most}
 use Rattle.exact_time.specs.Tick.{time_of}
 use Rattle.exact_time.specs.declared.tick.Tick.{Tick}
 use Rattle.timeline.specs.Expansions.{Extent, repeated, ended_by}
 use Rattle.timeline.specs.declared.run.Run.{Run}
+use Rattle.timeline.specs.declared.media_run.MediaRun.{MediaRun}
 use Rattle.timeline.specs.declared.run.Endless.{Endless}
+
+-- a run with its times
+pub record TimedRun : Type 0 where
+  pub start : Time
+  pub end : Time
+  pub step : ℕ
+  pub count : ℕ
+  pub before : ℕ
+
+abbrev pub timed : Run → TimedRun
+timed run = record { start = time_of run.start; end = time_of run.end; step = run.step; count = run.count; before = run.before }
+
+-- a run in media ticks, of which so many make a second, counted from the media time of the Period's start
+abbrev pub placed_run : ℕ → ℕ → MediaRun → TimedRun
+placed_run ticks origin run = record {
+  start = record { ticks = pos run.start -ℤ pos origin; scale = ticks };
+  end = record { ticks = pos (run.start + run.step) -ℤ pos origin; scale = ticks };
+  step = run.step;
+  count = run.count;
+  before = run.before;
+}
 
 abbrev pub one_extent : Tick → Tick → Extent
 one_extent start end = record { start = time_of start; end = time_of end }
 
-abbrev pub extents_of : Run → List Extent
-extents_of s = repeated s.count (one_extent s.start s.end)
+abbrev pub head_of : TimedRun → Extent
+head_of s = record { start = s.start; end = s.end }
 
-abbrev pub extents_of_some : Option Run → List Extent
+abbrev pub extents_of : TimedRun → List Extent
+extents_of s = repeated s.count (head_of s)
+
+abbrev pub extents_of_some : Option TimedRun → List Extent
 extents_of_some None = []
 extents_of_some (Some s) = extents_of s
 
 -- where several segments stand, they last `step` ticks of one scale
-pub record IsRun (s : Run) : Type 0 where
+pub record IsRun (s : TimedRun) : Type 0 where
+  pub start_is : 0 < s.start.scale
+  pub end_is : 0 < s.end.scale
+  pub start_near : unsigned_abs s.start.ticks < 2 ^ 64
+  pub end_near : unsigned_abs s.end.ticks < 2 ^ 64
   pub lasting : 0 < s.step
   pub one_scale : 1 < s.count → s.start.scale ≡ s.end.scale
-  pub in_ticks : 1 < s.count → s.end.n ≡ s.start.n +ℤ pos s.step
-  pub near : (s.end.n +ℤ pos (s.count * s.step)) <ℤ pos (2 ^ 64)
+  pub in_ticks : 1 < s.count → s.end.ticks ≡ s.start.ticks +ℤ pos s.step
+  pub near : (s.end.ticks +ℤ pos (s.count * s.step)) <ℤ pos (2 ^ 64)
   pub countable : s.before + s.count < 2 ^ 64
 
 -- the segments of a run from a place on, of which there are some
-pub record IsRestOf (whole : Run) (place : ℕ) (rest : Run) : Type 0 where
+pub record IsRestOf (whole : TimedRun) (place : ℕ) (rest : TimedRun) : Type 0 where
   pub is : IsRun rest
   pub some : 0 < rest.count
   pub placed : rest.before ≡ place
@@ -55,34 +84,34 @@ endless_count e instant = ended_by instant (first_of e)
 abbrev pub endless_extents : Endless → Time → List Extent
 endless_extents e instant = repeated (endless_count e instant) (first_of e)
 
-abbrev pub all_extents : List Run → List Extent
+abbrev pub all_extents : List TimedRun → List Extent
 all_extents runs = flat_map extents_of runs
 
 -- no run is empty, and each knows how many segments stand before it; `total` stand before their end
-abbrev pub AreLaid : ℕ → List Run → ℕ → Type 0
+abbrev pub AreLaid : ℕ → List TimedRun → ℕ → Type 0
 AreLaid before [] total = before ≡ total
 AreLaid before (s ∷ later) total = (s.before ≡ before) × (0 < s.count) × IsRun s × AreLaid (before + s.count) later total
 
-abbrev pub IsTail : ℕ → Option Run → Type 0
+abbrev pub IsTail : ℕ → Option TimedRun → Type 0
 IsTail total None = Unit {0}
 IsTail total (Some s) = (s.before ≡ total) × (0 < s.count) × IsRun s
 
 -- so many segments stand before the first run, `finish` of all the segments are wanted, and they are there
-pub record AreLaidFrom (before : ℕ) (runs : List Run) (tail : Option Run) (finish : ℕ) : Type 0 where
+pub record AreLaidFrom (before : ℕ) (runs : List TimedRun) (tail : Option TimedRun) (finish : ℕ) : Type 0 where
   pub laid : AreLaid before runs (before + length (all_extents runs))
   pub tail_is : IsTail (before + length (all_extents runs)) tail
   pub enough : finish ≤ before + length (all_extents runs) + length (extents_of_some tail)
 
-abbrev pub AreLaidWith : List Run → Option Run → ℕ → Type 0
+abbrev pub AreLaidWith : List TimedRun → Option TimedRun → ℕ → Type 0
 AreLaidWith runs tail finish = AreLaidFrom 0 runs tail finish
 
 -- what stands behind a run is split into the next one and what stands behind that
-abbrev pub IsSplit : List Run → Option Run → Option Run → List Run → Option Run → Type 0
+abbrev pub IsSplit : List TimedRun → Option TimedRun → Option TimedRun → List TimedRun → Option TimedRun → Type 0
 IsSplit [] tail now later rest = (now ≡ tail) × (later ≡ []) × (rest ≡ None)
 IsSplit (s ∷ runs) tail now later rest = (now ≡ Some s) × (later ≡ runs) × (rest ≡ tail)
 
 -- so many runs end at or before a place, and the next one doesn't
-pub record ArePassed (place : ℕ) (runs : List Run) (count : ℕ) : Type 0 where
+pub record ArePassed (place : ℕ) (runs : List TimedRun) (count : ℕ) : Type 0 where
   pub within : count ≤ length runs
-  pub passed : (k : ℕ) (s : Run) → k < count → (slice_index_or runs k s).before + (slice_index_or runs k s).count ≤ place
-  pub next : (s : Run) → count < length runs → place < (slice_index_or runs count s).before + (slice_index_or runs count s).count
+  pub passed : (k : ℕ) (s : TimedRun) → k < count → (slice_index_or runs k s).before + (slice_index_or runs k s).count ≤ place
+  pub next : (s : TimedRun) → count < length runs → place < (slice_index_or runs count s).before + (slice_index_or runs count s).count

@@ -1,26 +1,26 @@
 -- The segments that a walk has left.
-use Rattle.std.specs.Prelude.{◌≡◌, ℕ, ◌+◌, ◌<◌, ◌^◌, List, ◌++◌, take, Option, Some, None}
+use Rattle.std.specs.Prelude.{◌≡◌, ℕ, ◌+◌, ◌<◌, ◌^◌, List, ◌++◌, take, Option, Some, None, option_map}
 use Rattle.timeline.specs.Expansions.{Extent, Timing, numbered}
-use Rattle.timeline.specs.RunSegments.{AreLaidFrom, IsRun, all_extents, extents_of_some}
-use Rattle.timeline.specs.declared.run.Run.{Run}
+use Rattle.timeline.specs.RunSegments.{TimedRun, AreLaidFrom, IsRun, all_extents, extents_of_some, timed}
+use Rattle.timeline.specs.RunTables.{slice_runs}
 use Rattle.timeline.specs.declared.time_walk.TimeWalk.TheInside.{Inside}
 
 -- how many segments stand before the next one
-abbrev pub place_of : Option Run → ℕ
+abbrev pub place_of : Option TimedRun → ℕ
 place_of None = 0
 place_of (Some s) = s.before
 
 abbrev pub rest_of : Inside → List Extent
-rest_of walk = extents_of_some walk.now ++ (all_extents walk.later.now ++ extents_of_some walk.tail)
+rest_of walk = extents_of_some (option_map timed walk.now) ++ (all_extents (slice_runs walk.later) ++ extents_of_some (option_map timed walk.tail))
 
 abbrev pub timings_left : Inside → List Timing
-timings_left walk = numbered (walk.first_number + place_of walk.now) (take walk.left (rest_of walk))
+timings_left walk = numbered (walk.first_number + place_of (option_map timed walk.now)) (take walk.left (rest_of walk))
 
 -- the run that the walk stands in is followed by the later ones
-abbrev pub StandsIn : Option Run → Inside → Type 0
+abbrev pub StandsIn : Option TimedRun → Inside → Type 0
 StandsIn None walk = walk.left ≡ 0
-StandsIn (Some s) walk = (0 < s.count) × IsRun s × AreLaidFrom (s.before + s.count) walk.later.now walk.tail (s.before + walk.left)
+StandsIn (Some s) walk = (0 < s.count) × IsRun s × AreLaidFrom (s.before + s.count) (slice_runs walk.later) (option_map timed walk.tail) (s.before + walk.left)
 
 pub record IsWalk (walk : Inside) : Type 0 where
-  pub stands : StandsIn walk.now walk
-  pub countable : 0 < walk.left → walk.first_number + (place_of walk.now + walk.left) < 2 ^ 64
+  pub stands : StandsIn (option_map timed walk.now) walk
+  pub countable : 0 < walk.left → walk.first_number + (place_of (option_map timed walk.now) + walk.left) < 2 ^ 64

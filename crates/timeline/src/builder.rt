@@ -1,5 +1,5 @@
 // The segments of a Representation while they are put in a row.
-ghost use Rattle.std.specs.Prelude.{◌≡◌, ◌+◌, ◌-◌, ◌*◌, ◌<◌, ◌^◌, pos, ◌+ℤ◌, ◌<ℤ◌, [], ◌∷◌, ◌++◌, map, IsNone, IfErr, OnOk, MatchResult};
+ghost use Rattle.std.specs.Prelude.{◌≡◌, ◌+◌, ◌-◌, ◌*◌, ◌<◌, ◌^◌, pos, ◌+ℤ◌, ◌<ℤ◌, [], ◌∷◌, ◌++◌, map, Some, IsNone, IfErr, OnOk, MatchResult};
 ghost use Rattle.exact_time.specs.Tick.{time_of};
 ghost use Rattle.timeline.specs.Building.{placed_in};
 ghost use Rattle.timeline.specs.declared.fault.TimeFault.TheVariants.{Memory};
@@ -7,13 +7,15 @@ ghost use Rattle.timeline.specs.declared.fault.TimeFault.TheVariants.{Memory};
 use crate::TimeFault;
 use crate::limits::Limits;
 use crate::run::{Endless, Run};
+use crate::run_table::RunTable;
+use crate::shared_timeline::Laid;
 use exact_time::Tick;
 use std::alloc::Global;
 
 /// The segments so far.
 #[derive(Drop)]
 pub struct RunsBuilder {
-    pub runs: Vec<Run>,
+    pub table: RunTable,
     pub endless: Option<Endless>,
     /// How many segments the runs have.
     pub total: u64,
@@ -38,11 +40,37 @@ impl RunsBuilder {
         ensures laid { IsInTime result }
     {
         RunsBuilder {
-            runs: Vec::new(alloc),
+            table: RunTable {
+                laid: None,
+                own: Vec::new(alloc),
+            },
             endless: None,
             total: 0,
             limits,
             former: 0,
+        }
+    }
+
+    /// Upon the runs of a timeline.
+    pub fn upon(alloc: Global, laid: Laid, limits: Limits) -> RunsBuilder
+        ensures laid { result.table.laid ≡ Some laid }
+        ensures none { result.table.own.items ≡ [] }
+        ensures closed { IsNone result.endless }
+        ensures total { result.total ≡ laid.timeline.value.media.total }
+        ensures limits { result.limits ≡ limits }
+        ensures former { result.former ≡ laid.timeline.value.media.former }
+    {
+        let total = laid.timeline.media.total;
+        let former = u128::from(laid.timeline.media.former);
+        RunsBuilder {
+            table: RunTable {
+                laid: Some(laid),
+                own: Vec::new(alloc),
+            },
+            endless: None,
+            total,
+            limits,
+            former,
         }
     }
 
@@ -94,7 +122,7 @@ impl RunsBuilder {
             count,
             before: self.total,
         };
-        self.runs.push(run)?;
+        self.table.own.push(run)?;
         self.former = end;
         self.total += count;
         Ok(())
@@ -121,7 +149,7 @@ impl RunsBuilder {
             count: 1,
             before: self.total,
         };
-        self.runs.push(run)?;
+        self.table.own.push(run)?;
         self.total += 1;
         Ok(())
     }
@@ -178,7 +206,7 @@ impl RunsBuilder {
 }
 
 /// A media time, counted from the Period's start.
-fn placed(media: u128, limits: Limits) -> Tick
+pub fn placed(media: u128, limits: Limits) -> Tick
     requires { media < 2 ^ 64 }
     ensures { time_of result ≡ placed_in limits media }
 {

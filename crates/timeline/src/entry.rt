@@ -1,6 +1,7 @@
 // What an MPD says of the times of its segments.
 ghost use Rattle.std.specs.Prelude.{◌<◌, ◌^◌};
 
+use crate::limits::Limits;
 use exact_time::Nanos;
 
 /// An S element of a SegmentTimeline (ISO/IEC 23009-1, 5.3.9.6), in ticks.
@@ -36,4 +37,20 @@ pub struct Scale {
     pub start_number: u64,
     pub ghost positive: { 0 < ticks },
     pub ghost countable: { start_number < 2 ^ 63 },
+}
+
+impl Scale {
+    ghost use Rattle.std.specs.Prelude.{◌≡◌, ◌<◌, ◌^◌};
+
+    /// The limits of segments whose media times are counted from `origin`.
+    pub(crate) fn limits(self, origin: u64) -> Limits
+        ensures ticks { result.ticks ≡ self.ticks }
+        ensures origin { result.origin ≡ origin }
+        ensures near { result.origin < 2 ^ 64 }
+    {
+        Limits {
+            ticks: self.ticks,
+            origin,
+        }
+    }
 }

@@ -54,6 +54,17 @@ impl<T: Drop> From<AllocFailed<T>> for TimeFault {
     }
 }
 
+impl From<NoMemory> for TimeFault {
+    ghost use Rattle.std.specs.Prelude.{◌≡◌};
+    ghost use Rattle.timeline.specs.declared.fault.TimeFault.TheVariants.{Memory};
+
+    ghost from_gives = { λ _ fault. fault ≡ Memory };
+
+    fn from(_: NoMemory) -> TimeFault {
+        TimeFault::Memory
+    }
+}
+
 /// Why a segment isn't made.
 #[derive(Clone, Copy, Debug, PartialEq, Eq, Error)]
 pub enum ListFault {

@@ -21,7 +21,14 @@ pub struct Limits {
 }
 
 impl Limits {
+    /// The limits of no segment.
+    pub const NONE: Limits = Limits {
+        ticks: 1,
+        origin: 0,
+    };
+
     ghost use Rattle.timeline.specs.Limits.{media_extent, breaks_limits};
+    ghost use Rattle.timeline.specs.MediaTimelines.{are_passed};
 
     /// Whether a segment breaks the limits that ends at this media time and lasts so many ticks.
     pub fn are_broken(&self, end: u128, step: u64) -> bool
@@ -31,5 +38,15 @@ impl Limits {
         let ticks = u128::from(self.ticks);
         let farthest = u128::from(self.origin) + ticks * u128::from(FARTHEST);
         END <= end || ticks * u128::from(LONGEST) < u128::from(step) || farthest < end
+    }
+
+    /// Whether some segment breaks the limits where the longest one lasts so many ticks, and the last one, which ends
+    /// latest, ends at this media time before 2^63.
+    pub fn are_passed(&self, longest: u64, end: u64) -> bool
+        ensures { result ≡ are_passed self.now longest end }
+    {
+        let ticks = u128::from(self.ticks);
+        let farthest = u128::from(self.origin) + ticks * u128::from(FARTHEST);
+        ticks * u128::from(LONGEST) < u128::from(longest) || farthest < u128::from(end)
     }
 }

@@ -25,7 +25,7 @@ impl Run {
     ghost use Rattle.exact_time.specs.Tick.{time_of};
     ghost use Rattle.timeline.specs.Bounds.{time_of_bound};
     ghost use Rattle.exact_time.specs.Time.{at_most};
-    ghost use Rattle.timeline.specs.RunSegments.{IsRun, IsRestOf, extents_of, count_ended};
+    ghost use Rattle.timeline.specs.RunSegments.{IsRun, IsRestOf, extents_of, count_ended, timed};
 
     /// Whether the first of the segments ends at or before a bound.
     pub fn first_ends_by(&self, bound: Bound) -> bool
@@ -36,8 +36,8 @@ impl Run {
 
     /// How many of the segments end at or before a bound.
     pub fn ended_by(&self, bound: Bound) -> u64
-        requires { IsRun self.now }
-        ensures { result ≡ count_ended (time_of_bound bound) (extents_of self.now) }
+        requires { IsRun (timed self.now) }
+        ensures { result ≡ count_ended (time_of_bound bound) (extents_of (timed self.now)) }
     {
         let last = bound.ticks(self.end.scale);
         if last < self.end.n {
@@ -49,10 +49,10 @@ impl Run {
 
     /// The segments from a place on.
     pub fn from(self, place: u64) -> Run
-        requires is { IsRun self }
+        requires is { IsRun (timed self) }
         requires low { self.before ≤ place }
         requires high { place < self.before + self.count }
-        ensures { IsRestOf self place result }
+        ensures { IsRestOf (timed self) place (timed result) }
     {
         let count = place - self.before;
         if count == 0 {
@@ -70,8 +70,8 @@ impl Run {
 
     /// The segments behind the first one, where there are any.
     pub fn behind_first(self) -> Option<Run>
-        requires { IsRun self }
-        ensures { MatchOption result (self.count ≤ 1) (λ rest. IsRestOf self (self.before + 1) rest) }
+        requires { IsRun (timed self) }
+        ensures { MatchOption result (self.count ≤ 1) (λ rest. IsRestOf (timed self) (self.before + 1) (timed rest)) }
     {
         if self.count <= 1 {
             return None;
@@ -96,7 +96,8 @@ pub struct Endless {
 }
 
 impl Endless {
-    ghost use Rattle.timeline.specs.RunSegments.{endless_count, IsEndless, HasRoom, IsTail, extents_of_some, endless_extents};
+    ghost use Rattle.std.specs.Prelude.{option_map};
+    ghost use Rattle.timeline.specs.RunSegments.{endless_count, IsEndless, HasRoom, IsTail, extents_of_some, endless_extents, timed};
     ghost use Rattle.timeline.specs.Bounds.{time_of_bound};
 
     /// How many of the segments end at or before a bound.
@@ -127,8 +128,8 @@ impl Endless {
     pub fn until(&self, bound: Bound) -> Option<Run>
         requires is { IsEndless self.now }
         requires room { HasRoom self.now (endless_count self.now (time_of_bound bound)) }
-        ensures extents { extents_of_some result ≡ endless_extents self.now (time_of_bound bound) }
-        ensures tail { IsTail self.now.before result }
+        ensures extents { extents_of_some (option_map timed result) ≡ endless_extents self.now (time_of_bound bound) }
+        ensures tail { IsTail self.now.before (option_map timed result) }
     {
         let count = self.ended_by(bound);
         if count == 0 {

@@ -1,10 +1,11 @@
 // The segments of a Representation in one Period.
-ghost use Rattle.std.specs.Prelude.{◌≡◌, ◌-◌, ◌<◌, ◌^◌, ◌+ℤ◌, pos, min, MatchOption};
+ghost use Rattle.std.specs.Prelude.{◌≡◌, ◌-◌, ◌<◌, ◌^◌, ◌+ℤ◌, pos, min, MatchOption, option_map};
 
 use crate::bound::Bound;
 use crate::builder::RunsBuilder;
-use crate::limits::Limits;
 use crate::run::{Endless, Run};
+use crate::run_slice::Test;
+use crate::run_table::RunTable;
 use crate::{Cursor, Listing, Names, Scale, TimeFault, TimeWalk, Window};
 use exact_time::Tick;
 use std::marker::Model;
@@ -14,7 +15,7 @@ use std::marker::Model;
 /// In a contract it is what its segments are at every instant, their numbers and their names.
 #[derive(Debug, Drop)]
 pub struct Runs {
-    pub(crate) runs: Vec<Run>,
+    pub(crate) table: RunTable,
     /// The segments behind them that go on to an open end.
     pub(crate) endless: Option<Endless>,
     /// How many segments the runs have.
@@ -50,7 +51,7 @@ impl Runs {
     ghost use Rattle.timeline.specs.Expansions.{is_open};
     ghost use Rattle.timeline.specs.Places.{IsLastBegun, closed_count, closed_total, reached_count, count_until, open_extents};
     ghost use Rattle.timeline.specs.Ratios.{natural};
-    ghost use Rattle.timeline.specs.RunSegments.{IsTail, extents_of_some};
+    ghost use Rattle.timeline.specs.RunSegments.{IsTail, extents_of_some, timed};
 
     /// How many segments are listed in a window. It is Range exactly where segments that go on to an open end reach
     /// one, by the window's `until`, that breaks the limits of a segment. It takes no memory.
@@ -60,7 +61,7 @@ impl Runs {
         requires { IsWindowOf self.now window.now }
         ensures { result ≡ answered_count self.now window.now }
     {
-        let _ = &self.runs; // opens the value, for what it keeps
+        let _ = &self.table; // opens the value, for what it keeps
         if self.is_broken(window) {
             return Err(TimeFault::Range);
         }
@@ -80,7 +81,7 @@ impl Runs {
     pub fn offset(&self) -> Tick
         ensures { time_of result ≡ offset_of self.now }
     {
-        let _ = &self.runs; // opens the value, for what it keeps
+        let _ = &self.table; // opens the value, for what it keeps
         Tick {
             n: i128::from(self.scale.offset),
             scale: self.scale.ticks,
@@ -98,7 +99,7 @@ impl Runs {
         ensures place { (other : Window) → IsWindowOf self.now other → IsReached self.now other →
             IsPlaceAfter (low_of window.now) (expansion self.now other) result }
     {
-        let _ = &self.runs; // opens the value, for what it keeps
+        let _ = &self.table; // opens the value, for what it keeps
         Cursor::at(self.place(window.low()))
     }
 
@@ -110,7 +111,7 @@ impl Runs {
         ensures { (window : Window) → IsWindowOf self.now window → IsReached self.now window →
             IsPlaceAfter (time_of end) (expansion self.now window) result }
     {
-        let _ = &self.runs; // opens the value, for what it keeps
+        let _ = &self.table; // opens the value, for what it keeps
         Cursor::at(self.place(Bound::tick(end)))
     }
 
@@ -128,7 +129,7 @@ impl Runs {
         let left = self.finish(window).saturating_sub(begin);
         let tail = self.tail(window);
         TimeWalk::from(
-            self.runs.as_slice(),
+            self.table.as_slice(self.scale.limits(self.origin)),
             tail,
             begin,
             left,
@@ -146,7 +147,7 @@ impl Runs {
         ensures paced { ArePaced result.left }
         ensures timeline { result.timeline ≡ self.now }
     {
-        let _ = &self.runs; // opens the value, for what it keeps
+        let _ = &self.table; // opens the value, for what it keeps
         Listing::over(self, self.walk(from, window))
     }
 
@@ -159,7 +160,7 @@ impl Runs {
         ensures { result ≡ timeline_from scale origin names (members_so_far builder) }
     {
         Runs {
-            runs: builder.runs,
+            table: builder.table,
             endless: builder.endless,
             total: builder.total,
             scale,
@@ -217,12 +218,15 @@ impl Runs {
     }
 
     /// The last run of which a segment ends at or before a bound. As ends rise, all before it do too.
-    fn last_begun(&self, bound: Bound) -> Option<&Run>
-        ensures { MatchOption result (closed_count self.now (time_of_bound bound) ≡ 0) (λ s. IsLastBegun self.now (time_of_bound bound) s.now) }
+    fn last_begun(&self, bound: Bound) -> Option<Run>
+        ensures { MatchOption result (closed_count self.now (time_of_bound bound) ≡ 0) (λ s. IsLastBegun self.now (time_of_bound bound) (timed s)) }
     {
-        let runs = self.runs.as_slice();
-        let begun = runs.partition_point(|run| run.first_ends_by(bound));
-        runs[..begun].last()
+        let runs = self.table.as_slice(self.scale.limits(self.origin));
+        let begun = runs.count_front(Test::BeginsBy(bound));
+        if begun == 0 {
+            return None;
+        }
+        Some(runs.get(begun - 1))
     }
 
     /// The place behind the last listed segment.
@@ -241,8 +245,8 @@ impl Runs {
     fn tail(&self, window: &Window) -> Option<Run>
         requires window { IsWindowOf self.now window.now }
         requires reached { IsReached self.now window.now }
-        ensures extents { extents_of_some result ≡ open_extents self.now window.now }
-        ensures tail { IsTail (closed_total self.now) result }
+        ensures extents { extents_of_some (option_map timed result) ≡ open_extents self.now window.now }
+        ensures tail { IsTail (closed_total self.now) (option_map timed result) }
     {
         let (Some(endless), Some(high)) = (self.endless, window.high()) else {
             return None;
@@ -260,10 +264,7 @@ impl Runs {
             return false;
         };
         let count = endless.ended_by(high);
-        let limits = Limits {
-            ticks: self.scale.ticks,
-            origin: self.origin,
-        };
+        let limits = self.scale.limits(self.origin);
         count > 0 && limits.are_broken(endless.media_end(count, self.origin), endless.step)
     }
 }

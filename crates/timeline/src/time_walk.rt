@@ -1,9 +1,12 @@
 // Times of segments one by one.
-ghost use Rattle.std.specs.Prelude.{◌≡◌, ◌+◌, ◌<◌, ◌^◌, ◌++◌, length};
-ghost use Rattle.timeline.specs.RunSegments.{AreLaid, ArePassed, IsSplit, all_extents};
+ghost use Rattle.std.specs.Prelude.{◌≡◌, ◌+◌, ◌<◌, ◌^◌, ◌++◌, option_map};
+ghost use Rattle.timeline.specs.RunSegments.{IsSplit, timed};
+ghost use Rattle.timeline.specs.RunTables.{slice_runs};
 
 use crate::Span;
+use crate::limits::Limits;
 use crate::run::Run;
+use crate::run_slice::{RunSlice, Test};
 use std::marker::Model;
 
 /// The times and numbers of segments in order. The next ones take a few additions each, and no division.
@@ -13,7 +16,7 @@ use std::marker::Model;
 pub struct TimeWalk<'a> {
     /// What is left of the run that the next segment stands in.
     now: Option<Run>,
-    later: &'a [Run],
+    later: RunSlice<'a>,
     /// The segments behind those of the runs.
     tail: Option<Run>,
     /// How many segments are left in all.
@@ -38,25 +41,25 @@ impl<'a> TimeWalk<'a> {
     ghost use Rattle.std.specs.Prelude.{[], Some, slice_get, MatchOption, take, drop};
     ghost use Rattle.timeline.specs.Expansions.{numbered};
     ghost use Rattle.timeline.specs.Listed.{timing_of};
-    ghost use Rattle.timeline.specs.RunSegments.{extents_of_some, AreLaidWith};
+    ghost use Rattle.timeline.specs.RunSegments.{extents_of_some, AreLaidWith, all_extents};
 
     /// So many segments from a place on.
     pub(crate) fn from(
-        runs: &'a [Run],
+        runs: RunSlice<'a>,
         tail: Option<Run>,
         place: u64,
         left: u64,
         first_number: u64,
     ) -> TimeWalk<'a>
-        requires laid { 0 < left → AreLaidWith runs.now tail (place + left) }
+        requires laid { 0 < left → AreLaidWith (slice_runs runs) (option_map timed tail) (place + left) }
         requires countable { 0 < left → first_number + (place + left) < 2 ^ 64 }
-        ensures { result ≡ numbered (first_number + place) (take left (drop place (all_extents runs.now ++ extents_of_some tail))) }
+        ensures { result ≡ numbered (first_number + place) (take left (drop place (all_extents (slice_runs runs.entry) ++ extents_of_some (option_map timed tail)))) }
     {
         if left == 0 {
             return TimeWalk::at_end(first_number);
         }
-        let passed = ended_by_place(runs, place);
-        match split(&runs[passed..], tail) {
+        let passed = runs.count_front(Test::EndsBy(place));
+        match split(runs.skip(passed), tail) {
             (Some(first), later, tail) => TimeWalk {
                 now: Some(first.from(place)),
                 later,
@@ -74,7 +77,7 @@ impl<'a> TimeWalk<'a> {
     {
         TimeWalk {
             now: None,
-            later: &[],
+            later: RunSlice::of(&[], Limits::NONE, &[]),
             tail: None,
             left: 0,
             first_number,
@@ -111,20 +114,12 @@ impl<'a> TimeWalk<'a> {
     }
 }
 
-/// How many runs stand before a place, from their first segment to their last one.
-fn ended_by_place(runs: &[Run], place: u64) -> usize
-    requires { AreLaid 0 runs.now (length (all_extents runs.now)) }
-    ensures { ArePassed place runs.now result }
-{
-    runs.partition_point(|run| run.before.saturating_add(run.count) <= place)
-}
-
 /// The first run, and those behind it.
-fn split(runs: &[Run], tail: Option<Run>) -> (Option<Run>, &[Run], Option<Run>)
-    ensures { IsSplit runs.now tail result.0 result.1.now result.2 }
+fn split(runs: RunSlice<'_>, tail: Option<Run>) -> (Option<Run>, RunSlice<'_>, Option<Run>)
+    ensures { IsSplit (slice_runs runs.entry) (option_map timed tail) (option_map timed result.0) (slice_runs result.1) (option_map timed result.2) }
 {
     match runs.split_first() {
-        Some((first, later)) => (Some(*first), later, tail),
+        Some((first, later)) => (Some(first), later, tail),
         None => (tail, runs, None),
     }
 }

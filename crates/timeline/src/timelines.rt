@@ -9,14 +9,13 @@ ghost use Rattle.timeline.specs.Reaches.{AreLaidOut, AreLimitsOf, GoesOn, IsReac
 ghost use Rattle.timeline.specs.Timelines.{expansion_of_timeline, extent_from, reach_of};
 
 use crate::builder::RunsBuilder;
-use crate::limits::Limits;
-use crate::{End, Names, Runs, SEntry, SList, Scale, TimeFault};
+use crate::{End, Names, Runs, SEntry, SList, Scale, SharedTimeline, TimeFault};
 use exact_time::ceil_count;
 use std::alloc::Global;
 
 /// How far the segments of an S go on.
 #[derive(Clone, Copy, Debug)]
-enum Reach {
+pub enum Reach {
     /// So many segments.
     Count(u128),
     /// Up to an end that isn't known yet.
@@ -45,20 +44,35 @@ impl Runs {
     ) -> Result<Runs, TimeFault>
         ensures { Gives (λ runs. runs) refusal result (timeline_of_entries list.now end live scale names) }
     {
-        let entries = list.as_slice();
-        if have_no_time(entries) {
+        let timeline = SharedTimeline::of(alloc, list)?;
+        Runs::from_shared(alloc, &timeline, end, live, scale, names)
+    }
+
+    /// The segments of a SegmentTimeline that others share. It is `from_timeline` of its S elements, and takes no memory
+    /// for each of them.
+    pub fn from_shared(
+        alloc: Global,
+        timeline: &SharedTimeline,
+        end: End,
+        live: bool,
+        scale: Scale,
+        names: Names,
+    ) -> Result<Runs, TimeFault>
+        ensures { Gives (λ runs. runs) refusal result (timeline_of_entries timeline.now end live scale names) }
+    {
+        if timeline.has_no_time() {
             return Err(TimeFault::ZeroDuration);
         }
-        if lack_end(entries, end, live) {
+        if lack_end(timeline.entries(), end, live) {
             return Err(TimeFault::NoEnd);
         }
-        let builder = laid_out(alloc, entries, &end, scale)?;
+        let builder = laid_out(alloc, timeline, &end, scale)?;
         Runs::paired(builder, scale, scale.offset, names)
     }
 }
 
 /// Whether some S lasts no time.
-fn have_no_time(entries: &[SEntry]) -> bool
+pub fn have_no_time(entries: &[SEntry]) -> bool
     ensures { result ≡ list_any (λ s. s.d == 0) entries.now }
 {
     entries.iter().any(|entry| entry.d == 0)
@@ -84,20 +98,15 @@ fn goes_on(entries: &[SEntry]) -> bool
 /// The segments of the S elements in a row.
 fn laid_out(
     alloc: Global,
-    entries: &[SEntry],
+    timeline: &SharedTimeline,
     end: &End,
     scale: Scale,
 ) -> Result<RunsBuilder, TimeFault>
-    requires { list_any (λ s. s.d == 0) entries.now ≡ false }
-    ensures { let members = expansion_of_timeline scale end.now entries.now in
+    requires { list_any (λ s. s.d == 0) timeline.now ≡ false }
+    ensures { let members = expansion_of_timeline scale end.now timeline.now in
         MatchResult result (AreLaidOut scale members) (IsTheirFault (breaks_limits scale.ticks scale.offset) members) }
 {
-    let limits = Limits {
-        ticks: scale.ticks,
-        origin: scale.offset,
-    };
-    let mut builder = RunsBuilder::new(alloc, limits);
-    let mut rest = entries;
+    let (mut builder, mut rest) = timeline.begin(alloc, scale)?;
     while let Some((entry, later)) = rest.split_first() {
         add_entry(&mut builder, entry, later, end, scale)?;
         rest = later;
@@ -148,7 +157,7 @@ fn start_of(entry: &SEntry, former: u128) -> u128
 }
 
 /// How far the segments of an S go on, the first of which begins at `start`.
-fn reach_of(entry: &SEntry, start: u128, later: &[SEntry], end: &End, scale: Scale) -> Reach
+pub fn reach_of(entry: &SEntry, start: u128, later: &[SEntry], end: &End, scale: Scale) -> Reach
     requires start { start < 2 ^ 64 }
     requires lasting { 0 < entry.now.d }
     ensures { IsReach (reach_of scale end.now entry.now.r later.now) (extent_from scale start entry.now.d) result }

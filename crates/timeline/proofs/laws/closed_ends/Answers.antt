@@ -2,8 +2,6 @@ use Rattle.std.proofs.Common.{◌≡◌, ℕ, Bool, true, false, not, ◌&&◌, 
 use Rattle.std.specs.Prelude.{Option, Some, None, is_none, ◌==◌}
 use Rattle.std.proofs.lemmas.Bool.{true≢false}
 use Rattle.timeline.specs.Names.{count_of}
-use Rattle.timeline.specs.declared.entry.SEntry.{SEntry}
-use Rattle.timeline.specs.declared.entry.Scale.{Scale}
 use Rattle.timeline.specs.declared.entry.End.{End}
 use Rattle.timeline.specs.declared.entry.End.TheVariants.{At, Unbounded}
 use Rattle.timeline.specs.declared.fault.TimeFault.TheVariants.{NoEnd, ListLength}

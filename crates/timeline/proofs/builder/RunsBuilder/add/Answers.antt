@@ -6,13 +6,14 @@ use Rattle.timeline.specs.declared.limits.Limits.{Limits}
 use Rattle.timeline.specs.Limits.{breaks_limits, media_extent}
 use Rattle.timeline.specs.declared.builder.RunsBuilder.{RunsBuilder}
 use Rattle.timeline.specs.declared.run.Run.{Run}
+use Rattle.timeline.specs.declared.run_table.RunTable.{RunTable}
 use Rattle.timeline.specs.Faults.{segment_fault}
 use Rattle.timeline.specs.Ratios.{natural}
 use Rattle.timeline.specs.Expansions.{Extent, repeated}
-use Rattle.timeline.specs.RunSegments.{IsRun, extents_of}
-use Rattle.timeline.specs.Building.{former_end, breaks_in, placed_in, extent_in}
+use Rattle.timeline.specs.RunSegments.{IsRun, extents_of, timed}
+use Rattle.timeline.specs.Building.{former_end, breaks_in, placed_in, extent_in, runs_in}
 use Rattle.timeline.proofs.Judged.{run_breaks, run_passes, former_end-some, fault_of-none}
-use Rattle.timeline.proofs.Laid.{IsFaultOf-run, from_fault, room_before, room_after, capped, none_follows, members_after, extents_after, laid_after, IsRun-in, extents_of-in, timed-in}
+use Rattle.timeline.proofs.Laid.{IsFaultOf-run, from_fault, room_before, room_after, capped, none_follows, members_after, extents_after, laid_after, IsRun-in, extents_of-in, timed-in, pushed_own}
 use Rattle.timeline.proofs.builder.RunsBuilder.add.Goals as goal
 
 -- what the code computes, where the limits are kept
@@ -61,9 +62,11 @@ returns-clause-members c =
     let within = exact old.limits c.args.start c.min.result c.args.count c.args.step c.saturating_mul.result c.from-2.result c.from.result c.are_broken.result c.min.ensures c.saturating_mul.ensures c.from-2.ensures c.from.ensures c.are_broken.ensures c.if-are_broken.false in
     let x : Run = record { start = c.placed.result; end = c.placed-2.result; step = c.args.step; count = c.args.count; before = old.total } in
     let end_is : time_of c.placed-2.result ≡ placed_in old.limits (c.args.start + c.args.step) = c.placed-2.ensures ∙ ap (λ (n : ℕ). placed_in old.limits (c.args.start + n)) c.from-3.ensures in
-    let new : RunsBuilder = record { runs = c.push.new.self; endless = old.endless; total = old.total + c.args.count; limits = old.limits; former = c.args.start + c.min.result } in
+    let table : RunTable = record { laid = old.table.laid; own = c.push.new.self } in
+    let pushed = pushed_own old.limits.ticks old.limits.origin old.table table x refl c.in_ok-push.ensures.items in
+    let new : RunsBuilder = record { table = table; endless = old.endless; total = old.total + c.args.count; limits = old.limits; former = c.args.start + c.min.result } in
     record {
-      added = members_after c.push.new.self.items old.runs.items x _ c.in_ok-push.ensures.items (extents_of-in old.limits c.args.start c.args.step c.args.count x c.placed.ensures end_is refl refl) old.endless c.requires.closed;
+      added = members_after (runs_in new) (runs_in old) (timed x) _ pushed (extents_of-in old.limits c.args.start c.args.step c.args.count (timed x) c.placed.ensures end_is refl refl) old.endless c.requires.closed;
       passed = λ later.
           run_passes old.limits c.args.start c.args.step c.args.count (c.args.start + c.min.result) (former_end old) old.limits.positive c.requires.some c.in_ok-judge.ensures
           (omega (arith, within.0)) (sym c.are_broken.ensures ∙ c.if-are_broken.false) later
@@ -81,18 +84,21 @@ returns-clause-laid c =
     let within = exact old.limits c.args.start c.min.result c.args.count c.args.step c.saturating_mul.result c.from-2.result c.from.result c.are_broken.result c.min.ensures c.saturating_mul.ensures c.from-2.ensures c.from.ensures c.are_broken.ensures c.if-are_broken.false in
     let x : Run = record { start = c.placed.result; end = c.placed-2.result; step = c.args.step; count = c.args.count; before = old.total } in
     let end_is : time_of c.placed-2.result ≡ placed_in old.limits (c.args.start + c.args.step) = c.placed-2.ensures ∙ ap (λ (n : ℕ). placed_in old.limits (c.args.start + n)) c.from-3.ensures in
+    let table : RunTable = record { laid = old.table.laid; own = c.push.new.self } in
+    let pushed = pushed_own old.limits.ticks old.limits.origin old.table table x refl c.in_ok-push.ensures.items in
+    let new : RunsBuilder = record { table = table; endless = old.endless; total = old.total + c.args.count; limits = old.limits; former = c.args.start + c.min.result } in
     let xs : List Extent = repeated c.args.count (extent_in old.limits c.args.start c.args.step) in
-    let same : extents_of x ≡ xs = extents_of-in old.limits c.args.start c.args.step c.args.count x c.placed.ensures end_is refl refl in
+    let same : extents_of (timed x) ≡ xs = extents_of-in old.limits c.args.start c.args.step c.args.count (timed x) c.placed.ensures end_is refl refl in
     let first = fault_of-none old.limits (former_end old) (extent_in old.limits c.args.start c.args.step) c.in_ok-judge.ensures in
     let room : old.total + c.args.count ≤ c.args.start + c.args.count * c.args.step =
     room_after old.total c.args.start c.args.step c.args.count c.requires.lasting c.requires.some (room_before old c.args.start c.args.step first.1 c.requires.laid.room) in
-    let is : IsRun x = IsRun-in old.limits c.args.start c.args.step c.args.count x c.placed.ensures end_is refl refl c.requires.lasting c.requires.some within.1 (omega (arith, within.1)) in
+    let is : IsRun (timed x) = IsRun-in old.limits c.args.start c.args.step c.args.count (timed x) c.placed.ensures end_is refl refl c.requires.lasting c.requires.some within.1 (omega (arith, within.1)) c.placed.result.bounded c.placed-2.result.bounded in
     record {
       laid = record {
-        laid = laid_after c.push.new.self.items old.runs.items x xs c.in_ok-push.ensures.items same old.total c.args.count refl c.requires.laid.laid.laid refl c.requires.some is;
+        laid = laid_after (runs_in new) (runs_in old) (timed x) xs pushed same old.total c.args.count refl c.requires.laid.laid.laid refl c.requires.some is;
         follows = none_follows old.limits.ticks old.limits.origin (old.total + c.args.count) old.endless c.requires.closed;
         countable = omega (arith, within.1);
-        timed = extents_after c.push.new.self.items old.runs.items x xs c.in_ok-push.ensures.items same (λ y. natural (y.start.ticks +ℤ pos old.limits.origin) < 2 ^ 64) c.requires.laid.laid.timed
+        timed = extents_after (runs_in new) (runs_in old) (timed x) xs pushed same (λ y. natural (y.start.ticks +ℤ pos old.limits.origin) < 2 ^ 64) c.requires.laid.laid.timed
             (timed-in old.limits c.args.step c.args.count c.args.start (omega (arith, within.1)));
       };
       room = omega (arith, within.0);

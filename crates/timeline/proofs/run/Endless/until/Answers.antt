@@ -24,6 +24,10 @@ returns-clause-tail c =
       refl,
       some,
       record {
+        start_is = e.start.positive;
+        end_is = c.later.result.positive;
+        start_near = e.start.bounded;
+        end_near = c.later.result.bounded;
         lasting = c.requires.is.lasting;
         one_scale = λ _. sym c.later.ensures.scale;
         in_ticks = λ _. omega (arith, ints, c.later.ensures.ticks, c.from.ensures);

@@ -3,12 +3,13 @@ use Rattle.std.proofs.lemmas.Int.{ints}
 use Rattle.timeline.specs.Bounds.{time_of_bound}
 use Rattle.timeline.proofs.Ratios.{floor_ticks}
 use Rattle.timeline.proofs.Repeats.{ends_by-before, ends_by-at}
+use Rattle.timeline.specs.RunSegments.{timed}
 use Rattle.timeline.proofs.RunLemmas.{count_ended-run}
 use Rattle.timeline.proofs.run.Run.ended_by.Goals as goal
 
 pub returns-then-last-self : goal.returns-then-last-self
 returns-then-last-self c =
-    let e = count_ended-run (time_of_bound c.args.bound) c.args.self.now c.args.bound.positive c.requires in
+    let e = count_ended-run (time_of_bound c.args.bound) (timed c.args.self.now) c.args.bound.positive c.requires in
     let last : ℤ = floor_ticks (time_of_bound c.args.bound) c.args.self.now.end.scale in
     let l : c.ticks-last.result ≡ last = c.ticks-last.ensures in
     let t : c.ticks-last.result <ℤ c.args.self.now.end.n = grind (arith, ints) in
@@ -17,7 +18,7 @@ returns-then-last-self c =
 
 pub returns : goal.returns
 returns c =
-    let e = count_ended-run (time_of_bound c.args.bound) c.args.self.now c.args.bound.positive c.requires in
+    let e = count_ended-run (time_of_bound c.args.bound) (timed c.args.self.now) c.args.bound.positive c.requires in
     let last : ℤ = floor_ticks (time_of_bound c.args.bound) c.args.self.now.end.scale in
     let l : c.ticks-last.result ≡ last = c.ticks-last.ensures in
     let t : c.args.self.now.end.n ≤ℤ c.ticks-last.result = grind (arith, ints) in

@@ -1,4 +1,4 @@
-use Rattle.std.proofs.Common.{◌≡◌, ℕ, ◌*◌, ltb, ◌∙◌, refl, sym, ap, arith}
+use Rattle.std.proofs.Common.{◌≡◌, ℕ, ◌*◌, ltb, ◌∙◌, sym, ap, arith}
 use Rattle.std.proofs.lemmas.Int.{ints}
 use Rattle.std.proofs.lemmas.Bool.{le-ltb, and_left}
 use Rattle.timeline.specs.Bounds.{time_of_bound}
@@ -16,7 +16,7 @@ returns-then-count-gt0 c =
     let times : c.ended_by-count.result * e.step ≡ endless_count e (time_of_bound bound) * e.step = ap (λ (n : ℕ). n * e.step) c.ended_by-count.ensures.count in
     c.are_broken.ensures
     ∙ last_broken c.self.inside c.self.invariant c.args.self.now c.self.view_is c.args.window.now c.requires e bound c.in-Some-Some.is-0 (some_high c.args.window.now.until bound c.in-Some-Some.ensures)
-    (record { ticks = c.self.inside.scale.ticks; origin = c.self.inside.origin; positive = c.self.inside.scale.positive }) c.media_end.result refl refl (omega (arith, c.if-count-gt0.true, c.ended_by-count.ensures.count)) (omega (arith, ints, c.media_end.ensures, times))
+    c.limits-limits.result c.media_end.result c.limits-limits.ensures.ticks c.limits-limits.ensures.origin (omega (arith, c.if-count-gt0.true, c.ended_by-count.ensures.count)) (omega (arith, ints, c.media_end.ensures, times))
 
 pub returns-else-count-gt0 : goal.returns-else-count-gt0
 returns-else-count-gt0 c =

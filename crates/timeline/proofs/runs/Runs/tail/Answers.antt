@@ -1,5 +1,6 @@
 use Rattle.std.proofs.Common.{◌∙◌, subst, ℕ}
-use Rattle.timeline.specs.RunSegments.{IsTail}
+use Rattle.std.specs.Prelude.{option_map}
+use Rattle.timeline.specs.RunSegments.{IsTail, timed}
 use Rattle.timeline.proofs.RunsLemmas.{some_high, none_open_tail, tail_room, tail_extents, tail_before}
 use Rattle.timeline.proofs.runs.Runs.tail.Goals as goal
 
@@ -18,6 +19,6 @@ returns-clause-extents c =
 
 pub returns-clause-tail : goal.returns-clause-tail
 returns-clause-tail c =
-    subst (λ (n : ℕ). IsTail n c.until.result)
+    subst (λ (n : ℕ). IsTail n (option_map timed c.until.result))
     (tail_before c.self.inside c.self.invariant c.args.self.now c.self.view_is c.args.window.now c.requires.window c.in-Some-Some.endless c.in-Some-Some.high c.in-Some-Some.is-0 (some_high c.args.window.now.until c.in-Some-Some.high c.in-Some-Some.ensures) c.requires.reached)
     c.until.ensures.tail

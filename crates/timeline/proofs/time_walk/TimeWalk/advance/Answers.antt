@@ -1,6 +1,9 @@
 use Rattle.std.proofs.Common.{ℕ, ◌+◌, ◌++◌, take, drop, ◌∙◌, sym, ap, arith}
 use Rattle.timeline.specs.Expansions.{numbered}
-use Rattle.timeline.specs.RunSegments.{all_extents, extents_of, extents_of_some}
+use Rattle.timeline.specs.RunSegments.{all_extents, extents_of, extents_of_some, timed}
+use Rattle.std.specs.Prelude.{Option, option_map}
+use Rattle.timeline.specs.RunTables.{slice_runs}
+use Rattle.timeline.specs.declared.run.Run.{Run}
 use Rattle.timeline.specs.Walks.{place_of}
 use Rattle.timeline.proofs.WalkLemmas.{left_in, stands_in, goes_on_in, goes_on_behind, stands_behind, next_place}
 use Rattle.timeline.proofs.time_walk.TimeWalk.advance.Goals as goal
@@ -8,32 +11,32 @@ use Rattle.timeline.proofs.time_walk.TimeWalk.advance.Goals as goal
 pub returns-in-Some-behind_first : goal.returns-in-Some-behind_first
 returns-in-Some-behind_first c =
     let walk = c.self.inside in
-    let s = c.in-Some.current in
-    let stands = stands_in walk s c.in-Some.is c.self.invariant in
-    ap (λ (n : ℕ). numbered (walk.first_number + c.in-Some-behind_first.rest.before) (take n (extents_of c.in-Some-behind_first.rest ++ (all_extents walk.later.now ++ extents_of_some walk.tail)))) c.saturating_sub-self-inside.ensures
-    ∙ goes_on_in walk.first_number walk.left s c.in-Some-behind_first.rest walk.later.now walk.tail stands.0 c.in-Some-behind_first.ensures
-    ∙ ap (drop 1) (sym (left_in walk s c.in-Some.is) ∙ c.self.view_is)
+    let s = timed c.in-Some.current in
+    let stands = stands_in walk s (ap (option_map timed) c.in-Some.is) c.self.invariant in
+    ap (λ (n : ℕ). numbered (walk.first_number + (timed c.in-Some-behind_first.rest).before) (take n (extents_of (timed c.in-Some-behind_first.rest) ++ (all_extents (slice_runs walk.later) ++ extents_of_some (option_map timed walk.tail))))) c.saturating_sub-self-inside.ensures
+    ∙ goes_on_in walk.first_number walk.left s (timed c.in-Some-behind_first.rest) (slice_runs walk.later) (option_map timed walk.tail) stands.0 c.in-Some-behind_first.ensures
+    ∙ ap (drop 1) (sym (left_in walk s (ap (option_map timed) c.in-Some.is)) ∙ c.self.view_is)
 
 pub returns-in-None : goal.returns-in-None
 returns-in-None c =
     let walk = c.self.inside in
-    let s = c.in-Some.current in
-    let stands = stands_in walk s c.in-Some.is c.self.invariant in
-    ap (λ (n : ℕ). numbered (walk.first_number + place_of c.split.result.0) (take n (extents_of_some c.split.result.0 ++ (all_extents c.split.result.1.now ++ extents_of_some c.split.result.2)))) c.saturating_sub-self-inside.ensures
-    ∙ goes_on_behind walk.first_number walk.left s walk.later.now c.split.result.1.now walk.tail c.split.result.0 c.split.result.2 stands.0 c.in-None.ensures stands.2 c.split.ensures
-    ∙ ap (drop 1) (sym (left_in walk s c.in-Some.is) ∙ c.self.view_is)
+    let s = timed c.in-Some.current in
+    let stands = stands_in walk s (ap (option_map timed) c.in-Some.is) c.self.invariant in
+    ap (λ (n : ℕ). numbered (walk.first_number + place_of (option_map timed c.split.result.0)) (take n (extents_of_some (option_map timed c.split.result.0) ++ (all_extents (slice_runs c.split.result.1) ++ extents_of_some (option_map timed c.split.result.2))))) c.saturating_sub-self-inside.ensures
+    ∙ goes_on_behind walk.first_number walk.left s (slice_runs walk.later) (slice_runs c.split.result.1) (option_map timed walk.tail) (option_map timed c.split.result.0) (option_map timed c.split.result.2) stands.0 c.in-None.ensures stands.2 c.split.ensures
+    ∙ ap (drop 1) (sym (left_in walk s (ap (option_map timed) c.in-Some.is)) ∙ c.self.view_is)
 
 pub invariant_of-self-in-None : goal.invariant_of-self-in-None
 invariant_of-self-in-None c =
     let walk = c.self.inside in
-    let s = c.in-Some.current in
-    let stands = stands_in walk s c.in-Some.is c.self.invariant in
+    let s = timed c.in-Some.current in
+    let stands = stands_in walk s (ap (option_map timed) c.in-Some.is) c.self.invariant in
     record {
       stands = stands_behind (record { now = c.split.result.0; later = c.split.result.1; tail = c.split.result.2; left = c.saturating_sub-self-inside.result; first_number = walk.first_number })
-          c.split.result.0 walk.left s walk.later.now walk.tail stands.0 c.in-None.ensures stands.2 c.split.ensures c.saturating_sub-self-inside.ensures;
+          (option_map timed c.split.result.0) walk.left s (slice_runs walk.later) (option_map timed walk.tail) stands.0 c.in-None.ensures stands.2 c.split.ensures c.saturating_sub-self-inside.ensures;
       countable = λ some.
           let sub = c.saturating_sub-self-inside.ensures in
-          let at = next_place walk.first_number walk.left s walk.later.now c.split.result.1.now walk.tail c.split.result.0 c.split.result.2 stands.0 c.in-None.ensures stands.2 c.split.ensures (omega (arith, some, sub)) in
+          let at = next_place walk.first_number walk.left s (slice_runs walk.later) (slice_runs c.split.result.1) (option_map timed walk.tail) (option_map timed c.split.result.0) (option_map timed c.split.result.2) stands.0 c.in-None.ensures stands.2 c.split.ensures (omega (arith, some, sub)) in
           let before = c.self.invariant.countable (omega (arith, some, sub)) in
-          omega (arith, sub, at, before, ap place_of c.in-Some.is);
+          omega (arith, sub, at, before, ap (λ (o : Option Run). place_of (option_map timed o)) c.in-Some.is);
     }

@@ -1,0 +1,127 @@
+// A timeline that many Representations share.
+ghost use Rattle.std.specs.Prelude.{◌≡◌, ◌==◌, false, IfOk, MatchResult};
+ghost use Rattle.std.specs.List.{list_any};
+
+use crate::builder::RunsBuilder;
+use crate::media_run::MediaRun;
+use crate::media_runs::MediaRuns;
+use crate::timelines::have_no_time;
+use crate::{SEntry, SList, Scale, TimeFault};
+use bridge_io::NoMemory;
+use std::alloc::Global;
+use std::marker::Model;
+use std::rc::Rc;
+
+/// The S elements of a timeline, and the runs of the first ones of them.
+#[derive(Debug, Drop)]
+pub struct LaidTimeline {
+    pub entries: Vec<SEntry>,
+    /// Those of the first S elements that have a run for every timescale.
+    pub media: MediaRuns,
+    /// Whether some S lasts no time.
+    pub no_time: bool,
+}
+
+/// A timeline that was laid out, in the hands of many.
+#[derive(Debug, Drop)]
+pub struct Laid {
+    pub timeline: Rc<LaidTimeline>,
+}
+
+impl Laid {
+    pub fn runs(&self) -> &[MediaRun]
+        ensures { result.now ≡ self.now.timeline.value.media.runs.items }
+    {
+        self.timeline.media.runs.as_slice()
+    }
+
+    fn share(&self) -> Result<Laid, NoMemory>
+        ensures { IfOk result (λ laid. laid.timeline.value ≡ self.now.timeline.value) }
+    {
+        let timeline = self.timeline.clone()?;
+        Ok(Laid { timeline })
+    }
+}
+
+/// The S elements of a SegmentTimeline (ISO/IEC 23009-1, 5.3.9.6), laid out once for all Representations that have it,
+/// whatever their timescales, their `@presentationTimeOffset` and the Period's end. The `Runs` of each of them keep a
+/// hold of it, and no copy.
+///
+/// In a contract it is the list of S elements.
+#[derive(Debug, Drop)]
+pub struct SharedTimeline {
+    laid: Laid,
+}
+
+impl Model for SharedTimeline {
+    ghost use Rattle.std.specs.Prelude.{List};
+    ghost use Rattle.timeline.specs.declared.entry.SEntry.{SEntry};
+
+    ghost Value = { List SEntry };
+
+    ghost use Rattle.timeline.specs.MediaTimelines.{IsLaidTimeline};
+
+    ghost view = { λ t. t.laid.timeline.value.entries.items };
+
+    ghost invariant = { λ t. IsLaidTimeline t.laid.timeline.value };
+}
+
+impl SharedTimeline {
+    ghost use Rattle.timeline.specs.declared.entry.End.{End};
+    ghost use Rattle.timeline.specs.Limits.{breaks_limits};
+    ghost use Rattle.timeline.specs.Reaches.{IsSoFar, IsTheirFault};
+    ghost use Rattle.timeline.specs.Timelines.{expansion_of_timeline};
+
+    /// Lays out the S elements.
+    pub fn of(alloc: Global, list: &SList) -> Result<SharedTimeline, NoMemory>
+        ensures { IfOk result (λ timeline. timeline ≡ list.now) }
+    {
+        let list = list.as_slice();
+        let no_time = have_no_time(list);
+        let media = MediaRuns::of(alloc, list)?;
+        let entries = Vec::from_slice(alloc, list)?;
+        let laid = LaidTimeline {
+            entries,
+            media,
+            no_time,
+        };
+        let timeline = Rc::new(alloc, laid)?;
+        let laid = Laid { timeline };
+        Ok(SharedTimeline { laid })
+    }
+
+    /// The S elements.
+    pub(crate) fn entries(&self) -> &[SEntry]
+        ensures { result.now ≡ self.now }
+    {
+        self.laid.timeline.entries.as_slice()
+    }
+
+    /// Whether some S lasts no time.
+    pub(crate) fn has_no_time(&self) -> bool
+        ensures { result ≡ list_any (λ s. s.d == 0) self.now }
+    {
+        self.laid.timeline.no_time
+    }
+
+    /// The runs that were laid out, counted by a scale, and the S elements that are left; or the fault of a segment of
+    /// these runs.
+    pub(crate) fn begin(
+        &self,
+        alloc: Global,
+        scale: Scale,
+    ) -> Result<(RunsBuilder, &[SEntry]), TimeFault>
+        requires lasting { list_any (λ s. s.d == 0) self.now ≡ false }
+        ensures { MatchResult result
+            (λ parts. (end : End) → IsSoFar scale end self.now parts.0 parts.1.now)
+            (λ fault. (end : End) → IsTheirFault (breaks_limits scale.ticks scale.offset) (expansion_of_timeline scale end self.now) fault) }
+    {
+        let limits = scale.limits(scale.offset);
+        if self.laid.timeline.media.are_passed(limits) {
+            return Err(TimeFault::Range);
+        }
+        let laid = self.laid.share()?;
+        let rest = &self.laid.timeline.entries[self.laid.runs().len()..];
+        Ok((RunsBuilder::upon(alloc, laid, limits), rest))
+    }
+}
