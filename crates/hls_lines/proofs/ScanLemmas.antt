@@ -1,5 +1,5 @@
 -- Scans of bytes from a place on.
-use Rattle.std.proofs.Common.{◌≡◌, ◌≢◌, ◌≤◌, ℕ, suc, ◌+◌, ◌-◌, ◌<◌, Bool, true, false, List, [], ◌∷◌, length, take, drop, position, get_or, Option, Some, None, count_by, Ok, Err, unwrap_or, refl, sym, ◌∙◌, ap, arith, inl, inr, cond, eqb, min, IsUtf8, IsCharBoundary}
+use Rattle.std.proofs.Common.{◌≡◌, ◌≢◌, ◌≤◌, ℕ, suc, ◌+◌, ◌-◌, ◌<◌, Bool, true, false, List, [], ◌∷◌, length, take, drop, position, get_or, Option, Some, None, Ok, Err, unwrap_or, refl, sym, ◌∙◌, ap, arith, inl, inr, cond, eqb, min, IsUtf8, IsCharBoundary}
 use Rattle.std.specs.List.{position_or_len, before_first, after_first, slice_split}
 use Rattle.std.specs.Str.{is_utf8}
 use Rattle.std.specs.Str.Lossy.{utf8_valid_len}
@@ -18,7 +18,7 @@ use Rattle.bridge_io.specs.Places.{place_of}
 use Rattle.bridge_io.specs.declared.place.Place.{Place}
 use Rattle.hls_lines.specs.Attributes.{ends_value}
 use Rattle.hls_lines.specs.Characters.{begins_with_high_control, high_control_from, first_control, first_of}
-use Rattle.hls_lines.specs.Lines.{PlaylistLine, is_uri, clean, text_lines, said_from, with_line, line_of, trimmed, behind}
+use Rattle.hls_lines.specs.Lines.{PlaylistLine, clean, text_lines, said_from, with_line, line_of, trimmed, behind}
 use Rattle.hls_lines.specs.Marks.{after_mark}
 use Rattle.hls_lines.specs.declared.fault.LineFault.TheVariants.{NotUtf8, BadChar}
 

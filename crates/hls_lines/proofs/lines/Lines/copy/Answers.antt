@@ -1,4 +1,4 @@
-use Rattle.std.proofs.Common.{◌≤◌, ◌^◌, length, arith, sym}
+use Rattle.std.proofs.Common.{arith}
 use Rattle.hls_lines.proofs.ScanLemmas.{few_lines}
 use Rattle.hls_lines.proofs.lines.Lines.copy.Goals as goal
 

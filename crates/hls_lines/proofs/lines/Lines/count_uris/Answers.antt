@@ -1,4 +1,4 @@
-use Rattle.std.proofs.Common.{◌≡◌, ◌+◌, ◌≤◌, ◌^◌, ap, arith, count_by, zero-add, ◌∙◌}
+use Rattle.std.proofs.Common.{ap, arith, count_by, zero-add, ◌∙◌}
 use Rattle.std.proofs.lemmas.List.Sums.{count_by-le-length}
 use Rattle.hls_lines.specs.Lines.{is_uri}
 use Rattle.hls_lines.proofs.lines.Lines.count_uris.Goals as goal
