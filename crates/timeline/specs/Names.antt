@@ -5,22 +5,26 @@ use Rattle.url_parts.specs.Addresses.{resolve}
 use Rattle.url_parts.specs.declared.address.Part.{Part}
 use Rattle.url_parts.specs.declared.range.Range.{Range}
 use Rattle.url_parts.specs.declared.fault.UrlFault.{UrlFault}
-use Rattle.url_parts.specs.declared.fault.UrlFault.TheVariants.{Memory as NoRoom}
+use Rattle.url_parts.specs.declared.fault.UrlFault.TheVariants.{Refused, Memory as NoRoom}
 use Rattle.timeline.specs.declared.fault.ListFault.{ListFault}
 use Rattle.timeline.specs.declared.fault.ListFault.TheVariants.{Url, Memory}
 use Rattle.timeline.specs.declared.names.RefPart.{RefPart}
 use Rattle.timeline.specs.declared.names.Names.{Names}
-use Rattle.timeline.specs.declared.names.Names.TheVariants.{Template, List as Listed}
+use Rattle.timeline.specs.declared.names.Names.TheVariants.{Template, List as Listed, Shared, Addresses}
 
 -- how many names a list has
 abbrev pub count_of : Names → Option ℕ
 count_of (Template media id bandwidth base) = None
 count_of (Listed parts base) = Some (length parts)
+count_of (Shared parts base) = Some (length parts)
+count_of (Addresses parts) = Some (length parts)
 
 -- whether a template asks for a segment's media time
 abbrev pub asks_for_time : Names → Bool
 asks_for_time (Template media id bandwidth base) = uses_time media
 asks_for_time (Listed parts base) = false
+asks_for_time (Shared parts base) = false
+asks_for_time (Addresses parts) = false
 
 -- want of memory tells nothing of the address
 abbrev pub list_refusal : ListFault → Option ListFault
@@ -44,8 +48,15 @@ abbrev pub listed_part : List ℕ → Option RefPart → Result Part ListFault
 listed_part base None = part_at None (Ok base)
 listed_part base (Some part) = part_at part.range (referred base part.reference)
 
+-- an address that is there already; behind the last one there is none
+abbrev pub own_part : Option Part → Result Part ListFault
+own_part None = Err (Url Refused)
+own_part (Some part) = Ok part
+
 -- the address and range of the segment at a place, with a number and a media time
 abbrev pub part_of : Names → ℕ → ℕ → ℕ → Result Part ListFault
 part_of (Template media id bandwidth base) place number time =
     part_at None (resolve base (named media (record { id = id; bandwidth = bandwidth; number = number; time = time })))
 part_of (Listed parts base) place number time = listed_part base (slice_get parts place)
+part_of (Shared parts base) place number time = listed_part base (slice_get parts place)
+part_of (Addresses parts) place number time = own_part (slice_get parts place)

@@ -21,6 +21,7 @@ mod run;
 mod run_slice;
 mod run_table;
 mod runs;
+mod shared_names;
 mod shared_timeline;
 mod span;
 mod spans;
@@ -38,9 +39,11 @@ pub use listing::{Listing, Segment};
 pub use names::{Names, RefPart};
 pub use plain::{PlainRuns, PlainSpan};
 pub use runs::Runs;
+pub use shared_names::SharedNames;
 pub use shared_timeline::SharedTimeline;
 pub use span::Span;
 pub use time_walk::TimeWalk;
+use url_parts::Part;
 pub use walk::PlainWalk;
 pub use window::Window;
 
@@ -52,6 +55,9 @@ pub type SpanList = Sequence<Span>;
 
 /// The names of a list's segments.
 pub type RefList = Sequence<RefPart>;
+
+/// The addresses of segments, with their ranges.
+pub type PartList = Sequence<Part>;
 
 #[cfg(test)]
 mod tests;

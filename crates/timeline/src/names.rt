@@ -2,14 +2,14 @@
 ghost use Rattle.std.specs.Prelude.{◌≡◌, IfOk};
 ghost use Rattle.std.specs.Option.{option_copied};
 ghost use Rattle.bridge_io.specs.Answer.{Gives};
-ghost use Rattle.timeline.specs.Names.{list_refusal, listed_part, part_at};
+ghost use Rattle.timeline.specs.Names.{list_refusal, listed_part, own_part, part_at};
 ghost use Rattle.url_parts.specs.Addresses.{resolve};
 
-use crate::{ListFault, RefList};
+use crate::{ListFault, PartList, RefList, SharedNames};
 use bridge_io::Text;
 use std::alloc::Global;
 use template_ids::{Ids, Template};
-use url_parts::{Base, Part, Range};
+use url_parts::{Base, Part, Range, UrlFault};
 
 /// A SegmentURL of a SegmentList (ISO/IEC 23009-1, 5.3.9.3).
 #[derive(Debug, Drop)]
@@ -35,11 +35,20 @@ pub enum Names {
         parts: RefList,
         base: Base,
     },
+    /// One name for each segment, in a list that others share.
+    Shared {
+        parts: SharedNames,
+        base: Base,
+    },
+    /// One address for each segment.
+    Addresses {
+        parts: PartList,
+    },
 }
 
 impl Names {
     ghost use Rattle.timeline.specs.Names.{count_of, asks_for_time, part_of};
-    ghost use Rattle.timeline.specs.declared.names.Names.TheVariants.{Template as ByTemplate, List as ByList};
+    ghost use Rattle.timeline.specs.declared.names.Names.TheVariants.{Template as ByTemplate, List as ByList, Shared as ByShared, Addresses as ByAddresses};
 
     /// Names by a template.
     pub fn of_template(media: Template, id: Text, bandwidth: u64, base: Base) -> Names
@@ -60,6 +69,20 @@ impl Names {
         Names::List { parts, base }
     }
 
+    /// Names by a list that others share. They are those of `of_list`.
+    pub fn of_shared(parts: SharedNames, base: Base) -> Names
+        ensures { result ≡ ByShared parts base }
+    {
+        Names::Shared { parts, base }
+    }
+
+    /// Addresses that need no base. A segment is made with a copy of its own, and nothing is parsed.
+    pub fn of_addresses(parts: PartList) -> Names
+        ensures { result ≡ ByAddresses parts }
+    {
+        Names::Addresses { parts }
+    }
+
     /// How many names a list has.
     pub(crate) fn len(&self) -> Option<u64>
         ensures { result ≡ count_of self.now }
@@ -67,6 +90,8 @@ impl Names {
         match self {
             Names::Template { .. } => None,
             Names::List { parts, .. } => Some(parts.len() as u64),
+            Names::Shared { parts, .. } => Some(parts.parts().len() as u64),
+            Names::Addresses { parts } => Some(parts.len() as u64),
         }
     }
 
@@ -76,7 +101,7 @@ impl Names {
     {
         match self {
             Names::Template { media, .. } => media.uses_time(),
-            Names::List { .. } => false,
+            Names::List { .. } | Names::Shared { .. } | Names::Addresses { .. } => false,
         }
     }
 
@@ -107,6 +132,10 @@ impl Names {
                 joined(alloc, base, name.as_str(), None)
             }
             Names::List { parts, base } => listed_part(alloc, parts.get(place as usize), base),
+            Names::Shared { parts, base } => {
+                listed_part(alloc, parts.parts().get(place as usize), base)
+            }
+            Names::Addresses { parts } => own_part(alloc, parts.get(place as usize)),
         }
     }
 }
@@ -122,6 +151,16 @@ fn listed_part(alloc: Global, part: Option<&RefPart>, base: &Base) -> Result<Par
             None => joined(alloc, base, base.as_str(), *range),
             Some(reference) => joined(alloc, base, reference.as_str(), *range),
         },
+    }
+}
+
+/// The address and range of a segment that has them already.
+fn own_part(alloc: Global, part: Option<&Part>) -> Result<Part, ListFault>
+    ensures { Gives (λ part. part) list_refusal result (own_part (option_copied part.entry)) }
+{
+    match part {
+        None => Err(ListFault::Url(UrlFault::Refused)),
+        Some(part) => Ok(part.copy(alloc)?),
     }
 }
 

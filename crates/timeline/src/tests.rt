@@ -450,5 +450,79 @@ fn make_segments<L: Ledger>(rt: &impl Abort, alloc: Global, blank: Blank) -> Res
         let refused = listing.next(alloc, &mut steps).err();
         assert!(rt; refused == Some(ListFault::Url(UrlFault::Refused)));
     }
+    let mut parts = PartList::new(alloc);
+    parts.push(first.into_part())?;
+    let mut times = SpanList::new(alloc);
+    times.push(Span {
+        start: tick(0),
+        end: tick(4),
+        number: 0,
+    })?;
+    let runs = Runs::from_list(alloc, &times, scale(0, 1), Names::of_addresses(parts))?;
+    runs.count(&window)?;
+    let mut listing = runs.resume(&runs.seek(&window), &window);
+    let own = listing.next(alloc, &mut steps)?;
+    assert!(rt; own.is_some_and(|segment| segment.address().as_str() == "https://h.example/s"));
+    assert!(rt; listing.next(alloc, &mut steps)?.is_none());
+    Ok(())
+}
+
+/// Two Representations share a timeline, and each has its own timescale and offset.
+#[test]
+fn shares(rt: HostRuntime) -> Result<(), Fail> {
+    let alloc = rt.alloc();
+    let mut list = SList::new(alloc);
+    for (t, d, r) in [(None, 4, 1), (Some(10), 6, 0), (None, 2, -1)] {
+        list.push(SEntry { t, d, r })?;
+    }
+    let shared = SharedTimeline::of(alloc, &list)?;
+    for (ticks, offset, count) in [(1, 0, 5u64), (2, 4, 16)] {
+        let scale = Scale {
+            ticks,
+            offset,
+            start_number: 1,
+        };
+        let names = template(alloc)?;
+        let runs = Runs::from_shared(alloc, &shared, end(Some(20)), false, scale, names)?;
+        assert!(rt; !runs.is_open());
+        assert!(rt;
+            runs.offset()
+                == Tick {
+                    n: i128::from(offset),
+                    scale: ticks
+                }
+        );
+        let window = Window {
+            after: None,
+            until: None,
+        };
+        assert!(rt; runs.count(&window)? == count);
+        let cursor = runs.seek_end(tick(5));
+        let next = runs.walk(&cursor, &window).next();
+        assert!(rt; next.is_some_and(|span| tick(5) < span.end));
+        let former = runs.walk(&cursor.back(1), &window).next();
+        assert!(rt; former.is_some_and(|span| span.end <= tick(5)));
+    }
+    let long = Scale {
+        ticks: 1,
+        offset: 0,
+        start_number: 1,
+    };
+    let mut list = SList::new(alloc);
+    list.push(SEntry {
+        t: None,
+        d: 1_000_001,
+        r: 0,
+    })?;
+    let shared = SharedTimeline::of(alloc, &list)?;
+    let made = Runs::from_shared(
+        alloc,
+        &shared,
+        End::Unbounded,
+        false,
+        long,
+        template(alloc)?,
+    );
+    assert!(rt; made.err() == Some(TimeFault::Range));
     Ok(())
 }
