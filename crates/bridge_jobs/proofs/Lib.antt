@@ -5,3 +5,4 @@ pub mod Lines
 pub mod Named
 pub mod Reading
 pub mod Taken
+pub mod Written
