@@ -1,0 +1,86 @@
+#!/usr/bin/env bash
+# Times the reading of a media playlist of 5.3 MB with 100,000 segments: hls_media's `read_media`, and ffprobe and python3-m3u8
+# where they are installed. Each is a program of its own that reads the file; the shortest of eleven runs counts, with its
+# largest memory. Then the same playlist with a map's address of 1,900 bytes.
+#
+# It wants `rt` and python3.
+set -euo pipefail
+here=$(cd "$(dirname "$0")/.." && pwd)
+work=$(mktemp -d)
+trap 'rm -rf "$work"' EXIT
+
+python3 - "$work" <<'PY'
+import os, sys
+def playlist(name, map_uri):
+    rows = "".join("#EXTINF:4.096000,\nsegments/video-%012d.m4s\n" % k for k in range(100_000))
+    head = '#EXTM3U\n#EXT-X-VERSION:6\n#EXT-X-TARGETDURATION:4\n#EXT-X-MAP:URI="%s"\n' % map_uri
+    os.makedirs(os.path.join(sys.argv[1], name))
+    open(os.path.join(sys.argv[1], name, "v.m3u8"), "w").write(head + rows + "#EXT-X-ENDLIST\n")
+playlist("plain", "init.mp4")
+playlist("long", "i" * 1900 + ".mp4")
+PY
+
+# Ours: a program beside copies of the libraries.
+mkdir -p "$work/ours/crates"
+for crate in bridge_io byte_scan exact_time url_parts hls_lines hls_media; do
+    cp -r "$here/crates/$crate" "$work/ours/crates/"
+    grep "^$crate:" "$here/crates.txt" >> "$work/ours/crates.txt"
+done
+echo 'reads: bridge_io hls_media url_parts' >> "$work/ours/crates.txt"
+mkdir -p "$work/ours/crates/reads/src"
+cat > "$work/ours/crates/reads/src/main.rt" <<'RS'
+//! Reads a playlist.
+#![tactic(auto)]
+
+use bridge_io::{FolderStore, Name, slurp};
+use hls_media::read_media;
+use std::process::ExitCode;
+use url_parts::Base;
+
+fn main(rt: HostRuntime) -> ExitCode {
+    let alloc = rt.alloc();
+    let Ok(name) = Name::read(alloc, "v.m3u8") else {
+        return ExitCode::from(1);
+    };
+    let Ok(base) = Base::of(alloc, "https://h.example/v.m3u8") else {
+        return ExitCode::from(1);
+    };
+    let Ok(mut store) = FolderStore::new(rt, alloc, ".") else {
+        return ExitCode::from(1);
+    };
+    let Ok(bytes) = slurp(alloc, &mut store, &name, 8_388_608) else {
+        return ExitCode::from(1);
+    };
+    match read_media(alloc, bytes.as_slice(), &base) {
+        Ok(_) => ExitCode::from(0),
+        Err(_) => ExitCode::from(1),
+    }
+}
+RS
+cp "$work/plain/v.m3u8" "$work/ours/crates/reads/"
+(cd "$work/ours" && git init -q && cd crates/reads && rt run > "$work/build.log" 2>&1) || { tail "$work/build.log"; exit 1; }
+ours=$work/ours/crates/reads/out/reads
+
+cat > "$work/measure.py" <<'PY'
+import os, sys, time
+name, folder, command = sys.argv[1], sys.argv[2], sys.argv[3:]
+os.chdir(folder)
+best, peak = 1e9, 0
+for _ in range(11):
+    start = time.perf_counter()
+    pid = os.spawnvp(os.P_NOWAIT, command[0], command)
+    _, status, usage = os.wait4(pid, 0)
+    best = min(best, time.perf_counter() - start)
+    peak = max(peak, usage.ru_maxrss)
+    assert status == 0, status
+size = os.path.getsize("v.m3u8")
+print(f"{name}: {best * 1000:.0f} ms, {peak / 1024:.1f} MB, {(peak * 1024 - size) / 100_000:.0f} bytes a segment beside the file of {size}")
+PY
+python3 "$work/measure.py" read_media "$work/plain" "$ours"
+python3 "$work/measure.py" "read_media, long map" "$work/long" "$ours"
+if command -v ffprobe > /dev/null; then
+    python3 "$work/measure.py" ffprobe "$work/plain" ffprobe -v quiet -allowed_extensions ALL v.m3u8 || true
+fi
+if python3 -c 'import m3u8' 2> /dev/null; then
+    python3 "$work/measure.py" m3u8 "$work/plain" python3 -c 'import m3u8; m3u8.load("v.m3u8")'
+fi

@@ -1,0 +1,4 @@
+pub mod Courses
+pub mod Digits
+pub mod Meanings
+pub mod Wholes

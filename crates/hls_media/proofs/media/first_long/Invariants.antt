@@ -1,0 +1,9 @@
+use Rattle.std.proofs.Common.{◌≡◌, length}
+use Rattle.hls_media.specs.Media.{first_fault, long_faults}
+use Rattle.hls_media.proofs.media.first_long.Given as goal
+
+abbrev pub invariant-loop-line : goal.invariant-loop-line
+invariant-loop-line l = first_fault (long_faults l.target l.lines) ≡ first_fault (long_faults l.target l.fn.lines)
+
+abbrev pub decreases-loop-line : goal.decreases-loop-line
+decreases-loop-line l = length l.lines

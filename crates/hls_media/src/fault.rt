@@ -1,0 +1,74 @@
+// Why a playlist is refused.
+ghost use Rattle.std.specs.Prelude.{◌≡◌};
+ghost use Rattle.hls_media.specs.declared.fault.MediaFault.TheVariants.{Memory};
+
+use bridge_io::{NoMemory, Place};
+use hls_lines::LineFault;
+use std::alloc::AllocFailed;
+use thiserror::Error;
+use url_parts::UrlFault;
+
+/// Why a file is no media playlist that can be read, and where: at a line's first byte, unless said otherwise. Lines are
+/// judged in their order, and then the playlist as a whole.
+#[derive(Clone, Copy, Debug, PartialEq, Eq, Error)]
+pub enum MediaFault {
+    /// The file has no lines of a playlist, or a tag's attributes can't be read.
+    #[error("no lines of a playlist")]
+    Line(LineFault),
+    /// There is no EXT-X-TARGETDURATION (RFC 8216 4.3.3.1): the file's length.
+    #[error("no target duration")]
+    NoTarget(Place),
+    /// An EXTINF of more than 1,000,000 seconds.
+    #[error("a segment of more than 1,000,000 seconds")]
+    Duration(Place),
+    /// An EXTINF of more than half a second above the target duration (RFC 8216 4.3.3.1).
+    #[error("a segment longer than the target duration")]
+    LongSegment(Place),
+    /// A range without offset where the segment before it has no range of the same address (RFC 8216 4.3.2.2), or one
+    /// that would end at 2^63 or later: its EXT-X-BYTERANGE.
+    #[error("a range without a beginning")]
+    RangeStart(Place),
+    /// More than 100,000 segments: the first URI above.
+    #[error("too many segments")]
+    Limit(Place),
+    /// Encrypted segments (RFC 8216 4.3.2.4 and 4.3.4.5).
+    #[error("encryption")]
+    Encryption(Place),
+    /// An EXT-X-DATERANGE (RFC 8216 4.3.2.7).
+    #[error("a date range")]
+    Events(Place),
+    /// A tag of Low-Latency HLS.
+    #[error("low latency")]
+    LowLatency(Place),
+    /// A tag that isn't supported: EXT-X-GAP, EXT-X-DEFINE or EXT-X-I-FRAMES-ONLY.
+    #[error("a tag that isn't supported")]
+    Unsupported(Place),
+    /// A URI of a segment or of an EXT-X-MAP that gives no address.
+    #[error("a URI that gives no address")]
+    Url(UrlFault, Place),
+    /// A value that can't be read, or an attribute that lacks.
+    #[error("a value that can't be read")]
+    Value(Place),
+    /// A line that may not stand there.
+    #[error("a line that may not stand there")]
+    Misplaced(Place),
+    /// Memory is wanting, which says nothing of the playlist.
+    #[error("out of memory")]
+    Memory,
+}
+
+impl From<NoMemory> for MediaFault {
+    ghost from_gives = { λ _ fault. fault ≡ Memory };
+
+    fn from(_: NoMemory) -> MediaFault {
+        MediaFault::Memory
+    }
+}
+
+impl<T: Drop> From<AllocFailed<T>> for MediaFault {
+    ghost from_gives = { λ _ fault. fault ≡ Memory };
+
+    fn from(_: AllocFailed<T>) -> MediaFault {
+        MediaFault::Memory
+    }
+}

@@ -1,0 +1,114 @@
+// Media playlists.
+ghost use Rattle.std.specs.Prelude.{◌≡◌, length, option_map};
+ghost use Rattle.bridge_io.specs.Answer.{Gives};
+ghost use Rattle.bridge_io.specs.Places.{place_of};
+ghost use Rattle.hls_lines.specs.Lines.{lines_of};
+ghost use Rattle.hls_media.specs.Media.{media_of, media_in, lines_or_fault, first_fault, long_faults, is_long, refusal};
+ghost use Rattle.hls_media.specs.Values.{duration_of};
+ghost use Rattle.hls_media.specs.declared.fault.MediaFault.TheVariants.{LongSegment};
+
+use crate::MediaFault;
+use crate::reader::read_lines;
+use crate::value::read_duration;
+use bridge_io::{Place, Sequence};
+use byte_scan::count_lf;
+use exact_time::Nanos;
+use hls_lines::{Line, Lines};
+use std::alloc::Global;
+use url_parts::{Address, Base, Part, Range};
+
+/// The segments of a playlist, in their order.
+pub type MediaList = Sequence<MediaSegment>;
+
+/// A media playlist.
+#[derive(Debug, Drop)]
+pub struct Media {
+    /// The target duration in seconds, below 2^31 (RFC 8216 4.3.3.1).
+    pub target: u64,
+    /// The first segment's number, below 2^63 (RFC 8216 4.3.3.2).
+    pub sequence: u64,
+    /// Whether no more segments will come (RFC 8216 4.3.3.4).
+    pub ended: bool,
+    /// At most 100,000 segments.
+    pub segments: MediaList,
+}
+
+/// A segment of a playlist.
+#[derive(Debug, Drop)]
+pub struct MediaSegment {
+    /// The address of its file.
+    pub address: Address,
+    /// Its bytes in the file; none where it is the whole file (RFC 8216 4.3.2.2).
+    pub range: Option<Range>,
+    /// What its media begin with: the last EXT-X-MAP before it (RFC 8216 4.3.2.5).
+    pub map: Option<Part>,
+    /// At most 1,000,000 seconds (RFC 8216 4.3.2.1).
+    pub duration: Nanos,
+    /// The number of the playlist's first section (RFC 8216 4.3.3.3), and one more for each discontinuity before it.
+    pub section: u64,
+}
+
+/// Reads a media playlist, whose URIs are resolved against the base (RFC 8216 4.1).
+#[tactic(auto, unfolding(crate::specs::Media::media_of))]
+pub fn read_media(alloc: Global, bytes: &[u8], base: &Base) -> Result<Media, MediaFault>
+    ensures { Gives (λ media. media) refusal result (media_of bytes.now base.now) }
+{
+    let lines = lines_of(bytes)?;
+    media_in(alloc, lines, end_of(bytes), base)
+}
+
+fn lines_of(bytes: &[u8]) -> Result<Lines<'_>, MediaFault>
+    ensures { result ≡ lines_or_fault (lines_of bytes.now) }
+{
+    match Lines::new(bytes) {
+        Ok(lines) => Ok(lines),
+        Err(fault) => Err(MediaFault::Line(fault)),
+    }
+}
+
+/// The place behind all bytes.
+fn end_of(bytes: &[u8]) -> Place
+    ensures { result ≡ place_of bytes.now (length bytes.now) }
+{
+    Place {
+        at: bytes.len() as u64,
+        line: count_lf(bytes) + 1,
+    }
+}
+
+/// The playlist of these lines, or its first fault.
+fn media_in(alloc: Global, lines: Lines<'_>, end: Place, base: &Base) -> Result<Media, MediaFault>
+    ensures { Gives (λ media. media) refusal result (media_in end base.now lines.entry) }
+{
+    let reader = read_lines(alloc, lines.copy(), base)?;
+    let Some(target) = reader.target else {
+        return Err(MediaFault::NoTarget(end));
+    };
+    if let Some(place) = first_long(lines, target) {
+        return Err(MediaFault::LongSegment(place));
+    }
+    Ok(reader.finish(target))
+}
+
+/// Where an EXTINF stands for the first time that is more than half a second above the target duration.
+fn first_long(mut lines: Lines<'_>, target: u64) -> Option<Place>
+    ensures { option_map LongSegment result ≡ first_fault (long_faults target lines.entry) }
+{
+    while let Some(line) = lines.next() {
+        if let Line::Tag { name, rest, place } = line {
+            if name == "EXTINF" && is_long(rest, target) {
+                return Some(place);
+            }
+        }
+    }
+    None
+}
+
+fn is_long(duration: &str, target: u64) -> bool
+    ensures { result ≡ is_long target (duration_of duration.now) }
+{
+    match read_duration(duration) {
+        Some(nanos) => nanos > u128::from(target) * 1_000_000_000 + 500_000_000,
+        None => false,
+    }
+}

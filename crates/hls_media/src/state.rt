@@ -1,0 +1,32 @@
+// What the lines before a place in a playlist tell.
+ghost use Rattle.std.specs.Prelude.{◌^◌, ◌<◌};
+ghost use Rattle.std.specs.Option.{ForSome};
+
+use crate::MediaSegment;
+use bridge_io::Place;
+use exact_time::Nanos;
+use url_parts::Part;
+
+/// A range as an EXT-X-BYTERANGE writes it.
+#[derive(Clone, Copy)]
+pub(crate) struct WrittenRange<'a> {
+    pub(crate) text: &'a str,
+    pub(crate) place: Place,
+}
+
+/// What the lines before a place tell.
+#[derive(Drop)]
+pub(crate) struct Reader<'a> {
+    pub(crate) target: Option<u64>,
+    pub(crate) sequence: Option<u64>,
+    pub(crate) first_section: Option<u64>,
+    pub(crate) discontinuities: u64,
+    pub(crate) ended: bool,
+    /// The duration of the segment to come.
+    pub(crate) duration: Option<Nanos>,
+    /// The range of the segment to come.
+    pub(crate) range: Option<WrittenRange<'a>>,
+    pub(crate) map: Option<Part>,
+    pub(crate) segments: Vec<MediaSegment>,
+    ghost small: { ForSome first_section (λ number. number < 2 ^ 63) },
+}
