@@ -10,3 +10,6 @@ mod value;
 
 pub use fault::MediaFault;
 pub use media::{Media, MediaList, MediaSegment, read_media};
+
+#[cfg(test)]
+mod tests;
