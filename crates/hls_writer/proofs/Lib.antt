@@ -1,0 +1,4 @@
+pub mod Adding
+pub mod Decimals
+pub mod Following
+pub mod Present

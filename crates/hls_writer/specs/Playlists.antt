@@ -1,0 +1,81 @@
+-- The lines of media playlists (RFC 8216, 4.3.2 and 4.3.3), finished and followed.
+use Rattle.std.specs.Prelude.{ℕ, ◌-◌, nat_lt, Bool, true, List, [], ◌∷◌, ◌++◌, replicate, Option, Some, None, option_map, option_to_list, if◌then◌else◌, ℤ}
+use Rattle.std.specs.List.{flat_map}
+use Rattle.url_parts.specs.declared.address.Part.{Part}
+use Rattle.hls_writer.specs.Lines.{WrittenLine, header, version, target_duration, media_sequence, discontinuity_sequence, on_demand, discontinuity, initialization, program_date_time, duration, byte_range, uri, end_list, lines_text}
+
+-- a segment as a playlist lists it
+pub record Item : Type 0 where
+  -- where it lies
+  pub part : Part
+  -- what initializes it
+  pub map : Part
+  -- its printed duration, in units of which 10 to the playlist's number of digits make a second
+  pub duration : ℕ
+  pub section : ℕ
+  -- when it begins, in nanoseconds since 1970-01-01T00:00:00Z
+  pub date : Option ℤ
+
+-- the lines that are there of some that may be missing
+abbrev pub present : List (Option WrittenLine) → List WrittenLine
+present lines = flat_map option_to_list lines
+
+-- by how much the section number rises behind a segment of another section; nothing stands before the first segment
+abbrev pub rise : (former : Option ℕ) → ℕ → ℕ
+rise None section = 0
+rise (Some former) section = section - former
+
+-- whether a segment begins a section of the playlist
+abbrev pub begins_section : (former : Option ℕ) → ℕ → Bool
+begins_section None section = true
+begins_section (Some former) section = nat_lt former section
+
+-- the lines of a segment behind those of the discontinuities
+abbrev pub own_lines : (digits : ℕ) (former : Option ℕ) → Item → List WrittenLine
+own_lines digits former item = present (
+    (if begins_section former item.section then Some (initialization item.map) else None)
+    ∷ option_map program_date_time item.date
+    ∷ Some (duration digits item.duration)
+    ∷ option_map byte_range item.part.range
+    ∷ Some (uri item.part.address)
+    ∷ []
+    )
+
+-- the lines of a segment behind one of a section
+abbrev pub item_lines : (digits : ℕ) (former : Option ℕ) → Item → List WrittenLine
+item_lines digits former item = replicate (rise former item.section) discontinuity ++ own_lines digits former item
+
+-- the lines of segments in order
+abbrev pub items_lines : (digits : ℕ) (former : Option ℕ) → List Item → List WrittenLine
+items_lines digits former [] = []
+items_lines digits former (item ∷ items) = item_lines digits former item ++ items_lines digits (Some item.section) items
+
+-- the lines before the segments, of which the last one is of a finished or a followed playlist
+abbrev pub head_lines : (target sequence : ℕ) (kind : WrittenLine) → List WrittenLine
+head_lines target sequence kind = header ∷ version 6 ∷ target_duration target ∷ media_sequence sequence ∷ kind ∷ []
+
+-- the line behind the segments, where no segment follows
+abbrev pub end_lines : Bool → List WrittenLine
+end_lines ended = if ended then end_list ∷ [] else []
+
+-- a media playlist with a target duration in seconds
+abbrev pub media_lines : (target sequence : ℕ) (kind : WrittenLine) (digits : ℕ) → List Item → (ended : Bool) → List WrittenLine
+media_lines target sequence kind digits items ended =
+    head_lines target sequence kind ++ items_lines digits None items ++ end_lines ended
+
+-- what stands above the segments of a followed playlist, and whether no segment follows
+pub record Head : Type 0 where
+  pub target : ℕ
+  pub sequence : ℕ
+  pub first_section : ℕ
+  pub ended : Bool
+  pub digits : ℕ
+
+-- the text of a finished media playlist, whose segments have no dates
+unfoldable pub finished_text : (target digits : ℕ) → List Item → List ℕ
+finished_text target digits items = lines_text (media_lines target 0 on_demand digits items true)
+
+-- the text of a followed media playlist
+unfoldable pub followed_text : Head → List Item → List ℕ
+followed_text head items =
+    lines_text (media_lines head.target head.sequence (discontinuity_sequence head.first_section) head.digits items head.ended)

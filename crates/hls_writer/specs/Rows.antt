@@ -1,0 +1,44 @@
+-- Lines and segments as they are written.
+use Rattle.std.specs.Prelude.{⊤, List, map, Option, option_map, IfSome}
+use Rattle.iso_time.specs.Instant.{IsWritable}
+use Rattle.hls_writer.specs.Lines.{WrittenLine, header, version, target_duration, media_sequence, discontinuity_sequence, discontinuity, initialization, program_date_time, duration, byte_range, uri, end_list}
+use Rattle.hls_writer.specs.Playlists.{Item, present}
+use Rattle.hls_writer.specs.declared.line.Line.{Line}
+use Rattle.hls_writer.specs.declared.line.Line.TheVariants as line
+use Rattle.hls_writer.specs.declared.entry.Entry.{Entry}
+
+-- what a line says
+abbrev pub written : Line → WrittenLine
+written line.Header = header
+written (line.Version number) = version number
+written (line.TargetDuration seconds) = target_duration seconds
+written (line.MediaSequence number) = media_sequence number
+written (line.DiscontinuitySequence number) = discontinuity_sequence number
+written line.Discontinuity = discontinuity
+written (line.Map part) = initialization part.now
+written (line.ProgramDateTime instant) = program_date_time instant
+written (line.Duration digits units) = duration digits units
+written (line.ByteRange range) = byte_range range
+written (line.Uri address) = uri address.now
+written line.EndList = end_list
+
+-- what those say that are there
+abbrev pub all_written : List (Option Line) → List WrittenLine
+all_written lines = present (map (option_map written) lines)
+
+abbrev pub entry_item : Entry → Item
+entry_item entry = record {
+  part = record { address = entry.address.now; range = entry.range };
+  map = entry.map.now;
+  duration = entry.duration;
+  section = entry.section;
+  date = entry.date;
+}
+
+-- a date is one of the years 1000 to 9999
+abbrev pub CanBeWritten : Line → Type 0
+CanBeWritten (line.ProgramDateTime instant) = IsWritable instant
+CanBeWritten line = ⊤
+
+abbrev pub CanBeThere : Option Line → Type 0
+CanBeThere line = IfSome line CanBeWritten

@@ -1,0 +1,110 @@
+// Segments as playlists list them.
+ghost use Rattle.std.specs.Prelude.{◌≡◌, All, replicate, option_map, IfSome};
+ghost use Rattle.iso_time.specs.Instant.{IsWritable};
+ghost use Rattle.hls_writer.specs.Adding.{Adds, shown};
+ghost use Rattle.hls_writer.specs.Lines.{lines_text, discontinuity, program_date_time, byte_range};
+ghost use Rattle.hls_writer.specs.Playlists.{rise, begins_section, own_lines, item_lines};
+ghost use Rattle.hls_writer.specs.Rows.{written, all_written, entry_item, CanBeThere};
+
+use crate::line::{Line, push_lines};
+use bridge_io::{Fail, FileWriter, Store};
+use exact_time::Digits;
+use iso_time::Instant;
+use url_parts::{Address, Part, Range};
+
+/// A segment as a playlist lists it.
+#[derive(Clone, Copy)]
+pub struct Entry<'a> {
+    /// Where it lies.
+    pub address: &'a Address,
+    /// Which bytes of the file it is; all of them where there is none.
+    pub range: Option<Range>,
+    /// What initializes it.
+    pub map: &'a Part,
+    /// Its printed duration, in units of which 10 to the playlist's number of digits make a second.
+    pub duration: u64,
+    /// The number of its section.
+    pub section: u64,
+    /// When it begins.
+    pub date: Option<Instant>,
+}
+
+impl Entry<'_> {
+    /// Adds the lines of the segment, behind a segment of the section `former` or as the playlist's first one.
+    pub fn push_to<F: Store>(
+        &self,
+        writer: &mut FileWriter<'_>,
+        store: &mut F,
+        digits: Digits,
+        former: Option<u64>,
+    ) -> Result<(), Fail>
+        requires { IfSome self.now.date IsWritable }
+        ensures { let shows = shown F.files F.read_faults F.write_faults in
+            Adds (lines_text (item_lines digits former (entry_item self.now))) writer.old writer.new (shows store.old) (shows store.new) result }
+    {
+        push_discontinuities(writer, store, rise(former, self.section))?;
+        push_lines(writer, store, &self.lines(digits, former))
+    }
+
+    /// The lines behind those of the discontinuities.
+    fn lines(&self, digits: Digits, former: Option<u64>) -> [Option<Line<'_>>; 5]
+        requires { IfSome self.now.date IsWritable }
+        ensures written { all_written result ≡ own_lines digits former (entry_item self.now) }
+        ensures can { All CanBeThere result }
+    {
+        [
+            begins_section(former, self.section).then_some(Line::Map(self.map)),
+            self.date_line(),
+            Some(Line::Duration {
+                digits,
+                units: self.duration,
+            }),
+            self.range_line(),
+            Some(Line::Uri(self.address)),
+        ]
+    }
+
+    fn date_line(&self) -> Option<Line<'_>>
+        requires { IfSome self.now.date IsWritable }
+        ensures written { option_map written result ≡ option_map program_date_time self.now.date }
+        ensures can { CanBeThere result }
+    {
+        Some(Line::ProgramDateTime(self.date?))
+    }
+
+    fn range_line(&self) -> Option<Line<'_>>
+        ensures written { option_map written result ≡ option_map byte_range self.now.range }
+        ensures can { CanBeThere result }
+    {
+        Some(Line::ByteRange(self.range?))
+    }
+}
+
+/// By how much the section number rises.
+fn rise(former: Option<u64>, section: u64) -> u64
+    ensures { result ≡ rise former section }
+{
+    former.map_or(0, |former| section.saturating_sub(former))
+}
+
+/// Whether a segment begins a section of the playlist.
+fn begins_section(former: Option<u64>, section: u64) -> bool
+    ensures { result ≡ begins_section former section }
+{
+    former.is_none_or(|former| former < section)
+}
+
+/// Adds a line for each step by which the section number rises.
+fn push_discontinuities<F: Store>(
+    writer: &mut FileWriter<'_>,
+    store: &mut F,
+    count: u64,
+) -> Result<(), Fail>
+    ensures { let shows = shown F.files F.read_faults F.write_faults in
+        Adds (lines_text (replicate count discontinuity)) writer.old writer.new (shows store.old) (shows store.new) result }
+{
+    for _step in 0..count {
+        Line::Discontinuity.push_to(writer, store)?;
+    }
+    Ok(())
+}

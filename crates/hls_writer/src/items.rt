@@ -1,0 +1,150 @@
+// The playlist of a followed track.
+ghost use Rattle.std.specs.Prelude.{◌≡◌, ◌⊎◌, ◌++◌, All, map, None, OnOk, OnErr};
+ghost use Rattle.bridge_io.specs.Fault.{HasCause};
+ghost use Rattle.bridge_io.specs.Outside.{put, Changes};
+ghost use Rattle.bridge_io.specs.Written.{HasFront};
+ghost use Rattle.iso_time.specs.Instant.{IsWritable};
+ghost use Rattle.hls_writer.specs.Adding.{Adds, shown};
+ghost use Rattle.hls_writer.specs.Items.{item_of, items_text};
+ghost use Rattle.hls_writer.specs.Lines.{lines_text, discontinuity_sequence};
+ghost use Rattle.hls_writer.specs.Playlists.{head_lines, items_lines};
+ghost use Rattle.hls_writer.specs.Rows.{all_written, entry_item, CanBeThere};
+ghost use Rattle.hls_writer.specs.declared.fault.OutFault.TheVariants.{WriteFault};
+
+use crate::OutFault;
+use crate::entry::Entry;
+use crate::line::{Line, push_lines};
+use bridge_io::{Fail, FileWriter, Name, Sequence, Store};
+use exact_time::Digits;
+use iso_time::Instant;
+use std::alloc::Global;
+use url_parts::{Address, Part, Range};
+
+/// What stands above the segments of a followed playlist, and whether no segment follows.
+#[derive(Clone, Copy, Debug)]
+pub struct MediaHead {
+    /// The target duration in seconds (RFC 8216, 4.3.3.1).
+    pub target: u64,
+    /// The media sequence number of the first segment (RFC 8216, 4.3.3.2).
+    pub sequence: u64,
+    /// The discontinuity sequence number: the section of the first segment (RFC 8216, 4.3.3.3).
+    pub first_section: u64,
+    /// Whether no segment follows (RFC 8216, 4.3.3.4).
+    pub ended: bool,
+    /// How many decimals a duration has.
+    pub digits: Digits,
+}
+
+/// A segment of a followed playlist.
+#[derive(Debug, Drop)]
+pub struct MediaItem {
+    /// Where it lies.
+    pub address: Address,
+    /// Which bytes of the file it is; all of them where there is none (RFC 8216, 4.3.2.2).
+    pub range: Option<Range>,
+    /// What initializes it (RFC 8216, 4.3.2.5).
+    pub map: Part,
+    /// Its printed duration, in units of which 10 to the head's number of digits make a second (RFC 8216, 4.3.2.1).
+    pub duration: u64,
+    /// The number of its section: its discontinuity sequence number (RFC 8216, 4.3.3.3).
+    pub section: u64,
+    /// When it begins (RFC 8216, 4.3.2.6).
+    pub date: Instant,
+}
+
+/// The segments of a playlist in order.
+pub type ItemList = Sequence<MediaItem>;
+
+impl MediaHead {
+    fn lines(&self) -> [Option<Line<'static>>; 5]
+        ensures written { all_written result ≡ head_lines self.now.target self.now.sequence (discontinuity_sequence self.now.first_section) }
+        ensures can { All CanBeThere result }
+    {
+        [
+            Some(Line::Header),
+            Some(Line::Version(6)),
+            Some(Line::TargetDuration(self.target)),
+            Some(Line::MediaSequence(self.sequence)),
+            Some(Line::DiscontinuitySequence(self.first_section)),
+        ]
+    }
+}
+
+impl MediaItem {
+    fn entry(&self) -> Entry<'_>
+        ensures { entry_item result ≡ item_of self.now }
+    {
+        Entry {
+            address: &self.address,
+            range: self.range,
+            map: &self.map,
+            duration: self.duration,
+            section: self.section,
+            date: Some(self.date),
+        }
+    }
+}
+
+/// Writes the playlist of a followed track: dates in UTC with milliseconds, an EXT-X-DISCONTINUITY for each step by which
+/// the section number rises, and an EXT-X-MAP for the first segment and for the first one of each section.
+///
+/// Requires that the year of each date is 1000 to 9999. The text tells the items where the section numbers don't fall, the
+/// first one is the head's, and the items of a section have one map.
+///
+/// An error leaves the file as it was, or a front of the text in it. [`OutFault::WriteFault`] comes only where the store's
+/// count of failed writes rose.
+pub fn write_items<F: Store>(
+    alloc: Global,
+    head: &MediaHead,
+    items: &ItemList,
+    store: &mut F,
+    name: &Name,
+) -> Result<(), OutFault>
+    requires { All (λ item. IsWritable item.date) items.now }
+    ensures ok { OnOk result (Changes (put name.now (items_text head.now items.now)) (F.files store.old) (F.files store.new)) }
+    ensures err { OnErr result ((F.files store.new ≡ F.files store.old)
+        ⊎ HasFront name.now (items_text head.now items.now) (F.files store.old) (F.files store.new)) }
+    ensures cause { HasCause WriteFault (F.write_faults store.old) (F.write_faults store.new) result }
+    ensures reads { F.read_faults store.new ≡ F.read_faults store.old }
+{
+    let mut writer = FileWriter::create(alloc, store, name)?;
+    push_playlist(&mut writer, store, head, items.as_slice())?;
+    writer.flush(store)?;
+    Ok(())
+}
+
+/// Adds the whole text.
+fn push_playlist<F: Store>(
+    writer: &mut FileWriter<'_>,
+    store: &mut F,
+    head: &MediaHead,
+    items: &[MediaItem],
+) -> Result<(), Fail>
+    requires { All (λ item. IsWritable item.date) items.now }
+    ensures { let shows = shown F.files F.read_faults F.write_faults in
+        Adds (items_text head.now items.now) writer.old writer.new (shows store.old) (shows store.new) result }
+{
+    push_lines(writer, store, &head.lines())?;
+    push_items(writer, store, head.digits, items)?;
+    let end = head.ended.then_some(Line::EndList);
+    push_lines(writer, store, &[end])
+}
+
+/// Adds the lines of items in order.
+fn push_items<F: Store>(
+    writer: &mut FileWriter<'_>,
+    store: &mut F,
+    digits: Digits,
+    items: &[MediaItem],
+) -> Result<(), Fail>
+    requires { All (λ item. IsWritable item.date) items.now }
+    ensures { let shows = shown F.files F.read_faults F.write_faults in
+        Adds (lines_text (items_lines digits None (map item_of items.now))) writer.old writer.new (shows store.old) (shows store.new) result }
+{
+    let mut former = None;
+    for item in items {
+        item.entry().push_to(writer, store, digits, former)?;
+        former = Some(item.section);
+    }
+    Ok(())
+}

@@ -1,0 +1,214 @@
+// Lines of playlists.
+ghost use Rattle.std.specs.Prelude.{◌≡◌, ◌+◌, ◌/◌, ◌%◌, ◌<◌, ◌++◌, ◌∷◌, [], All, decimal};
+ghost use Rattle.iso_time.specs.Digits.{padded_digits};
+ghost use Rattle.hls_writer.specs.Adding.{Adds, shown};
+ghost use Rattle.hls_writer.specs.Lines.{line_text, lines_text, initialization, duration};
+ghost use Rattle.hls_writer.specs.Rows.{written, all_written, CanBeWritten, CanBeThere};
+
+use crate::piece::{Piece, push_pieces};
+use bridge_io::{Fail, FileWriter, Store};
+use exact_time::Digits;
+use iso_time::{Instant, write_instant_ms};
+use url_parts::{Address, Part, Range};
+
+/// A line of a playlist (RFC 8216, 4.3).
+#[derive(Clone, Copy)]
+pub enum Line<'a> {
+    /// EXTM3U (4.3.1.1).
+    Header,
+    /// EXT-X-VERSION (4.3.1.2).
+    Version(u64),
+    /// EXT-X-TARGETDURATION (4.3.3.1), in seconds.
+    TargetDuration(u64),
+    /// EXT-X-MEDIA-SEQUENCE (4.3.3.2).
+    MediaSequence(u64),
+    /// EXT-X-DISCONTINUITY-SEQUENCE (4.3.3.3).
+    DiscontinuitySequence(u64),
+    /// EXT-X-DISCONTINUITY (4.3.2.3).
+    Discontinuity,
+    /// EXT-X-MAP (4.3.2.5).
+    Map(&'a Part),
+    /// EXT-X-PROGRAM-DATE-TIME (4.3.2.6).
+    ProgramDateTime(Instant),
+    /// EXTINF (4.3.2.1).
+    Duration {
+        /// How many decimals are printed.
+        digits: Digits,
+        /// How long, in units of the last decimal.
+        units: u64,
+    },
+    /// EXT-X-BYTERANGE (4.3.2.2).
+    ByteRange(Range),
+    /// The address of a segment.
+    Uri(&'a Address),
+    /// EXT-X-ENDLIST (4.3.3.4).
+    EndList,
+}
+
+impl Line<'_> {
+    /// Adds the line with its end.
+    #[tactic(auto, unfolding(crate::specs::Lines::line_bytes))]
+    pub fn push_to<F: Store>(&self, writer: &mut FileWriter<'_>, store: &mut F) -> Result<(), Fail>
+        requires { CanBeWritten self.now }
+        ensures { let shows = shown F.files F.read_faults F.write_faults in
+            Adds (line_text (written self.now)) writer.old writer.new (shows store.old) (shows store.new) result }
+    {
+        match *self {
+            Line::Header => push_pieces(writer, store, &[Piece::Text(b"#EXTM3U\n")]),
+            Line::Version(number) => push_numbered(writer, store, b"#EXT-X-VERSION:", number),
+            Line::TargetDuration(seconds) => {
+                push_numbered(writer, store, b"#EXT-X-TARGETDURATION:", seconds)
+            }
+            Line::MediaSequence(number) => {
+                push_numbered(writer, store, b"#EXT-X-MEDIA-SEQUENCE:", number)
+            }
+            Line::DiscontinuitySequence(number) => {
+                push_numbered(writer, store, b"#EXT-X-DISCONTINUITY-SEQUENCE:", number)
+            }
+            Line::Discontinuity => {
+                push_pieces(writer, store, &[Piece::Text(b"#EXT-X-DISCONTINUITY\n")])
+            }
+            Line::Map(part) => push_map(writer, store, part),
+            Line::ProgramDateTime(instant) => push_pieces(
+                writer,
+                store,
+                &[
+                    Piece::Text(b"#EXT-X-PROGRAM-DATE-TIME:"),
+                    Piece::Text(&write_instant_ms(instant)),
+                    Piece::Text(b"\n"),
+                ],
+            ),
+            Line::Duration { digits, units } => push_duration(writer, store, digits, units),
+            Line::ByteRange(range) => push_pieces(
+                writer,
+                store,
+                &[
+                    Piece::Text(b"#EXT-X-BYTERANGE:"),
+                    Piece::Number(range.count),
+                    Piece::Text(b"@"),
+                    Piece::Number(range.first),
+                    Piece::Text(b"\n"),
+                ],
+            ),
+            Line::Uri(address) => push_pieces(
+                writer,
+                store,
+                &[Piece::Text(address.as_str().as_bytes()), Piece::Text(b"\n")],
+            ),
+            Line::EndList => push_pieces(writer, store, &[Piece::Text(b"#EXT-X-ENDLIST\n")]),
+        }
+    }
+}
+
+/// Adds a line of a tag with a number.
+fn push_numbered<F: Store>(
+    writer: &mut FileWriter<'_>,
+    store: &mut F,
+    tag: &[u8],
+    number: u64,
+) -> Result<(), Fail>
+    ensures { let shows = shown F.files F.read_faults F.write_faults in
+        Adds (tag.now ++ decimal number ++ 10 ∷ []) writer.old writer.new (shows store.old) (shows store.new) result }
+{
+    push_pieces(
+        writer,
+        store,
+        &[Piece::Text(tag), Piece::Number(number), Piece::Text(b"\n")],
+    )
+}
+
+/// Adds the line of the part of a file that initializes segments.
+#[tactic(auto, unfolding(crate::specs::Lines::line_bytes))]
+fn push_map<F: Store>(writer: &mut FileWriter<'_>, store: &mut F, part: &Part) -> Result<(), Fail>
+    ensures { let shows = shown F.files F.read_faults F.write_faults in
+        Adds (line_text (initialization part.now)) writer.old writer.new (shows store.old) (shows store.new) result }
+{
+    let tag = Piece::Text(b"#EXT-X-MAP:URI=\"");
+    let address = Piece::Text(part.address.as_str().as_bytes());
+    match part.range {
+        None => push_pieces(writer, store, &[tag, address, Piece::Text(b"\"\n")]),
+        Some(range) => push_pieces(
+            writer,
+            store,
+            &[
+                tag,
+                address,
+                Piece::Text(b"\",BYTERANGE=\""),
+                Piece::Number(range.count),
+                Piece::Text(b"@"),
+                Piece::Number(range.first),
+                Piece::Text(b"\"\n"),
+            ],
+        ),
+    }
+}
+
+/// Adds the line of a printed duration.
+#[tactic(auto, unfolding(crate::specs::Lines::line_bytes))]
+fn push_duration<F: Store>(
+    writer: &mut FileWriter<'_>,
+    store: &mut F,
+    digits: Digits,
+    units: u64,
+) -> Result<(), Fail>
+    ensures { let shows = shown F.files F.read_faults F.write_faults in
+        Adds (line_text (duration digits units)) writer.old writer.new (shows store.old) (shows store.new) result }
+{
+    let decimals = nine_decimals(units);
+    let before = 9 - usize::from(digits.count());
+    push_pieces(
+        writer,
+        store,
+        &[
+            Piece::Text(b"#EXTINF:"),
+            Piece::Number(units / u64::from(digits.unit())),
+            Piece::Text(b"."),
+            Piece::Text(&decimals[before..]),
+            Piece::Text(b",\n"),
+        ],
+    )
+}
+
+/// The last nine decimal digits of a number, with zeros in front.
+#[tactic(auto, unfolding(iso_time::specs::Digits::padded_digits))]
+fn nine_decimals(number: u64) -> [u8; 9]
+    ensures { result ≡ padded_digits 9 number }
+{
+    [
+        decimal_at(number, 100_000_000),
+        decimal_at(number, 10_000_000),
+        decimal_at(number, 1_000_000),
+        decimal_at(number, 100_000),
+        decimal_at(number, 10_000),
+        decimal_at(number, 1_000),
+        decimal_at(number, 100),
+        decimal_at(number, 10),
+        decimal_at(number, 1),
+    ]
+}
+
+/// The decimal digit of a number that counts so many.
+fn decimal_at(number: u64, unit: u64) -> u8
+    requires { 0 < unit }
+    ensures { result ≡ 48 + number / unit % 10 }
+{
+    b'0' + (number / unit % 10) as u8
+}
+
+/// Adds lines in order, those that are there of some that may be missing.
+pub fn push_lines<F: Store>(
+    writer: &mut FileWriter<'_>,
+    store: &mut F,
+    lines: &[Option<Line<'_>>],
+) -> Result<(), Fail>
+    requires { All CanBeThere lines.now }
+    ensures { let shows = shown F.files F.read_faults F.write_faults in
+        Adds (lines_text (all_written lines.now)) writer.old writer.new (shows store.old) (shows store.new) result }
+{
+    for line in lines {
+        if let Some(line) = line {
+            line.push_to(writer, store)?;
+        }
+    }
+    Ok(())
+}
