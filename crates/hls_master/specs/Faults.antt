@@ -1,0 +1,32 @@
+-- First faults.
+use Rattle.std.specs.Prelude.{List, [], ◌∷◌, Option, Some, None, Result, Ok, Err}
+use Rattle.hls_lines.specs.declared.fault.LineFault.{LineFault}
+use Rattle.hls_lines.specs.declared.fault.LineFault.TheVariants as line
+use Rattle.hls_master.specs.declared.fault.MasterFault.{MasterFault}
+use Rattle.hls_master.specs.declared.fault.MasterFault.TheVariants.{Line, Memory}
+
+-- the first fault of those that stand in a list
+abbrev pub first_of : {F : Type 0} → List (Option F) → Option F
+first_of [] = None
+first_of (Some fault ∷ faults) = Some fault
+first_of (None ∷ faults) = first_of faults
+
+-- a value, unless there is a fault
+abbrev pub answer : {X F : Type 0} → Option F → X → Result X F
+answer None value = Ok value
+answer (Some fault) value = Err fault
+
+-- what is answered, its value seen by a function
+abbrev pub mapped : {X Y F : Type 0} → (X → Y) → Result X F → Result Y F
+mapped see (Ok value) = Ok (see value)
+mapped see (Err fault) = Err fault
+
+-- want of memory tells nothing of the file
+abbrev pub refusal : MasterFault → Option MasterFault
+refusal Memory = None
+refusal fault = Some fault
+
+-- the fault of a line's text or of its attributes
+abbrev pub of_line : LineFault → MasterFault
+of_line line.Memory = Memory
+of_line fault = Line fault

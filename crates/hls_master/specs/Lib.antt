@@ -1,0 +1,12 @@
+pub mod Addresses
+pub mod Codes
+pub mod Entries
+pub mod Faults
+pub mod Masters
+pub mod Mentions
+pub mod Renditions
+pub mod Seen
+pub mod SeenTags
+pub mod Tracks
+pub mod Values
+pub mod Variants

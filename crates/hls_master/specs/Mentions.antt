@@ -1,0 +1,50 @@
+-- What the lines of a master mention.
+use Rattle.std.specs.Prelude.{ℕ, List, [], ◌∷◌, ◌++◌, Option, Some}
+use Rattle.std.specs.List.{flat_map}
+use Rattle.std.specs.Option.{option_to_list}
+use Rattle.hls_lines.specs.Attributes.{attributes_of}
+use Rattle.hls_master.specs.declared.fault.MasterFault.{MasterFault}
+use Rattle.hls_master.specs.Entries.{MasterEntry, rendition, variant, stray}
+use Rattle.hls_master.specs.Faults.{first_of}
+use Rattle.hls_master.specs.Renditions.{RenditionValue, rendition_value, rendition_fault, same_name}
+use Rattle.hls_master.specs.Variants.{VariantValue, variant_with, variant_fault, attributes_or_none}
+
+-- the renditions and the variants of a master, each in the order of the lines
+pub record MentionsValue : Type 0 where
+  pub renditions : List RenditionValue
+  pub variants : List VariantValue
+
+abbrev pub entry_rendition : (master : List ℕ) → MasterEntry → List RenditionValue
+entry_rendition master (rendition rest place) = option_to_list (rendition_value master (attributes_of rest place))
+entry_rendition master (variant rest place uri uri_place) = []
+entry_rendition master (stray fault) = []
+
+abbrev pub entry_variant : (master : List ℕ) → MasterEntry → List VariantValue
+entry_variant master (rendition rest place) = []
+entry_variant master (variant rest place uri uri_place) = variant_with master place uri (attributes_or_none (attributes_of rest place)) ∷ []
+entry_variant master (stray fault) = []
+
+-- what lines mention, behind what was mentioned before
+abbrev pub mentions_behind : (master : List ℕ) → MentionsValue → List MasterEntry → MentionsValue
+mentions_behind master before entries = record {
+  renditions = before.renditions ++ flat_map (entry_rendition master) entries;
+  variants = before.variants ++ flat_map (entry_variant master) entries;
+}
+
+abbrev pub nothing : MentionsValue
+nothing = record { renditions = []; variants = [] }
+
+abbrev pub mentions_of : (master : List ℕ) → List MasterEntry → MentionsValue
+mentions_of master entries = mentions_behind master nothing entries
+
+-- the first fault of an entry behind renditions
+abbrev pub entry_fault : (master : List ℕ) → List RenditionValue → MasterEntry → Option MasterFault
+entry_fault master before (rendition rest place) =
+    first_of (rendition_fault master place (attributes_of rest place) ∷ same_name before place (rendition_value master (attributes_of rest place)) ∷ [])
+entry_fault master before (variant rest place uri uri_place) = variant_fault master place uri uri_place (attributes_of rest place)
+entry_fault master before (stray fault) = Some fault
+
+-- the faults of entries in their order, behind renditions
+abbrev pub entry_faults : (master : List ℕ) → List RenditionValue → List MasterEntry → List (Option MasterFault)
+entry_faults master before [] = []
+entry_faults master before (entry ∷ entries) = entry_fault master before entry ∷ entry_faults master (before ++ entry_rendition master entry) entries
