@@ -1,0 +1,4 @@
+pub mod Passing
+pub mod Sound
+pub mod Standing
+pub mod Telling

@@ -1,0 +1,12 @@
+use Rattle.std.proofs.Common.{rules, tests}
+use Rattle.std.proofs.lemmas.Iterator.Consumers.{YieldsList-from_first}
+use Rattle.std.proofs.lemmas.Iterator.Search.{any_from_yields_List}
+use Rattle.mpd_text.specs.Nodes.{element_of, elements_left}
+use Rattle.mpd_profile.specs.Heads.{is_named}
+use Rattle.mpd_profile.proofs.heads.has_child.Goals as goal
+
+pub returns : goal.returns
+returns c =
+    any_from_yields_List (is_named c.args.name.now) c.any.new.self _ c.any.result c.any.ensures.ran
+    (YieldsList-from_first element_of elements_left _ c.children.ensures)
+    (λ x b q k. search (rules, tests))

@@ -1,0 +1,11 @@
+pub mod Behind
+pub mod Elements
+pub mod Features
+pub mod Heads
+pub mod LeftOut
+pub mod Passes
+pub mod Refusals
+pub mod Rows
+pub mod Sound
+pub mod Values
+pub mod Visits

@@ -1,0 +1,8 @@
+-- Rows of the code's tables.
+use Rattle.std.specs.Prelude.{ℕ, List}
+use Rattle.std.specs.Borrow.{Bor}
+use Rattle.mpd_profile.specs.Elements.{Named}
+
+-- a row without where its name lies in memory
+abbrev pub shown : {X : Type 0} → Bor (List ℕ) × X → Named X
+shown row = (row.0.now, row.1)

@@ -1,0 +1,38 @@
+-- What can be relied on of an element in which no value is refused.
+use Rattle.std.specs.Prelude.{◌≡◌, ℕ, Bool, true, false, List, [], flat_map, Some}
+use Rattle.std.specs.List.{All, list_any}
+use Rattle.mpd_text.specs.Trees.{Element}
+use Rattle.mpd_text.specs.Views.{side_by_side}
+use Rattle.mpd_profile.specs.declared.listed.Listed.{Listed}
+use Rattle.mpd_profile.specs.declared.listed.Addressing.{Addressing}
+use Rattle.mpd_profile.specs.declared.value.Value.{Value}
+use Rattle.mpd_profile.specs.Elements.{child_of, value_of}
+use Rattle.mpd_profile.specs.Heads.{value_named}
+use Rattle.mpd_profile.specs.LeftOut.{is_left_out}
+use Rattle.mpd_profile.specs.Refusals.{has_no_type, lacks, required_of, values_at}
+use Rattle.mpd_profile.specs.Values.{is_value}
+use Rattle.mpd_profile.specs.Visits.{Parent, visits_in}
+
+-- an element as the parent of what stands in it
+abbrev pub parent_of : Listed → (dynamic : Bool) → Element → Parent
+parent_of listed dynamic e = record { listed = listed; head = e.head; dynamic = dynamic }
+
+-- An element that is read so has nothing refused for its values, neither in itself nor in what is looked at in it.
+pub record IsSound (addressing : Addressing) (dynamic : Bool) (listed : Listed) (e : Element) : Type 0 where
+  pub values : (name text : List ℕ) (value : Value) → value_of addressing listed name ≡ Some value → value_named name e.head ≡ Some text → is_value value text ≡ true
+  pub required : list_any (lacks e.head) (required_of (Some listed) dynamic) ≡ false
+  pub inside : flat_map (values_at addressing) (visits_in addressing (parent_of listed dynamic e) [] e.children) ≡ []
+
+-- An element of a parent that is read as `l` and isn't left out: it has nothing refused, and a Representation has a
+-- media type, its own or its set's.
+pub record IsSoundAs (addressing : Addressing) (parent : Parent) (l : Listed) (c : Element) : Type 0 where
+  pub sound : IsSound addressing parent.dynamic l c
+  pub typed : has_no_type (Some l) (Some parent) c.head ≡ false
+
+abbrev pub IsSoundChild : Addressing → Parent → Element → Type 0
+IsSoundChild addressing parent c =
+    (l : Listed) → child_of addressing parent.listed c.head.name ≡ Some l → is_left_out parent.head (Some l) c ≡ false → IsSoundAs addressing parent l c
+
+-- each element directly in one, as far as it is read and isn't left out
+abbrev pub AreSoundChildren : Addressing → Bool → Listed → Element → Type 0
+AreSoundChildren addressing dynamic listed e = All (IsSoundChild addressing (parent_of listed dynamic e)) (side_by_side e.children)

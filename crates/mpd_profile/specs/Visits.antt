@@ -1,0 +1,60 @@
+-- An MPD's elements in document order, as far as they are looked at: the elements that are read, and what stands
+-- directly in them. What is left out is passed over whole.
+use Rattle.std.specs.Prelude.{Bool, List, [], ◌∷◌, ◌++◌, if◌then◌else◌, Option, Some, None}
+use Rattle.mpd_text.specs.Trees.{Head, Forest, nothing, element, Element}
+use Rattle.mpd_profile.specs.declared.listed.Listed.{Listed}
+use Rattle.mpd_profile.specs.declared.listed.Listed.TheVariants.{Mpd}
+use Rattle.mpd_profile.specs.declared.listed.Addressing.{Addressing}
+use Rattle.mpd_profile.specs.Elements.{child_of}
+use Rattle.mpd_profile.specs.Heads.{is_dynamic}
+use Rattle.mpd_profile.specs.LeftOut.{is_left_out}
+
+-- what an element stands in: the parent, what it is read as, and whether the MPD is dynamic
+pub record Parent : Type 0 where
+  pub listed : Listed
+  pub head : Head
+  pub dynamic : Bool
+
+-- an element where it stands: in a parent behind other elements; the root stands in none
+pub record Visit : Type 0 where
+  pub parent : Option Parent
+  pub before : List Head
+  pub listed : Option Listed
+  pub head : Head
+  pub dynamic : Bool
+
+abbrev pub visit_in : Addressing → Parent → List Head → Head → Visit
+visit_in addressing parent before head = record {
+  parent = Some parent;
+  before = before;
+  listed = child_of addressing parent.listed head.name;
+  head = head;
+  dynamic = parent.dynamic;
+}
+
+abbrev pub parent_in : Parent → Listed → Head → Parent
+parent_in parent listed head = record { listed = listed; head = head; dynamic = parent.dynamic }
+
+-- what stands in an element, where that is read
+abbrev pub inside : {X : Type 0} → Option Listed → (Listed → List X) → List X
+inside None visits = []
+inside (Some listed) visits = visits listed
+
+-- the elements that stand in a parent, behind others
+unfoldable pub visits_in : Addressing → Parent → List Head → Forest → List Visit
+visits_in addressing parent before nothing = []
+visits_in addressing parent before (element head children others) =
+    (if is_left_out parent.head (child_of addressing parent.listed head.name) (record { head = head; children = children }) then []
+    else visit_in addressing parent before head
+    ∷ inside (child_of addressing parent.listed head.name) (λ listed. visits_in addressing (parent_in parent listed head) [] children))
+    ++ visits_in addressing parent (before ++ head ∷ []) others
+
+abbrev pub root_parent : Head → Parent
+root_parent root = record { listed = Mpd; head = root; dynamic = is_dynamic root }
+
+abbrev pub root_visit : Head → Visit
+root_visit root = record { parent = None; before = []; listed = Some Mpd; head = root; dynamic = is_dynamic root }
+
+-- all of an MPD
+abbrev pub visits_of : Addressing → Element → List Visit
+visits_of addressing root = root_visit root.head ∷ visits_in addressing (root_parent root.head) [] root.children

@@ -1,0 +1,103 @@
+// Features that are refused by name.
+ghost use Rattle.std.specs.Prelude.{◌≡◌, map, option_map};
+ghost use Rattle.mpd_text.specs.Nodes.{element_of};
+ghost use Rattle.mpd_text.specs.Views.{attribute_shown};
+ghost use Rattle.mpd_profile.specs.Features as spec;
+ghost use Rattle.mpd_profile.specs.Rows.{shown};
+
+use crate::fault::RuleFault;
+use crate::left_out::ESSENTIAL;
+use crate::listed::{Listed, named_in};
+use crate::tables;
+use bridge_io::Place;
+use mpd_text::Attr;
+use mpd_values::{Blank, has_foreign_code, kind_of, trimmed};
+
+/// A feature that is refused wherever it stands.
+#[derive(Clone, Copy, Debug)]
+pub(crate) enum Feature {
+    Encryption,
+    Events,
+    LowLatency,
+    Remote,
+    Essential,
+    Unsupported,
+}
+
+impl Feature {
+    pub(crate) fn at(self, place: Place) -> RuleFault
+        ensures { result ≡ spec.fault_at self place }
+    {
+        match self {
+            Feature::Encryption => RuleFault::Encryption(place),
+            Feature::Events => RuleFault::Events(place),
+            Feature::LowLatency => RuleFault::LowLatency(place),
+            Feature::Remote => RuleFault::Remote(place),
+            Feature::Essential => RuleFault::Essential(place),
+            Feature::Unsupported => RuleFault::Unsupported(place),
+        }
+    }
+}
+
+/// The feature that an element is by its name and its parent, where it isn't the second of those of which one
+/// parent has one.
+pub(crate) fn element_feature(parent: Listed, is_second: bool, name: &str) -> Option<Feature>
+    ensures { result ≡ spec.feature_if parent is_second name.now }
+{
+    if is_essential_in(parent, name) {
+        return Some(Feature::Essential);
+    }
+    if is_second {
+        return Some(Feature::Unsupported);
+    }
+    named_in(refused_elements(), name)
+}
+
+fn refused_elements() -> &'static [(&'static str, Feature)]
+    ensures { map shown result.now ≡ spec.refused_elements }
+{
+    &tables::REFUSED_ELEMENTS
+}
+
+fn is_essential_in(parent: Listed, name: &str) -> bool
+    ensures { result ≡ spec.is_essential_in parent name.now }
+{
+    match parent {
+        Listed::Mpd | Listed::Period => name == ESSENTIAL,
+        _ => false,
+    }
+}
+
+/// Whether a code stands for another kind of media than a Representation of this media type.
+pub(crate) fn has_foreign(media_type: Option<&str>, codecs: Option<&str>) -> bool
+    ensures { result ≡ spec.has_foreign (spec.kind_named (option_map (λ text. text.now) media_type.entry)) (option_map (λ text. text.now) codecs.entry) }
+{
+    match (media_type, codecs) {
+        (Some(media_type), Some(codecs)) => match kind_of(media_type) {
+            Some(kind) => has_foreign_code(codecs, kind),
+            None => false,
+        },
+        _ => false,
+    }
+}
+
+/// The feature that an attribute is.
+pub(crate) fn attribute_feature(dynamic: bool, listed: Listed, attr: Attr<'_>) -> Option<Feature>
+    ensures { result ≡ spec.attribute_feature dynamic listed (attribute_shown attr.entry) }
+{
+    if attr.name == "availabilityTimeComplete" && trimmed(attr.value, Blank::Space) == "false" {
+        return Some(Feature::LowLatency);
+    }
+    named_in(refused_attributes(dynamic, listed), attr.name)
+}
+
+fn refused_attributes(dynamic: bool, listed: Listed) -> &'static [(&'static str, Feature)]
+    ensures { map shown result.now ≡ spec.refused_attributes dynamic listed }
+{
+    match (dynamic, listed) {
+        (true, Listed::S) => &tables::REFUSED_IN_DYNAMIC_S,
+        (true, _) => &tables::REFUSED_IN_DYNAMIC,
+        (false, Listed::S) => &tables::REFUSED_IN_S,
+        (false, _) => &tables::REFUSED,
+    }
+}

@@ -1,0 +1,30 @@
+// What elements say.
+ghost use Rattle.std.specs.Prelude.{◌≡◌, option_map};
+ghost use Rattle.mpd_text.specs.Nodes.{element_of};
+ghost use Rattle.mpd_profile.specs.Heads as spec;
+
+use mpd_text::Node;
+
+/// The value of the attribute of that name.
+pub fn value_named<'a>(node: Node<'a>, name: &str) -> Option<&'a str>
+    ensures { option_map (λ text. text.now) result ≡ spec.value_named name.now (element_of node.entry).head }
+{
+    Some(node.attribute(name)?.value)
+}
+
+/// Whether some child has this name.
+pub fn has_child(node: Node<'_>, name: &str) -> bool
+    ensures { result ≡ spec.has_child name.now (element_of node.entry).children }
+{
+    node.children().any(|child| child.name() == name)
+}
+
+/// Whether an MPD is dynamic: exactly where its type is that word.
+pub fn is_dynamic(mpd: Node<'_>) -> bool
+    ensures { result ≡ spec.is_dynamic (element_of mpd.entry).head }
+{
+    match value_named(mpd, "type") {
+        Some(text) => text == "dynamic",
+        None => false,
+    }
+}

@@ -1,0 +1,110 @@
+// The passes.
+ghost use Rattle.std.specs.Prelude.{◌≡◌, List, [], OnOk, flat_map};
+ghost use Rattle.bridge_io.specs.Answer.{Gives};
+ghost use Rattle.mpd_text.specs.Nodes.{element_of, root_of};
+ghost use Rattle.mpd_text.specs.Trees.{Head};
+ghost use Rattle.mpd_profile.specs.declared.listed.Listed.TheVariants.{Mpd};
+ghost use Rattle.mpd_profile.specs.Behind.{IsBehind};
+ghost use Rattle.mpd_profile.specs.Heads.{is_dynamic};
+ghost use Rattle.mpd_profile.specs.Passes as passes;
+ghost use Rattle.mpd_profile.specs.Refusals.{first_of, refusal, refusals_of, root_refusals};
+ghost use Rattle.mpd_profile.specs.Sound.{IsSound};
+
+use crate::fault::RuleFault;
+use crate::heads::{is_dynamic, value_named};
+use crate::left_out::is_left_out;
+use crate::listed::{Addressing, Listed};
+use crate::parent::Parent;
+use crate::siblings::Siblings;
+use crate::visit::{Pass, Visit};
+use mpd_text::{Node, Tree};
+use mpd_values::is_alike;
+use std::alloc::Global;
+
+/// The namespace of an MPD (ISO/IEC 23009-1, 5.3.1.2).
+const NAMESPACE: &str = "urn:mpeg:dash:schema:mpd:2011";
+
+/// Looks for the first refusal in an MPD whose segments are addressed so: of its root (ISO/IEC 23009-1, 5.3.1.2), then
+/// of features, then of values (5.3), each in document order. What is left out is passed over.
+///
+/// The answer is that refusal with its place, or `Memory`, which says nothing of the MPD.
+pub fn check(alloc: Global, tree: &Tree, addressing: Addressing) -> Result<(), RuleFault>
+    ensures refused { Gives (λ u. u) refusal result (first_of (refusals_of addressing (root_of tree.now))) }
+    ensures sound { OnOk result (IsSound addressing (is_dynamic (root_of tree.now).head) Mpd (root_of tree.now)) }
+{
+    let root = tree.root();
+    check_root(root)?;
+    check_all(alloc, root, Pass::Features)?;
+    check_all(alloc, root, Pass::Values(addressing))
+}
+
+#[tactic(auto, unfolding(crate::specs::Refusals::root_refusals))]
+fn check_root(root: Node<'_>) -> Result<(), RuleFault>
+    ensures { result ≡ first_of (root_refusals (element_of root.entry)) }
+{
+    if root.name() != "MPD" {
+        return Err(RuleFault::Root(root.place()));
+    }
+    match value_named(root, "xmlns") {
+        Some(text) if is_alike(text, NAMESPACE) => Ok(()),
+        _ => Err(RuleFault::Namespace(root.place())),
+    }
+}
+
+fn check_all(alloc: Global, root: Node<'_>, pass: Pass) -> Result<(), RuleFault>
+    ensures { Gives (λ u. u) refusal result (first_of (passes.refused_in pass (element_of root.entry))) }
+{
+    let dynamic = is_dynamic(root);
+    let visit = Visit {
+        node: root,
+        listed: Some(Listed::Mpd),
+        dynamic,
+        parent: None,
+        siblings: &Siblings::new(alloc, dynamic),
+    };
+    visit.check(pass)?;
+    check_inside(alloc, &Parent::of(Listed::Mpd, root, dynamic), pass)
+}
+
+/// Looks at what stands in an element that is read.
+#[cycle(inside)]
+fn check_inside(alloc: Global, parent: &Parent<'_>, pass: Pass) -> Result<(), RuleFault>
+    ensures { Gives (λ u. u) refusal result (first_of (passes.refused_inside pass (passes.parent_shown parent.now) [] (element_of parent.now.node).children)) }
+{
+    let mut siblings = Siblings::new(alloc, parent.dynamic);
+    for node in parent.node.children() {
+        check_child(alloc, parent, &siblings, node, pass)?;
+        siblings.add(node, parent.dynamic)?;
+    }
+    Ok(())
+}
+
+/// Looks at an element behind others, and at what stands in it.
+#[cycle(inside)]
+fn check_child<'a>(
+    alloc: Global,
+    parent: &Parent<'a>,
+    siblings: &Siblings<'a>,
+    node: Node<'a>,
+    pass: Pass,
+) -> Result<(), RuleFault>
+    ensures { (before : List Head) → IsBehind siblings.now parent.now.dynamic before →
+        Gives (λ u. u) refusal result (first_of (passes.refused_child pass (passes.parent_shown parent.now) before (element_of node.entry))) }
+{
+    let listed = parent.listed.child(node.name(), pass.addressing());
+    if is_left_out(parent.media_type, listed, node) {
+        return Ok(());
+    }
+    let visit = Visit {
+        node,
+        listed,
+        dynamic: parent.dynamic,
+        parent: Some(parent),
+        siblings,
+    };
+    visit.check(pass)?;
+    match listed {
+        Some(listed) => check_inside(alloc, &Parent::of(listed, node, parent.dynamic), pass),
+        None => Ok(()),
+    }
+}
