@@ -1,0 +1,30 @@
+-- What attributes denote, without any bound on numbers; and the children of a name.
+use Rattle.std.specs.Prelude.{ℕ, ℤ, List, filter, find, Option, option_and_then}
+use Rattle.url_parts.specs.Ranges.{range_of}
+use Rattle.url_parts.specs.declared.range.Range.{Range}
+use Rattle.mpd_values.specs.declared.blank.Blank.TheVariants.{Space}
+use Rattle.mpd_values.specs.Blanks.{trimmed}
+use Rattle.mpd_values.specs.Numbers.{number_of, signed_of}
+use Rattle.mpd_text.specs.Trees.{Head, Element}
+use Rattle.mpd_text.specs.Views.{side_by_side}
+use Rattle.mpd_profile.specs.Heads.{is_named, value_named}
+
+abbrev pub number_named : List ℕ → Head → Option ℕ
+number_named name head = option_and_then number_of (value_named name head)
+
+abbrev pub signed_named : List ℕ → Head → Option ℤ
+signed_named name head = option_and_then signed_of (value_named name head)
+
+abbrev pub range_in : List ℕ → Option Range
+range_in text = range_of (trimmed Space text)
+
+abbrev pub range_named : List ℕ → Head → Option Range
+range_named name head = option_and_then range_in (value_named name head)
+
+-- the first child of that name
+abbrev pub child_named : List ℕ → Element → Option Element
+child_named name e = find (is_named name) (side_by_side e.children)
+
+-- all children of that name
+abbrev pub children_named : List ℕ → Element → List Element
+children_named name e = filter (is_named name) (side_by_side e.children)
