@@ -1,0 +1,15 @@
+use Rattle.std.proofs.Common.{All, map, length, ap, sym, subst, ◌∙◌}
+use Rattle.mpd_text.specs.Nodes.{element_of}
+use Rattle.mpd_levels.proofs.Showing.{Grows-then}
+use Rattle.mpd_rules.specs.Fits.{FitsTrack}
+use Rattle.mpd_rules.proofs.Building.{on_ok}
+use Rattle.mpd_rules.proofs.build.Building.add_set.Goals as goal
+
+pub add_tracks-requires : goal.add_tracks-requires
+add_tracks-requires g c = subst (All FitsTrack) (sym (ap (map element_of) c.deref.ensures.value ∙ c.in_ok-representations.ensures.kept)) c.requires.tracks
+
+pub returns-clause-grows : goal.returns-clause-grows
+returns-clause-grows g c = Grows-then c.below.ensures.grows c.add_tracks.ensures.grows
+
+pub returns-clause-left_out : goal.returns-clause-left_out
+returns-clause-left_out g c = on_ok c.add_tracks.result (ap length c.add_tracks.ensures.left_out ∙ c.in_ok-representations.ensures.left_out)

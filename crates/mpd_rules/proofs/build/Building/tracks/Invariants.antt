@@ -1,0 +1,20 @@
+use Rattle.std.proofs.Common.{◌≡◌, ◌+◌, ◌++◌, List, map, drop, length}
+use Rattle.std.specs.Prelude.{flat_map, sum_by}
+use Rattle.mpd_text.specs.Nodes.{element_of}
+use Rattle.mpd_text.specs.Trees.{Element}
+use Rattle.mpd_levels.specs.declared.tables.Tables.{Tables}
+use Rattle.mpd_levels.specs.Shown.{Grows, Says}
+use Rattle.mpd_rules.specs.Built.{set_refused, sets_tracks, tracks_shown}
+use Rattle.mpd_rules.specs.Kept.{left_in_set}
+use Rattle.mpd_rules.proofs.build.Building.tracks.Given as goal
+
+abbrev pub invariant-loop-place : goal.invariant-loop-place
+invariant-loop-place g l = record {
+  grows : Grows l.initial.self.tables l.self.tables;
+  left_out : length l.self.left_out + sum_by left_in_set (map element_of (drop l.place l.sets)) ≡ length l.initial.self.left_out + sum_by left_in_set (map element_of l.sets);
+  refused : (levels : List Element) → Says l.initial.self.tables l.above.level levels
+      → flat_map (set_refused g.X.Told.refused g.X.Told.of levels) (map element_of (drop l.place l.sets)) ≡ flat_map (set_refused g.X.Told.refused g.X.Told.of levels) (map element_of l.sets);
+  rows : (levels : List Element) (later : Tables) → Says l.initial.self.tables l.above.level levels → Grows l.self.tables later
+      → tracks_shown g.X.Told.shown later l.tracks ++ sets_tracks g.X.Told.of l.place l.above.bases levels (map element_of (drop l.place l.sets))
+      ≡ sets_tracks g.X.Told.of 0 l.above.bases levels (map element_of l.sets);
+}

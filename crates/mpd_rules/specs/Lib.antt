@@ -1,0 +1,9 @@
+pub mod Built
+pub mod Fits
+pub mod Held
+pub mod Kept
+pub mod Periods
+pub mod Readings
+pub mod Rules
+pub mod Typed
+pub mod Views

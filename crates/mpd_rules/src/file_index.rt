@@ -1,0 +1,43 @@
+// Files with an index inside.
+ghost use Rattle.std.specs.Prelude.{◌≡◌, None, Some, if◌then◌else◌, option_map};
+
+use mpd_levels::{IndexRow, InitView};
+use url_parts::Range;
+
+/// Where a file's index lies, and its initialization part (ISO/IEC 23009-1, 5.3.9.2).
+#[derive(Debug, Drop)]
+pub struct FileIndex {
+    range: Range,
+    row: IndexRow,
+    ghost told: { row.range ≡ Some range },
+}
+
+impl FileIndex {
+    ghost use Rattle.mpd_levels.specs.Indexed.{lacks_index};
+    ghost use Rattle.mpd_levels.specs.Shown.{initialization_shown};
+
+    /// There is none exactly where something lacks.
+    pub(crate) fn of(row: IndexRow) -> Option<FileIndex>
+        ensures { option_map (λ index. index.row) result ≡ (if lacks_index row then None else Some row) }
+    {
+        let range = row.range()?;
+        if row.lacks_index() {
+            return None;
+        }
+        Some(FileIndex { range, row })
+    }
+
+    /// The bytes of the index.
+    pub(crate) fn range(&self) -> Range
+        ensures { self.now.row.range ≡ Some result }
+    {
+        self.range
+    }
+
+    /// Its Initialization.
+    pub(crate) fn initialization(&self) -> Option<InitView<'_>>
+        ensures { option_map initialization_shown result ≡ self.now.row.initialization }
+    {
+        self.row.initialization()
+    }
+}

@@ -1,0 +1,43 @@
+//! The rules of an MPD: its values as they hold for each Representation, or the first refusal (ISO/IEC 23009-1, 5.3).
+#![tactic(auto)]
+
+mod build;
+mod children;
+mod common;
+mod facts;
+mod file_index;
+mod frame_rate;
+mod passes;
+mod periods;
+mod readings;
+mod rows;
+#[cfg(test)]
+mod tests;
+mod told;
+mod typed;
+mod view;
+
+pub use file_index::FileIndex;
+pub use mpd_levels::{Addressing, InitView, SView, SWalk, SegmentRow, Tables, UrlView, UrlWalk};
+pub use mpd_profile::RuleFault;
+pub use passes::{rules, rules_indexed};
+pub use typed::TypedMpd;
+pub use view::{BaseWalk, PeriodWalk, RepWalk, TrackView, TypedPeriod};
+
+/// An MPD whose segments are told one by one.
+pub type Mpd = TypedMpd<SegmentRow>;
+
+/// A Period of it.
+pub type PeriodView<'a> = TypedPeriod<'a, SegmentRow>;
+
+/// A Representation of it.
+pub type RepView<'a> = TrackView<'a, SegmentRow>;
+
+/// An MPD whose segments an index inside of each file tells.
+pub type IndexedMpd = TypedMpd<FileIndex>;
+
+/// A Period of it.
+pub type IndexedPeriod<'a> = TypedPeriod<'a, FileIndex>;
+
+/// A Representation of it.
+pub type IndexedRep<'a> = TrackView<'a, FileIndex>;

@@ -1,0 +1,39 @@
+// Periods and Representations as they are kept.
+use crate::frame_rate::FrameRate;
+use crate::periods::Bounds;
+use bridge_io::{Kind, Place, Sequence, Size, Text};
+use mpd_levels::SharedText;
+
+/// What a Representation says together with the levels above it, but for its segments.
+#[derive(Debug, Drop)]
+pub(crate) struct Description {
+    pub(crate) kind: Kind,
+    /// The place of its set among the Period's kept sets.
+    pub(crate) set: usize,
+    pub(crate) id: Text,
+    /// In bits per second.
+    pub(crate) bandwidth: u32,
+    pub(crate) language: Option<SharedText>,
+    pub(crate) codecs: Option<SharedText>,
+    pub(crate) size: Option<Size>,
+    pub(crate) frame_rate: Option<FrameRate>,
+    /// The first BaseURL of each level that has one, from the MPD down.
+    pub(crate) bases: Sequence<SharedText>,
+    pub(crate) place: Place,
+}
+
+/// A Representation that is kept. Its segments are told by an `X`.
+#[derive(Debug, Drop)]
+pub(crate) struct TrackRow<X> {
+    pub(crate) description: Description,
+    pub(crate) segments: X,
+}
+
+/// A Period, with its Representations that are kept.
+#[derive(Debug, Drop)]
+pub(crate) struct PeriodRow<X> {
+    pub(crate) id: Option<Text>,
+    pub(crate) bounds: Bounds,
+    pub(crate) place: Place,
+    pub(crate) tracks: Sequence<TrackRow<X>>,
+}
