@@ -1,74 +1,17 @@
 -- How the reading of attributes goes on.
-use Rattle.std.proofs.Common.{◌≡◌, ◌≤◌, ℕ, zero, suc, ◌+◌, ◌<◌, Bool, true, false, List, [], ◌∷◌, ◌++◌, length, take, drop, position, Option, Some, None, option_map, option_and_then, refl, sym, ◌∙◌, ap, arith, inl, inr, append_assoc, length-drop, cond, eqb}
-use Rattle.std.proofs.lemmas.Bool.{cases_Bool}
-use Rattle.std.proofs.lemmas.List.Quantifiers.{position-Some}
-use Rattle.hls_lines.specs.Attributes.{NameValue, is_equals, is_quote, is_name, value_behind, value_at, attribute_with, attribute_at, after_comma, more_by, attributes_in, attributes_at}
-use Rattle.hls_lines.specs.Marks.{after_mark, without_spaces, parts_at}
+use Rattle.std.proofs.Common.{◌≡◌, ◌≤◌, ℕ, zero, suc, ◌<◌, List, [], ◌∷◌, ◌++◌, length, Option, Some, None, option_map, option_and_then, refl, sym, ◌∙◌, ap, arith, append_assoc, length-append}
+use Rattle.hls_lines.specs.Attributes.{NameValue, attribute_at, after_comma, more_by, attributes_in, attributes_at}
+use Rattle.hls_lines.proofs.AttributeTexts.{attribute_written, comma_written}
 
 -- ---- what is left gets shorter
 
-cut_shorter : (test : ℕ → Bool) (text : List ℕ) (parts : List ℕ × List ℕ) (o : Option ℕ) → position test text ≡ o → option_map (λ at. (take at text, drop (at + 1) text)) o ≡ Some parts → length parts.1 < length text
-cut_shorter test text parts None e h = cc
-cut_shorter test text parts (Some at) e h = let within = (position-Some test text at 0 e).0 in
-    let same : drop (at + 1) text ≡ parts.1 = cc in omega (arith, ap length same, length-drop (at + 1) text)
-
-parts_shorter : (test : ℕ → Bool) (text : List ℕ) (parts : List ℕ × List ℕ) → parts_at test text ≡ Some parts → length parts.1 < length text
-parts_shorter test text parts e = cut_shorter test text parts (position test text) refl e
-
-mark_shorter : (mark : ℕ) (text rest : List ℕ) → after_mark mark text ≡ Some rest → length rest < length text
-mark_shorter mark [] rest e = cc
-mark_shorter mark (b ∷ bs) rest e = elim (cases_Bool (eqb b mark)) [
-  | inl same ↦ let found : Some bs ≡ Some rest = rw same at e in let is : bs ≡ rest = cc in omega (arith, ap length is)
-  | inr other ↦ let none : None ≡ Some rest = rw other at e in cc
-]
-
-spaces_shorter : (text : List ℕ) → length (without_spaces text) ≤ length text
-spaces_shorter [] = omega arith
-spaces_shorter (b ∷ bs) = elim (cases_Bool (eqb b 32)) [
-  | inl same ↦ rw same (omega (arith, spaces_shorter bs))
-  | inr other ↦ rw other (omega arith)
-]
-
-plain_shorter : (text : List ℕ) (parts : List ℕ × List ℕ) (size : ℕ) → cond (eqb size 0) None (Some (take size text, drop size text)) ≡ Some parts → length parts.1 ≤ length text
-plain_shorter text parts size e = elim (cases_Bool (eqb size 0)) [
-  | inl none ↦ let never : None ≡ Some parts = rw none at e in cc
-  | inr some ↦ let found : Some (take size text, drop size text) ≡ Some parts = rw some at e in
-      let same : drop size text ≡ parts.1 = cc in omega (arith, ap length same, length-drop size text)
-]
-
-behind_shorter : (text : List ℕ) (parts : List ℕ × List ℕ) (o : Option (List ℕ)) → after_mark 34 text ≡ o → value_behind o text ≡ Some parts → length parts.1 ≤ length text
-behind_shorter text parts None e h = plain_shorter text parts _ h
-behind_shorter text parts (Some quoted) e h = omega (arith, mark_shorter 34 text quoted e, parts_shorter is_quote quoted parts h)
-
-value_shorter : (text : List ℕ) (parts : List ℕ × List ℕ) → value_at text ≡ Some parts → length parts.1 ≤ length text
-value_shorter text parts e = behind_shorter text parts (after_mark 34 text) refl e
-
-found_shorter : (text : List ℕ) (found : NameValue × List ℕ) (parts value : List ℕ × List ℕ) → parts_at is_equals text ≡ Some parts → value_at parts.1 ≡ Some value → Some ((parts.0, value.0), value.1) ≡ Some found → length found.1 < length text
-found_shorter text found parts value e v h = let same : value.1 ≡ found.1 = cc in
-    omega (arith, ap length same, parts_shorter is_equals text parts e, value_shorter parts.1 value v)
-
-with_shorter : (text : List ℕ) (found : NameValue × List ℕ) (parts : List ℕ × List ℕ) (named : Bool) (value : Option (List ℕ × List ℕ)) → parts_at is_equals text ≡ Some parts → value_at parts.1 ≡ value
-    → cond named (option_map (λ f. ((parts.0, f.0), f.1)) value) None ≡ Some found → length found.1 < length text
-with_shorter text found parts false value e v h = cc
-with_shorter text found parts true None e v h = cc
-with_shorter text found parts true (Some value) e v h = found_shorter text found parts value e v h
-
-at_shorter : (text : List ℕ) (found : NameValue × List ℕ) (parts : Option (List ℕ × List ℕ)) → parts_at is_equals text ≡ parts → option_and_then attribute_with parts ≡ Some found → length found.1 < length text
-at_shorter text found None e h = cc
-at_shorter text found (Some parts) e h = with_shorter text found parts (is_name parts.0) (value_at parts.1) e refl h
-
 pub attribute_shorter : (text : List ℕ) (found : NameValue × List ℕ) → attribute_at text ≡ Some found → length found.1 < length text
-unfolding attribute_at
-attribute_shorter text found e = at_shorter text found (parts_at is_equals text) refl e
-
-comma_shorter_of : (text next : List ℕ) (o : Option (List ℕ)) → after_mark 44 (without_spaces text) ≡ o → option_map without_spaces o ≡ Some next → length next < length text
-comma_shorter_of text next None e h = cc
-comma_shorter_of text next (Some rest) e h = let same : without_spaces rest ≡ next = cc in
-    omega (arith, ap length same, spaces_shorter rest, spaces_shorter text, mark_shorter 44 (without_spaces text) rest e)
+attribute_shorter text found e = let w = attribute_written text found e in
+    omega (arith, ap length w.1.0, ap length w.1.1.is, length-append w.0 found.1, length-append found.0.0 (61 ∷ w.1.1.value))
 
 pub comma_shorter : (text next : List ℕ) → after_comma text ≡ Some next → length next < length text
-unfolding after_comma
-comma_shorter text next e = comma_shorter_of text next (after_mark 44 (without_spaces text)) refl e
+comma_shorter text next e = let w = comma_written text next e in
+    omega (arith, ap length w.1.0, ap length w.1.1.is, length-append w.0 next, length-append w.1.1.before (44 ∷ w.1.1.behind))
 
 -- ---- as many attributes as may be read make no difference
 
@@ -76,7 +19,7 @@ no_attribute : attribute_at [] ≡ None
 unfolding attribute_at
 no_attribute = refl
 
-abbrev first_then : (List ℕ → Option (List NameValue)) → Option (NameValue × List ℕ) → Option (List NameValue)
+abbrev pub first_then : (List ℕ → Option (List NameValue)) → Option (NameValue × List ℕ) → Option (List NameValue)
 first_then read first = option_and_then (λ found. option_map (λ others. found.0 ∷ others) (more_by read found.1)) first
 
 same_more : (read other : List ℕ → Option (List NameValue)) (rest : List ℕ) → ((next : List ℕ) → length next < length rest → read next ≡ other next) → more_by read rest ≡ more_by other rest
@@ -104,7 +47,7 @@ same_most (suc n) zero text h k = sym (none_of_nothing text n k)
 same_most (suc n) (suc m) text h k = same_first (attributes_in n) (attributes_in m) text (attribute_at text) refl (λ next less. same_most n m next (omega arith) (omega arith))
 
 -- the first attribute, and then the others of what follows it
-unrolled : (text : List ℕ) → attributes_at text ≡ first_then attributes_at (attribute_at text)
+pub unrolled : (text : List ℕ) → attributes_at text ≡ first_then attributes_at (attribute_at text)
 unfolding attributes_at
 unrolled text = same_most (length text) (suc (length text)) text (omega arith) (omega arith)
     ∙ same_first (attributes_in (length text)) attributes_at text (attribute_at text) refl (λ next less. same_most (length text) (length next) next (omega arith) (omega arith))

@@ -2,6 +2,8 @@ pub mod Attributes
 pub mod Bounds
 pub mod Characters
 pub mod Found
+pub mod Grammar
+pub mod LineGrammar
 pub mod Lines
 pub mod Marks
 pub mod Pairs

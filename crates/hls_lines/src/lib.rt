@@ -4,11 +4,16 @@
 mod attributes;
 mod clean;
 mod fault;
+mod laws;
 mod lines;
 mod marks;
 
 pub use attributes::{Attributes, read_attributes};
 pub use fault::LineFault;
+pub use laws::{
+    attribute_faults_are_sentences, attributes_are_as_written, attributes_are_written_one_way,
+    file_faults_are_in_order, lines_are_as_written,
+};
 pub use lines::{Line, Lines};
 
 #[cfg(test)]

@@ -1,4 +1,6 @@
+pub mod Bounded
 pub mod Courses
 pub mod Digits
 pub mod Meanings
+pub mod Told
 pub mod Wholes

@@ -2,6 +2,7 @@
 #![tactic(auto)]
 
 mod fault;
+mod laws;
 mod media;
 mod reader;
 mod state;
@@ -9,6 +10,10 @@ mod tag;
 mod value;
 
 pub use fault::MediaFault;
+pub use laws::{
+    playlists_are_told_by_their_lines, segments_are_told_by_the_lines_before,
+    what_is_read_is_bounded, what_is_read_is_meant,
+};
 pub use media::{Media, MediaList, MediaSegment, read_media};
 
 #[cfg(test)]
