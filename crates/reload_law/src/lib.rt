@@ -1,0 +1,12 @@
+//! Whether a media playlist may take the place of an older one: seven rules after RFC 8216, 6.2.
+#![tactic(auto)]
+
+mod laws;
+mod segments;
+mod unlawful;
+
+pub use laws::{a_playlist_reloads_itself, rules_are_sentences};
+pub use unlawful::{Unlawful, lawful};
+
+#[cfg(test)]
+mod tests;
