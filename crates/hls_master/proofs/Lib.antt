@@ -1,5 +1,12 @@
 pub mod Addresses
 pub mod Answers
 pub mod Entries
+pub mod Firsts
+pub mod Joined
+pub mod Loops
+pub mod NameSets
+pub mod Readings
 pub mod Renditions
+pub mod TextSets
 pub mod Variants
+pub mod Wholes

@@ -5,8 +5,12 @@ pub mod Faults
 pub mod Masters
 pub mod Mentions
 pub mod Renditions
+pub mod Names
 pub mod Seen
+pub mod SeenMentions
 pub mod SeenTags
+pub mod SeenTracks
+pub mod Texts
 pub mod Tracks
 pub mod Values
 pub mod Variants

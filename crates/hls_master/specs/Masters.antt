@@ -1,6 +1,5 @@
 -- Master playlists (RFC 8216 4.3.4).
-use Rattle.std.specs.Prelude.{ℕ, ◌&&◌, not, nat_lt, Bool, true, List, [], ◌∷◌, ◌++◌, length, bytes_eq, if◌then◌else◌, Option, Some, None, option_map, Result, Ok, Err}
-use Rattle.std.specs.List.{list_any}
+use Rattle.std.specs.Prelude.{ℕ, ◌&&◌, not, nat_lt, Bool, true, List, [], ◌∷◌, ◌++◌, length, map, filter, if◌then◌else◌, Option, Some, None, option_map, Result, Ok, Err}
 use Rattle.std.specs.Option.{is_none}
 use Rattle.bridge_io.specs.declared.media.Kind.{Kind}
 use Rattle.bridge_io.specs.declared.media.Kind.TheVariants.{Audio, Text}
@@ -15,21 +14,26 @@ use Rattle.hls_master.specs.Entries.{known_lines, entries_of}
 use Rattle.hls_master.specs.Faults.{first_of, answer, of_line}
 use Rattle.hls_master.specs.Mentions.{MentionsValue, mentions_of, entry_faults}
 use Rattle.hls_master.specs.Renditions.{RenditionValue, same_kind}
+use Rattle.hls_master.specs.Texts.{is_among}
 use Rattle.hls_master.specs.Tracks.{TrackValue, is_audio_variant, firsts_of, tracks_of}
 use Rattle.hls_master.specs.Variants.{VariantValue}
 
--- a group of a kind that renditions have, or none
-abbrev pub is_known_group : List RenditionValue → Kind → Option (List ℕ) → Bool
-is_known_group renditions kind None = true
-is_known_group renditions kind (Some group) = list_any (λ rendition. same_kind kind rendition.kind && bytes_eq group rendition.group) renditions
+-- the groups of the renditions of a kind
+abbrev pub groups_in : Kind → List RenditionValue → List (List ℕ)
+groups_in kind renditions = map (λ rendition. rendition.group) (filter (λ rendition. same_kind kind rendition.kind) renditions)
 
-abbrev pub names_unknown_group : List RenditionValue → VariantValue → Bool
-names_unknown_group renditions variant =
-    not (is_known_group renditions Audio variant.audio && is_known_group renditions Text variant.subtitles)
+-- a group that stands among groups, or none
+abbrev pub is_known : List (List ℕ) → Option (List ℕ) → Bool
+is_known groups None = true
+is_known groups (Some group) = is_among group groups
 
--- no rendition mentions the variant's address; it isn't audio alone; it names no audio, and has an audio code
-abbrev pub is_muxed : List RenditionValue → VariantValue → Bool
-is_muxed renditions variant = not (list_any (λ rendition. bytes_eq variant.address rendition.address) renditions)
+-- its AUDIO or SUBTITLES is no group of its type
+abbrev pub names_unknown_group : (audio text : List (List ℕ)) → VariantValue → Bool
+names_unknown_group audio text variant = not (is_known audio variant.audio && is_known text variant.subtitles)
+
+-- no rendition mentions its address; it isn't audio alone; it names no audio, and has an audio code
+abbrev pub is_muxed : (addresses : List (List ℕ)) → VariantValue → Bool
+is_muxed addresses variant = not (is_among variant.address addresses)
     && (not (is_audio_variant variant) && (is_none variant.audio && has_code_in Audio variant.shown.codecs))
 
 -- where the first variant stands that passes a test
@@ -41,14 +45,23 @@ abbrev pub no_variant : Place → List VariantValue → Option MasterFault
 no_variant end [] = Some (NoTracks end)
 no_variant end (variant ∷ variants) = None
 
+abbrev pub unknown_group : MentionsValue → Option MasterFault
+unknown_group mentions = option_map (λ place. GroupUnknown place)
+    (first_place (names_unknown_group (groups_in Audio mentions.renditions) (groups_in Text mentions.renditions)) mentions.variants)
+
+abbrev pub muxed : MentionsValue → Option MasterFault
+muxed mentions = option_map (λ place. Muxed place) (first_place (is_muxed (map (λ rendition. rendition.address) mentions.renditions)) mentions.variants)
+
+abbrev pub above_limit : Place → MentionsValue → Option MasterFault
+above_limit end mentions = if nat_lt 200 (length (firsts_of mentions)) then Some (Limit end) else None
+
 -- the faults that are tried after all lines, the file's end being at a place
 abbrev pub end_faults : Place → MentionsValue → List (Option MasterFault)
-end_faults end mentions =
-    option_map (λ place. GroupUnknown place) (first_place (names_unknown_group mentions.renditions) mentions.variants)
-    ∷ option_map (λ place. Muxed place) (first_place (is_muxed mentions.renditions) mentions.variants)
-    ∷ no_variant end mentions.variants
-    ∷ (if nat_lt 200 (length (firsts_of mentions)) then Some (Limit end) else None)
-    ∷ []
+end_faults end mentions = unknown_group mentions ∷ muxed mentions ∷ no_variant end mentions.variants ∷ above_limit end mentions ∷ []
+
+-- the tracks of mentions, or the first fault of the whole
+unfoldable pub whole_of : Place → MentionsValue → Result (List TrackValue) MasterFault
+whole_of end mentions = answer (first_of (end_faults end mentions)) (tracks_of mentions)
 
 -- the mentions of lines
 abbrev pub mentions_in : (master : List ℕ) → List PlaylistLine → MentionsValue
@@ -66,8 +79,12 @@ values_by master (Err fault) = None
 unfoldable pub master_values : (bytes master : List ℕ) → Option (List TrackValue)
 master_values bytes master = values_by master (lines_of bytes)
 
+-- the tracks that lines tell, or the first of their faults
+unfoldable pub master_in : (master : List ℕ) → (end : Place) → List PlaylistLine → Result (List TrackValue) MasterFault
+master_in master end lines = answer (first_of (faults_of master end lines)) (tracks_of (mentions_in master lines))
+
 abbrev pub master_by : (master : List ℕ) → (end : Place) → Result (List PlaylistLine) LineFault → Result (List TrackValue) MasterFault
-master_by master end (Ok lines) = answer (first_of (faults_of master end lines)) (tracks_of (mentions_in master lines))
+master_by master end (Ok lines) = master_in master end lines
 master_by master end (Err fault) = Err (of_line fault)
 
 -- The tracks of a master, whose own address is the second argument, or its first fault.

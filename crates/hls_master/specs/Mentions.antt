@@ -1,11 +1,11 @@
 -- What the lines of a master mention.
-use Rattle.std.specs.Prelude.{ℕ, List, [], ◌∷◌, ◌++◌, Option, Some}
+use Rattle.std.specs.Prelude.{ℕ, List, [], ◌∷◌, ◌++◌, Option, Some, Result}
 use Rattle.std.specs.List.{flat_map}
 use Rattle.std.specs.Option.{option_to_list}
 use Rattle.hls_lines.specs.Attributes.{attributes_of}
 use Rattle.hls_master.specs.declared.fault.MasterFault.{MasterFault}
 use Rattle.hls_master.specs.Entries.{MasterEntry, rendition, variant, stray}
-use Rattle.hls_master.specs.Faults.{first_of}
+use Rattle.hls_master.specs.Faults.{first_of, answer}
 use Rattle.hls_master.specs.Renditions.{RenditionValue, rendition_value, rendition_fault, same_name}
 use Rattle.hls_master.specs.Variants.{VariantValue, variant_with, variant_fault, attributes_or_none}
 
@@ -31,6 +31,13 @@ mentions_behind master before entries = record {
   variants = before.variants ++ flat_map (entry_variant master) entries;
 }
 
+-- one rendition more, and one variant more
+abbrev pub with_rendition : MentionsValue → RenditionValue → MentionsValue
+with_rendition before one = record before { renditions = before.renditions ++ one ∷ [] }
+
+abbrev pub with_variant : MentionsValue → VariantValue → MentionsValue
+with_variant before one = record before { variants = before.variants ++ one ∷ [] }
+
 abbrev pub nothing : MentionsValue
 nothing = record { renditions = []; variants = [] }
 
@@ -48,3 +55,7 @@ entry_fault master before (stray fault) = Some fault
 abbrev pub entry_faults : (master : List ℕ) → List RenditionValue → List MasterEntry → List (Option MasterFault)
 entry_faults master before [] = []
 entry_faults master before (entry ∷ entries) = entry_fault master before entry ∷ entry_faults master (before ++ entry_rendition master entry) entries
+
+-- what lines mention behind what was mentioned before, or their first fault
+unfoldable pub reading : (master : List ℕ) → MentionsValue → List MasterEntry → Result MentionsValue MasterFault
+reading master before entries = answer (first_of (entry_faults master before.renditions entries)) (mentions_behind master before entries)

@@ -100,7 +100,7 @@ same_kind kind other = false
 
 -- the same kind, group and name
 abbrev pub has_name_of : RenditionValue → RenditionValue → Bool
-has_name_of one other = same_kind one.kind other.kind && (bytes_eq one.group other.group && bytes_eq one.name other.name)
+has_name_of one other = same_kind one.kind other.kind && bytes_eq one.group other.group && bytes_eq one.name other.name
 
 -- a rendition whose kind, group and name stand among those before it
 abbrev pub same_name : List RenditionValue → Place → Option RenditionValue → Option MasterFault

@@ -1,5 +1,5 @@
 -- The tracks of a master: the distinct addresses that it mentions.
-use Rattle.std.specs.Prelude.{ℕ, ◌+◌, ◌&&◌, not, Bool, false, List, [], ◌∷◌, ◌++◌, map, filter, bytes_eq, if◌then◌else◌, Option, Some, None, option_and_then}
+use Rattle.std.specs.Prelude.{ℕ, ◌+◌, ◌&&◌, not, Bool, false, List, [], ◌∷◌, ◌++◌, map, filter, length, nat_lt, bytes_eq, if◌then◌else◌, Option, Some, None, option_and_then}
 use Rattle.std.specs.List.{list_any}
 use Rattle.std.specs.Option.{is_some, option_eq}
 use Rattle.bridge_io.specs.declared.media.Kind.{Kind}
@@ -8,6 +8,7 @@ use Rattle.bridge_io.specs.declared.media.Size.{Size}
 use Rattle.hls_master.specs.Codes.{has_code_in, selected}
 use Rattle.hls_master.specs.Mentions.{MentionsValue}
 use Rattle.hls_master.specs.Renditions.{RenditionValue, same_kind, same_rendition_set}
+use Rattle.hls_master.specs.Texts.{is_among}
 use Rattle.hls_master.specs.Variants.{VariantValue}
 
 pub record TrackValue : Type 0 where
@@ -35,17 +36,18 @@ address_of (by_variant variant) = variant.address
 abbrev pub mentioned : MentionsValue → List Mentioned
 mentioned mentions = map by_rendition mentions.renditions ++ map by_variant mentions.variants
 
-abbrev pub is_among : List ℕ → List (List ℕ) → Bool
-is_among address addresses = list_any (bytes_eq address) addresses
-
 -- the first mention of each address that isn't among those before
 abbrev pub firsts_behind : List (List ℕ) → List Mentioned → List Mentioned
 firsts_behind before [] = []
 firsts_behind before (mention ∷ mentions) = if is_among (address_of mention) before then firsts_behind before mentions
-    else mention ∷ firsts_behind (before ++ address_of mention ∷ []) mentions
+    else mention ∷ firsts_behind (address_of mention ∷ before) mentions
 
 unfoldable pub firsts_of : MentionsValue → List Mentioned
 firsts_of mentions = firsts_behind [] (mentioned mentions)
+
+-- the members of a list, where they are at most 200
+abbrev pub few : List Mentioned → Option (List Mentioned)
+few mentions = if nat_lt 200 (length mentions) then None else Some mentions
 
 -- CODECS holds a code of class audio, and none of class video or unknown
 abbrev pub is_audio_variant : VariantValue → Bool
@@ -129,7 +131,9 @@ tracks_of_sets variants firsts number [] = []
 tracks_of_sets variants firsts number (set ∷ sets) =
     map (track_of variants number) (filter (same_set set) firsts) ++ tracks_of_sets variants firsts (number + 1) sets
 
--- the tracks: video, audio and text; of these the sets by their first sight; of a set the tracks by their first mention
+-- the tracks of first mentions: video, audio and text; of these the sets by their first sight; of a set the tracks by their first mention
+unfoldable pub tracks_among : List VariantValue → List Mentioned → List TrackValue
+tracks_among variants firsts = tracks_of_sets variants firsts 0 (sets_behind [] (by_kind firsts))
+
 unfoldable pub tracks_of : MentionsValue → List TrackValue
-tracks_of mentions = let firsts = firsts_of mentions in
-    tracks_of_sets mentions.variants firsts 0 (sets_behind [] (by_kind firsts))
+tracks_of mentions = tracks_among mentions.variants (firsts_of mentions)

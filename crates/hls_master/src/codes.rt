@@ -1,9 +1,11 @@
 // Lists of codes.
-ghost use Rattle.std.specs.Prelude.{◌≡◌};
-ghost use Rattle.hls_master.specs.Codes.{belongs, is_of, has_code};
+ghost use Rattle.std.specs.Prelude.{◌≡◌, map, filter, IfOk};
+ghost use Rattle.mpd_values.specs.Codecs.{codes_of};
+ghost use Rattle.hls_master.specs.Codes.{belongs, is_of, has_code, selected};
 
-use bridge_io::Kind;
+use bridge_io::{Kind, NoMemory, Text};
 use mpd_values::{Blank, trimmed};
+use std::alloc::Global;
 use url_parts::{CodeClass, code_class};
 
 /// Whether a track of a kind has codes of a class.
@@ -31,4 +33,29 @@ pub(crate) fn has_code(kind: Kind, codes: &str) -> bool
     codes
         .split(',')
         .any(|code| is_of(kind, trimmed(code, Blank::Space)))
+}
+
+/// The codes of a list that a track of this kind has, joined by `,`.
+#[tactic(auto, unfolding(crate::specs::Codes::selected))]
+pub(crate) fn select_codes(alloc: Global, kind: Kind, codes: &str) -> Result<Option<Text>, NoMemory>
+    ensures { IfOk result (λ text. text ≡ selected kind codes.now) }
+{
+    let chosen = chosen_codes(alloc, kind, codes)?;
+    if chosen.is_empty() {
+        return Ok(None);
+    }
+    Ok(Some(Text::from(chosen.join(alloc, ",")?)))
+}
+
+fn chosen_codes<'a>(alloc: Global, kind: Kind, codes: &'a str) -> Result<Vec<&'a str>, NoMemory>
+    ensures { IfOk result (λ chosen. map (λ code. code.now) chosen.items ≡ filter (is_of kind) (codes_of codes.now)) }
+{
+    let mut chosen = Vec::new(alloc);
+    for code in codes.split(',') {
+        let code = trimmed(code, Blank::Space);
+        if is_of(kind, code) {
+            chosen.push(code)?;
+        }
+    }
+    Ok(chosen)
 }

@@ -1,4 +1,4 @@
-//! Master playlists: RFC 8216, 4.3.4. Their lines are read: renditions, and variants with their URIs.
+//! Master playlists (RFC 8216, 4.3.4): their lines, and the tracks that they tell.
 #![tactic(auto)]
 
 mod address;
@@ -6,13 +6,22 @@ mod attribute;
 mod codes;
 mod entry;
 mod fault;
+mod master;
+mod mention;
+mod mentions;
+mod names;
 mod rendition;
+mod texts;
+mod track;
 mod value;
 mod variant;
+mod whole;
 
 pub use entry::{Entry, next_entry};
 pub use fault::MasterFault;
+pub use master::{Master, read_master};
 pub use rendition::{Rendition, read_rendition};
+pub use track::{MasterTrack, MasterTracks};
 pub use variant::{Shown, Variant, read_variant};
 
 #[cfg(test)]

@@ -43,7 +43,7 @@ impl Rendition<'_> {
     }
 }
 
-fn same_kind(one: Kind, other: Kind) -> bool
+pub(crate) fn same_kind(one: Kind, other: Kind) -> bool
     ensures { result ≡ same_kind one other }
 {
     match one {
@@ -53,7 +53,7 @@ fn same_kind(one: Kind, other: Kind) -> bool
     }
 }
 
-fn same_text(one: Option<&str>, other: Option<&str>) -> bool
+pub(crate) fn same_text(one: Option<&str>, other: Option<&str>) -> bool
     ensures { result ≡ option_eq bytes_eq (text_seen one.entry) (text_seen other.entry) }
 {
     match one {

@@ -160,3 +160,111 @@ fn reads_renditions(rt: HostRuntime) -> Result<(), Fail> {
     assert!(rt; captions.is_none());
     Ok(())
 }
+
+// What follows the header, and the first fault of the whole.
+const WHOLE_FAULTS: [(&str, MasterFault); 7] = [
+    (
+        "#EXT-X-STREAM-INF:BANDWIDTH=1,AUDIO=\"x\"\nv.m3u8",
+        MasterFault::GroupUnknown(TAG),
+    ),
+    (
+        "#EXT-X-STREAM-INF:BANDWIDTH=1,CODECS=\"avc1.64001f,mp4a.40.2\"\nv.m3u8",
+        MasterFault::Muxed(TAG),
+    ),
+    (
+        "#EXT-X-STREAM-INF:BANDWIDTH=10\nv\n#EXT-X-STREAM-INF:BANDWIDTH=1,SUBTITLES=\"x\"\nw",
+        MasterFault::GroupUnknown(Place { at: 41, line: 4 }),
+    ),
+    (
+        "#EXT-X-MEDIA:TYPE=AUDIO,GROUP-ID=\"g\",NAME=\"n\",URI=\"a\"\n#EXT-X-MEDIA:TYPE=AUDIO,GROUP-ID=\"g\",NAME=\"n\",URI=\"b\"\nv",
+        MasterFault::SameName(Place { at: 62, line: 3 }),
+    ),
+    (
+        "#EXT-X-MEDIA:TYPE=AUDIO,GROUP-ID=\"g\",NAME=\"n\",URI=\"a\"",
+        MasterFault::NoTracks(Place { at: 62, line: 3 }),
+    ),
+    (
+        "#EXT-X-MEDIA:TYPE=CLOSED-CAPTIONS",
+        MasterFault::NoTracks(Place { at: 42, line: 3 }),
+    ),
+    ("", MasterFault::NoTracks(Place { at: 9, line: 3 })),
+];
+
+#[test]
+fn refuses_wholes(rt: HostRuntime) -> Result<(), Fail> {
+    let base = Base::of(rt.alloc(), "https://h.example/p/m.m3u8")?;
+    for (text, fault) in &WHOLE_FAULTS {
+        let text = format!(in rt.alloc(); "#EXTM3U\n{text}\n")?;
+        assert_eq!(rt;
+            read_master(rt.alloc(), text.as_str().as_bytes(), &base).err(),
+            Some(*fault),
+            "{text}"
+        );
+    }
+    Ok(())
+}
+
+#[test]
+fn refuses_more_than_200_tracks(rt: HostRuntime) -> Result<(), Fail> {
+    let base = Base::of(rt.alloc(), "https://h.example/p/m.m3u8")?;
+    let mut text = String::from_str(rt.alloc(), "#EXTM3U\n")?;
+    for number in 0..200 {
+        text.push_str(format!(in rt.alloc();
+            "#EXT-X-STREAM-INF:BANDWIDTH=1\nv{number}\n"
+        )?.as_str())?;
+    }
+    let master = read_master(rt.alloc(), text.as_str().as_bytes(), &base)?;
+    assert_eq!(rt; master.tracks().len(), 200);
+    text.push_str("#EXT-X-STREAM-INF:BANDWIDTH=1\nw")?;
+    let end = Place {
+        at: text.len() as u64,
+        line: 403,
+    };
+    assert_eq!(rt;
+        read_master(rt.alloc(), text.as_str().as_bytes(), &base).err(),
+        Some(MasterFault::Limit(end))
+    );
+    Ok(())
+}
+
+#[test]
+fn reads_tracks(rt: HostRuntime) -> Result<(), Fail> {
+    let base = Base::of(rt.alloc(), "https://h.example/p/m.m3u8")?;
+    let text =
+        "#EXTM3U\n#EXT-X-STREAM-INF:BANDWIDTH=2,CODECS=\"mp4a.40.2, avc1.64001f\",RESOLUTION=640x360,AUDIO=\"g\"\nv\n#EXT-X-STREAM-INF:BANDWIDTH=3,CODECS=\"mp4a.40.5\"\na\n#EXT-X-STREAM-INF:BANDWIDTH=4\nv\n#EXT-X-MEDIA:TYPE=SUBTITLES,GROUP-ID=\"s\",NAME=\"n\",LANGUAGE=\"en\",URI=\"s\"\n#EXT-X-MEDIA:TYPE=AUDIO,GROUP-ID=\"g\",NAME=\"n\",URI=\"b\"\n";
+    let master = read_master(rt.alloc(), text.as_bytes(), &base)?;
+    let expected = [
+        (
+            Kind::Video,
+            0,
+            "https://h.example/p/v",
+            Some("avc1.64001f"),
+            2,
+        ),
+        (
+            Kind::Audio,
+            1,
+            "https://h.example/p/b",
+            Some("mp4a.40.2"),
+            128_000,
+        ),
+        (
+            Kind::Audio,
+            2,
+            "https://h.example/p/a",
+            Some("mp4a.40.5"),
+            3,
+        ),
+        (Kind::Text, 3, "https://h.example/p/s", None, 1000),
+    ];
+    assert_eq!(rt; master.tracks().len(), expected.len());
+    for (track, expected) in master.tracks().as_slice().iter().zip(&expected) {
+        let (kind, set, address, codecs, bandwidth) = *expected;
+        assert_eq!(rt; track.kind, kind);
+        assert_eq!(rt; track.set, set);
+        assert_eq!(rt; track.address.as_str(), address);
+        assert_eq!(rt; track.codecs.as_ref().map(|codecs| codecs.as_str()), codecs);
+        assert_eq!(rt; track.bandwidth, bandwidth);
+    }
+    Ok(())
+}

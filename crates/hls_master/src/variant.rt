@@ -9,7 +9,7 @@ ghost use Rattle.hls_master.specs.Codes.{has_code_in};
 ghost use Rattle.hls_master.specs.Faults.{answer, first_of, mapped, refusal};
 ghost use Rattle.hls_master.specs.Renditions.{malformed, missing, text_at};
 ghost use Rattle.hls_master.specs.SeenTags.{rate_seen, shown_seen, text_seen, variant_seen};
-ghost use Rattle.hls_master.specs.Tracks.{group_of, is_audio_variant};
+ghost use Rattle.hls_master.specs.Tracks.{group_of, is_audio_variant, variant_kind};
 ghost use Rattle.hls_master.specs.Values.{is_bandwidth, rate_of, rate_within, size_of, size_within};
 ghost use Rattle.hls_master.specs.Variants.{attributes_or_none, shown_faults, shown_value, variant_fault, variant_faults, variant_with};
 
@@ -169,6 +169,17 @@ impl<'a> Variant<'a> {
         ensures { result ≡ is_audio_variant (variant_seen self.now) }
     {
         self.has_code(Kind::Audio) && !self.has_code(Kind::Video)
+    }
+
+    /// What a track of its own would hold: audio where it is audio alone, otherwise video.
+    pub(crate) fn kind(&self) -> Kind
+        ensures { result ≡ variant_kind (variant_seen self.now) }
+    {
+        if self.is_audio() {
+            Kind::Audio
+        } else {
+            Kind::Video
+        }
     }
 
     /// The group of a kind that it names.
