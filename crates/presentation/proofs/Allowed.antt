@@ -1,0 +1,36 @@
+-- What answers of `count` and `verify` say of later calls.
+use Rattle.std.proofs.Common.{◌≡◌, ℕ, zero, suc, ◌+◌, ◌<◌, ◌++◌, [], List, length, map, slice_get, sym, ◌∙◌, ap, Some, Ok, arith, zero-add, add-zero}
+use Rattle.std.specs.List.{range_with_len}
+use Rattle.presentation.specs.Presented.{Presented}
+use Rattle.presentation.specs.Counting.{count_faults, count_of_all, tracks_of}
+use Rattle.presentation.specs.Verifying.{verified, url_faults, longest_of}
+use Rattle.presentation.proofs.Firsts.{none_before, value_of}
+use Rattle.presentation.proofs.Addressed.{addressed}
+use Rattle.presentation.proofs.Reached.{all_reached, none_first, none_later}
+use Rattle.presentation.proofs.Verified.{counted_is, verified_is}
+use Rattle.presentation.specs.Laws.{CountedAreListed, EachHasLongest, VerifiedAreCounted, VerifiedHaveAddresses}
+
+pub counted_are_listed : CountedAreListed
+counted_are_listed p n s t is in_sections in_tracks =
+    all_reached p (none_before (count_faults p) (count_of_all p) n (sym (counted_is p) ∙ is)) t in_tracks s in_sections
+
+none_refused : (p : Presented) (unit : ℕ) (longest : List ℕ) → verified p unit ≡ Ok longest → count_faults p ++ url_faults p ≡ []
+none_refused p unit longest is = none_before (count_faults p ++ url_faults p) (map (longest_of p unit) (tracks_of p)) longest (sym (verified_is p unit) ∙ is)
+
+pub verified_are_counted : VerifiedAreCounted
+verified_are_counted p unit s t longest is in_sections in_tracks = all_reached p (none_first (count_faults p) (url_faults p) (none_refused p unit longest is)) t in_tracks s in_sections
+
+-- a member of what is made of each number
+each_at : (f : ℕ → ℕ) (first n k : ℕ) → k < n → slice_get (map f (range_with_len first n)) k ≡ Some (f (first + k))
+each_at f first zero k below = absurd (omega arith)
+each_at f first (suc n) zero below = ap (λ m. Some (f m)) (sym (add-zero first))
+each_at f first (suc n) (suc k) below = let same : first + 1 + k ≡ first + suc k = omega arith in each_at f (first + 1) n k (omega arith) ∙ ap (λ m. Some (f m)) same
+
+pub each_has_longest : EachHasLongest
+each_has_longest p unit t longest is below =
+    ap (λ ls. slice_get ls t) (sym (value_of (count_faults p ++ url_faults p) (map (longest_of p unit) (tracks_of p)) longest (sym (verified_is p unit) ∙ is)))
+    ∙ each_at (longest_of p unit) 0 (length p.tracks) t below ∙ ap (λ m. Some (longest_of p unit m)) (zero-add t)
+
+pub have_addresses : VerifiedHaveAddresses
+have_addresses p unit s t longest is in_sections in_tracks =
+    addressed p unit s t (none_later (count_faults p) (url_faults p) (none_refused p unit longest is)) in_sections in_tracks

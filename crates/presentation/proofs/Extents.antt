@@ -1,0 +1,20 @@
+-- How long the listed segments last.
+use Rattle.std.proofs.Common.{◌≡◌, ℕ, length, take, Some, Ok, refl, sym, ◌∙◌, ap, []}
+use Rattle.timeline.specs.Listed.{IsReached, answered_count, listed, listed_from, expansion}
+use Rattle.presentation.specs.declared.parts.Content.{Content}
+use Rattle.presentation.specs.Presented.{Presented, window_of, content_at, listed_at, listed_in}
+use Rattle.presentation.specs.Printing.{IsCounted}
+use Rattle.presentation.proofs.Printing.{all_listed}
+
+module _ (p : Presented) (s t : ℕ) (content : Content) (is : content_at p s t ≡ Some content) where
+  pub listed_of : listed_at p s t ≡ listed_in (window_of p s) content.runs
+  listed_of = rw is refl
+
+  pub reached_of : IsCounted p s t → IsReached content.runs (window_of p s)
+  reached_of counted = rw is at counted
+
+  pub count_of : IsCounted p s t → answered_count content.runs (window_of p s) ≡ Ok (length (listed_at p s t))
+  count_of counted = let reached = reached_of counted in rw reached (ap (λ xs. Ok (length xs)) (sym listed_of))
+
+  pub listed_behind : (place : ℕ) → listed (window_of p s) (take place (expansion content.runs (window_of p s))) ≡ [] → listed_at p s t ≡ listed_from place content.runs (window_of p s)
+  listed_behind place none = listed_of ∙ sym (all_listed (window_of p s) (expansion content.runs (window_of p s)) place none)

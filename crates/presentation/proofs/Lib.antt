@@ -1,0 +1,19 @@
+pub mod Ending
+pub mod Filling
+pub mod Gathering
+pub mod Before
+pub mod Rests
+pub mod Joining
+pub mod OwnAddress
+pub mod Kept
+pub mod Ordered
+pub mod Allowed
+pub mod Addressed
+pub mod Windows
+pub mod Printing
+pub mod Firsts
+pub mod Counts
+pub mod Extents
+pub mod Tracks
+pub mod Reached
+mod Verified

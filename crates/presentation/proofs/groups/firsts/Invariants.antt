@@ -1,0 +1,6 @@
+use Rattle.std.proofs.Common.{◌≡◌, drop, []}
+use Rattle.presentation.specs.Groups.{firsts}
+use Rattle.presentation.proofs.groups.firsts.Given as goal
+
+abbrev pub invariant-loop-rendition : goal.invariant-loop-rendition
+invariant-loop-rendition l = firsts l.sameness l.found.items (drop l.rendition-index l.renditions) ≡ firsts l.sameness [] l.renditions

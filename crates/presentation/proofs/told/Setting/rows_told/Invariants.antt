@@ -1,0 +1,16 @@
+use Rattle.std.proofs.Common.{◌≡◌}
+use Rattle.mpd_rules.specs.Views.{tracks_left}
+use Rattle.presentation.specs.Rows.{rows_left}
+use Rattle.presentation.specs.Shared.{AreOf}
+use Rattle.presentation.specs.Told.{gathered, one_told}
+use Rattle.presentation.proofs.Gathering.{behind}
+use Rattle.presentation.proofs.told.Setting.rows_told.Given as goal
+
+abbrev pub invariant-loop-row : goal.invariant-loop-row
+invariant-loop-row l = record {
+  can_next : (goal.iterator-loop-row).can_next l.row-iterator;
+  finite : (goal.iterator-loop-row).is_finite l.row-iterator;
+  shared : AreOf l.fn.self.shared.now (tracks_left l.row-iterator);
+  told : behind l.tolds.items (gathered (one_told l.fn.self.base.now l.fn.self.live l.fn.end) (rows_left l.row-iterator))
+      ≡ gathered (one_told l.fn.self.base.now l.fn.self.live l.fn.end) (rows_left l.fn.rows);
+}

@@ -1,0 +1,40 @@
+-- What a `Presentation` stands for, and what it keeps true.
+use Rattle.std.specs.Prelude.{◌≡◌, ℕ, map, List, length, All, None, option_map}
+use Rattle.presentation.specs.declared.presentation.Presentation.TheInside.{Inside}
+use Rattle.presentation.specs.Groups.{groups_of}
+use Rattle.presentation.specs.Presented.{Presented, following_of, IsEnded, AreFilled}
+use Rattle.presentation.specs.Printing.{PrintedRest, with_durations, ends_of}
+use Rattle.exact_time.specs.Time.{difference}
+use Rattle.exact_time.specs.Floor.{floor_in}
+use Rattle.exact_time.specs.Rounding.{Rounding, total, differences, IsRising, AreNear}
+use Rattle.timeline.specs.Expansions.{Timing}
+use Rattle.timeline.specs.Listed.{Rest}
+
+abbrev pub presented : Inside → Presented
+presented p = record {
+  tracks = p.tracks;
+  sections = p.sections;
+  contents = p.contents;
+  left_out = p.left_out;
+  following = option_map following_of p.following;
+  places = p.places.items;
+}
+
+-- There is one content for each section and track, its end is known where the presentation is finished, and the groups
+-- are those of the tracks.
+pub record IsKept (p : Inside) : Type 0 where
+  pub filled : AreFilled (length p.sections) (length p.tracks) (length p.contents)
+  pub ended : p.following ≡ None → All IsEnded p.contents
+  pub grouped : p.groups ≡ groups_of p.tracks
+
+-- the segments that are left, with the durations that come next
+abbrev pub durations_behind : Rounding → List Timing → List ℕ
+durations_behind r xs = differences (total r) (map (λ x. floor_in r.unit (difference x.end r.first)) xs)
+
+abbrev pub printed_rest : Rest → Rounding → PrintedRest
+printed_rest rest r = record { timeline = rest.timeline; left = with_durations rest.left (durations_behind r rest.left) }
+
+-- their ends may be given to the rounder in turn
+pub record IsPaced (rest : Rest) (r : Rounding) : Type 0 where
+  pub rising : IsRising r.former (ends_of rest.left)
+  pub near : AreNear r.former (ends_of rest.left)

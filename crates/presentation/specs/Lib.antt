@@ -1,0 +1,11 @@
+pub mod Presented
+pub mod Kept
+pub mod Counting
+pub mod Printing
+pub mod Verifying
+pub mod Laws
+pub mod Groups
+pub mod Scales
+pub mod Rows
+pub mod Told
+pub mod Shared

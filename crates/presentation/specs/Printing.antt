@@ -1,0 +1,75 @@
+-- Segments with the durations that are printed of them.
+use Rattle.std.specs.Prelude.{◌≡◌, ℕ, List, [], ◌∷◌, map, Option, Some, None, Result, Ok, Err, IsSome, IfSome, slice_get}
+use Rattle.exact_time.specs.Time.{Time, seconds}
+use Rattle.exact_time.specs.Rounding.{printed}
+use Rattle.timeline.specs.declared.fault.ListFault.{ListFault}
+use Rattle.timeline.specs.Names.{list_refusal}
+use Rattle.timeline.specs.Expansions.{SegmentTimeline, Timing}
+use Rattle.timeline.specs.Listed.{Made, part_of_timing, IsReached}
+use Rattle.presentation.specs.Presented.{Presented, content_at, window_of, listed_at}
+
+-- a segment's times and number, and its duration in units
+pub record PrintedTiming : Type 0 where
+  pub times : Timing
+  pub duration : ℕ
+
+-- each segment with its duration
+abbrev pub with_durations : List Timing → List ℕ → List PrintedTiming
+with_durations [] durations = []
+with_durations (x ∷ xs) [] = []
+with_durations (x ∷ xs) (d ∷ ds) = record { times = x; duration = d } ∷ with_durations xs ds
+
+-- where the first segment begins
+abbrev pub begin_of : List Timing → Time
+begin_of [] = seconds 0
+begin_of (x ∷ xs) = x.start
+
+abbrev pub ends_of : List Timing → List Time
+ends_of xs = map (λ x. x.end) xs
+
+-- the durations of some segments in units of which so many make a second
+abbrev pub durations_of : ℕ → List Timing → List ℕ
+durations_of unit xs = printed unit (begin_of xs) (ends_of xs)
+
+abbrev pub printed_timings : ℕ → List Timing → List PrintedTiming
+printed_timings unit xs = with_durations xs (durations_of unit xs)
+
+-- what is left of segments that are made one by one
+pub record PrintedRest : Type 0 where
+  pub timeline : SegmentTimeline
+  pub left : List PrintedTiming
+
+-- all of some segments
+abbrev pub rest_of : SegmentTimeline → List Timing → ℕ → PrintedRest
+rest_of timeline xs unit = record { timeline = timeline; left = printed_timings unit xs }
+
+-- segments that go on to an open end break no limit by the instant
+abbrev pub IsCounted : Presented → ℕ → ℕ → Type 0
+IsCounted p s t = IfSome (content_at p s t) (λ content. IsReached content.runs (window_of p s))
+
+-- all that a track has in a section
+abbrev pub IsPrintedOf : Presented → ℕ → ℕ → ℕ → PrintedRest → Type 0
+IsPrintedOf p s t unit rest = IfSome (content_at p s t) (λ content. rest ≡ rest_of content.runs (listed_at p s t) unit)
+
+-- the next segment was made, with its own address and its duration
+pub record IsNext (old : PrintedRest) (made : Made) (duration : ℕ) (new : PrintedRest) : Type 0 where
+  pub next : old.left ≡ record { times = made.times; duration = duration } ∷ new.left
+  pub part : part_of_timing old.timeline made.times ≡ Ok made.part
+  pub timeline : new.timeline ≡ old.timeline
+
+-- no segment was left
+pub record IsAtEnd (old new : PrintedRest) : Type 0 where
+  pub none : old.left ≡ []
+  pub same : new ≡ old
+
+-- the next segment has no address, or memory was wanting, and nothing has changed
+pub record IsHeld (old : PrintedRest) (fault : ListFault) (new : PrintedRest) : Type 0 where
+  pub same : new ≡ old
+  pub some : IsSome (slice_get old.left 0)
+  pub refused : IfSome (list_refusal fault) (λ f. IfSome (slice_get old.left 0) (λ x. part_of_timing old.timeline x.times ≡ Err f))
+
+-- how many segments a call made
+abbrev pub made_count : Result (Option (Made × ℕ)) ListFault → ℕ
+made_count (Ok (Some made)) = 1
+made_count (Ok None) = 0
+made_count (Err fault) = 0

@@ -1,0 +1,21 @@
+-- What is laid out once, by the tables of an MPD.
+use Rattle.std.specs.Prelude.{◌≡◌, List, All, map}
+use Rattle.mpd_levels.specs.declared.addressing.SegmentRow.{SegmentRow}
+use Rattle.mpd_rules.specs.declared.rows.TrackRow.{TrackRow}
+use Rattle.mpd_rules.specs.declared.rows.PeriodRow.{PeriodRow}
+use Rattle.mpd_rules.specs.Held.{Keyed}
+use Rattle.mpd_levels.specs.declared.tables.Tables.{Tables}
+use Rattle.mpd_levels.specs.Shown.{timelines_in, lists_in}
+use Rattle.presentation.specs.declared.shared.Shared.{Shared}
+use Rattle.presentation.specs.Told.{entries_of, names_in}
+
+pub record IsShared (tables : Tables) (shared : Shared) : Type 0 where
+  pub timelines : shared.timelines.items ≡ map entries_of (timelines_in tables)
+  pub lists : shared.lists.items ≡ map names_in (lists_in tables)
+
+-- Representations whose keys are of these tables
+abbrev pub AreOf : Shared → List (TrackRow (Keyed SegmentRow)) → Type 0
+AreOf shared rows = All (λ (row : TrackRow _). IsShared row.segments.tables shared) rows
+
+abbrev pub AreOfAll : Shared → List (PeriodRow (Keyed SegmentRow)) → Type 0
+AreOfAll shared periods = All (λ (period : PeriodRow _). AreOf shared period.tracks) periods

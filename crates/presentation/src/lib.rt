@@ -1,0 +1,48 @@
+//! A presentation: tracks over sections, with their segments, whichever manifest they come from.
+#![tactic(auto)]
+
+mod checks;
+mod count;
+mod described;
+mod extent;
+mod fault;
+mod from_mpd;
+mod groups;
+mod laws;
+mod lineup;
+mod longest;
+mod parts;
+mod presentation;
+mod segments;
+mod shared;
+mod told;
+mod track;
+mod verify;
+
+use bridge_io::Sequence;
+pub use extent::Extent;
+pub use fault::{PresentationFault, Spot};
+pub use laws::answers_allow_listings;
+pub use longest::Longest;
+pub use parts::{Content, Parts};
+pub use presentation::Presentation;
+pub use segments::PrintedSegments;
+pub use track::{Section, Track};
+
+/// Tracks in order.
+pub type TrackList = Sequence<Track>;
+
+/// Sections in order.
+pub type SectionList = Sequence<Section>;
+
+/// Audio groups: by group, then by audio set, the place of a track.
+pub type GroupList = Sequence<Group>;
+
+/// The tracks of an audio group, one for each audio set.
+pub type Group = Sequence<usize>;
+
+/// What the tracks have in the sections: by section, then by track.
+pub type ContentList = Sequence<Content>;
+
+#[cfg(test)]
+mod tests;

@@ -1,0 +1,26 @@
+// What a presentation is made of.
+use crate::{ContentList, SectionList, TrackList};
+use timeline::Runs;
+use url_parts::Part;
+
+/// What a track has in a section.
+#[derive(Debug, Drop)]
+pub struct Content {
+    /// The initialization part (ISO/IEC 23009-1, 5.3.9.2; EXT-X-MAP of RFC 8216, 4.3.2.5).
+    pub initialization: Part,
+    /// The segments in order.
+    pub runs: Runs,
+}
+
+/// The parts of a finished presentation.
+#[derive(Debug, Drop)]
+pub struct Parts {
+    /// The tracks: video, then audio, then text.
+    pub tracks: TrackList,
+    /// The sections in order.
+    pub sections: SectionList,
+    /// One content for each section and track, by section, then by track.
+    pub contents: ContentList,
+    /// How many sets and tracks were left out.
+    pub left_out: u64,
+}

@@ -1,0 +1,204 @@
+// A presentation and what it shows of itself.
+ghost use Rattle.std.specs.Prelude.{◌≡◌, ◌<◌, ◌*◌, ◌+◌, ◌^◌, ◌-ℤ◌, unsigned_abs, length, All, Some, IfOk, option_map};
+ghost use Rattle.presentation.specs.Presented.{of_parts, window_of, window_at, content_at, looked_at, following_of, IsEnded, AreFilled};
+ghost use Rattle.iso_time.specs.Instant.{IsReadable};
+ghost use Rattle.timeline.specs.Listed.{IsWindowOf};
+
+use crate::groups::groups_of;
+use crate::{Content, ContentList, GroupList, Parts, SectionList, TrackList};
+use bridge_io::{NoMemory, Place};
+use exact_time::Nanos;
+use iso_time::Instant;
+use std::alloc::Global;
+use std::marker::Model;
+use timeline::{Runs, Window};
+use url_parts::Part;
+
+/// When a followed presentation is looked at.
+#[derive(Clone, Copy, Debug)]
+pub(crate) struct Following {
+    pub(crate) instant: Instant,
+    /// `@availabilityStartTime`.
+    pub(crate) availability_start: Instant,
+    /// `@timeShiftBufferDepth`.
+    pub(crate) depth: Option<Nanos>,
+}
+
+impl Following {
+    /// The segments that are listed of a Period with this start.
+    pub(crate) fn window(&self, start: Nanos) -> Window
+        ensures { result ≡ window_at (following_of self.now) start }
+    {
+        let since = minus(self.instant.0, self.availability_start.0);
+        let until = minus(since, i128::from(start.0));
+        let after = match self.depth {
+            Some(depth) => Some(minus(until, i128::from(depth.0))),
+            None => None,
+        };
+        Window {
+            after,
+            until: Some(until),
+        }
+    }
+}
+
+/// One time less another, in nanoseconds.
+fn minus(time: i128, less: i128) -> i128
+    requires time { unsigned_abs time < 2 ^ 100 }
+    requires less { unsigned_abs less < 2 ^ 100 }
+    ensures { result ≡ time -ℤ less }
+{
+    time - less
+}
+
+/// Tracks over sections, with their segments.
+///
+/// In a contract it is its tracks, its sections and what they have in one another, and when it is looked at.
+#[derive(Debug, Drop)]
+pub struct Presentation {
+    pub(crate) tracks: TrackList,
+    pub(crate) sections: SectionList,
+    pub(crate) contents: ContentList,
+    pub(crate) left_out: u64,
+    pub(crate) groups: GroupList,
+    pub(crate) following: Option<Following>,
+    /// Where the Representations of the contents stand, where they come from an MPD.
+    pub(crate) places: Vec<Place>,
+}
+
+impl Model for Presentation {
+    ghost use Rattle.presentation.specs.Presented.{Presented};
+
+    ghost Value = { Presented };
+
+    ghost use Rattle.presentation.specs.Kept.{presented, IsKept};
+
+    ghost view = { presented };
+
+    ghost invariant = { IsKept };
+}
+
+impl Presentation {
+    ghost use Rattle.std.specs.Option.{option_copied};
+    ghost use Rattle.presentation.specs.Groups.{groups_of};
+    ghost use Rattle.presentation.specs.Presented.{Presented};
+
+    /// The presentation of these parts.
+    ///
+    /// Requires that there is one content for each section and track, and that no content's segments go on to an open
+    /// end.
+    pub fn from_parts(alloc: Global, parts: Parts) -> Result<Presentation, NoMemory>
+        requires filled { AreFilled (length parts.sections) (length parts.tracks) (length parts.contents) }
+        requires ended { All IsEnded parts.contents }
+        ensures { IfOk result (λ presentation. presentation ≡ of_parts parts) }
+    {
+        let groups = groups_of(alloc, parts.tracks.as_slice())?;
+        Ok(Presentation {
+            tracks: parts.tracks,
+            sections: parts.sections,
+            contents: parts.contents,
+            left_out: parts.left_out,
+            groups,
+            following: None,
+            places: Vec::new(alloc),
+        })
+    }
+
+    /// The tracks in order.
+    pub fn tracks(&self) -> &TrackList
+        ensures { result.now ≡ self.now.tracks }
+    {
+        &self.tracks
+    }
+
+    /// The sections in order.
+    pub fn sections(&self) -> &SectionList
+        ensures { result.now ≡ self.now.sections }
+    {
+        &self.sections
+    }
+
+    /// How many sets and tracks were left out.
+    pub fn left_out(&self) -> u64
+        ensures { result ≡ self.now.left_out }
+    {
+        self.left_out
+    }
+
+    /// The audio groups: one for each pair of codes and rank of an audio track in its set, in the order in which these are
+    /// first seen, and in each one track for each audio set (RFC 8216, 4.3.4.1.1).
+    pub fn groups(&self) -> &GroupList
+        ensures { result.now ≡ groups_of self.now.tracks }
+    {
+        &self.groups
+    }
+
+    /// The segments of a track in a section.
+    ///
+    /// Requires that both are in range.
+    pub fn runs(&self, section: usize, track: usize) -> &Runs
+        requires section { section < length self.now.sections }
+        requires track { track < length self.now.tracks }
+        ensures { option_map (λ content. content.runs) (content_at self.now section track) ≡ Some result.now }
+    {
+        &self.content(section, track).runs
+    }
+
+    /// The initialization part of a track in a section.
+    ///
+    /// Requires that both are in range.
+    pub fn initialization(&self, section: usize, track: usize) -> &Part
+        requires section { section < length self.now.sections }
+        requires track { track < length self.now.tracks }
+        ensures { option_map (λ content. content.initialization) (content_at self.now section track) ≡ Some result.now }
+    {
+        &self.content(section, track).initialization
+    }
+
+    /// The segments that are listed of a section's Period: all of a finished presentation.
+    ///
+    /// Requires that the section is in range.
+    pub fn window(&self, section: usize) -> Window
+        requires { section < length self.now.sections }
+        ensures { result ≡ window_of self.now section }
+    {
+        let Some(following) = &self.following else {
+            return Window {
+                after: None,
+                until: None,
+            };
+        };
+        following.window(self.sections.as_slice()[section].start)
+    }
+
+    /// Looks at a followed presentation at another instant. A finished one stays as it is.
+    pub fn set_now(&mut self, now: Instant)
+        requires { IsReadable now }
+        ensures { self.new ≡ looked_at now self.old }
+    {
+        if let Some(following) = &mut self.following {
+            following.instant = now;
+        }
+    }
+
+    /// What a track has in a section.
+    pub(crate) fn content(&self, section: usize, track: usize) -> &Content
+        requires section { section < length self.now.sections }
+        requires track { track < length self.now.tracks }
+        ensures content { content_at self.now section track ≡ Some result.now }
+        ensures fits { IsWindowOf result.now.runs (window_of self.now section) }
+    {
+        &self.contents.as_slice()[self.place_in(section, track)]
+    }
+
+    /// The place of what a track has in a section.
+    pub(crate) fn place_in(&self, section: usize, track: usize) -> usize
+        requires section { section < length self.now.sections }
+        requires track { track < length self.now.tracks }
+        ensures place { result ≡ section * length self.now.tracks + track }
+        ensures within { result < length self.now.contents }
+    {
+        let _ = self.contents.len(); // which fits a number
+        section * self.tracks.len() + track
+    }
+}

@@ -1,0 +1,33 @@
+// Tracks and sections.
+use bridge_io::{Kind, Ratio, Size, Text};
+use exact_time::Nanos;
+
+/// One Representation taken through all Periods (ISO/IEC 23009-1, 5.3.5), or one media playlist (RFC 8216, 4.3.4).
+#[derive(Debug, Drop)]
+pub struct Track {
+    /// What it holds.
+    pub kind: Kind,
+    /// Its AdaptationSet, or its rendition's name and language. Only that two tracks have the same one means something.
+    pub set: usize,
+    /// Its language, where it is known.
+    pub language: Option<Text>,
+    /// Its codes, joined by `,` without spaces, where they are known (RFC 6381).
+    pub codecs: Option<Text>,
+    /// Bits a second.
+    pub bandwidth: u64,
+    /// The size of its picture, where it is known.
+    pub size: Option<Size>,
+    /// Its frames a second, where they are known.
+    pub frame_rate: Option<Ratio>,
+}
+
+/// A Period (ISO/IEC 23009-1, 5.3.2), or the segments of one discontinuity sequence number (RFC 8216, 4.3.3.3).
+#[derive(Debug, Drop)]
+pub struct Section {
+    /// The Period's id. Where it has none, any text.
+    pub id: Text,
+    /// When it begins, from the presentation's start.
+    pub start: Nanos,
+    /// How long it lasts. It is not known where the Period's end is open.
+    pub length: Option<Nanos>,
+}
