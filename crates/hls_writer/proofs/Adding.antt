@@ -3,12 +3,12 @@ use Rattle.std.proofs.Common.{◌≡◌, ℕ, ◌+◌, ◌<◌, List, [], ◌∷
 use Rattle.std.proofs.lemmas.List.{append-nil, take_more, take-append-drop}
 use Rattle.std.proofs.lemmas.List.Concat.{flat_map-append}
 use Rattle.std.proofs.lemmas.Result.{on_ok_weaker, on_err_weaker, err_from_is_err_and}
-use Rattle.bridge_io.specs.Written.{target, IsBehind, HasFront, front_of_more}
+use Rattle.bridge_io.specs.Written.{target, IsBehind, HasFront, front_of_behind, front_of_more, front_of_whole}
 use Rattle.bridge_io.specs.Outside.{Files}
 use Rattle.bridge_io.specs.Fault.{HasCause}
 use Rattle.bridge_io.specs.declared.file_writer.FileWriter.{FileWriter}
 use Rattle.bridge_io.specs.declared.outside.Fail.{Fail}
-use Rattle.bridge_io.specs.declared.outside.Fail.TheVariants.{Failed}
+use Rattle.bridge_io.specs.declared.outside.Fail.TheVariants.{Failed, Memory}
 use Rattle.hls_writer.specs.Adding.{Shown, Adds}
 
 -- what `push` says of a piece
@@ -56,6 +56,30 @@ module _ {S T : Type 0} {a : List ℕ} (b : List ℕ) {old mid : FileWriter} {be
   -- the same where the failure is handed on
   pub adds_stop_at : {fail : Fail} (result : Result T Fail) → IsErrAnd result (λ e. e ≡ fail) → Adds {T = S} a old mid before between (Err fail) → Adds {T = T} (a ++ b) old mid before between result
   adds_stop_at result handed one = let is = err_from_is_err_and result handed in rw (is.1, is.2) (adds_stop one)
+
+-- the same, whatever else is answered
+pub adds_answered : {S T : Type 0} {text : List ℕ} {old new : FileWriter} {before after : Shown} {x : S} (y : T) → Adds text old new before after (Ok x) → Adds text old new before after (Ok y)
+adds_answered y one = record {
+  same_file = one.same_file;
+  behind = one.behind;
+  front = tt;
+  cause = record { never_falls = one.cause.never_falls; rose = λ same. absurd (cc) };
+  reads = one.reads;
+}
+
+-- memory is wanting for what follows on a text
+pub adds_wanting : {S T : Type 0} {done : List ℕ} (rest whole : List ℕ) {old mid : FileWriter} {before between : Shown} {x : S} (result : Result T Fail) → done ++ rest ≡ whole → IsErrAnd result (λ e. e ≡ Memory) → Adds done old mid before between (Ok x) → Adds {T = T} whole old mid before between result
+adds_wanting {T = T} {done = done} rest whole {old = old} {mid = mid} {before = before} {between = between} result goes wanting one =
+    let is = err_from_is_err_and result wanting in
+    let stops : Adds {T = T} whole old mid before between (Err Memory) = record {
+      same_file = one.same_file;
+      behind = tt;
+      front = λ former first behind. front_of_whole (target old) former done rest whole first between.files goes
+          (rw one.same_file at (front_of_behind mid (former ++ done) first between.files (one.behind former first behind)));
+      cause = record { never_falls = one.cause.never_falls; rose = λ same. absurd (cc) };
+      reads = one.reads;
+    } in
+    rw (is.1, is.2) stops
 
 -- texts of the members of a list
 module _ {X : Type 0} (text : X → List ℕ) (xs : List X) (i : ℕ) (d : X) (below : i < length xs) where

@@ -2,3 +2,4 @@ pub mod Adding
 pub mod Decimals
 pub mod Following
 pub mod Present
+mod Sections

@@ -1,8 +1,10 @@
 pub mod Adding
 pub mod Faults
+pub mod Finished
 pub mod Items
 pub mod Laws
 pub mod Lines
 pub mod Pieces
 pub mod Playlists
 pub mod Rows
+pub mod Verified

@@ -50,6 +50,11 @@ abbrev pub items_lines : (digits : ℕ) (former : Option ℕ) → List Item → 
 items_lines digits former [] = []
 items_lines digits former (item ∷ items) = item_lines digits former item ++ items_lines digits (Some item.section) items
 
+-- the section of the last of some segments behind one of a section
+abbrev pub last_section : (former : Option ℕ) → List Item → Option ℕ
+last_section former [] = former
+last_section former (item ∷ items) = last_section (Some item.section) items
+
 -- the lines before the segments, of which the last one is of a finished or a followed playlist
 abbrev pub head_lines : (target sequence : ℕ) (kind : WrittenLine) → List WrittenLine
 head_lines target sequence kind = header ∷ version 6 ∷ target_duration target ∷ media_sequence sequence ∷ kind ∷ []

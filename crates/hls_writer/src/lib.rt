@@ -3,6 +3,9 @@
 
 mod entry;
 mod fault;
+mod finished;
+#[cfg(test)]
+mod finished_tests;
 mod items;
 pub mod laws;
 mod line;
@@ -11,4 +14,5 @@ mod piece;
 mod tests;
 
 pub use fault::OutFault;
+pub use finished::write_media;
 pub use items::{ItemList, MediaHead, MediaItem, write_items};

@@ -24,6 +24,8 @@ pub enum Line<'a> {
     MediaSequence(u64),
     /// EXT-X-DISCONTINUITY-SEQUENCE (4.3.3.3).
     DiscontinuitySequence(u64),
+    /// EXT-X-PLAYLIST-TYPE of a playlist that never changes (4.3.3.5).
+    OnDemand,
     /// EXT-X-DISCONTINUITY (4.3.2.3).
     Discontinuity,
     /// EXT-X-MAP (4.3.2.5).
@@ -64,6 +66,9 @@ impl Line<'_> {
             }
             Line::DiscontinuitySequence(number) => {
                 push_numbered(writer, store, b"#EXT-X-DISCONTINUITY-SEQUENCE:", number)
+            }
+            Line::OnDemand => {
+                push_pieces(writer, store, &[Piece::Text(b"#EXT-X-PLAYLIST-TYPE:VOD\n")])
             }
             Line::Discontinuity => {
                 push_pieces(writer, store, &[Piece::Text(b"#EXT-X-DISCONTINUITY\n")])

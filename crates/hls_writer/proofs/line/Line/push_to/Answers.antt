@@ -18,6 +18,10 @@ pub returns-in-DiscontinuitySequence : goal.returns-in-DiscontinuitySequence
 unfolding line_bytes
 returns-in-DiscontinuitySequence g c = rw c.in-DiscontinuitySequence.is c.push_numbered-in-DiscontinuitySequence.ensures
 
+pub returns-in-OnDemand : goal.returns-in-OnDemand
+unfolding line_bytes
+returns-in-OnDemand g c = rw c.in-OnDemand.is c.push_pieces-in-OnDemand.ensures
+
 pub returns-in-Discontinuity : goal.returns-in-Discontinuity
 unfolding line_bytes
 returns-in-Discontinuity g c = rw c.in-Discontinuity.is c.push_pieces-in-Discontinuity.ensures

@@ -1,0 +1,63 @@
+-- The segments of a section one after another.
+use Rattle.std.proofs.Common.{◌≡◌, ℕ, List, [], ◌∷◌, ◌++◌, All, Option, None, Some, IfSome, option_map, refl, sym, ap, ◌∙◌, append_assoc}
+use Rattle.std.proofs.lemmas.List.Concat.{flat_map-append}
+use Rattle.std.proofs.lemmas.List.Elements.{All-tail}
+use Rattle.url_parts.specs.declared.address.Part.{Part}
+use Rattle.timeline.specs.Listed.{Made}
+use Rattle.presentation.specs.Laws.{HasAddress}
+use Rattle.presentation.specs.Printing.{IsAtEnd, IsNext, PrintedRest, PrintedTiming, printed_timings, rest_of}
+use Rattle.std.specs.Option.{option_map_or}
+use Rattle.timeline.specs.Expansions.{Timing}
+use Rattle.presentation.specs.declared.parts.Content.{Content}
+use Rattle.hls_writer.specs.Finished.{content_items, item_of, items_at}
+use Rattle.hls_writer.specs.Lines.{line_text, lines_text}
+use Rattle.hls_writer.specs.Playlists.{Item, item_lines, items_lines, last_section}
+
+-- one more item is added to what goes on to a whole text
+pub one_more : (digits : ℕ) (former : Option ℕ) (item : Item) (items : List Item) (done whole : List ℕ) → done ++ lines_text (items_lines digits former (item ∷ items)) ≡ whole
+    → (done ++ lines_text (item_lines digits former item)) ++ lines_text (items_lines digits (Some item.section) items) ≡ whole
+one_more digits former item items done whole goes =
+    let rest = items_lines digits (Some item.section) items in
+    append_assoc done (lines_text (item_lines digits former item)) (lines_text rest)
+    ∙ ap (λ t. done ++ t) (sym (flat_map-append line_text (item_lines digits former item) rest)) ∙ goes
+
+items_append : (digits : ℕ) (former : Option ℕ) (xs ys : List Item) → items_lines digits former (xs ++ ys) ≡ items_lines digits former xs ++ items_lines digits (last_section former xs) ys
+items_append digits former [] ys = refl
+items_append digits former (x ∷ xs) ys =
+    ap (λ lines. item_lines digits former x ++ lines) (items_append digits (Some x.section) xs ys)
+    ∙ sym (append_assoc (item_lines digits former x) (items_lines digits (Some x.section) xs) (items_lines digits (last_section (Some x.section) xs) ys))
+
+-- some more items are added to what goes on to a whole text
+pub more_items : (digits : ℕ) (former : Option ℕ) (xs ys : List Item) (done whole : List ℕ) → done ++ lines_text (items_lines digits former (xs ++ ys)) ≡ whole
+    → (done ++ lines_text (items_lines digits former xs)) ++ lines_text (items_lines digits (last_section former xs) ys) ≡ whole
+more_items digits former xs ys done whole goes =
+    let later = items_lines digits (last_section former xs) ys in
+    append_assoc done (lines_text (items_lines digits former xs)) (lines_text later)
+    ∙ ap (λ t. done ++ t) (sym (flat_map-append line_text (items_lines digits former xs) later) ∙ ap lines_text (sym (items_append digits former xs ys))) ∙ goes
+
+module _ (map : Part) (section : ℕ) (old new : PrintedRest) where
+  abbrev pub left : PrintedRest → List Item
+  left rest = items_at rest.timeline map section rest.left
+
+  pub next_item : (made : Made) (duration : ℕ) → IsNext old made duration new → left old ≡ item_of made.part map section duration ∷ left new
+  next_item made duration next = rw (next.next, next.part, next.timeline) refl
+
+  pub still_addressed : (made : Made) (duration : ℕ) → IsNext old made duration new → All (λ x. HasAddress old.timeline x.times) old.left → All (λ x. HasAddress new.timeline x.times) new.left
+  still_addressed made duration next all = rw next.timeline
+      (All-tail (λ (x : PrintedTiming). HasAddress old.timeline x.times) (record { times = made.times; duration = duration }) new.left (rw next.next at all))
+
+  pub no_more : IsAtEnd old new → left old ≡ []
+  no_more end = rw end.none refl
+
+-- ---- what a presentation tells of a track in a section
+
+module _ (unit section : ℕ) (listed : List Timing) (map : Part) (rest : PrintedRest) where
+  pub rest_items : (o : Option Content) → option_map (λ content. content.initialization) o ≡ Some map → IfSome o (λ content. rest ≡ rest_of content.runs listed unit)
+      → items_at rest.timeline map section rest.left ≡ option_map_or (content_items unit section listed) o []
+  rest_items None is_map is = absurd (cc)
+  rest_items (Some content) is_map is = let same : content.initialization ≡ map = cc in rw (is, ← same) refl
+
+  pub rest_addressed : (o : Option Content) → option_map (λ content. content.initialization) o ≡ Some map → IfSome o (λ content. rest ≡ rest_of content.runs listed unit)
+      → IfSome o (λ content. All (λ x. HasAddress content.runs x.times) (printed_timings unit listed)) → All (λ x. HasAddress rest.timeline x.times) rest.left
+  rest_addressed None is_map is all = absurd (cc)
+  rest_addressed (Some content) is_map is all = rw is all

@@ -1,0 +1,24 @@
+use Rattle.std.proofs.Common.{◌≡◌, ℕ, List, ◌++◌, length, All, Ok}
+use Rattle.presentation.specs.Laws.{HasAddress}
+use Rattle.hls_writer.specs.Adding.{Adds, shown}
+use Rattle.hls_writer.specs.Finished.{items_at}
+use Rattle.hls_writer.specs.Lines.{lines_text}
+use Rattle.hls_writer.specs.Playlists.{items_lines, last_section}
+use Rattle.hls_writer.proofs.finished.push_segments.Given as goal
+
+-- what is added so far goes on to the text of all segments
+abbrev pub invariant-loop-segment : goal.invariant-loop-segment
+invariant-loop-segment g l =
+    let shows = shown g.F.Store.files g.F.Store.read_faults g.F.Store.write_faults in
+    let all = items_at l.initial.segments.timeline l.place.map.now l.place.section l.initial.segments.left in
+    let left = items_at l.segments.timeline l.place.map.now l.place.section l.segments.left in
+    record {
+      addressed : All (λ x. HasAddress l.segments.timeline x.times) l.segments.left;
+      done : (done : List ℕ)
+          × (done ++ lines_text (items_lines l.place.digits l.former left) ≡ lines_text (items_lines l.place.digits l.initial.former all))
+          × Adds {T = Unit {0}} done l.initial.writer l.writer (shows l.initial.store) (shows l.store) (Ok tt);
+      last : last_section l.former left ≡ last_section l.initial.former all;
+    }
+
+abbrev pub decreases-loop-segment : goal.decreases-loop-segment
+decreases-loop-segment g l = length l.segments.left

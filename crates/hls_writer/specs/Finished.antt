@@ -1,0 +1,55 @@
+-- The playlist of a track of a finished presentation.
+use Rattle.std.specs.Prelude.{ℕ, ◌+◌, ◌*◌, ◌/◌, ◌%◌, ◌^◌, nat_le, max, if◌then◌else◌, List, [], map, None, Result, Ok, Err}
+use Rattle.std.specs.List.{flat_map}
+use Rattle.std.specs.Option.{option_map_or}
+use Rattle.url_parts.specs.declared.address.Part.{Part}
+use Rattle.timeline.specs.declared.fault.ListFault.{ListFault}
+use Rattle.timeline.specs.Expansions.{SegmentTimeline, Timing}
+use Rattle.timeline.specs.Listed.{part_of_timing}
+use Rattle.presentation.specs.declared.parts.Content.{Content}
+use Rattle.presentation.specs.Presented.{Presented, content_at, listed_at}
+use Rattle.presentation.specs.Counting.{sections_of}
+use Rattle.presentation.specs.Printing.{PrintedTiming, printed_timings}
+use Rattle.presentation.specs.Verifying.{longest_of}
+use Rattle.hls_writer.specs.Playlists.{Item, finished_text}
+
+-- the part of a segment that has an address
+abbrev pub part_or_none : Result Part ListFault → Part
+part_or_none (Ok part) = part
+part_or_none (Err fault) = record { address = []; range = None }
+
+-- a segment of a section, with its printed duration
+abbrev pub item_of : (part initialization : Part) → (section duration : ℕ) → Item
+item_of part initialization section duration = record { part = part; map = initialization; duration = duration; section = section; date = None }
+
+abbrev pub item_at : SegmentTimeline → (initialization : Part) → (section : ℕ) → PrintedTiming → Item
+item_at timeline initialization section x = item_of (part_or_none (part_of_timing timeline x.times)) initialization section x.duration
+
+abbrev pub items_at : SegmentTimeline → (initialization : Part) → (section : ℕ) → List PrintedTiming → List Item
+items_at timeline initialization section xs = map (item_at timeline initialization section) xs
+
+abbrev pub content_items : (unit section : ℕ) → List Timing → Content → List Item
+content_items unit section listed content = items_at content.runs content.initialization section (printed_timings unit listed)
+
+-- the segments of a track in a section
+abbrev pub section_items : Presented → (unit track section : ℕ) → List Item
+section_items p unit track section = option_map_or (content_items unit section (listed_at p section track)) (content_at p section track) []
+
+-- the segments of a track
+abbrev pub track_items : Presented → (unit track : ℕ) → List Item
+track_items p unit track = flat_map (section_items p unit track) (sections_of p)
+
+-- a duration in seconds, to the nearest one, halves up, and at least 1 (RFC 8216, 4.3.3.1)
+abbrev pub rounded : (unit units : ℕ) → ℕ
+rounded unit units = if nat_le unit (2 * (units % unit)) then units / unit + 1 else units / unit
+
+abbrev pub target_of : (unit units : ℕ) → ℕ
+target_of unit units = max 1 (rounded unit units)
+
+-- the text of a track's playlist with a target duration
+abbrev pub track_text : Presented → (digits track target : ℕ) → List ℕ
+track_text p digits track target = finished_text target digits (track_items p (10 ^ digits) track)
+
+-- the text of a track's playlist, whose durations have a number of digits
+unfoldable pub media_text : Presented → (digits track : ℕ) → List ℕ
+media_text p digits track = track_text p digits track (target_of (10 ^ digits) (longest_of p (10 ^ digits) track))

@@ -1,0 +1,273 @@
+// The playlists of the tracks of a finished presentation.
+ghost use Rattle.std.specs.Prelude.{◌≡◌, ◌⊎◌, ◌^◌, ◌<◌, ◌≤◌, ◌/◌, length, All, IfOk, IfSome, None, Ok, OnOk, OnErr, MatchOption, MatchResult};
+ghost use Rattle.bridge_io.specs.Fault.{HasCause};
+ghost use Rattle.bridge_io.specs.Outside.{put, Changes};
+ghost use Rattle.bridge_io.specs.Written.{HasFront};
+ghost use Rattle.bridge_io.specs.declared.outside.Fail.TheVariants.{Memory};
+ghost use Rattle.presentation.specs.Laws.{HasAddress};
+ghost use Rattle.presentation.specs.Printing.{IsAtEnd, IsNext};
+ghost use Rattle.presentation.specs.Verifying.{verified};
+ghost use Rattle.hls_writer.specs.Verified.{IsVerified};
+ghost use Rattle.hls_writer.specs.Adding.{Adds, shown};
+ghost use Rattle.hls_writer.specs.Finished as spec;
+ghost use Rattle.hls_writer.specs.Lines.{lines_text, on_demand};
+ghost use Rattle.hls_writer.specs.Playlists.{head_lines, items_lines, item_lines, last_section};
+ghost use Rattle.hls_writer.specs.Rows.{all_written, CanBeThere};
+ghost use Rattle.hls_writer.specs.declared.fault.OutFault.TheVariants.{WriteFault};
+
+use crate::OutFault;
+use crate::entry::Entry;
+use crate::line::{Line, push_lines};
+use bridge_io::{Fail, FileWriter, Ledger, Name, Steps, Store};
+use exact_time::Digits;
+use presentation::{Longest, Presentation, PrintedSegments};
+use std::alloc::Global;
+use timeline::{ListFault, Segment};
+use url_parts::Part;
+
+/// Writes the playlist of a track of a finished presentation: each listed segment with its address and its printed duration,
+/// an EXT-X-DISCONTINUITY for each step by which the section rises, and an EXT-X-MAP for the first segment and for the first
+/// one of each section. The target duration is the longest printed duration in seconds, to the nearest one, halves up, and at
+/// least 1.
+///
+/// Requires that the track is in range, and that `verify` gave `longest` for this presentation and these digits.
+///
+/// An error leaves the file as it was, or a front of the text in it. [`OutFault::WriteFault`] comes only where the store's
+/// count of failed writes rose.
+pub fn write_media<F: Store, L: Ledger>(
+    alloc: Global,
+    presentation: &Presentation,
+    track: usize,
+    longest: &Longest,
+    digits: Digits,
+    store: &mut F,
+    name: &Name,
+    steps: &mut Steps<L>,
+) -> Result<(), OutFault>
+    requires track { track < length presentation.now.tracks }
+    requires verified { verified presentation.now (10 ^ digits) ≡ Ok longest.now }
+    ensures ok { OnOk result (Changes (put name.now (spec.media_text presentation.now digits track)) (F.files store.old) (F.files store.new)) }
+    ensures err { OnErr result ((F.files store.new ≡ F.files store.old)
+        ⊎ HasFront name.now (spec.media_text presentation.now digits track) (F.files store.old) (F.files store.new)) }
+    ensures cause { HasCause WriteFault (F.write_faults store.old) (F.write_faults store.new) result }
+    ensures reads { F.read_faults store.new ≡ F.read_faults store.old }
+{
+    let target = target_of(longest.of(track), digits);
+    let track = WrittenTrack {
+        presentation,
+        track,
+        digits,
+    };
+    write_playlist(alloc, &track, target, store, name, steps)
+}
+
+/// A track whose playlist is written.
+#[derive(Clone, Copy)]
+struct WrittenTrack<'a> {
+    presentation: &'a Presentation,
+    track: usize,
+    digits: Digits,
+}
+
+/// Writes the playlist with this target duration.
+fn write_playlist<F: Store, L: Ledger>(
+    alloc: Global,
+    track: &WrittenTrack<'_>,
+    target: u64,
+    store: &mut F,
+    name: &Name,
+    steps: &mut Steps<L>,
+) -> Result<(), OutFault>
+    requires track { track.now.track < length track.now.presentation.now.tracks }
+    requires verified { IsVerified track.now.presentation.now track.now.digits }
+    ensures ok { OnOk result (Changes (put name.now (spec.track_text track.now.presentation.now track.now.digits track.now.track target)) (F.files store.old) (F.files store.new)) }
+    ensures err { OnErr result ((F.files store.new ≡ F.files store.old)
+        ⊎ HasFront name.now (spec.track_text track.now.presentation.now track.now.digits track.now.track target) (F.files store.old) (F.files store.new)) }
+    ensures cause { HasCause WriteFault (F.write_faults store.old) (F.write_faults store.new) result }
+    ensures reads { F.read_faults store.new ≡ F.read_faults store.old }
+{
+    let mut writer = FileWriter::create(alloc, store, name)?;
+    push_playlist(alloc, track, target, &mut writer, store, steps)?;
+    writer.flush(store)?;
+    Ok(())
+}
+
+/// Adds the whole text.
+fn push_playlist<F: Store, L: Ledger>(
+    alloc: Global,
+    track: &WrittenTrack<'_>,
+    target: u64,
+    writer: &mut FileWriter<'_>,
+    store: &mut F,
+    steps: &mut Steps<L>,
+) -> Result<(), Fail>
+    requires track { track.now.track < length track.now.presentation.now.tracks }
+    requires verified { IsVerified track.now.presentation.now track.now.digits }
+    ensures { let shows = shown F.files F.read_faults F.write_faults in
+        Adds (spec.track_text track.now.presentation.now track.now.digits track.now.track target) writer.old writer.new (shows store.old) (shows store.new) result }
+{
+    push_lines(writer, store, &head_lines(target))?;
+    push_sections(alloc, track, writer, store, steps)?;
+    push_lines(writer, store, &[Some(Line::EndList)])
+}
+
+fn head_lines(target: u64) -> [Option<Line<'static>>; 5]
+    ensures written { all_written result ≡ head_lines target 0 on_demand }
+    ensures can { All CanBeThere result }
+{
+    [
+        Some(Line::Header),
+        Some(Line::Version(6)),
+        Some(Line::TargetDuration(target)),
+        Some(Line::MediaSequence(0)),
+        Some(Line::OnDemand),
+    ]
+}
+
+/// Adds the lines of a track's segments.
+fn push_sections<F: Store, L: Ledger>(
+    alloc: Global,
+    track: &WrittenTrack<'_>,
+    writer: &mut FileWriter<'_>,
+    store: &mut F,
+    steps: &mut Steps<L>,
+) -> Result<(), Fail>
+    requires track { track.now.track < length track.now.presentation.now.tracks }
+    requires verified { IsVerified track.now.presentation.now track.now.digits }
+    ensures { let shows = shown F.files F.read_faults F.write_faults in
+        let items = spec.track_items track.now.presentation.now (10 ^ track.now.digits) track.now.track in
+        Adds (lines_text (items_lines track.now.digits None items)) writer.old writer.new (shows store.old) (shows store.new) result }
+{
+    let mut former = None;
+    for section in 0..track.presentation.sections().len() {
+        former = push_section(alloc, track, section, former, writer, store, steps)?;
+    }
+    Ok(())
+}
+
+/// Adds the lines of a track's segments in a section, and tells the section of the last segment so far.
+fn push_section<F: Store, L: Ledger>(
+    alloc: Global,
+    track: &WrittenTrack<'_>,
+    section: usize,
+    former: Option<u64>,
+    writer: &mut FileWriter<'_>,
+    store: &mut F,
+    steps: &mut Steps<L>,
+) -> Result<Option<u64>, Fail>
+    requires section { section < length track.now.presentation.now.sections }
+    requires track { track.now.track < length track.now.presentation.now.tracks }
+    requires verified { IsVerified track.now.presentation.now track.now.digits }
+    ensures adds { let shows = shown F.files F.read_faults F.write_faults in
+        let items = spec.section_items track.now.presentation.now (10 ^ track.now.digits) track.now.track section in
+        Adds (lines_text (items_lines track.now.digits former items)) writer.old writer.new (shows store.old) (shows store.new) result }
+    ensures last { let items = spec.section_items track.now.presentation.now (10 ^ track.now.digits) track.now.track section in
+        IfOk result (λ last. last ≡ last_section former items) }
+{
+    let place = Place {
+        map: track.presentation.initialization(section, track.track),
+        section: section as u64,
+        digits: track.digits,
+    };
+    let segments = track
+        .presentation
+        .segments(section, track.track, track.digits);
+    push_segments(alloc, segments, &place, former, writer, store, steps)
+}
+
+/// What the segments of a section have in common.
+#[derive(Clone, Copy)]
+struct Place<'a> {
+    map: &'a Part,
+    section: u64,
+    digits: Digits,
+}
+
+/// Makes the next segment of those that all have addresses.
+fn next_segment<L: Ledger>(
+    alloc: Global,
+    segments: &mut PrintedSegments<'_>,
+    steps: &mut Steps<L>,
+) -> Result<Option<(Segment, u64)>, Fail>
+    requires { All (λ x. HasAddress segments.old.timeline x.times) segments.old.left }
+    ensures { MatchResult result
+        (λ next. MatchOption next (IsAtEnd segments.old segments.new) (λ made. IsNext segments.old made.0 made.1 segments.new))
+        (λ fail. fail ≡ Memory) }
+{
+    match segments.next(alloc, steps) {
+        Ok(next) => Ok(next),
+        Err(ListFault::Memory) => Err(Fail::Memory),
+        Err(ListFault::Url(_)) => unreachable!(),
+    }
+}
+
+/// A duration in seconds, to the nearest one, halves up.
+fn rounded(units: u64, unit: u64) -> u64
+    requires { 1000 ≤ unit }
+    ensures { result ≡ spec.rounded unit units }
+{
+    let whole = units / unit;
+    let rest = units % unit;
+    if rest >= unit - rest {
+        whole + 1
+    } else {
+        whole
+    }
+}
+
+/// The same, and at least 1 (RFC 8216, 4.3.3.1).
+fn target_of(units: u64, digits: Digits) -> u64
+    ensures { result ≡ spec.target_of (10 ^ digits) units }
+{
+    rounded(units, u64::from(digits.unit())).max(1)
+}
+
+/// Adds the lines of the segments that are left of a section, behind a segment of the section `former` or as the playlist's
+/// first ones, and tells the section of the last segment so far.
+fn push_segments<F: Store, L: Ledger>(
+    alloc: Global,
+    mut segments: PrintedSegments<'_>,
+    place: &Place<'_>,
+    former: Option<u64>,
+    writer: &mut FileWriter<'_>,
+    store: &mut F,
+    steps: &mut Steps<L>,
+) -> Result<Option<u64>, Fail>
+    requires { All (λ x. HasAddress segments.timeline x.times) segments.left }
+    ensures adds { let shows = shown F.files F.read_faults F.write_faults in
+        let items = spec.items_at segments.entry.timeline place.now.map.now place.now.section segments.entry.left in
+        Adds (lines_text (items_lines place.now.digits former items)) writer.old writer.new (shows store.old) (shows store.new) result }
+    ensures last { let items = spec.items_at segments.entry.timeline place.now.map.now place.now.section segments.entry.left in
+        IfOk result (λ last. last ≡ last_section former items) }
+{
+    let mut former = former;
+    while let Some((segment, duration)) = next_segment(alloc, &mut segments, steps)? {
+        push_segment(&segment, duration, place, former, writer, store)?;
+        former = Some(place.section);
+    }
+    Ok(former)
+}
+
+/// Adds the lines of a segment.
+fn push_segment<F: Store>(
+    segment: &Segment,
+    duration: u64,
+    place: &Place<'_>,
+    former: Option<u64>,
+    writer: &mut FileWriter<'_>,
+    store: &mut F,
+) -> Result<(), Fail>
+    ensures { let shows = shown F.files F.read_faults F.write_faults in
+        let item = spec.item_of segment.now.part place.now.map.now place.now.section duration in
+        Adds (lines_text (item_lines place.now.digits former item)) writer.old writer.new (shows store.old) (shows store.new) result }
+{
+    let entry = Entry {
+        address: segment.address(),
+        range: segment.range(),
+        map: place.map,
+        duration,
+        section: place.section,
+        date: None,
+    };
+    entry.push_to(writer, store, place.digits, former)
+}
