@@ -20,8 +20,6 @@ mod sequence;
 mod std_sink;
 mod std_source;
 mod steps;
-#[cfg(test)]
-mod tests;
 mod text;
 mod whole_file;
 

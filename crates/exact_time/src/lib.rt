@@ -23,6 +23,3 @@ pub use nanos::Nanos;
 pub use order::compare;
 pub use rounder::Rounder;
 pub use tick::Tick;
-
-#[cfg(test)]
-mod tests;

@@ -15,6 +15,3 @@ pub use laws::{
     file_faults_are_in_order, lines_are_as_written,
 };
 pub use lines::{Line, Lines};
-
-#[cfg(test)]
-mod tests;

@@ -23,6 +23,3 @@ pub use master::{Master, read_master};
 pub use rendition::{Rendition, read_rendition};
 pub use track::{MasterTrack, MasterTracks};
 pub use variant::{Shown, Variant, read_variant};
-
-#[cfg(test)]
-mod tests;

@@ -15,6 +15,3 @@ pub use laws::{
     what_is_read_is_bounded, what_is_read_is_meant,
 };
 pub use media::{Media, MediaList, MediaSegment, read_media};
-
-#[cfg(test)]
-mod tests;

@@ -8,8 +8,6 @@ mod digits;
 mod duration;
 mod instant;
 pub mod laws;
-#[cfg(test)]
-mod tests;
 
 pub use duration::{DurationFault, DurationText, read_duration, write_duration};
 pub use instant::{Instant, InstantFault, read_instant, write_instant_ms};

@@ -19,8 +19,6 @@ mod read;
 mod reader;
 mod references;
 mod runs;
-#[cfg(test)]
-mod tests;
 mod tree;
 
 pub use attr::Attr;

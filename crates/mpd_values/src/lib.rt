@@ -8,8 +8,6 @@ mod frame_rate;
 mod language;
 mod media_type;
 mod number;
-#[cfg(test)]
-mod tests;
 
 pub use blank::{Blank, trimmed};
 pub use codecs::{are_codes, has_foreign_code};

@@ -7,6 +7,3 @@ mod unlawful;
 
 pub use laws::{a_playlist_reloads_itself, rules_are_sentences};
 pub use unlawful::{Unlawful, lawful};
-
-#[cfg(test)]
-mod tests;

@@ -13,6 +13,3 @@ pub use base::{Base, local_name};
 pub use code::{CodeClass, code_class};
 pub use fault::UrlFault;
 pub use range::{Range, read_range};
-
-#[cfg(test)]
-mod tests;

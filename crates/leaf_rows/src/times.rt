@@ -3,7 +3,7 @@
 ghost use Rattle.std.specs.Prelude.{◌≡◌, ◌<◌, ◌≤◌, ◌^◌};
 ghost use Rattle.exact_time.specs.Tick.{time_of};
 
-use crate::{Digits, Nanos, Rounder, Tick, ceil_count, compare, floor_unit};
+use exact_time::{Digits, Nanos, Rounder, Tick, ceil_count, compare, floor_unit};
 use std::cmp::Ordering;
 use std::process::Abort;
 

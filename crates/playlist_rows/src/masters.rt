@@ -1,6 +1,6 @@
-use super::*;
 use bridge_io::{Kind, Place, Ratio, Size};
 use hls_lines::{LineFault, Lines};
+use hls_master::*;
 use std::test::Fail;
 use url_parts::{Base, UrlFault};
 

@@ -1,5 +1,5 @@
-use super::*;
 use bridge_io::Place;
+use hls_lines::*;
 
 const START: Place = Place { at: 0, line: 1 };
 

@@ -1,5 +1,5 @@
 // What no clause says: that calls succeed, and what the operating system does.
-use super::*;
+use bridge_io::*;
 use std::alloc::Global;
 use std::env;
 use std::test::Fail as TestFail;

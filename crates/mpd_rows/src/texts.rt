@@ -1,6 +1,6 @@
 // That texts are read as the tables say: a body that is out of memory meets each clause.
-use super::*;
 use bridge_io::Place;
+use mpd_text::*;
 use std::alloc::Global;
 use std::test::Fail;
 

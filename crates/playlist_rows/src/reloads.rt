@@ -1,6 +1,6 @@
 // Worked reloads.
-use super::*;
 use hls_media::{Media, read_media};
+use reload_law::*;
 use std::alloc::Global;
 use std::test::Fail;
 use url_parts::Base;

@@ -1,6 +1,6 @@
-use super::*;
 use bridge_io::Name;
 use std::test::Fail;
+use url_parts::*;
 
 // A reference, and the address that it gives against `https://h.example/a/b/m.mpd?q=1&r=2#frag`.
 const ADDRESSES: [(&str, &str); 22] = [

@@ -1,8 +1,8 @@
-use crate::{
+use bridge_io::Kind;
+use mpd_values::{
     Blank, are_codes, has_foreign_code, is_language, kind_of, read_frame_rate, read_number,
     read_signed, trimmed,
 };
-use bridge_io::Kind;
 
 #[test]
 fn numbers(rt: HostRuntime) {

@@ -1,5 +1,5 @@
-use super::*;
 use bridge_io::Place;
+use hls_media::*;
 use std::test::Fail;
 use url_parts::Base;
 

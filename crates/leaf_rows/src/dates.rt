@@ -1,5 +1,5 @@
-use crate::*;
 use exact_time::Nanos;
+use iso_time::*;
 use std::test::Fail;
 
 const HOUR: u64 = 3_600_000_000_000;

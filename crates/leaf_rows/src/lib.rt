@@ -1,0 +1,15 @@
+//! The leaves with ample memory, and worked values: what no clause says.
+#![tactic(auto)]
+
+#[cfg(test)]
+mod addresses;
+#[cfg(test)]
+mod bytes;
+#[cfg(test)]
+mod dates;
+#[cfg(test)]
+mod outside;
+#[cfg(test)]
+mod times;
+#[cfg(test)]
+mod values;
