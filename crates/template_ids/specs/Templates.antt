@@ -8,6 +8,7 @@ use Rattle.template_ids.specs.declared.identifier.Quantity.TheVariants.{Number, 
 use Rattle.template_ids.specs.declared.fault.TemplateFault.{TemplateFault}
 use Rattle.template_ids.specs.declared.fault.TemplateFault.TheVariants.{LoneDollar, Both, Memory}
 use Rattle.template_ids.specs.declared.ids.Ids.{Ids}
+use Rattle.template_ids.specs.declared.ids.BorrowedIds.{BorrowedIds}
 use Rattle.template_ids.specs.Identifiers.{identifier_of}
 
 abbrev pub is_dollar : ℕ → Bool
@@ -74,6 +75,9 @@ template_of text = unless_fault text (template_fault text)
 abbrev pub refusal : TemplateFault → Option TemplateFault
 refusal Memory = None
 refusal fault = Some fault
+
+abbrev pub ids_of : BorrowedIds → Ids
+ids_of ids = record { id = ids.id.now; bandwidth = ids.bandwidth; number = ids.number; time = ids.time }
 
 abbrev pub quantity : Ids → Quantity → ℕ
 quantity ids Number = ids.number

@@ -18,10 +18,39 @@ pub struct Ids {
 }
 
 impl Ids {
-    ghost use Rattle.template_ids.specs.Templates.{quantity};
+    ghost use Rattle.template_ids.specs.Templates.{ids_of};
+
+    /// The same, with the id where it stands.
+    pub fn borrowed(&self) -> BorrowedIds<'_>
+        ensures { ids_of result ≡ self.now }
+    {
+        BorrowedIds {
+            id: self.id.as_str(),
+            bandwidth: self.bandwidth,
+            number: self.number,
+            time: self.time,
+        }
+    }
+}
+
+/// What the identifiers of a template stand for, without a copy of the id: many segments have the same one.
+#[derive(Clone, Copy, Debug)]
+pub struct BorrowedIds<'a> {
+    /// The id of the Representation.
+    pub id: &'a str,
+    /// The Representation's `@bandwidth`, in bits per second.
+    pub bandwidth: u64,
+    /// The segment's number.
+    pub number: u64,
+    /// The segment's start in media time, in ticks.
+    pub time: u64,
+}
+
+impl BorrowedIds<'_> {
+    ghost use Rattle.template_ids.specs.Templates.{ids_of, quantity};
 
     pub(crate) fn number_of(&self, wanted: Quantity) -> u64
-        ensures { result ≡ quantity self.now wanted }
+        ensures { result ≡ quantity (ids_of self.now) wanted }
     {
         match wanted {
             Quantity::Number => self.number,

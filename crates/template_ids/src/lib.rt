@@ -8,5 +8,5 @@ mod piece;
 mod template;
 
 pub use fault::TemplateFault;
-pub use ids::Ids;
+pub use ids::{BorrowedIds, Ids};
 pub use template::Template;

@@ -2,11 +2,11 @@
 ghost use Rattle.std.specs.Prelude.{◌≡◌, ◌%◌, ◌≤◌, [], ◌∷◌, ◌++◌, count_by, decimal, string_bytes, OnOk, MatchResult};
 ghost use Rattle.std.specs.List.{list_any};
 ghost use Rattle.template_ids.specs.declared.fault.TemplateFault.TheVariants.{Memory};
-ghost use Rattle.template_ids.specs.Templates.{is_dollar, padded};
+ghost use Rattle.template_ids.specs.Templates.{ids_of, is_dollar, padded};
 ghost use Rattle.template_ids.specs.Pieces.{PiecesOf, IsFirstFault, IsPieceOf, piece_text, is_quantity};
 
 use crate::identifier::{Identifier, Quantity};
-use crate::{Ids, TemplateFault};
+use crate::{BorrowedIds, TemplateFault};
 use itoa::Buffer;
 use std::alloc::{AllocError, Global};
 
@@ -69,24 +69,29 @@ impl Piece {
     }
 
     /// How many bytes the piece takes in a name at most.
-    pub fn room(self, ids: &Ids) -> usize {
+    pub fn room(self, ids: &BorrowedIds<'_>) -> usize {
         match self {
             Piece::Literal { start, end } => end.saturating_sub(start),
             Piece::Value(Identifier::Dollar) => 1,
-            Piece::Value(Identifier::RepresentationId) => ids.id.as_str().len(),
+            Piece::Value(Identifier::RepresentationId) => ids.id.len(),
             Piece::Value(Identifier::Padded(..)) => ZEROS.len(),
         }
     }
 
     /// Adds what the piece of a template's text stands for.
-    pub fn push_to(self, name: &mut String, text: &str, ids: &Ids) -> Result<(), AllocError>
+    pub fn push_to(
+        self,
+        name: &mut String,
+        text: &str,
+        ids: &BorrowedIds<'_>,
+    ) -> Result<(), AllocError>
         requires { IsPieceOf text.now self }
-        ensures { OnOk result (string_bytes name.new ≡ string_bytes name.old ++ piece_text text.now ids.now self) }
+        ensures { OnOk result (string_bytes name.new ≡ string_bytes name.old ++ piece_text text.now (ids_of ids.now) self) }
     {
         match self {
             Piece::Literal { start, end } => name.push_str(&text[start..end]),
             Piece::Value(Identifier::Dollar) => name.push_str("$"),
-            Piece::Value(Identifier::RepresentationId) => name.push_str(ids.id.as_str()),
+            Piece::Value(Identifier::RepresentationId) => name.push_str(ids.id),
             Piece::Value(Identifier::Padded(quantity, width)) => push_padded(
                 name,
                 ids.number_of(quantity),

@@ -4,7 +4,7 @@ ghost use Rattle.bridge_io.specs.Answer.{Gives};
 
 use crate::identifier::Quantity;
 use crate::piece::{self, Piece};
-use crate::{Ids, TemplateFault};
+use crate::{BorrowedIds, Ids, TemplateFault};
 use bridge_io::{NoMemory, Text};
 use std::alloc::Global;
 use std::marker::Model;
@@ -34,7 +34,7 @@ impl Model for Template {
 }
 
 impl Template {
-    ghost use Rattle.template_ids.specs.Templates.{named, template_of, refusal, uses_number, uses_time};
+    ghost use Rattle.template_ids.specs.Templates.{ids_of, named, template_of, refusal, uses_number, uses_time};
 
     /// Reads a text as a template.
     ///
@@ -67,6 +67,13 @@ impl Template {
     pub fn name(&self, alloc: Global, ids: &Ids) -> Result<Text, NoMemory>
         ensures { IfOk result (λ name. name ≡ named self.now ids.now) }
     {
+        self.name_with(alloc, &ids.borrowed())
+    }
+
+    /// The same, with an id that isn't copied.
+    pub fn name_with(&self, alloc: Global, ids: &BorrowedIds<'_>) -> Result<Text, NoMemory>
+        ensures { IfOk result (λ name. name ≡ named self.now (ids_of ids.now)) }
+    {
         let text = self.text.as_str();
         let mut name = String::with_capacity(alloc, self.room(ids))?;
         for piece in &self.pieces {
@@ -90,7 +97,7 @@ impl Template {
     }
 
     /// How many bytes the name takes at most.
-    fn room(&self, ids: &Ids) -> usize {
+    fn room(&self, ids: &BorrowedIds<'_>) -> usize {
         self.pieces
             .iter()
             .fold(0usize, |room, piece| room.saturating_add(piece.room(ids)))

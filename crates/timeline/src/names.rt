@@ -8,7 +8,7 @@ ghost use Rattle.url_parts.specs.Addresses.{resolve};
 use crate::{ListFault, PartList, RefList, SharedNames};
 use bridge_io::Text;
 use std::alloc::Global;
-use template_ids::{Ids, Template};
+use template_ids::{BorrowedIds, Template};
 use url_parts::{Base, Part, Range, UrlFault};
 
 /// A SegmentURL of a SegmentList (ISO/IEC 23009-1, 5.3.9.3).
@@ -122,13 +122,13 @@ impl Names {
                 bandwidth,
                 base,
             } => {
-                let ids = Ids {
-                    id: Text::copy_of(alloc, id.as_str())?,
+                let ids = BorrowedIds {
+                    id: id.as_str(),
                     bandwidth: *bandwidth,
                     number,
                     time,
                 };
-                let name = media.name(alloc, &ids)?;
+                let name = media.name_with(alloc, &ids)?;
                 joined(alloc, base, name.as_str(), None)
             }
             Names::List { parts, base } => listed_part(alloc, parts.get(place as usize), base),
