@@ -3,14 +3,15 @@ use Rattle.timeline.specs.declared.shared_timeline.Laid.{Laid}
 use Rattle.timeline.specs.declared.run_table.RunTable.{RunTable}
 use Rattle.timeline.specs.declared.run.Run.{Run}
 use Rattle.timeline.specs.RunTables.{media_of, runs_at}
-use Rattle.std.proofs.Common.{◌≡◌, ℕ, zero, suc, ◌+◌, ◌-◌, ◌*◌, ◌<◌, ◌≤◌, ◌^◌, min, ltb, Bool, false, List, [], ◌∷◌, ◌++◌, map, length, pos, ◌+ℤ◌, ◌-ℤ◌, Option, Some, None, refl, ◌∙◌, sym, ap, subst, inl, inr, arith}
-use Rattle.std.specs.Prelude.{unsigned_abs, All, IsNone, IfSome, MatchResult, Result, Ok, Err, not, ◌&&◌, ◌==◌, ◌⊎◌}
+use Rattle.std.proofs.Common.{◌≡◌, ℕ, zero, suc, ◌+◌, ◌-◌, ◌*◌, ◌<◌, ◌≤◌, ◌^◌, min, ltb, Bool, false, List, [], ◌∷◌, ◌++◌, map, length, take, drop, pos, ◌+ℤ◌, ◌-ℤ◌, Option, Some, None, refl, ◌∙◌, sym, ap, subst, inl, inr, arith}
+use Rattle.std.specs.Prelude.{unsigned_abs, slice_get, All, IsNone, IfSome, MatchResult, Result, Ok, Err, not, ◌&&◌, ◌==◌, ◌⊎◌}
 use Rattle.std.specs.Int.{abs_diff}
 use Rattle.std.specs.Result.{IsErr, IsErrAnd}
 use Rattle.std.proofs.lemmas.Bool.{cases_lt, ltb-false}
 use Rattle.std.proofs.lemmas.Int.{ints}
 use Rattle.std.proofs.lemmas.Grind.{flat_map-append}
-use Rattle.std.proofs.lemmas.List.{append_assoc, map-append, append-nil, length-append, length-map}
+use Rattle.std.proofs.lemmas.List.{append_assoc, map-append, append-nil, length-append, length-map, take-append-drop, drop_more, drop_all}
+use Rattle.std.proofs.lemmas.Option.{get_or_from_slice_get, slice_get_within}
 use Rattle.std.proofs.lemmas.List.Elements.{All-nil, All-cons, All-append}
 use Rattle.std.proofs.Math.Nat.{mul-le-mul_right}
 use Rattle.exact_time.specs.Time.{Time}
@@ -21,11 +22,11 @@ use Rattle.timeline.specs.declared.limits.Limits.{Limits}
 use Rattle.timeline.specs.declared.run.Endless.{Endless as GoesOn}
 use Rattle.timeline.specs.Ratios.{natural}
 use Rattle.timeline.specs.Expansions.{Extent, Member, Closed, is_open, repeated, repeat_of}
-use Rattle.timeline.specs.RunSegments.{AreLaid, IsRun, all_extents, extents_of, TimedRun, head_of, placed_run, timed}
+use Rattle.timeline.specs.RunSegments.{AreLaid, IsLonger, IsOne, IsRun, all_extents, extents_of, TimedRun, head_of, placed_run, timed}
 use Rattle.timeline.specs.Kept.{endless_members, FollowsOn}
 use Rattle.timeline.specs.Limits.{breaks_limits, media_extent}
 use Rattle.timeline.specs.Faults.{is_apart, refusal, segment_fault, are_paired}
-use Rattle.timeline.specs.Building.{placed_in, extent_in, breaks_in, fault_of, former_end, IsFaultOf, IsLaidOut, members_so_far, runs_in}
+use Rattle.timeline.specs.Building.{placed_in, extent_in, breaks_in, fault_of, former_end, IsFaultOf, IsLaidOut, IsLastWith, members_so_far, runs_in}
 use Rattle.timeline.proofs.Repeats.{length-repeated}
 use Rattle.timeline.proofs.Judged.{repeat-extent_in, head_fault, is_apart-in, former_end-some, within-end}
 
@@ -51,6 +52,66 @@ pub members-push : (ss : List TimedRun) (s : TimedRun) (e : Option GoesOn) → I
     map Closed (all_extents (ss ++ s ∷ [])) ++ endless_members e ≡ (map Closed (all_extents ss) ++ endless_members e) ++ map Closed (extents_of s)
 members-push ss s e none =
     rw (none_of e none, append-nil, append-nil, extents-push ss s, map-append)
+
+-- ---- a run behind those of a table
+
+pushed_items : (ticks origin : ℕ) (laid : Option Laid) (items own : List Run) (run : Run) → items ≡ own ++ run ∷ [] →
+    map (placed_run ticks origin) (media_of laid) ++ map timed items ≡ (map (placed_run ticks origin) (media_of laid) ++ map timed own) ++ timed run ∷ []
+pushed_items ticks origin laid items own run is = rw (is, map-append) (sym (append_assoc (map (placed_run ticks origin) (media_of laid)) (map timed own) (timed run ∷ [])))
+
+pub pushed_own : (ticks origin : ℕ) (old new : RunTable) (run : Run) → new.laid ≡ old.laid → new.own.items ≡ old.own.items ++ run ∷ [] → runs_at ticks origin new ≡ runs_at ticks origin old ++ timed run ∷ []
+pushed_own ticks origin old new run laid own = rw laid (pushed_items ticks origin old.laid new.own.items old.own.items run own)
+
+-- ---- one more segment in the last run, or in one of its own
+
+pub at_last : {X : Type 0} (now items : List X) (x : X) → now ≡ items → Some x ≡ slice_get now (length now - 1) → slice_get items (length items - 1) ≡ Some x
+at_last now items x same is = rw (← same) (sym is)
+
+pub last_split : {X : Type 0} (xs : List X) (x : X) → slice_get xs (length xs - 1) ≡ Some x → xs ≡ take (length xs - 1) xs ++ x ∷ []
+last_split xs x at =
+    let within = slice_get_within xs (length xs - 1) x at in
+    let rest : drop (length xs - 1) xs ≡ x ∷ [] = drop_more xs (length xs - 1) x within ∙ rw (get_or_from_slice_get xs (length xs - 1) x x at) (ap (λ (ys : List _). x ∷ ys) (drop_all (length xs - 1 + 1) xs (omega arith))) in
+    sym (take-append-drop (length xs - 1) xs) ∙ ap (λ (ys : List _). take (length xs - 1) xs ++ ys) rest
+
+pub unlaid : (before : ℕ) (ss : List TimedRun) (s : TimedRun) (total : ℕ) → AreLaid before (ss ++ s ∷ []) total → AreLaid before ss s.before × (0 < s.count) × IsRun s × (s.before + s.count ≡ total)
+unlaid before [] s total laid = (sym laid.0, laid.1, laid.2, ap (λ (n : ℕ). n + s.count) laid.0 ∙ laid.3)
+unlaid before (x ∷ xs) s total laid =
+    let rest = unlaid (before + x.count) xs s total laid.3 in
+    ((laid.0, laid.1, laid.2, rest.0), rest.1, rest.2, rest.3)
+
+pub last_is : (l : RunsBuilder) (run : Run) → IsLaidOut l → slice_get l.table.own.items (length l.table.own.items - 1) ≡ Some run → IsRun (timed run) × (run.before + run.count ≡ l.total)
+last_is l run laid at =
+    let front : List Run = take (length l.table.own.items - 1) l.table.own.items in
+    let whole = pushed_items l.limits.ticks l.limits.origin l.table.laid l.table.own.items front run (last_split l.table.own.items run at) in
+    let was = unlaid 0 _ (timed run) l.total (rw whole at laid.laid) in
+    (was.2, was.3)
+
+module _ (items pre : List TimedRun) (x : Extent) (total : ℕ) (laid : AreLaid 0 items total) where
+  pub lengthened : (s more : TimedRun) → items ≡ pre ++ s ∷ [] → IsLonger s x more → AreLaid 0 (pre ++ more ∷ []) (total + 1) × (all_extents (pre ++ more ∷ []) ≡ all_extents items ++ x ∷ [])
+  lengthened s more at longer =
+      let was = unlaid 0 pre s total (rw at at laid) in
+      let same : s.before + more.count ≡ total + 1 = omega (arith, longer.one_more, was.3) in (
+        rw (← same) (laid-push 0 pre s.before more was.0 longer.placed (omega (arith, longer.one_more)) longer.is),
+        rw (at, extents-push pre more, extents-push pre s, longer.extents) (sym (append_assoc (all_extents pre) (extents_of s) (x ∷ []))),
+      )
+
+  pub begun : (s : TimedRun) → IsOne total x s → AreLaid 0 (items ++ s ∷ []) (total + 1) × (all_extents (items ++ s ∷ []) ≡ all_extents items ++ x ∷ [])
+  unfolding repeated
+  begun s one = (
+    rw (← one.one) (laid-push 0 items total s laid one.placed (omega (arith, one.one)) one.is),
+    extents-push items s ∙ rw (one.one, one.head) refl,
+  )
+
+-- the row of a builder with the segment
+module _ (old mid : RunsBuilder) (x : Extent) (run : TimedRun) (is : IsLastWith old x run mid) (items : List TimedRun) (pushed : items ≡ runs_in mid ++ run ∷ []) where
+  pub with_members : IsNone old.endless → map Closed (all_extents items) ++ endless_members mid.endless ≡ members_so_far old ++ Closed x ∷ []
+  with_members none = rw (is.endless_is, none_of old.endless none, append-nil, append-nil, pushed, is.extents, map-append) refl
+
+  pub with_laid : AreLaid 0 items (old.total + 1)
+  with_laid = rw pushed is.laid
+
+  pub with_timed : (P : Extent → Type 0) → All P (all_extents (runs_in old)) → P x → All P (all_extents items)
+  with_timed P before one = rw (pushed, is.extents) (All-append P (all_extents (runs_in old)) (x ∷ []) before (All-cons P x [] one (All-nil P)))
 
 -- ---- a run of segments of one scale
 
@@ -166,12 +227,3 @@ paired_closed l count laid none =
     let number : length (map Closed all) ≡ l.total = omega (arith, length-map {B = Member} all (λ (x : Extent). Closed x), laid-length 0 (runs_in l) l.total laid.laid) in
     rw (none_of l.endless none, append-nil)
     (ap (λ (b : Bool). not b && (length (map Closed all) == count)) (ap is_open (sym (append-nil (map Closed all))) ∙ open_closed all []) ∙ ap (λ (n : ℕ). n == count) number)
-
--- ---- a run behind those of a table
-
-pub pushed_own : (ticks origin : ℕ) (old new : RunTable) (run : Run) → new.laid ≡ old.laid → new.own.items ≡ old.own.items ++ run ∷ [] → runs_at ticks origin new ≡ runs_at ticks origin old ++ timed run ∷ []
-pushed_own ticks origin old new run laid own =
-    ap (λ (l : Option Laid). map (placed_run ticks origin) (media_of l) ++ map timed new.own.items) laid
-    ∙ ap (λ (xs : List Run). map (placed_run ticks origin) (media_of old.laid) ++ map timed xs) own
-    ∙ ap (λ (xs : List TimedRun). map (placed_run ticks origin) (media_of old.laid) ++ xs) (map-append timed old.own.items (run ∷ []))
-    ∙ sym (append_assoc (map (placed_run ticks origin) (media_of old.laid)) (map timed old.own.items) (timed run ∷ []))

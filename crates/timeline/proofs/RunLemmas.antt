@@ -1,14 +1,14 @@
 -- The segments of a run.
-use Rattle.std.proofs.Common.{◌≡◌, ℕ, ◌+◌, ◌-◌, ◌*◌, ◌<◌, ◌≤◌, ◌^◌, [], ◌∷◌, drop, ℤ, pos, ◌+ℤ◌, ◌-ℤ◌, ◌/◌, min, inl, inr, refl, ◌∙◌, sym, ap, subst, arith}
+use Rattle.std.proofs.Common.{◌≡◌, ℕ, ◌+◌, ◌-◌, ◌*◌, ◌<◌, ◌≤◌, ◌^◌, [], ◌∷◌, ◌++◌, drop, ℤ, pos, ◌+ℤ◌, ◌-ℤ◌, ◌/◌, min, inl, inr, refl, ◌∙◌, sym, ap, subst, arith}
 use Rattle.std.proofs.lemmas.Int.{ints}
 use Rattle.std.specs.Prelude.{int_le, unsigned_abs}
 use Rattle.std.proofs.lemmas.Bool.{cases_Bool, cases_order, cond-true}
 use Rattle.exact_time.specs.Time.{Time}
 use Rattle.timeline.specs.Ratios.{natural}
 use Rattle.timeline.specs.Expansions.{Extent, repeated}
-use Rattle.timeline.specs.RunSegments.{IsRun, IsRestOf, extents_of, count_ended, TimedRun, head_of}
+use Rattle.timeline.specs.RunSegments.{GoesOnAs, IsLonger, IsRun, IsRestOf, extents_of, count_ended, TimedRun, head_of}
 use Rattle.timeline.proofs.Ratios.{floor_ticks, at_most-floor}
-use Rattle.timeline.proofs.Repeats.{again-row, drop-repeated, row, row-is, row-same, ends_by, ends_by-past, count_ended-in, count_ended-out, count_ended-row}
+use Rattle.timeline.proofs.Repeats.{again, again-row, repeated-add, drop-repeated, row, row-is, row-same, ends_by, ends_by-past, count_ended-in, count_ended-out, count_ended-row}
 
 -- several segments are so many ticks of one scale
 pub one_extent-row : (s : TimedRun) → IsRun s → 1 < s.count → head_of s ≡ row s.end.scale s.start.ticks s.step
@@ -64,6 +64,38 @@ pub moved_to : (s : TimedRun) (place k : ℕ) (start end : Time) → IsRun s →
 moved_to s place k start end is at some within start_n start_scale end_n end_scale start_near end_near =
     subst (λ (n : ℕ). IsRestOf s n (record { start = start; end = end; step = s.step; count = s.count - k; before = place })) (sym at)
     (moved_on s (record { start = start; end = end; step = s.step; count = s.count - k; before = place }) k is some within start_n start_scale end_n end_scale refl refl at start_near end_near)
+
+-- ---- one more segment
+
+pub moved_time : (t r : Time) (n k : ℕ) → r.ticks ≡ t.ticks +ℤ pos n → r.scale ≡ t.scale → n ≡ k → r ≡ record { ticks = t.ticks +ℤ pos k; scale = t.scale }
+moved_time t r n k ticks scale same = rw (← same, ← scale, ← ticks) refl
+
+pub longer : (s : TimedRun) (x : Extent) → IsRun s → s.before + s.count ≤ 2 ^ 63 → GoesOnAs s x → IsLonger s x (record { start = s.start; end = s.end; step = s.step; count = s.count + 1; before = s.before })
+unfolding repeated again
+longer s x is room on =
+    let head : head_of s ≡ row s.end.scale s.start.ticks s.step = row-is (head_of s) s.step on.one_scale on.in_ticks in
+    let next : again s.count (head_of s) ≡ x =
+    ap (again s.count) head ∙ again-row s.count s.end.scale s.start.ticks s.step
+    ∙ sym (rw (on.start_is, on.end_is) (row-is (record {
+      start = record { ticks = s.start.ticks +ℤ pos (s.count * s.step); scale = s.start.scale };
+      end = record { ticks = s.end.ticks +ℤ pos (s.count * s.step); scale = s.end.scale };
+    }) s.step on.one_scale (omega (arith, ints, on.in_ticks)))) in
+    record {
+      is = record {
+        start_is = is.start_is;
+        end_is = is.end_is;
+        start_near = is.start_near;
+        end_near = is.end_near;
+        lasting = is.lasting;
+        one_scale = λ _. on.one_scale;
+        in_ticks = λ _. on.in_ticks;
+        near = omega (arith, ints, on.near, ap (λ (t : Time). t.ticks) on.end_is);
+        countable = omega (arith, room);
+      };
+      placed = refl;
+      one_more = refl;
+      extents = repeated-add s.count 1 (head_of s) ∙ ap (λ (y : Extent). extents_of s ++ y ∷ []) next;
+    }
 
 -- ---- how many end at or before a time
 

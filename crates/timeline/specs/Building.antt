@@ -1,5 +1,5 @@
 -- The segments that were put in a row so far.
-use Rattle.std.specs.Prelude.{◌≡◌, ℕ, ◌+◌, ◌<◌, ◌≤◌, ◌^◌, ◌==◌, pos, ◌+ℤ◌, ◌-ℤ◌, Bool, List, ◌++◌, map, All, IfSome, Option, Some, None, if◌then◌else◌}
+use Rattle.std.specs.Prelude.{◌≡◌, ℕ, ◌+◌, ◌<◌, ◌≤◌, ◌^◌, ◌==◌, pos, ◌+ℤ◌, ◌-ℤ◌, Bool, List, [], ◌∷◌, ◌++◌, map, All, IfSome, Option, Some, None, if◌then◌else◌}
 use Rattle.exact_time.specs.Time.{Time}
 use Rattle.timeline.specs.declared.fault.TimeFault.{TimeFault}
 use Rattle.timeline.specs.declared.fault.TimeFault.TheVariants.{Range, Step}
@@ -64,3 +64,11 @@ IsFaultOf old members fault = IfSome (refusal fault) (λ f. (later : List Member
 pub record AreAdded (old : RunsBuilder) (members : List Member) (new : RunsBuilder) : Type 0 where
   pub added : members_so_far new ≡ members_so_far old ++ members
   pub passed : PassesOn old members new
+
+-- a run that ends with the segment stands behind the others
+pub record IsLastWith (old : RunsBuilder) (x : Extent) (run : TimedRun) (new : RunsBuilder) : Type 0 where
+  pub laid : AreLaid 0 (runs_in new ++ run ∷ []) (old.total + 1)
+  pub extents : all_extents (runs_in new ++ run ∷ []) ≡ all_extents (runs_in old) ++ x ∷ []
+  pub total_is : new.total ≡ old.total
+  pub limits_are : new.limits ≡ old.limits
+  pub endless_is : new.endless ≡ old.endless

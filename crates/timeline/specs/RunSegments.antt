@@ -1,5 +1,5 @@
 -- The segments that a run stands for.
-use Rattle.std.specs.Prelude.{◌≡◌, ℕ, ◌+◌, ◌-◌, ◌*◌, ◌<◌, ◌≤◌, ◌^◌, pos, ◌+ℤ◌, ◌-ℤ◌, ◌<ℤ◌, unsigned_abs, List, [], ◌∷◌, length, drop, slice_index_or, flat_map, count_by, Option, Some, None}
+use Rattle.std.specs.Prelude.{◌≡◌, ℕ, ◌+◌, ◌-◌, ◌*◌, ◌<◌, ◌≤◌, ◌^◌, pos, ◌+ℤ◌, ◌-ℤ◌, ◌<ℤ◌, unsigned_abs, List, [], ◌∷◌, ◌++◌, length, drop, slice_index_or, flat_map, count_by, Option, Some, None}
 use Rattle.exact_time.specs.Time.{Time, at_most}
 use Rattle.exact_time.specs.Tick.{time_of}
 use Rattle.exact_time.specs.declared.tick.Tick.{Tick}
@@ -61,6 +61,28 @@ pub record IsRestOf (whole : TimedRun) (place : ℕ) (rest : TimedRun) : Type 0 
   pub placed : rest.before ≡ place
   pub end : rest.before + rest.count ≡ whole.before + whole.count
   pub extents : extents_of rest ≡ drop (place - whole.before) (extents_of whole)
+
+-- one segment that stands behind so many
+pub record IsOne (before : ℕ) (x : Extent) (s : TimedRun) : Type 0 where
+  pub is : IsRun s
+  pub placed : s.before ≡ before
+  pub one : s.count ≡ 1
+  pub head : head_of s ≡ x
+
+-- the segments of a run last `step` ticks of one scale, and this one follows on them, with room for one more
+pub record GoesOnAs (s : TimedRun) (x : Extent) : Type 0 where
+  pub one_scale : s.start.scale ≡ s.end.scale
+  pub in_ticks : s.end.ticks ≡ s.start.ticks +ℤ pos s.step
+  pub start_is : x.start ≡ record { ticks = s.start.ticks +ℤ pos (s.count * s.step); scale = s.start.scale }
+  pub end_is : x.end ≡ record { ticks = s.end.ticks +ℤ pos (s.count * s.step); scale = s.end.scale }
+  pub near : (x.end.ticks +ℤ pos s.step) <ℤ pos (2 ^ 64)
+
+-- the segments of a run with one more behind them
+pub record IsLonger (s : TimedRun) (x : Extent) (more : TimedRun) : Type 0 where
+  pub is : IsRun more
+  pub placed : more.before ≡ s.before
+  pub one_more : more.count ≡ s.count + 1
+  pub extents : extents_of more ≡ extents_of s ++ x ∷ []
 
 -- how many of these segments end at or before a time
 abbrev pub count_ended : Time → List Extent → ℕ

@@ -27,8 +27,8 @@ pub struct RunsBuilder {
 impl RunsBuilder {
     ghost use Rattle.timeline.specs.Expansions.{Closed, Endless as GoesOn, repeated};
     ghost use Rattle.timeline.specs.Faults.{are_paired, is_apart};
-    ghost use Rattle.timeline.specs.Building.{AreAdded, IsFaultOf, IsInTime, IsLaidOut, extent_in, fault_of, former_end, members_so_far};
-    ghost use Rattle.timeline.specs.RunSegments.{one_extent};
+    ghost use Rattle.timeline.specs.Building.{AreAdded, IsFaultOf, IsInTime, IsLaidOut, IsLastWith, extent_in, fault_of, former_end, members_so_far};
+    ghost use Rattle.timeline.specs.RunSegments.{one_extent, timed};
     ghost use Rattle.timeline.specs.Ratios.{natural};
 
     pub fn new(alloc: Global, limits: Limits) -> RunsBuilder
@@ -142,16 +142,27 @@ impl RunsBuilder {
         ensures closed { OnOk result (IsNone self.new.endless) }
         ensures laid { OnOk result (IsLaidOut self.new) }
     {
-        let run = Run {
-            start,
-            end,
-            step: 1,
-            count: 1,
-            before: self.total,
-        };
+        let run = self.last_with(start, end);
         self.table.own.push(run)?;
         self.total += 1;
         Ok(())
+    }
+
+    /// The run at the end of which a segment stands behind all others: the last one, which is taken off, where the segment
+    /// goes on as that one does, and otherwise a run of its own.
+    fn last_with(&mut self, start: Tick, end: Tick) -> Run
+        requires laid { IsLaidOut self.old }
+        requires countable { self.old.total < 2 ^ 63 }
+        requires near { end.n <ℤ pos (2 ^ 64 - 1) }
+        ensures { IsLastWith self.old (one_extent start end) (timed result) self.new }
+    {
+        if let Some(last) = self.table.own.last() {
+            if let Some(run) = last.longer(start, end) {
+                self.table.own.pop();
+                return run;
+            }
+        }
+        Run::one(start, end, self.total)
     }
 
     /// Adds segments that go on without end.

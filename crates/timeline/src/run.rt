@@ -1,5 +1,6 @@
 // Segments of equal duration that follow one another.
-ghost use Rattle.std.specs.Prelude.{◌≡◌, ◌+◌, ◌<◌, ◌≤◌, ◌*◌, ◌^◌, pos, ◌+ℤ◌, ◌≤ℤ◌, ◌<ℤ◌};
+ghost use Rattle.std.specs.Prelude.{◌≡◌, ◌+◌, ◌-◌, ◌<◌, ◌≤◌, ◌*◌, ◌^◌, pos, ◌+ℤ◌, ◌≤ℤ◌, ◌<ℤ◌, true, ◌↔◌};
+ghost use Rattle.exact_time.specs.Tick.{time_of};
 
 use crate::bound::Bound;
 use exact_time::Tick;
@@ -22,10 +23,47 @@ pub struct Run {
 
 impl Run {
     ghost use Rattle.std.specs.Prelude.{MatchOption};
-    ghost use Rattle.exact_time.specs.Tick.{time_of};
     ghost use Rattle.timeline.specs.Bounds.{time_of_bound};
     ghost use Rattle.exact_time.specs.Time.{at_most};
-    ghost use Rattle.timeline.specs.RunSegments.{IsRun, IsRestOf, extents_of, count_ended, timed};
+    ghost use Rattle.timeline.specs.RunSegments.{GoesOnAs, IsLonger, IsOne, IsRun, IsRestOf, extents_of, count_ended, one_extent, timed};
+
+    /// One segment. Others may follow it in ticks of its scale.
+    pub fn one(start: Tick, end: Tick, before: u64) -> Run
+        requires near { end.n <ℤ pos (2 ^ 64 - 1) }
+        requires countable { before < 2 ^ 63 }
+        ensures { IsOne before (one_extent start end) (timed result) }
+    {
+        Run {
+            start,
+            end,
+            step: ticks_between(start, end),
+            count: 1,
+            before,
+        }
+    }
+
+    /// The segments with one more behind them, where that one begins at their end and is as long as each of them, in ticks
+    /// of one scale.
+    pub fn longer(self, start: Tick, end: Tick) -> Option<Run>
+        requires is { IsRun (timed self) }
+        requires countable { self.before + self.count ≤ 2 ^ 63 }
+        ensures { MatchOption result (GoesOnAs (timed self) (one_extent start end) → ⊥) (λ run. IsLonger (timed self) (one_extent start end) (timed run)) }
+    {
+        let step = i128::from(self.step);
+        if self.start.scale != self.end.scale || self.end.n != self.start.n + step {
+            return None;
+        }
+        let ticks = u128::from(self.count) * u128::from(self.step);
+        let begins = is_same(later(self.start, ticks), start);
+        let ends = is_same(later(self.end, ticks), end);
+        if !begins || !ends || (1 << 64) <= end.n + step {
+            return None;
+        }
+        Some(Run {
+            count: self.count + 1,
+            ..self
+        })
+    }
 
     /// Whether the first of the segments ends at or before a bound.
     pub fn first_ends_by(&self, bound: Bound) -> bool
@@ -142,6 +180,26 @@ impl Endless {
             count: count as u64,
             before: self.before,
         })
+    }
+}
+
+/// Whether two times are as many ticks of one scale.
+fn is_same(first: Tick, second: Tick) -> bool
+    ensures { result ≡ true ↔ time_of first ≡ time_of second }
+{
+    first.n == second.n && first.scale == second.scale
+}
+
+/// How many ticks it is from a segment's start to its end, where one more segment as long as it has room behind it, and
+/// otherwise 1.
+fn ticks_between(start: Tick, end: Tick) -> u64
+    requires { end.n <ℤ pos (2 ^ 64 - 1) }
+    ensures lasting { 0 < result }
+    ensures near { (end.n +ℤ pos result) <ℤ pos (2 ^ 64) }
+{
+    match u64::try_from(end.n - start.n) {
+        Ok(ticks) if 0 < ticks && end.n + i128::from(ticks) < 1 << 64 => ticks,
+        _ => 1,
     }
 }
 
