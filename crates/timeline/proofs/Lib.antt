@@ -11,6 +11,7 @@ pub mod Media
 pub mod Naming
 pub mod NumberedLemmas
 pub mod OpenEnds
+pub mod OwnParts
 pub mod OpenLemmas
 pub mod Paced
 pub mod PlaceLemmas

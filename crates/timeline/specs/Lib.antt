@@ -11,6 +11,7 @@ pub mod Listed
 pub mod MediaTimelines
 pub mod Names
 pub mod OpenEnds
+pub mod OwnParts
 pub mod Places
 pub mod Plain
 pub mod Ratios

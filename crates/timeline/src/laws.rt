@@ -1,6 +1,7 @@
 //! Laws of the definitions. The functions do nothing: what they ensure is the law.
 
 ghost use Rattle.timeline.specs.Laws.{TimelinesRise, DurationsRise, ListsRise};
+ghost use Rattle.timeline.specs.OwnParts.{AreGivenAgain, AreNumbered, DurationsHaveParts, ListsHaveParts, OnlyMemoryHolds, PartsAreMade, TimelinesHaveParts};
 ghost use Rattle.timeline.specs.OpenEnds.{TimelinesEnd, DurationsEnd, ListsEnd, EndedIsReached, StepsAreGreatest};
 
 /// Each segment of an expansion ends after the one before it, where no segment lasts no time, none is apart from the
@@ -23,4 +24,20 @@ pub fn closed_ends()
 /// Of the segments that go on to an open end, as many are there by an instant as end by it.
 pub fn open_ends()
     ensures { StepsAreGreatest }
+{}
+
+/// Where names are addresses already (`Names::of_addresses`), each listed segment has its own: the segment numbered by the
+/// first number and k has address k of the list. These are the addresses that references to them give against any base.
+pub fn own_addresses()
+    ensures numbered { AreNumbered }
+    ensures timelines { TimelinesHaveParts }
+    ensures durations { DurationsHaveParts }
+    ensures lists { ListsHaveParts }
+    ensures given_again { AreGivenAgain }
+{}
+
+/// `Listing::next` makes a segment that has its own address with that one, and refuses it for want of memory alone.
+pub fn own_addresses_made()
+    ensures made { PartsAreMade }
+    ensures refused { OnlyMemoryHolds }
 {}

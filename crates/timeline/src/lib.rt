@@ -34,7 +34,7 @@ use bridge_io::Sequence;
 pub use cursor::Cursor;
 pub use entry::{End, SEntry, Scale};
 pub use fault::{ListFault, TimeFault};
-pub use laws::{closed_ends, ends_rise, open_ends};
+pub use laws::{closed_ends, ends_rise, open_ends, own_addresses, own_addresses_made};
 pub use listing::{Listing, Segment};
 pub use names::{Names, RefPart};
 pub use plain::{PlainRuns, PlainSpan};

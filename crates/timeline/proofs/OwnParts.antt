@@ -1,0 +1,125 @@
+-- Segments whose names are addresses already.
+use Rattle.std.proofs.Common.{◌≡◌, ℕ, zero, suc, ◌+◌, ◌-◌, ◌<◌, ◌≤◌, false, not, List, [], ◌∷◌, get_or, length, pos, refl, ◌∙◌, ap, subst, inl, inr, arith}
+use Rattle.std.specs.Prelude.{All, IfSome, IsSome, MatchOption, Option, Some, None, Result, Ok, Err, slice_get}
+use Rattle.std.proofs.lemmas.Bool.Decides.{nat_tests}
+use Rattle.std.proofs.lemmas.List.{length-map}
+use Rattle.std.proofs.lemmas.List.Elements.{All-nil, All-cons, All-drop, All-filter, All-get_or}
+use Rattle.std.proofs.lemmas.Option.{slice_get_cases, slice_get-map}
+use Rattle.exact_time.specs.Time.{Time, nanoseconds}
+use Rattle.url_parts.specs.Addresses.{IsAddress}
+use Rattle.url_parts.specs.declared.address.Part.{Part}
+use Rattle.url_parts.proofs.Parsed.{given_again}
+use Rattle.timeline.specs.declared.entry.End.{End}
+use Rattle.timeline.specs.declared.entry.End.TheVariants.{At, Unbounded}
+use Rattle.timeline.specs.declared.fault.ListFault.{ListFault}
+use Rattle.timeline.specs.declared.fault.ListFault.TheVariants.{Url, Memory}
+use Rattle.timeline.specs.declared.names.Names.TheVariants.{Addresses}
+use Rattle.timeline.specs.Durations.{cut_at, cut_by, extents_by, expansion_of_names}
+use Rattle.timeline.specs.Expansions.{Extent, Member, Closed, Short, Endless, SegmentTimeline, Timing, extents, is_open, numbered}
+use Rattle.timeline.specs.Faults.{are_paired}
+use Rattle.timeline.specs.Listed.{expansion, instant_of, is_listed, part_of_timing}
+use Rattle.timeline.specs.Names.{list_refusal}
+use Rattle.timeline.specs.OwnParts.{AreGivenAgain, AreNumbered, HasPart, HaveParts, OnlyMemoryHolds, PartsAreMade, reference_to}
+use Rattle.timeline.proofs.OpenEnds.{closed_not_open}
+
+-- ---- the numbers
+
+number_at : (first : ℕ) (xs : List Extent) (k : ℕ) → IfSome (slice_get (numbered first xs) k) (λ x. x.number ≡ first + k)
+number_at first [] k = tt
+number_at first (x ∷ xs) zero = omega arith
+number_at first (x ∷ xs) (suc k) =
+    let next : first + 1 + k ≡ first + suc k = omega arith in
+    subst (λ (n : ℕ). IfSome (slice_get (numbered (first + 1) xs) k) (λ y. y.number ≡ n)) next (number_at (first + 1) xs k)
+
+pub are_numbered : AreNumbered
+are_numbered timeline window k = number_at timeline.first_number (extents (instant_of window) timeline.members) k
+
+in_range : (low high first : ℕ) (xs : List Extent) → low ≤ first → first + length xs ≤ high → All (λ x. (low ≤ x.number) × (x.number < high)) (numbered first xs)
+in_range low high first [] above below = All-nil (λ (x : Timing). (low ≤ x.number) × (x.number < high))
+in_range low high first (x ∷ xs) above below =
+    All-cons (λ (y : Timing). (low ≤ y.number) × (y.number < high)) (record { start = x.start; end = x.end; number = first }) (numbered (first + 1) xs)
+    (omega arith, omega arith) (in_range low high (first + 1) xs (omega arith) (omega arith))
+
+length-extents : (instant : Time) (members : List Member) → is_open members ≡ false → length (extents instant members) ≤ length members
+length-extents instant [] none = omega arith
+length-extents instant (Closed x ∷ later) none = omega (arith, length-extents instant later none)
+length-extents instant (Short x ∷ later) none = omega (arith, length-extents instant later none)
+length-extents instant (Endless x ∷ later) none = cc
+
+-- ---- each has its part
+
+has_part : (timeline : SegmentTimeline) (parts : List Part) (x : Timing) → timeline.names ≡ Addresses parts → x.number - timeline.first_number < length parts → HasPart timeline parts x
+has_part timeline parts x names within = elim (slice_get_cases parts (x.number - timeline.first_number)).1 [
+  | inl there ↦ rw (names, there.2) refl
+  | inr past ↦ absurd (omega (arith, past.0))
+]
+
+pub have_parts : (timeline : SegmentTimeline) (parts : List Part) → timeline.names ≡ Addresses parts → (is_open timeline.members ≡ false) × (length timeline.members ≡ length parts) → HaveParts timeline parts
+have_parts timeline parts names closed window place =
+    let first : ℕ = timeline.first_number in
+    let xs : List Extent = extents (instant_of window) timeline.members in
+    let few = length-extents (instant_of window) timeline.members closed.0 in
+    let range = in_range first (first + length parts) first xs (omega arith) (omega (arith, few, closed.1)) in
+    All-filter (is_listed window) (HasPart timeline parts) _ (All-drop (HasPart timeline parts) place (expansion timeline window) (
+    λ k d within. let at = range k d within in has_part timeline parts (get_or (expansion timeline window) k d) names (omega (arith, at.0, at.1))))
+
+pub paired : (count : ℕ) (members : List Member) → not (are_paired (Some count) members) ≡ false → (is_open members ≡ false) × (length members ≡ count)
+paired count members same = grind (arith, nat_tests)
+
+-- ---- as many as a duration's names
+
+length-cut : (bound : Time) (xs : List Extent) → length (cut_at bound xs) ≡ length xs
+length-cut bound [] = refl
+length-cut bound (x ∷ []) = refl
+length-cut bound (x ∷ y ∷ ys) = ap suc (length-cut bound (y ∷ ys))
+
+length-cut_by : (end : End) (xs : List Extent) → length (cut_by end xs) ≡ length xs
+length-cut_by Unbounded xs = refl
+length-cut_by (At length) xs = length-cut (nanoseconds (pos length)) xs
+
+length-extents_by : (ticks duration k count : ℕ) → length (extents_by ticks duration k count) ≡ count
+unfolding extents_by
+length-extents_by ticks duration k zero = refl
+length-extents_by ticks duration k (suc count) = ap suc (length-extents_by ticks duration (k + 1) count)
+
+pub names_paired : (ticks : ℕ) (end : End) (duration count : ℕ) → (is_open (expansion_of_names ticks end duration count) ≡ false) × (length (expansion_of_names ticks end duration count) ≡ count)
+names_paired ticks end duration count =
+    let xs : List Extent = cut_by end (extents_by ticks duration 0 count) in
+    (closed_not_open xs, length-map {B = Member} xs (λ (x : Extent). Closed x) ∙ length-cut_by end (extents_by ticks duration 0 count) ∙ length-extents_by ticks duration 0 count)
+
+-- ---- what a listing makes
+
+same_part : (own : Option Part) (named : Result Part ListFault) (part : Part) → MatchOption own ⊥ (λ p. named ≡ Ok p) → named ≡ Ok part → own ≡ Some part
+same_part None named part has is = absurd has
+same_part (Some p) named part has is = cc
+
+no_refusal : (own : Option Part) (named : Result Part ListFault) (fault : ListFault) → MatchOption own ⊥ (λ p. named ≡ Ok p) → named ≡ Err fault → ⊥
+no_refusal None named fault has is = has
+no_refusal (Some p) named fault has is = cc
+
+first_has : (timeline : SegmentTimeline) (parts : List Part) (x : Timing) (xs : List Timing) → All (HasPart timeline parts) (x ∷ xs) → HasPart timeline parts x
+first_has timeline parts x xs all = All-get_or (HasPart timeline parts) (x ∷ xs) 0 x (omega arith) all
+
+pub parts_are_made : PartsAreMade
+parts_are_made old new parts made all is =
+    same_part _ _ made.part (first_has old.timeline parts made.times new.left (rw is.next at all)) is.part
+
+held : (timeline : SegmentTimeline) (parts : List Part) (left : List Timing) (fault : ListFault) → All (HasPart timeline parts) left → IsSome (slice_get left 0) →
+    IfSome (list_refusal fault) (λ f. IfSome (slice_get left 0) (λ x. part_of_timing timeline x ≡ Err f)) → fault ≡ Memory
+held timeline parts left Memory all some refused = refl
+held timeline parts [] (Url fault) all some refused = cc
+held timeline parts (x ∷ xs) (Url fault) all some refused = absurd (no_refusal _ _ (Url fault) (first_has timeline parts x xs all) refused)
+
+pub only_memory_holds : OnlyMemoryHolds
+only_memory_holds old new parts fault all is = held old.timeline parts old.left fault all is.some is.refused
+
+-- ---- references to addresses
+
+pub are_given_again : AreGivenAgain
+are_given_again parts base place number time all within = elim (slice_get_cases parts place).1 [
+  | inl there ↦
+      let at : IsAddress (get_or parts place there.0).address = All-get_or (λ (part : Part). IsAddress part.address) parts place there.0 within all in
+      let address : IsAddress there.0.address = rw there.3 at at in
+      rw (slice_get-map reference_to parts place, there.2, given_again there.0.address address base) refl
+  | inr past ↦ absurd (omega (arith, past.0))
+]
