@@ -3,6 +3,6 @@ pub mod Filling
 pub mod Follows
 pub mod Lines
 pub mod Named
+pub mod Read
 pub mod Reading
 pub mod Taken
-pub mod Written

@@ -1,4 +1,5 @@
 pub mod FrameFaults
+pub mod CommandLines
 pub mod Frames
 pub mod Headers
 pub mod Inputs
@@ -7,4 +8,3 @@ pub mod Laws
 pub mod Numbers
 pub mod Parameters
 pub mod Verbs
-pub mod Written

@@ -1,0 +1,183 @@
+-- How the words of a command line are read, in plain words.
+use Rattle.std.specs.Prelude.{◌≡◌, ◌==◌, ◌&&◌, ◌||◌, ℕ, Bool, true, false, not, is_some, codes, bytes_eq, List, [], ◌∷◌, ◌++◌, map, drop, find, if◌then◌else◌, Option, Some, None, option_map}
+use Rattle.std.specs.List.{All, after_first, before_first, list_all, list_any}
+use Rattle.std.specs.Str.{IsUtf8}
+use Rattle.clap.specs.Words.{Row, Text, first_of}
+use Rattle.clap.specs.declared.builder.value_parser.Reading.TheVariants.{AsWritten}
+use Rattle.clap.specs.declared.parser.matches.ValueSource.TheVariants.{CommandLine}
+use Rattle.bridge_jobs.specs.Jobs.{◌>>=◌, first_verb, job_by, job_of}
+use Rattle.bridge_jobs.specs.declared.jobs.Job.{Job}
+use Rattle.bridge_jobs.specs.declared.verb.Verb.{Verb}
+use Rattle.bridge_jobs.specs.declared.verb.Verb.TheVariants.{Hls, Dash, Follow, Show, Check, Reload, Make}
+
+-- ---- what a command takes
+
+-- an option by its name, and whether it can't be left out
+pub record Choice : Type 0 where
+  pub name : Text
+  pub is_required : Bool
+
+abbrev pub required : Text → Choice
+required name = record { name = name; is_required = true }
+
+abbrev pub optional : Text → Choice
+optional name = record { name = name; is_required = false }
+
+-- the names of the words that are known by their places, none of which can be left out, and the options
+pub record Syntax : Type 0 where
+  pub places : List Text
+  pub options : List Choice
+
+abbrev pub takes : List Text → List Choice → Syntax
+takes places options = record { places = places; options = options }
+
+abbrev pub syntax_of : Verb → Syntax
+syntax_of Hls = takes (codes "mpd" ∷ []) (required (codes "base") ∷ optional (codes "now") ∷ optional (codes "out") ∷ optional (codes "digits") ∷ [])
+syntax_of Dash = takes (codes "master" ∷ []) (required (codes "base") ∷ optional (codes "out") ∷ [])
+syntax_of Follow = takes (codes "name" ∷ []) (required (codes "base") ∷ optional (codes "out") ∷ optional (codes "digits") ∷ [])
+syntax_of Show = takes (codes "file" ∷ []) (required (codes "base") ∷ optional (codes "now") ∷ optional (codes "digits") ∷ [])
+syntax_of Check = takes (codes "mpd" ∷ codes "master" ∷ []) (required (codes "base") ∷ optional (codes "digits") ∷ [])
+syntax_of Reload = takes (codes "old" ∷ codes "new" ∷ []) (required (codes "base") ∷ [])
+syntax_of Make = takes [] (required (codes "seed") ∷ optional (codes "out") ∷ optional (codes "digits") ∷ [])
+
+abbrev pub is_option : List Choice → Text → Bool
+is_option options name = list_any (λ o. bytes_eq o.name name) options
+
+-- ---- one word
+
+-- what a word looks like
+pub data Look : Type 0 where
+  -- `--`
+  hyphens : Look
+  -- `--name` or `--name=value`, whatever the value
+  named : Text → Option Text → Look
+  -- `-x`, whatever follows
+  letters : Look
+  -- any other word: it doesn't begin with a hyphen, or is `-` alone
+  plain : Look
+
+abbrev pub is_equals : ℕ → Bool
+is_equals b = b == 61
+
+-- what stands before the first `=`, and what stands behind it
+abbrev pub named_by : Text → Look
+named_by text = named (before_first is_equals text) (if list_any is_equals text then Some (after_first is_equals text) else None)
+
+abbrev pub look_behind_two : Text → Look
+look_behind_two [] = hyphens
+look_behind_two (b ∷ rest) = named_by (b ∷ rest)
+
+abbrev pub look_behind_one : Text → Look
+look_behind_one [] = plain
+look_behind_one (b ∷ rest) = if b == 45 then look_behind_two rest else letters
+
+abbrev pub look_of : Text → Look
+look_of [] = plain
+look_of (b ∷ rest) = if b == 45 then look_behind_one rest else plain
+
+-- ---- words in turn
+
+-- a name and its value
+abbrev pub Value : Type 0
+Value = Text × Text
+
+-- how far the words are read
+pub record Reading : Type 0 where
+  -- what they gave so far, in their order
+  pub given : List Value
+  -- the places that have no word yet
+  pub places : List Text
+  -- the option whose value is the next word
+  pub waiting : Option Text
+  -- behind `--`
+  pub is_rest : Bool
+
+abbrev pub start : List Text → Reading
+start places = record { given = []; places = places; waiting = None; is_rest = false }
+
+abbrev pub give : Text → Text → Reading → Reading
+give name value r = record r { given = r.given ++ (name, value) ∷ []; waiting = None }
+
+-- a word takes the next place; where none is left it is no job
+abbrev pub at_place : List Text → Text → Reading → Option Reading
+at_place [] word r = None
+at_place (name ∷ places) word r = Some (give name word (record r { places = places }))
+
+-- an option has its value behind `=`, or as the next word; one that the command doesn't have is no job
+abbrev pub by_name : Bool → Text → Option Text → Reading → Option Reading
+by_name false name value r = None
+by_name true name (Some value) r = Some (give name value r)
+by_name true name None r = Some (record r { waiting = Some name })
+
+-- a word where no option waits
+abbrev pub by_look : List Choice → Look → Text → Reading → Option Reading
+by_look options hyphens word r = Some (record r { is_rest = true })
+by_look options (named name value) word r = by_name (is_option options name) name value r
+by_look options letters word r = None
+by_look options plain word r = at_place r.places word r
+
+-- the next word is the value of an option that waits, where it is plain
+abbrev pub as_value : Look → Text → Text → Reading → Option Reading
+as_value plain name word r = Some (give name word r)
+as_value _ name word r = None
+
+-- behind `--` each word takes a place, whatever it looks like
+abbrev pub read_by : List Choice → Bool → Option Text → Text → Reading → Option Reading
+read_by options true waiting word r = at_place r.places word r
+read_by options false (Some name) word r = as_value (look_of word) name word r
+read_by options false None word r = by_look options (look_of word) word r
+
+abbrev pub read_from : List Choice → List Text → Reading → Option Reading
+read_from options [] r = Some r
+read_from options (word ∷ words) r = read_by options r.is_rest r.waiting word r >>= read_from options words
+
+-- ---- all words
+
+abbrev pub is_given : Text → List Value → Bool
+is_given name given = list_any (λ v. bytes_eq v.0 name) given
+
+-- a name has two values
+abbrev pub has_repeat : List Value → Bool
+has_repeat [] = false
+has_repeat (v ∷ given) = is_given v.0 given || has_repeat given
+
+-- no option waits, no name has two values, and each that can't be left out has one
+abbrev pub is_whole : Syntax → Reading → Bool
+is_whole s r =
+    not (is_some r.waiting) && not (has_repeat r.given)
+    && (list_all (λ name. is_given name r.given) s.places && list_all (λ o. not o.is_required || is_given o.name r.given) s.options)
+
+abbrev pub given_of : Syntax → Reading → Option (List Value)
+given_of s r = if is_whole s r then Some r.given else None
+
+-- what the words behind the command's own give, where it takes them
+abbrev pub given_by : Syntax → List Text → Option (List Value)
+given_by s words = read_from s.options words (start s.places) >>= given_of s
+
+-- the value of a name
+abbrev pub value_of : Text → List Value → Option Text
+value_of name given = option_map (λ v. v.1) (find (λ v. bytes_eq v.0 name) given)
+
+-- ---- the law
+
+-- a name and its value, as `clap` writes them
+abbrev pub row_of : Value → Row
+row_of v = record {
+  id = v.0;
+  values = v.1 ∷ [];
+  count = None;
+  source = Some CommandLine;
+  reading = AsWritten;
+}
+
+-- the job of the first word's command, with the values that the rest gives
+abbrev pub read_job : List Text → Option Job
+read_job words = do
+  command ← first_verb words
+  given ← given_by (syntax_of command) (drop 1 words)
+  job_by command (map row_of given)
+
+-- Words that are text are the job that is read of them, or none, and its values are those that are read.
+pub record CommandLinesAreRead : Type 0 where
+  pub jobs : (words : List Text) → All IsUtf8 words → job_of words ≡ read_job words
+  pub values : (name : Text) (given : List Value) → first_of name (map row_of given) ≡ value_of name given
