@@ -4,9 +4,10 @@ use iso_time::Instant;
 use std::alloc::{AllocError, Global};
 use std::test::Fail;
 
-fn told(alloc: Global, words: &[&str]) -> Result<String, Fail> {
+/// The job of words that stand between spaces.
+fn told(alloc: Global, words: &str) -> Result<String, Fail> {
     let mut texts = Vec::new(alloc);
-    for word in words {
+    for word in words.split(' ') {
         texts.push(Text::copy_of(alloc, word)?)?;
     }
     match job(alloc, texts.as_slice())? {
@@ -103,55 +104,26 @@ fn shown(alloc: Global, job: &Job) -> Result<String, AllocError> {
 #[test]
 fn words_are_read(rt: HostRuntime) -> Result<(), Fail> {
     let rows = [
+        ("hls m.mpd --base=b --digits=9", "hls m.mpd b 0 out 9"),
         (
-            ["hls", "m.mpd", "--base=b", "--digits=9"].as_slice(),
-            "hls m.mpd b 0 out 9",
-        ),
-        (
-            [
-                "hls",
-                "--now",
-                "1970-01-01T00:00:01Z",
-                "--base",
-                "b",
-                "m.mpd",
-            ]
-            .as_slice(),
+            "hls --now 1970-01-01T00:00:01Z --base b m.mpd",
             "hls m.mpd b 1000000000 out 6",
         ),
-        (
-            ["dash", "m.m3u8", "--base=", "--out=a/b"].as_slice(),
-            "dash m.m3u8  a/b",
-        ),
-        (
-            ["follow", "live.mpd", "--base=-b"].as_slice(),
-            "follow live.mpd -b out 6",
-        ),
-        (["show", "--base=b", "--", "-m"].as_slice(), "show -m b 0 6"),
-        (
-            ["check", "m.mpd", "--base=b", "-"].as_slice(),
-            "check m.mpd - b 6",
-        ),
-        (["reload", "o", "n", "--base=b"].as_slice(), "reload o n b"),
-        (
-            ["make", "--seed=4294967295", "--out", "-"].as_slice(),
-            "make 4294967295 - 6",
-        ),
-        (["make", "--seed=4294967296"].as_slice(), "none"),
-        (["hls", "m.mpd"].as_slice(), "none"),
-        (["hls", "m.mpd", "--base=b", "--base=b"].as_slice(), "none"),
-        (["hls", "m.mpd", "--base", "-b"].as_slice(), "none"),
-        (
-            ["hls", "m.mpd", "--base=b", "--digits=10"].as_slice(),
-            "none",
-        ),
-        (["hls", "../m.mpd", "--base=b"].as_slice(), "none"),
-        (
-            ["dash", "m.m3u8", "--base=b", "--digits=6"].as_slice(),
-            "none",
-        ),
-        (["hls", "--help"].as_slice(), "none"),
-        (["--base=b", "hls", "m.mpd"].as_slice(), "none"),
+        ("dash m.m3u8 --base= --out=a/b", "dash m.m3u8  a/b"),
+        ("follow live.mpd --base=-b", "follow live.mpd -b out 6"),
+        ("show --base=b -- -m", "show -m b 0 6"),
+        ("check m.mpd --base=b -", "check m.mpd - b 6"),
+        ("reload o n --base=b", "reload o n b"),
+        ("make --seed=4294967295 --out -", "make 4294967295 - 6"),
+        ("make --seed=4294967296", "none"),
+        ("hls m.mpd", "none"),
+        ("hls m.mpd --base=b --base=b", "none"),
+        ("hls m.mpd --base -b", "none"),
+        ("hls m.mpd --base=b --digits=10", "none"),
+        ("hls ../m.mpd --base=b", "none"),
+        ("dash m.m3u8 --base=b --digits=6", "none"),
+        ("hls --help", "none"),
+        ("--base=b hls m.mpd", "none"),
     ];
     for (words, expected) in rows {
         let told = told(rt.alloc(), words)?;
