@@ -6,10 +6,7 @@ mod frame;
 mod header;
 mod input;
 mod jobs;
-pub mod laws;
-#[cfg(test)]
-mod tests;
-mod values;
+pub mod laws;mod values;
 mod verb;
 mod words;
 

@@ -8,7 +8,13 @@ mod bytes;
 #[cfg(test)]
 mod dates;
 #[cfg(test)]
+mod jobs;
+#[cfg(test)]
 mod outside;
+#[cfg(test)]
+mod templates;
+#[cfg(test)]
+mod timelines;
 #[cfg(test)]
 mod times;
 #[cfg(test)]

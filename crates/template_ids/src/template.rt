@@ -103,6 +103,3 @@ impl Template {
             .fold(0usize, |room, piece| room.saturating_add(piece.room(ids)))
     }
 }
-
-#[cfg(test)]
-mod tests;

@@ -58,6 +58,3 @@ pub type RefList = Sequence<RefPart>;
 
 /// The addresses of segments, with their ranges.
 pub type PartList = Sequence<Part>;
-
-#[cfg(test)]
-mod tests;

@@ -1,5 +1,6 @@
-use super::*;
+use bridge_io::Text;
 use std::test::Fail;
+use template_ids::*;
 
 // A template's text, the number, and the name that they give for `v0` at 64000 bits per second and tick 90000.
 const NAMES: [(&str, u64, &str); 7] = [

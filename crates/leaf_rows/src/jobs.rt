@@ -1,5 +1,5 @@
-use super::*;
 use bridge_io::{Bytes, CallList, MemSource, Text};
+use bridge_jobs::*;
 use iso_time::Instant;
 use std::alloc::{AllocError, Global};
 use std::test::Fail;

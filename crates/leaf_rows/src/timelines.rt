@@ -2,7 +2,6 @@ ghost use Rattle.std.specs.Prelude.{◌≡◌, ◌<◌, IfOk};
 ghost use Rattle.timeline.specs.SegmentTimelines.{IsList};
 ghost use Rattle.timeline.specs.Listed.{IsWindowOf};
 
-use super::*;
 use bridge_io::{Ledger, Steps, Text};
 use exact_time::{Nanos, Tick};
 use std::alloc::Global;
@@ -11,6 +10,7 @@ use std::process::Abort;
 use std::sync::ledger::Blank;
 use std::test::Fail;
 use template_ids::Template;
+use timeline::*;
 use url_parts::{Base, UrlFault};
 
 /// A start and an end in seconds, and a number.
@@ -34,42 +34,13 @@ type Duration<'a> = (
     Result<&'a [Times], TimeFault>,
 );
 
-const TIMELINES: [Timeline; 21] = [
-    (&[], 0, Some(60), 100, Ok(&[])),
+const TIMELINES: [Timeline; 8] = [
     (
         &[(None, 4, 2)],
         0,
         Some(60),
         100,
         Ok(&[(0, 4, 1), (4, 8, 2), (8, 12, 3)]),
-    ),
-    (
-        &[(Some(10), 4, 1), (None, 6, 0)],
-        10,
-        Some(60),
-        100,
-        Ok(&[(0, 4, 1), (4, 8, 2), (8, 14, 3)]),
-    ),
-    (
-        &[(Some(0), 4, 1), (Some(7), 6, 0)],
-        0,
-        Some(60),
-        100,
-        Ok(&[(0, 4, 1), (4, 8, 2), (7, 13, 3)]),
-    ),
-    (
-        &[(Some(0), 4, 0), (Some(7), 6, 0)],
-        0,
-        Some(60),
-        100,
-        Ok(&[(0, 4, 1), (7, 13, 2)]),
-    ),
-    (
-        &[(Some(0), 4, 0), (Some(8), 6, 0)],
-        0,
-        Some(60),
-        100,
-        Err(TimeFault::Step),
     ),
     (
         &[(Some(0), 8, 0), (Some(5), 6, 0)],
@@ -93,34 +64,6 @@ const TIMELINES: [Timeline; 21] = [
         Ok(&[(0, 4, 1), (4, 8, 2), (8, 12, 3), (10, 14, 4)]),
     ),
     (
-        &[(Some(0), 4, -1), (None, 3, 0)],
-        0,
-        Some(60),
-        100,
-        Err(TimeFault::Step),
-    ),
-    (
-        &[(Some(20), 4, -1), (Some(20), 3, 0)],
-        0,
-        Some(60),
-        100,
-        Err(TimeFault::Step),
-    ),
-    (
-        &[(Some(0), 7, -1)],
-        0,
-        Some(20),
-        100,
-        Ok(&[(0, 7, 1), (7, 14, 2), (14, 21, 3)]),
-    ),
-    (
-        &[(Some(3), 7, -5)],
-        3,
-        Some(21),
-        100,
-        Ok(&[(0, 7, 1), (7, 14, 2), (14, 21, 3)]),
-    ),
-    (
         &[(Some(0), 7, -1)],
         20,
         Some(20),
@@ -135,32 +78,11 @@ const TIMELINES: [Timeline; 21] = [
         Ok(&[(-1, 4, 2), (4, 8, 3), (8, 12, 4), (12, 16, 5)]),
     ),
     (
-        &[(Some(0), 5, 1), (None, 4, -1)],
-        6,
-        None,
-        8,
-        Ok(&[(-1, 4, 2), (4, 8, 3)]),
-    ),
-    (
-        &[(Some(0), 5, 0), (None, 4, -1)],
-        0,
-        None,
-        8,
-        Ok(&[(0, 5, 1)]),
-    ),
-    (
         &[(Some(0), 0, 0)],
         0,
         Some(60),
         100,
         Err(TimeFault::ZeroDuration),
-    ),
-    (
-        &[(Some(0), 1000000, 0)],
-        0,
-        Some(60),
-        1000000,
-        Ok(&[(0, 1000000, 1)]),
     ),
     (
         &[(Some(0), 1000001, 0)],
@@ -169,47 +91,15 @@ const TIMELINES: [Timeline; 21] = [
         1000000,
         Err(TimeFault::Range),
     ),
-    (
-        &[
-            (Some(0), 2, 0),
-            (None, 2, 1),
-            (Some(6), 2, -1),
-            (Some(11), 2, 0),
-            (None, 2, 0),
-            (None, 2, -1),
-        ],
-        0,
-        Some(18),
-        100,
-        Ok(&[
-            (0, 2, 1),
-            (2, 4, 2),
-            (4, 6, 3),
-            (6, 8, 4),
-            (8, 10, 5),
-            (10, 12, 6),
-            (11, 13, 7),
-            (13, 15, 8),
-            (15, 17, 9),
-            (17, 19, 10),
-        ]),
-    ),
 ];
 
-const DURATIONS: [Duration; 12] = [
+const DURATIONS: [Duration; 5] = [
     (
         4,
         None,
         Some(10),
         100,
         Ok(&[(0, 4, 5), (4, 8, 6), (8, 10, 7)]),
-    ),
-    (
-        4,
-        None,
-        Some(12),
-        100,
-        Ok(&[(0, 4, 5), (4, 8, 6), (8, 12, 7)]),
     ),
     (4, None, None, 11, Ok(&[(0, 4, 5), (4, 8, 6)])),
     (
@@ -219,26 +109,8 @@ const DURATIONS: [Duration; 12] = [
         100,
         Ok(&[(0, 4, 5), (4, 8, 6), (8, 10, 7)]),
     ),
-    (4, Some(2), Some(10), 100, Ok(&[(0, 4, 5), (4, 8, 6)])),
     (4, Some(4), Some(12), 100, Err(TimeFault::ListLength)),
-    (
-        4,
-        Some(3),
-        None,
-        100,
-        Ok(&[(0, 4, 5), (4, 8, 6), (8, 12, 7)]),
-    ),
-    (0, None, Some(10), 100, Err(TimeFault::ZeroDuration)),
     (1000001, None, None, 5, Ok(&[])),
-    (1000001, Some(1), Some(2000000), 5, Err(TimeFault::Range)),
-    (4, None, Some(0), 100, Ok(&[])),
-    (
-        1000001,
-        None,
-        Some(1000000),
-        2000000,
-        Ok(&[(0, 1000000, 5)]),
-    ),
 ];
 
 /// Starts and ends of two segments, and what is listed.
