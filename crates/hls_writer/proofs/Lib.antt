@@ -1,5 +1,6 @@
 pub mod Adding
 pub mod Decimals
 pub mod Following
+pub mod Listing
 pub mod Present
 mod Sections

@@ -5,6 +5,7 @@ use Rattle.iso_time.specs.Civil.{instant_text}
 use Rattle.iso_time.specs.Digits.{padded_digits, optional_text}
 use Rattle.url_parts.specs.declared.address.Part.{Part}
 use Rattle.url_parts.specs.declared.range.Range.{Range}
+use Rattle.hls_writer.specs.Attributes.{WrittenAttribute, attributes_bytes}
 
 pub data WrittenLine : Type 0 where
   -- EXTM3U
@@ -29,10 +30,14 @@ pub data WrittenLine : Type 0 where
   duration : (digits units : ℕ) → WrittenLine
   -- EXT-X-BYTERANGE
   byte_range : (range : Range) → WrittenLine
-  -- the address of a segment
+  -- the address of a segment, or a track's file
   uri : (address : List ℕ) → WrittenLine
   -- EXT-X-ENDLIST
   end_list : WrittenLine
+  -- EXT-X-MEDIA of a master
+  rendition : (first : WrittenAttribute) (others : List WrittenAttribute) → WrittenLine
+  -- EXT-X-STREAM-INF of a master
+  variant : (first : WrittenAttribute) (others : List WrittenAttribute) → WrittenLine
 
 -- `<count>@<first>`
 abbrev pub range_bytes : Range → List ℕ
@@ -61,6 +66,8 @@ line_bytes (duration digits units) = codes "#EXTINF:" ++ seconds_bytes digits un
 line_bytes (byte_range range) = codes "#EXT-X-BYTERANGE:" ++ range_bytes range
 line_bytes (uri address) = address
 line_bytes end_list = codes "#EXT-X-ENDLIST"
+line_bytes (rendition first others) = codes "#EXT-X-MEDIA:" ++ attributes_bytes first others
+line_bytes (variant first others) = codes "#EXT-X-STREAM-INF:" ++ attributes_bytes first others
 
 -- a line with its end
 abbrev pub line_text : WrittenLine → List ℕ

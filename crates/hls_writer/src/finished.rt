@@ -201,9 +201,9 @@ fn next_segment<L: Ledger>(
     }
 }
 
-/// A duration in seconds, to the nearest one, halves up.
-fn rounded(units: u64, unit: u64) -> u64
-    requires { 1000 ≤ unit }
+/// A number of units, of which `unit` make a whole, in wholes: the nearest one, halves up.
+pub(crate) fn rounded(units: u64, unit: u64) -> u64
+    requires { 0 < unit }
     ensures { result ≡ spec.rounded unit units }
 {
     let whole = units / unit;

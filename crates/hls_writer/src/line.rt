@@ -193,7 +193,7 @@ fn nine_decimals(number: u64) -> [u8; 9]
 }
 
 /// The decimal digit of a number that counts so many.
-fn decimal_at(number: u64, unit: u64) -> u8
+pub(crate) fn decimal_at(number: u64, unit: u64) -> u8
     requires { 0 < unit }
     ensures { result ≡ 48 + number / unit % 10 }
 {

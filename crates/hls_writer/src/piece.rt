@@ -12,6 +12,8 @@ pub enum Piece<'a> {
     Text(&'a [u8]),
     /// A number in decimal digits.
     Number(u64),
+    /// A number that may need more than 64 bits, in decimal digits.
+    Wide(u128),
 }
 
 impl Piece<'_> {
@@ -22,6 +24,7 @@ impl Piece<'_> {
         match *self {
             Piece::Text(bytes) => writer.push(store, bytes),
             Piece::Number(number) => writer.push(store, Buffer::new().format(number).as_bytes()),
+            Piece::Wide(number) => writer.push(store, Buffer::new().format(number).as_bytes()),
         }
     }
 }

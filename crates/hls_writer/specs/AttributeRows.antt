@@ -1,0 +1,36 @@
+-- Attributes as they are written.
+use Rattle.std.specs.Prelude.{ℕ, Bool, List, map, Option, option_map}
+use Rattle.std.specs.Borrow.{Bor}
+use Rattle.presentation.specs.Groups.{same_text}
+use Rattle.hls_writer.specs.Attributes.{WrittenAttribute, media_type, group_id, name, language, default, autoselect, playlist, bandwidth, codecs, resolution, frame_rate, renditions}
+use Rattle.hls_writer.specs.Renditions.{present}
+use Rattle.hls_writer.specs.declared.attribute.Attribute.{Attribute}
+use Rattle.hls_writer.specs.declared.attribute.Attribute.TheVariants as attribute
+
+abbrev pub texts_of : List (Bor (List ℕ)) → List (List ℕ)
+texts_of texts = map (λ text. text.now) texts
+
+abbrev pub is_text : List ℕ → Bor (List ℕ) → Bool
+is_text text other = same_text text other.now
+
+abbrev pub texts_in : Bor (List (Bor (List ℕ))) → List (List ℕ)
+texts_in texts = texts_of texts.now
+
+-- what an attribute says
+abbrev pub told : Attribute → WrittenAttribute
+told (attribute.MediaType group) = media_type group
+told (attribute.GroupId group) = group_id group
+told (attribute.Name tag number) = name (option_map (λ tag. tag.now) tag) number
+told (attribute.Language tag) = language tag.now
+told (attribute.Default is) = default is
+told attribute.Autoselect = autoselect
+told (attribute.Playlist track) = playlist track
+told (attribute.Bandwidth bits) = bandwidth bits
+told (attribute.Codecs list) = codecs (texts_of list.now)
+told (attribute.Resolution size) = resolution size
+told (attribute.FrameRate thousandths) = frame_rate thousandths
+told (attribute.Renditions group) = renditions group
+
+-- what those say that are there
+abbrev pub all_told : List (Option Attribute) → List WrittenAttribute
+all_told attributes = present (map (option_map told) attributes)

@@ -1,0 +1,218 @@
+// The master playlist of a presentation.
+ghost use Rattle.std.specs.Prelude.{◌≡◌, ◌⊎◌, ◌++◌, ◌∷◌, [], All, map, option_map, OnOk, OnErr};
+ghost use Rattle.std.specs.List.{flat_map};
+ghost use Rattle.bridge_io.specs.Fault.{HasCause};
+ghost use Rattle.bridge_io.specs.Outside.{put, Changes};
+ghost use Rattle.bridge_io.specs.Written.{HasFront};
+ghost use Rattle.hls_writer.specs.Adding.{Adds, shown};
+ghost use Rattle.hls_writer.specs.Lines.{header, version, line_text, lines_text};
+ghost use Rattle.hls_writer.specs.Master.{master_text, lines_with};
+ghost use Rattle.hls_writer.specs.Renditions.{places_of, renditions_of, rendition_line, rendition_text};
+ghost use Rattle.hls_writer.specs.Variants.{variants_of, variant_lines, variant_text, coded_text};
+ghost use Rattle.hls_writer.specs.AttributeRows.{texts_in};
+ghost use Rattle.bridge_io.specs.declared.media.Kind.TheVariants.{Text};
+ghost use Rattle.hls_writer.specs.Rows.{all_written, CanBeThere};
+ghost use Rattle.hls_writer.specs.declared.fault.OutFault.TheVariants.{WriteFault};
+
+use crate::OutFault;
+use crate::attribute::{Attribute, push_tag};
+use crate::line::{Line, push_lines};
+use crate::piece::{Piece, push_pieces};
+use crate::renditions::{Rendition, places_of, renditions_of};
+use crate::variants::{Cast, Variant, variants_of};
+use bridge_io::{Fail, FileWriter, Kind, Name, NoMemory, Store};
+use presentation::{Group, Presentation, Track};
+use std::alloc::Global;
+
+/// Writes the master playlist of a presentation: a rendition for each audio track in its own group, for each group and audio set
+/// whose track isn't of the group by its own codes, and for each text track; a variant for each pair of a video track and an
+/// audio group, or for each of one of them where the other is missing. The playlist of the track k is `t<k>.m3u8`.
+///
+/// BANDWIDTH is the sum of the video track's and of the greatest ones of the group's and of the text tracks. CODECS has the
+/// codes of all these tracks, each once, and is there only where each of them has some. FRAME-RATE is rounded to thousandths,
+/// halves up.
+///
+/// An error leaves the file as it was, or a front of the text in it. [`OutFault::WriteFault`] comes only where the store's
+/// count of failed writes rose.
+pub fn write_master<F: Store>(
+    alloc: Global,
+    presentation: &Presentation,
+    store: &mut F,
+    name: &Name,
+) -> Result<(), OutFault>
+    ensures ok { OnOk result (Changes (put name.now (master_text presentation.now)) (F.files store.old) (F.files store.new)) }
+    ensures err { OnErr result ((F.files store.new ≡ F.files store.old)
+        ⊎ HasFront name.now (master_text presentation.now) (F.files store.old) (F.files store.new)) }
+    ensures cause { HasCause WriteFault (F.write_faults store.old) (F.write_faults store.new) result }
+    ensures reads { F.read_faults store.new ≡ F.read_faults store.old }
+{
+    let mut writer = FileWriter::create(alloc, store, name)?;
+    push_master(alloc, presentation, &mut writer, store)?;
+    writer.flush(store)?;
+    Ok(())
+}
+
+/// Adds the whole text.
+#[tactic(auto, unfolding(crate::specs::Master::master_text))]
+fn push_master<F: Store>(
+    alloc: Global,
+    presentation: &Presentation,
+    writer: &mut FileWriter<'_>,
+    store: &mut F,
+) -> Result<(), Fail>
+    ensures { let shows = shown F.files F.read_faults F.write_faults in
+        Adds (master_text presentation.now) writer.old writer.new (shows store.old) (shows store.new) result }
+{
+    let tracks = presentation.tracks().as_slice();
+    let groups = presentation.groups().as_slice();
+    push_all(alloc, tracks, groups, writer, store)
+}
+
+fn push_all<F: Store>(
+    alloc: Global,
+    tracks: &[Track],
+    groups: &[Group],
+    writer: &mut FileWriter<'_>,
+    store: &mut F,
+) -> Result<(), Fail>
+    ensures { let shows = shown F.files F.read_faults F.write_faults in
+        Adds (lines_text (lines_with tracks.now groups.now)) writer.old writer.new (shows store.old) (shows store.new) result }
+{
+    push_lines(writer, store, &[Some(Line::Header), Some(Line::Version(6))])?;
+    push_renditions(alloc, tracks, groups, writer, store)?;
+    push_variants(alloc, tracks, groups, writer, store)
+}
+
+/// Adds the lines of the renditions.
+fn push_renditions<F: Store>(
+    alloc: Global,
+    tracks: &[Track],
+    groups: &[Group],
+    writer: &mut FileWriter<'_>,
+    store: &mut F,
+) -> Result<(), Fail>
+    ensures { let shows = shown F.files F.read_faults F.write_faults in
+        Adds (lines_text (map (rendition_line tracks.now) (renditions_of tracks.now groups.now))) writer.old writer.new (shows store.old) (shows store.new) result }
+{
+    let renditions = renditions_of(alloc, tracks, groups)?;
+    push_rendition_lines(writer, store, tracks, &renditions)
+}
+
+fn push_rendition_lines<F: Store>(
+    writer: &mut FileWriter<'_>,
+    store: &mut F,
+    tracks: &[Track],
+    renditions: &[Rendition],
+) -> Result<(), Fail>
+    ensures { let shows = shown F.files F.read_faults F.write_faults in
+        Adds (flat_map (rendition_text tracks.now) renditions.now) writer.old writer.new (shows store.old) (shows store.new) result }
+{
+    for rendition in renditions {
+        push_rendition(writer, store, tracks, *rendition)?;
+    }
+    Ok(())
+}
+
+#[tactic(auto, unfolding(crate::specs::Lines::line_bytes))]
+fn push_rendition<F: Store>(
+    writer: &mut FileWriter<'_>,
+    store: &mut F,
+    tracks: &[Track],
+    rendition: Rendition,
+) -> Result<(), Fail>
+    ensures { let shows = shown F.files F.read_faults F.write_faults in
+        Adds (rendition_text tracks.now rendition) writer.old writer.new (shows store.old) (shows store.new) result }
+{
+    let media_type = Attribute::MediaType(rendition.group);
+    push_tag(
+        writer,
+        store,
+        b"#EXT-X-MEDIA:",
+        media_type,
+        &rendition.attributes(tracks),
+    )
+}
+
+/// Adds the lines of the variants.
+fn push_variants<F: Store>(
+    alloc: Global,
+    tracks: &[Track],
+    groups: &[Group],
+    writer: &mut FileWriter<'_>,
+    store: &mut F,
+) -> Result<(), Fail>
+    ensures { let shows = shown F.files F.read_faults F.write_faults in
+        Adds (lines_text (flat_map (variant_lines tracks.now groups.now (places_of Text tracks.now)) (variants_of tracks.now groups.now))) writer.old writer.new (shows store.old) (shows store.new) result }
+{
+    let variants = variants_of(alloc, tracks, groups)?;
+    let texts = places_of(alloc, Kind::Text, tracks)?;
+    let cast = Cast {
+        tracks,
+        groups,
+        texts: &texts,
+    };
+    push_variant_lines(alloc, writer, store, &cast, &variants)
+}
+
+fn push_variant_lines<F: Store>(
+    alloc: Global,
+    writer: &mut FileWriter<'_>,
+    store: &mut F,
+    cast: &Cast<'_>,
+    variants: &[Variant],
+) -> Result<(), Fail>
+    ensures { let shows = shown F.files F.read_faults F.write_faults in
+        Adds (flat_map (variant_text cast.now.tracks.now cast.now.groups.now cast.now.texts.now) variants.now) writer.old writer.new (shows store.old) (shows store.new) result }
+{
+    for variant in variants {
+        push_variant(alloc, writer, store, cast, *variant)?;
+    }
+    Ok(())
+}
+
+/// Adds the line of a variant and the address of its playlist.
+fn push_variant<F: Store>(
+    alloc: Global,
+    writer: &mut FileWriter<'_>,
+    store: &mut F,
+    cast: &Cast<'_>,
+    variant: Variant,
+) -> Result<(), Fail>
+    ensures { let shows = shown F.files F.read_faults F.write_faults in
+        Adds (variant_text cast.now.tracks.now cast.now.groups.now cast.now.texts.now variant) writer.old writer.new (shows store.old) (shows store.new) result }
+{
+    match cast.codes(alloc, variant)? {
+        Some(codes) => push_coded_variant(writer, store, cast, variant, Some(codes.as_slice())),
+        None => push_coded_variant(writer, store, cast, variant, None),
+    }
+}
+
+/// The same, where the codes of its tracks were found.
+#[tactic(auto, unfolding(crate::specs::Lines::line_bytes))]
+fn push_coded_variant<F: Store>(
+    writer: &mut FileWriter<'_>,
+    store: &mut F,
+    cast: &Cast<'_>,
+    variant: Variant,
+    codes: Option<&[&str]>,
+) -> Result<(), Fail>
+    ensures { let shows = shown F.files F.read_faults F.write_faults in
+        Adds (coded_text cast.now.tracks.now cast.now.groups.now cast.now.texts.now (option_map texts_in codes.entry) variant) writer.old writer.new (shows store.old) (shows store.new) result }
+{
+    push_tag(
+        writer,
+        store,
+        b"#EXT-X-STREAM-INF:",
+        Attribute::Bandwidth(cast.bandwidth(variant)),
+        &cast.attributes(variant, codes),
+    )?;
+    push_pieces(
+        writer,
+        store,
+        &[
+            Piece::Text(b"t"),
+            Piece::Number(variant.track as u64),
+            Piece::Text(b".m3u8\n"),
+        ],
+    )
+}
