@@ -1,4 +1,3 @@
 pub mod Files
-pub mod Segments
-pub mod Stops
-pub mod Told
+pub mod Opened
+pub mod Works

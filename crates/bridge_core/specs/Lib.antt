@@ -1,7 +1,7 @@
-pub mod Endings
-pub mod Numbers
-pub mod Outcome
-pub mod Playlist
-pub mod Report
-pub mod Run
+pub mod Bases
+pub mod Courses
+pub mod Hls
+pub mod Outcomes
+pub mod Playlists
+pub mod Refusals
 pub mod Words

@@ -1,29 +1,81 @@
--- Which words are a job.
-use Rattle.std.specs.Prelude.{◌≡◌, false, ℕ, ◌-◌, ◌==◌, ◌&&◌, ◌||◌, nat_eq, nat_le, Bool, List, [], ◌∷◌, length, take, drop, codes, bytes_eq, slice_index, if◌then◌else◌, Option, Some, None}
-use Rattle.std.specs.List.{list_all, starts_with}
-use Rattle.bridge_io.specs.Names.{is_name}
-use Rattle.bridge_core.specs.declared.words.Job.{Job}
+-- The words of the report for each fault: the layer's word, the number and the name.
+use Rattle.std.specs.Prelude.{ℕ, List, [], codes}
+use Rattle.mpd_text.specs.declared.fault.TextFault.{TextFault}
+use Rattle.mpd_text.specs.declared.fault.TextFault.TheVariants as text
+use Rattle.mpd_profile.specs.declared.fault.RuleFault.{RuleFault}
+use Rattle.mpd_profile.specs.declared.fault.RuleFault.TheVariants as rules
+use Rattle.url_parts.specs.declared.fault.UrlFault.{UrlFault}
+use Rattle.url_parts.specs.declared.fault.UrlFault.TheVariants as url
+use Rattle.template_ids.specs.declared.fault.TemplateFault.{TemplateFault}
+use Rattle.template_ids.specs.declared.fault.TemplateFault.TheVariants as template
+use Rattle.timeline.specs.declared.fault.TimeFault.{TimeFault}
+use Rattle.timeline.specs.declared.fault.TimeFault.TheVariants as times
+use Rattle.presentation.specs.declared.fault.PresentationFault.{PresentationFault}
+use Rattle.presentation.specs.declared.fault.PresentationFault.TheVariants as presentation
 
--- the option that names the folder's URL
-abbrev pub base_option : List ℕ
-base_option = codes "--base="
+-- want of memory is no refusal, and has no words
 
--- `hls`, the name of an MPD, and `--base=` with any text, in this order
-abbrev pub job_of : List (List ℕ) → Option Job
-job_of (command ∷ mpd ∷ base ∷ []) =
-    if bytes_eq command (codes "hls") && is_name mpd && starts_with nat_eq base base_option then Some (record { mpd = mpd; base = drop 7 base }) else None
-job_of words = None
+abbrev pub text_words : TextFault → List ℕ
+text_words (text.NotUtf8 place) = codes "text 1 NotUtf8"
+text_words (text.BadChar place) = codes "text 2 BadChar"
+text_words (text.Cut place) = codes "text 3 Cut"
+text_words (text.Syntax place) = codes "text 4 Syntax"
+text_words (text.TagMismatch place) = codes "text 5 TagMismatch"
+text_words (text.DoubleAttribute place) = codes "text 6 DoubleAttribute"
+text_words (text.Entity place) = codes "text 7 Entity"
+text_words (text.Doctype place) = codes "text 8 Doctype"
+text_words (text.Cdata place) = codes "text 9 Cdata"
+text_words (text.Instruction place) = codes "text 10 Instruction"
+text_words (text.Depth place) = codes "text 11 Depth"
+text_words text.Memory = []
 
--- a letter of a plain host name, or a dot
-abbrev pub is_host_byte : ℕ → Bool
-is_host_byte b = (nat_le 97 b && nat_le b 122) || b == 46
+abbrev pub rule_words : RuleFault → List ℕ
+rule_words (rules.Root place) = codes "rules 1 Root"
+rule_words (rules.Namespace place) = codes "rules 2 Namespace"
+rule_words (rules.Missing place) = codes "rules 3 Missing"
+rule_words (rules.Value place) = codes "rules 4 Value"
+rule_words (rules.NoStart place) = codes "rules 5 NoStart"
+rule_words (rules.PeriodOrder place) = codes "rules 6 PeriodOrder"
+rule_words (rules.Encryption place) = codes "rules 7 Encryption"
+rule_words (rules.Events place) = codes "rules 8 Events"
+rule_words (rules.LowLatency place) = codes "rules 9 LowLatency"
+rule_words (rules.Remote place) = codes "rules 10 Remote"
+rule_words (rules.Essential place) = codes "rules 11 Essential"
+rule_words (rules.Unsupported place) = codes "rules 12 Unsupported"
+rule_words (rules.IndexNeeded place) = codes "rules 13 IndexNeeded"
+rule_words (rules.NoTracks place) = codes "rules 14 NoTracks"
+rule_words rules.Memory = []
 
--- `https://`, at least one byte of a plain host name, and one slash
-abbrev pub is_plain_base : List ℕ → Bool
-is_plain_base base = nat_le (length base) 255 && nat_le 10 (length base) && starts_with nat_eq base (codes "https://")
-    && list_all is_host_byte (take (length base - 9) (drop 8 base)) && slice_index base (length base - 1) == 47
+abbrev pub url_words : UrlFault → List ℕ
+url_words url.Refused = codes "url 1 Refused"
+url_words url.Scheme = codes "url 2 Scheme"
+url_words url.TooLong = codes "url 3 TooLong"
+url_words url.Memory = []
 
--- a job whose base isn't plain
-abbrev pub IsUnbuiltBase : Option Job → Type 0
-IsUnbuiltBase None = ⊥
-IsUnbuiltBase (Some job) = is_plain_base job.base ≡ false
+abbrev pub template_words : TemplateFault → List ℕ
+template_words template.LoneDollar = codes "template 1 LoneDollar"
+template_words template.Unknown = codes "template 2 Unknown"
+template_words template.Width = codes "template 3 Width"
+template_words template.Both = codes "template 4 Both"
+template_words template.SubNumber = codes "template 5 SubNumber"
+template_words template.Memory = []
+
+abbrev pub time_words : TimeFault → List ℕ
+time_words times.ZeroDuration = codes "timeline 1 ZeroDuration"
+time_words times.Range = codes "timeline 2 Range"
+time_words times.NoEnd = codes "timeline 3 NoEnd"
+time_words times.Step = codes "timeline 4 Step"
+time_words times.ListLength = codes "timeline 5 ListLength"
+time_words times.TimeWithoutTimeline = codes "timeline 6 TimeWithoutTimeline"
+time_words times.Memory = []
+
+-- a fault of a layer inside has that layer's words
+abbrev pub presentation_words : PresentationFault → List ℕ
+presentation_words (presentation.PeriodsDiffer place) = codes "presentation 1 PeriodsDiffer"
+presentation_words presentation.Limit = codes "presentation 2 Limit"
+presentation_words (presentation.NoSegments section track) = codes "presentation 3 NoSegments"
+presentation_words (presentation.Url fault spot) = url_words fault
+presentation_words (presentation.Template fault place) = template_words fault
+presentation_words (presentation.Timeline fault place) = time_words fault
+presentation_words presentation.NeedsNow = codes "presentation 7 NeedsNow"
+presentation_words presentation.Memory = []

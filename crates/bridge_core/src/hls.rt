@@ -1,110 +1,163 @@
 // From an MPD to playlists.
-ghost use Rattle.std.specs.Prelude.{◌≡◌, ◌≤◌, length, codes, Err, Some, IfOk, IfErr, OnOk, OnErr, false};
+ghost use Rattle.std.specs.Prelude.{◌≡◌, ◌⊎◌, ◌≤◌, Ok, IfOk, IsTrue};
 ghost use Rattle.std.specs.Option.{ForSome};
 ghost use Rattle.bridge_io.specs.Answer.{Gives};
-ghost use Rattle.bridge_io.specs.Fault.{Rose, HasCause};
-ghost use Rattle.bridge_io.specs.Outside.{Changes};
-ghost use Rattle.bridge_io.specs.declared.outside.Fail.TheVariants.{Failed};
-ghost use Rattle.bridge_core.specs.Report.{done_line};
-ghost use Rattle.bridge_io.specs.InOrder.{put_all, AreBegun};
-ghost use Rattle.bridge_core.specs.Run.{files_of};
-ghost use Rattle.plain_mpd.specs.Form.{AreDurations};
-ghost use Rattle.bridge_core.specs.Words.{is_plain_base};
-ghost use Rattle.bridge_core.specs.Outcome.{outcome_of_job, manifest_of, finished, unbuilt_line, Refusal};
-ghost use Rattle.bridge_core.specs.Endings.{IsEnding, IsStop, refused_as, refusal_of};
+ghost use Rattle.bridge_io.specs.Fault.{Rose};
+ghost use Rattle.bridge_runs.specs.declared.status.Status.TheVariants as status;
+ghost use Rattle.bridge_runs.specs.Runs.{status_of};
+ghost use Rattle.bridge_core.specs.Refusals.{refused_in, refusal_line};
+ghost use Rattle.bridge_core.specs.Outcomes.{IsEnding, IsRefusal, course_by};
+ghost use Rattle.bridge_core.specs.Hls as spec;
 
-use crate::base::is_plain_base;
-use crate::playlist::write_playlist;
-use crate::report::{Ending, done, refused, refused_at};
-use crate::words::Job;
-use bridge_io::{Fail, Name, NoMemory, Slurp, Store, Text, slurp};
-use plain_mpd::{Plain, PlainFault, read_plain};
+use crate::base::file_url;
+use crate::manifest::{Ready, checked, presentation_of};
+use crate::playlists::{done_line, write_playlists};
+use crate::refusal::{Refusal, Stop, refusal_line};
+use bridge_io::{Ledger, Name, NoMemory, Slurp, Steps, Store, Text, slurp};
+use bridge_runs::{Ending, Verdict};
+use exact_time::Digits;
+use hls_writer::OutFault;
+use iso_time::Instant;
 use std::alloc::Global;
+use url_parts::Base;
 
 /// How many bytes a manifest has at most.
 const MANIFEST_LIMIT: u64 = 8_388_608;
 
-/// Writes the media playlist of a job's MPD.
-pub fn hls<F: Store>(alloc: Global, job: &Job, store: &mut F) -> Ending
-    ensures told { ForSome (F.files store.old) (λ files. IsEnding (outcome_of_job (Some job.now) files) result (F.files store.old) (F.files store.new)) }
-    ensures base { is_plain_base job.now.base ≡ false → IsEnding (Refusal (unbuilt_line (codes "-"))) result (F.files store.old) (F.files store.new) }
-    ensures job { result ≡ Ending.Words → ⊥ }
-    ensures read_fault { result ≡ Ending.ReadFault → Rose (F.read_faults store.old) (F.read_faults store.new) }
-    ensures write_fault { result ≡ Ending.WriteFault → Rose (F.write_faults store.old) (F.write_faults store.new) }
+/// An MPD whose playlists are to be written.
+#[derive(Debug, Drop)]
+pub struct Hls {
+    /// The MPD's file.
+    pub mpd: Name,
+    /// The URL of the store's root.
+    pub base: Text,
+    /// The instant of a live MPD.
+    pub instant: Option<Instant>,
+    /// The folder of the playlists.
+    pub out: Name,
+    /// The decimals of printed durations.
+    pub digits: Digits,
+}
+
+/// Writes the playlists of a job's MPD, unless it is refused.
+#[tactic(auto, unfolding(crate::specs::Hls::hls_outcome))]
+pub fn translate<F: Store, L: Ledger>(
+    alloc: Global,
+    job: &Hls,
+    store: &mut F,
+    steps: &mut Steps<L>,
+) -> Ending
+    ensures ending { ForSome (spec.hls_outcome job.now (F.files store.old)) (λ outcome. IsEnding outcome result (F.files store.old) (F.files store.new)) }
+    ensures made { ForSome (spec.hls_outcome job.now (F.files store.old)) (λ outcome. IsTrue (course_by outcome).counts → steps.new ≡ steps.old) }
+    ensures read_fault { status_of result ≡ status.ReadFault → Rose (F.read_faults store.old) (F.read_faults store.new) }
+    ensures job { status_of result ≡ status.Words → ⊥ }
+    ensures write_fault { status_of result ≡ status.WriteFault → Rose (F.write_faults store.old) (F.write_faults store.new) }
     ensures reads { F.read_faults store.old ≤ F.read_faults store.new }
     ensures writes { F.write_faults store.old ≤ F.write_faults store.new }
 {
-    match read_manifest(alloc, job, store) {
-        Ok(plain) => match write_files(alloc, job, &plain, store) {
-            Ok(line) => Ending::Done(line),
-            Err(Fail::Failed) => Ending::WriteFault,
-            Err(Fail::Memory) => Ending::Memory,
-        },
-        Err(ending) => ending,
-    }
-}
-
-fn refusal(line: Result<Text, NoMemory>) -> Ending
-    ensures { result ≡ refusal_of line }
-{
-    match line {
-        Ok(line) => Ending::Refused(line),
+    match file_url(alloc, job.base.as_str(), &job.mpd) {
+        Ok(Some(url)) => hls_at(alloc, job, &url, store, steps),
+        Ok(None) => refused(alloc, "-", Refusal::Base),
         Err(NoMemory) => Ending::Memory,
     }
 }
 
-/// Reads a job's MPD.
-fn read_manifest<F: Store>(alloc: Global, job: &Job, store: &mut F) -> Result<Plain, Ending>
-    ensures manifest { ForSome (F.files store.old) (λ files. Gives (λ plain. plain) refused_as result (manifest_of job.now files)) }
-    ensures base { is_plain_base job.now.base ≡ false → Gives (λ plain. plain) refused_as result (Err (unbuilt_line (codes "-"))) }
-    ensures durations { IfOk result (λ plain. AreDurations plain.durations) }
-    ensures stop { IfErr result (λ ending. IsStop ending (F.read_faults store.old) (F.read_faults store.new)) }
-    ensures files { F.files store.new ≡ F.files store.old }
-    ensures reads { F.read_faults store.old ≤ F.read_faults store.new }
-    ensures writes { F.write_faults store.new ≡ F.write_faults store.old }
-{
-    let file = job.mpd.as_str();
-    if !is_plain_base(job.base.as_str()) {
-        return Err(refusal(refused(alloc, "-", "job 5 Unbuilt")));
-    }
-    let bytes = match slurp(alloc, store, &job.mpd, MANIFEST_LIMIT) {
-        Ok(bytes) => bytes,
-        Err(Slurp::TooLong(place)) => {
-            return Err(refusal(refused_at(alloc, file, "io 1 TooLong", place)));
-        }
-        Err(Slurp::Absent) => return Err(refusal(refused(alloc, file, "io 2 Absent"))),
-        Err(Slurp::Fault) => return Err(Ending::ReadFault),
-        Err(Slurp::Memory) => return Err(Ending::Memory),
-    };
-    match read_plain(alloc, bytes.as_slice()) {
-        Ok(plain) => Ok(plain),
-        Err(PlainFault::Unbuilt) => Err(refusal(refused(alloc, file, "job 5 Unbuilt"))),
-        Err(PlainFault::Memory) => Err(Ending::Memory),
-    }
-}
-
-/// Writes the playlist of a plain MPD, and answers the report's line.
-fn write_files<F: Store>(
+/// Writes the playlists of a job's MPD, which is at this URL.
+fn hls_at<F: Store, L: Ledger>(
     alloc: Global,
-    job: &Job,
-    plain: &Plain,
+    job: &Hls,
+    url: &Base,
     store: &mut F,
-) -> Result<Text, Fail>
-    requires { AreDurations plain.now.durations }
-    ensures line { IfOk result (λ line. line ≡ done_line (length plain.now.durations)) }
-    ensures ok { OnOk result (Changes (put_all (files_of (finished job.now plain.now))) (F.files store.old) (F.files store.new)) }
-    ensures err { OnErr result (AreBegun (files_of (finished job.now plain.now)) (F.files store.old) (F.files store.new)) }
-    ensures cause { HasCause Failed (F.write_faults store.old) (F.write_faults store.new) result }
-    ensures reads { F.read_faults store.new ≡ F.read_faults store.old }
+    steps: &mut Steps<L>,
+) -> Ending
+    ensures ending { ForSome (F.files store.old) (λ files. IsEnding (spec.hls_at job.now url.now files) result (F.files store.old) (F.files store.new)) }
+    ensures read_fault { status_of result ≡ status.ReadFault → Rose (F.read_faults store.old) (F.read_faults store.new) }
+    ensures job { status_of result ≡ status.Words → ⊥ }
+    ensures write_fault { status_of result ≡ status.WriteFault → Rose (F.write_faults store.old) (F.write_faults store.new) }
+    ensures reads { F.read_faults store.old ≤ F.read_faults store.new }
+    ensures writes { F.write_faults store.old ≤ F.write_faults store.new }
 {
-    let line = done(alloc, plain.durations.len())?;
-    let name = playlist_name(alloc)?;
-    write_playlist(alloc, job.base.as_str(), plain, store, &name)?;
-    Ok(line)
+    match slurp(alloc, store, &job.mpd, MANIFEST_LIMIT) {
+        Ok(bytes) => hls_of(alloc, job, url, bytes.as_slice(), store, steps),
+        Err(Slurp::TooLong(place)) => refused(alloc, job.mpd.as_str(), Refusal::TooLong(place)),
+        Err(Slurp::Absent) => refused(alloc, job.mpd.as_str(), Refusal::Absent),
+        Err(Slurp::Fault) => Ending::ReadFault,
+        Err(Slurp::Memory) => Ending::Memory,
+    }
 }
 
-fn playlist_name(alloc: Global) -> Result<Name, NoMemory>
-    ensures { IfOk result (λ name. name ≡ codes "out/t0.m3u8") }
+/// Writes the playlists of an MPD that has these bytes.
+fn hls_of<F: Store, L: Ledger>(
+    alloc: Global,
+    job: &Hls,
+    url: &Base,
+    bytes: &[u8],
+    store: &mut F,
+    steps: &mut Steps<L>,
+) -> Ending
+    ensures ending { IsEnding (spec.outcome_of job.now (spec.checked_presentation job.now url.now bytes.now)) result (F.files store.old) (F.files store.new) }
+    ensures no_read { status_of result ≡ status.ReadFault → ⊥ }
+    ensures job { status_of result ≡ status.Words → ⊥ }
+    ensures write_fault { status_of result ≡ status.WriteFault → Rose (F.write_faults store.old) (F.write_faults store.new) }
+    ensures reads { F.read_faults store.new ≡ F.read_faults store.old }
+    ensures writes { F.write_faults store.old ≤ F.write_faults store.new }
 {
-    Name::read(alloc, "out/t0.m3u8").map_err(|_| NoMemory)
+    match ready(alloc, job, url, bytes, steps) {
+        Ok(ready) => write(alloc, job, &ready, store, steps),
+        Err(Stop::Refused(refusal)) => refused(alloc, job.mpd.as_str(), refusal),
+        Err(Stop::Memory) => Ending::Memory,
+    }
+}
+
+/// The presentation of bytes, whose segments all have addresses, or the first refusal.
+#[tactic(auto, unfolding(crate::specs::Hls::checked_presentation))]
+fn ready<L: Ledger>(
+    alloc: Global,
+    job: &Hls,
+    url: &Base,
+    bytes: &[u8],
+    steps: &mut Steps<L>,
+) -> Result<Ready, Stop>
+    ensures ready { Gives (λ ready. ready.presentation) refused_in result (spec.checked_presentation job.now url.now bytes.now) }
+    ensures digits { IfOk result (λ ready. ready.digits ≡ job.now.digits) }
+{
+    let presentation = presentation_of(alloc, bytes, url, job.instant)?;
+    checked(alloc, presentation, job.digits, steps)
+}
+
+/// Writes the playlists of a presentation.
+fn write<F: Store, L: Ledger>(
+    alloc: Global,
+    job: &Hls,
+    ready: &Ready,
+    store: &mut F,
+    steps: &mut Steps<L>,
+) -> Ending
+    requires { ready.now.digits ≡ job.now.digits }
+    ensures ending { IsEnding (spec.outcome_of job.now (Ok ready.now.presentation)) result (F.files store.old) (F.files store.new) }
+    ensures no_read { status_of result ≡ status.ReadFault → ⊥ }
+    ensures job { status_of result ≡ status.Words → ⊥ }
+    ensures write_fault { status_of result ≡ status.WriteFault → Rose (F.write_faults store.old) (F.write_faults store.new) }
+    ensures reads { F.read_faults store.new ≡ F.read_faults store.old }
+    ensures writes { F.write_faults store.old ≤ F.write_faults store.new }
+{
+    let Ok(line) = done_line(alloc, ready) else {
+        return Ending::Memory;
+    };
+    match write_playlists(alloc, &job.out, ready, store, steps) {
+        Ok(()) => Ending::Ended(Verdict::Done, line),
+        Err(OutFault::WriteFault) => Ending::WriteFault,
+        Err(OutFault::Memory) => Ending::Memory,
+    }
+}
+
+/// How a run ends whose input is refused.
+fn refused(alloc: Global, file: &str, refusal: Refusal) -> Ending
+    ensures line { IsRefusal (refusal_line file.now refusal) result }
+    ensures status { (status_of result ≡ status.Refused) ⊎ (status_of result ≡ status.Memory) }
+{
+    match refusal_line(alloc, file, refusal) {
+        Ok(line) => Ending::Ended(Verdict::Refused, line),
+        Err(NoMemory) => Ending::Memory,
+    }
 }

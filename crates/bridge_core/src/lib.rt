@@ -2,12 +2,12 @@
 #![tactic(auto)]
 
 mod base;
+mod fault_words;
 mod hls;
-mod playlist;
-mod report;
+mod manifest;
+mod playlists;
+mod refusal;
 mod run;
-mod status;
-mod words;
 
+pub use bridge_runs::Status;
 pub use run::bridge;
-pub use status::Status;

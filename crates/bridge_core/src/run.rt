@@ -1,24 +1,25 @@
 // The top call.
-ghost use Rattle.std.specs.Prelude.{◌≡◌, ◌⊎◌, None, codes};
+ghost use Rattle.std.specs.Prelude.{◌≡◌, ◌⊎◌, ◌≤◌, IsTrue};
 ghost use Rattle.std.specs.Option.{ForSome};
 ghost use Rattle.bridge_io.specs.Fault.{Rose};
-ghost use Rattle.bridge_core.specs.Words.{job_of, IsUnbuiltBase};
-ghost use Rattle.bridge_core.specs.Outcome.{outcome_of, unbuilt_line, NoJob, Refusal};
-ghost use Rattle.bridge_core.specs.Run.{IsRun, IsFinished};
-ghost use Rattle.bridge_core.specs.Endings.{IsEnding};
+ghost use Rattle.bridge_jobs.specs.Jobs.{job_of};
+ghost use Rattle.bridge_runs.specs.declared.status.Status.TheVariants as status;
+ghost use Rattle.bridge_runs.specs.Runs.{IsRun, status_by, status_of};
+ghost use Rattle.bridge_runs.specs.Laws.{IsCalm};
+ghost use Rattle.bridge_core.specs.Courses.{IsUnbuilt, course_of, outcome_of_job, outcome_of_words, world_of};
+ghost use Rattle.bridge_core.specs.Outcomes.{IsEnding, course_by};
 
-use crate::Status;
-use crate::hls::hls;
-use crate::report::{Ending, tell};
-use crate::words::read_words;
+use crate::hls::{Hls, translate};
 use bridge_io::{Ledger, NoMemory, Sink, Source, Steps, Store, Text};
+use bridge_jobs::{Job, job};
+use bridge_runs::{Ending, Status, tell};
 use std::alloc::Global;
 
 /// Runs the command that the words are, without the program's own name: it reads and writes the files of the store,
 /// and reports its end in one line. The input is left as it was.
 ///
-/// The words are a job where they are `hls`, the name of an MPD, and `--base=` with the URL of the folder that the
-/// store stands for.
+/// Only `hls` is built yet: it writes the playlists of an MPD, `t0.m3u8` and so on for each track and `master.m3u8` for
+/// all, to a folder. Nothing is written before every refusal is ruled out, and the master comes last.
 pub fn bridge<I: Source, F: Store, P: Sink, L: Ledger>(
     alloc: Global,
     words: &[Text],
@@ -27,45 +28,86 @@ pub fn bridge<I: Source, F: Store, P: Sink, L: Ledger>(
     report: &mut P,
     steps: &mut Steps<L>,
 ) -> Status
-    // Where the store tells its files, the run ends as these and the words say, unless a fault or want of memory ends it.
-    ensures run { ForSome (F.files store.old) (λ files. IsRun (outcome_of words.now files) result
-        (F.files store.old) (F.files store.new) (P.faults report.old) (P.faults report.new) (P.written report.old) (P.written report.new)) }
+    // The run does what the words and the store's files say, unless a fault or want of memory ends it.
+    ensures run { ForSome (course_of words.now (F.files store.old)) (λ course.
+        let before = world_of (F.files store.old) (P.written report.old) (I.faults input.old) (F.read_faults store.old) (F.write_faults store.old) (P.faults report.old) steps.old in
+        let after = world_of (F.files store.new) (P.written report.new) (I.faults input.new) (F.read_faults store.new) (F.write_faults store.new) (P.faults report.new) steps.new in
+        IsRun course result before after) }
 
-    // Whatever the store tells, words that are no job, and a base that isn't built, end so.
-    ensures no_job { job_of words.now ≡ None → IsRun NoJob result
-        (F.files store.old) (F.files store.new) (P.faults report.old) (P.faults report.new) (P.written report.old) (P.written report.new) }
-    ensures words { result ≡ Status.Words → job_of words.now ≡ None }
-    ensures base { IsUnbuiltBase (job_of words.now) → IsRun (Refusal (unbuilt_line (codes "-"))) result
-        (F.files store.old) (F.files store.new) (P.faults report.old) (P.faults report.new) (P.written report.old) (P.written report.new) }
+    // Where no count of faults rose, it ends as its course, or for want of memory.
+    ensures complete { ForSome (course_of words.now (F.files store.old)) (λ course.
+        let before = world_of (F.files store.old) (P.written report.old) (I.faults input.old) (F.read_faults store.old) (F.write_faults store.old) (P.faults report.old) steps.old in
+        let after = world_of (F.files store.new) (P.written report.new) (I.faults input.new) (F.read_faults store.new) (F.write_faults store.new) (P.faults report.new) steps.new in
+        IsCalm before after → (result ≡ status_by course.end.verdict) ⊎ (result ≡ status.Memory)) }
 
-    // Built input is written, or memory is wanting, where no count of faults rose.
-    ensures complete { ForSome (F.files store.old) (λ files. IsFinished (outcome_of words.now files)
-        → ¬ Rose (F.read_faults store.old) (F.read_faults store.new) → ¬ Rose (F.write_faults store.old) (F.write_faults store.new)
-        → ¬ Rose (P.faults report.old) (P.faults report.new) → (result ≡ Status.Done) ⊎ (result ≡ Status.Memory)) }
+    // Words are told only of words that are no job, whatever the store tells.
+    ensures words { result ≡ status.Words → ForSome (job_of words.now) IsUnbuilt }
 
     // A fault has a cause.
-    ensures read_fault { result ≡ Status.ReadFault → Rose (F.read_faults store.old) (F.read_faults store.new) }
-    ensures write_fault { result ≡ Status.WriteFault → Rose (F.write_faults store.old) (F.write_faults store.new) ⊎ Rose (P.faults report.old) (P.faults report.new) }
+    ensures read_fault { result ≡ status.ReadFault → Rose (F.read_faults store.old) (F.read_faults store.new) }
+    ensures write_fault { result ≡ status.WriteFault → Rose (F.write_faults store.old) (F.write_faults store.new) ⊎ Rose (P.faults report.old) (P.faults report.new) }
 
     ensures input { input.new ≡ input.old }
-    ensures steps { steps.new ≡ steps.old }
 {
-    let ending = work(alloc, words, store);
+    let ending = work(alloc, words, store, steps);
     tell(&ending, report)
 }
 
 /// Does what the words ask for.
-fn work<F: Store>(alloc: Global, words: &[Text], store: &mut F) -> Ending
-    ensures run { ForSome (F.files store.old) (λ files. IsEnding (outcome_of words.now files) result (F.files store.old) (F.files store.new)) }
-    ensures no_job { job_of words.now ≡ None → IsEnding NoJob result (F.files store.old) (F.files store.new) }
-    ensures words { result ≡ Ending.Words → job_of words.now ≡ None }
-    ensures base { IsUnbuiltBase (job_of words.now) → IsEnding (Refusal (unbuilt_line (codes "-"))) result (F.files store.old) (F.files store.new) }
-    ensures read_fault { result ≡ Ending.ReadFault → Rose (F.read_faults store.old) (F.read_faults store.new) }
-    ensures write_fault { result ≡ Ending.WriteFault → Rose (F.write_faults store.old) (F.write_faults store.new) }
+#[tactic(auto, unfolding(crate::specs::Courses::outcome_of_words))]
+fn work<F: Store, L: Ledger>(
+    alloc: Global,
+    words: &[Text],
+    store: &mut F,
+    steps: &mut Steps<L>,
+) -> Ending
+    ensures ending { ForSome (outcome_of_words words.now (F.files store.old)) (λ outcome. IsEnding outcome result (F.files store.old) (F.files store.new)) }
+    ensures made { ForSome (outcome_of_words words.now (F.files store.old)) (λ outcome. IsTrue (course_by outcome).counts → steps.new ≡ steps.old) }
+    ensures words { status_of result ≡ status.Words → ForSome (job_of words.now) IsUnbuilt }
+    ensures read_fault { status_of result ≡ status.ReadFault → Rose (F.read_faults store.old) (F.read_faults store.new) }
+    ensures write_fault { status_of result ≡ status.WriteFault → Rose (F.write_faults store.old) (F.write_faults store.new) }
+    ensures reads { F.read_faults store.old ≤ F.read_faults store.new }
+    ensures writes { F.write_faults store.old ≤ F.write_faults store.new }
 {
-    match read_words(alloc, words) {
-        Ok(Some(job)) => hls(alloc, &job, store),
-        Ok(None) => Ending::Words,
+    match job(alloc, words) {
+        Ok(job) => run_job(alloc, job, store, steps),
         Err(NoMemory) => Ending::Memory,
+    }
+}
+
+fn run_job<F: Store, L: Ledger>(
+    alloc: Global,
+    job: Option<Job>,
+    store: &mut F,
+    steps: &mut Steps<L>,
+) -> Ending
+    ensures ending { ForSome (outcome_of_job job (F.files store.old)) (λ outcome. IsEnding outcome result (F.files store.old) (F.files store.new)) }
+    ensures made { ForSome (outcome_of_job job (F.files store.old)) (λ outcome. IsTrue (course_by outcome).counts → steps.new ≡ steps.old) }
+    ensures words { status_of result ≡ status.Words → ForSome job IsUnbuilt }
+    ensures read_fault { status_of result ≡ status.ReadFault → Rose (F.read_faults store.old) (F.read_faults store.new) }
+    ensures write_fault { status_of result ≡ status.WriteFault → Rose (F.write_faults store.old) (F.write_faults store.new) }
+    ensures reads { F.read_faults store.old ≤ F.read_faults store.new }
+    ensures writes { F.write_faults store.old ≤ F.write_faults store.new }
+{
+    match job {
+        Some(
+            Job::Hls {
+                mpd,
+                base,
+                now,
+                out,
+                digits,
+            },
+        ) => {
+            let job = Hls {
+                mpd,
+                base,
+                instant: now,
+                out,
+                digits,
+            };
+            translate(alloc, &job, store, steps)
+        }
+        _ => Ending::Words,
     }
 }

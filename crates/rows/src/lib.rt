@@ -6,4 +6,6 @@ mod listings;
 #[cfg(test)]
 mod outside;
 #[cfg(test)]
-mod plain;
+mod runs;
+#[cfg(test)]
+mod table;

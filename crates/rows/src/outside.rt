@@ -40,12 +40,6 @@ fn list(alloc: Global, calls: &[u64]) -> Result<CallList, Fail> {
     Ok(list)
 }
 
-pub fn text(alloc: Global, text: &[u8]) -> Result<Bytes, Fail> {
-    let mut bytes = Bytes::new(alloc);
-    bytes.extend(text)?;
-    Ok(bytes)
-}
-
 /// Runs the words over a store that has one file.
 pub fn run_words(
     alloc: Global,

@@ -1,36 +1,23 @@
-use Rattle.std.proofs.Common.{inl, inr, codes}
-use Rattle.bridge_core.specs.Outcome.{outcome_of, unbuilt_line, NoJob, Refusal}
-use Rattle.bridge_core.proofs.Told.{told_line, read_fault_told, write_fault_told, completed}
+use Rattle.std.proofs.Common.{refl, arith}
+use Rattle.bridge_runs.proofs.RunLaws.{is_complete}
+use Rattle.bridge_core.specs.Courses.{outcome_of_words, world_of}
+use Rattle.bridge_core.proofs.Works.{run_of, words_told, write_fault_told}
 use Rattle.bridge_core.proofs.run.bridge.Goals as goal
 
 pub returns-clause-run : goal.returns-clause-run
-returns-clause-run g c = λ files told.
-    told_line (outcome_of c.args.words.now files) c.work-ending.result c.tell.result (g.F.Store.files c.args.store.now) (g.F.Store.files c.work-ending.new.store) (g.P.Sink.faults c.args.report.now) (g.P.Sink.faults c.tell.new.report) (g.P.Sink.written c.args.report.now) (g.P.Sink.written c.tell.new.report) (c.work-ending.ensures.run files told) c.tell.ensures.told
-
-pub returns-clause-no_job : goal.returns-clause-no_job
-returns-clause-no_job g c = λ none.
-    told_line NoJob c.work-ending.result c.tell.result (g.F.Store.files c.args.store.now) (g.F.Store.files c.work-ending.new.store) (g.P.Sink.faults c.args.report.now) (g.P.Sink.faults c.tell.new.report) (g.P.Sink.written c.args.report.now) (g.P.Sink.written c.tell.new.report) (c.work-ending.ensures.no_job none) c.tell.ensures.told
-
-pub returns-clause-base : goal.returns-clause-base
-returns-clause-base g c = λ base.
-    told_line (Refusal (unbuilt_line (codes "-"))) c.work-ending.result c.tell.result (g.F.Store.files c.args.store.now) (g.F.Store.files c.work-ending.new.store) (g.P.Sink.faults c.args.report.now) (g.P.Sink.faults c.tell.new.report) (g.P.Sink.written c.args.report.now) (g.P.Sink.written c.tell.new.report) (c.work-ending.ensures.base base) c.tell.ensures.told
-
-pub returns-clause-read_fault : goal.returns-clause-read_fault
-returns-clause-read_fault g c = λ is. c.work-ending.ensures.read_fault (read_fault_told c.work-ending.result c.tell.result (g.P.Sink.faults c.args.report.now) (g.P.Sink.faults c.tell.new.report) (g.P.Sink.written c.args.report.now) (g.P.Sink.written c.tell.new.report) c.tell.ensures.told is)
-
-pub returns-clause-write_fault : goal.returns-clause-write_fault
-returns-clause-write_fault g c = λ is.
-    elim (write_fault_told c.work-ending.result c.tell.result (g.P.Sink.faults c.args.report.now) (g.P.Sink.faults c.tell.new.report) (g.P.Sink.written c.args.report.now) (g.P.Sink.written c.tell.new.report) c.tell.ensures.told is) [
-      | inl failed ↦ inl (c.work-ending.ensures.write_fault failed)
-      | inr rose ↦ inr rose
-    ]
+returns-clause-run g c = λ course is.
+    let ends = c.work-ending.ensures in
+    run_of (outcome_of_words c.args.words.now (g.F.Store.files c.args.store.now)) course c.work-ending.result c.tell.result _
+    (world_of (g.F.Store.files c.work-ending.new.store) (g.P.Sink.written c.args.report.now) (g.I.Source.faults c.args.input.now) (g.F.Store.read_faults c.work-ending.new.store) (g.F.Store.write_faults c.work-ending.new.store) (g.P.Sink.faults c.args.report.now) c.work-ending.new.steps)
+    _ is ends.ending ends.read_fault ends.write_fault ends.made
+    (record { input = omega arith; reads = ends.reads; writes = ends.writes; report = omega arith }) refl
+    (record { same = refl; told_as = c.tell.ensures.told; never_falls = c.tell.ensures.never_falls })
 
 pub returns-clause-complete : goal.returns-clause-complete
-returns-clause-complete g c = λ files told built no_reads no_writes no_report.
-    completed (outcome_of c.args.words.now files) c.tell.result (g.F.Store.files c.args.store.now) (g.F.Store.files c.work-ending.new.store) (g.P.Sink.faults c.args.report.now) (g.P.Sink.faults c.tell.new.report) (g.P.Sink.written c.args.report.now) (g.P.Sink.written c.tell.new.report) built
-    (told_line (outcome_of c.args.words.now files) c.work-ending.result c.tell.result (g.F.Store.files c.args.store.now) (g.F.Store.files c.work-ending.new.store) (g.P.Sink.faults c.args.report.now) (g.P.Sink.faults c.tell.new.report) (g.P.Sink.written c.args.report.now) (g.P.Sink.written c.tell.new.report) (c.work-ending.ensures.run files told) c.tell.ensures.told)
-    (λ is. no_reads (c.work-ending.ensures.read_fault (read_fault_told c.work-ending.result c.tell.result (g.P.Sink.faults c.args.report.now) (g.P.Sink.faults c.tell.new.report) (g.P.Sink.written c.args.report.now) (g.P.Sink.written c.tell.new.report) c.tell.ensures.told is)))
-    (λ is. elim (write_fault_told c.work-ending.result c.tell.result (g.P.Sink.faults c.args.report.now) (g.P.Sink.faults c.tell.new.report) (g.P.Sink.written c.args.report.now) (g.P.Sink.written c.tell.new.report) c.tell.ensures.told is) [
-      | inl failed ↦ no_writes (c.work-ending.ensures.write_fault failed)
-      | inr rose ↦ no_report rose
-    ])
+returns-clause-complete g c = λ course is calm. is_complete course c.tell.result _ _ (returns-clause-run g c course is) calm
+
+pub returns-clause-words : goal.returns-clause-words
+returns-clause-words g c = λ is. c.work-ending.ensures.words (words_told c.work-ending.result c.tell.result _ _ _ _ c.tell.ensures.told is)
+
+pub returns-clause-write_fault : goal.returns-clause-write_fault
+returns-clause-write_fault g c = λ is. write_fault_told c.work-ending.result c.tell.result _ _ _ _ c.tell.ensures.told is c.work-ending.ensures.write_fault

@@ -1,0 +1,69 @@
+-- From an MPD to playlists.
+use Rattle.std.specs.Prelude.{ℕ, ℤ, ◌^◌, true, false, List, codes, if◌then◌else◌, Option, Some, None, option_map, Result, Ok, Err}
+use Rattle.bridge_io.specs.Outside.{Files}
+use Rattle.bridge_io.specs.Slurped.{whole_file}
+use Rattle.mpd_text.specs.Meaning.{reading_of}
+use Rattle.mpd_levels.specs.Segments.{Segments}
+use Rattle.mpd_rules.specs.Typed.{TypedMpd}
+use Rattle.mpd_rules.specs.Rules.{typed_mpd_of}
+use Rattle.presentation.specs.Presented.{Presented}
+use Rattle.presentation.specs.Told.{and_then, told_as, presented_of}
+use Rattle.presentation.specs.Verifying.{verified}
+use Rattle.bridge_runs.specs.declared.status.Verdict.TheVariants as verdict
+use Rattle.bridge_core.specs.declared.refusal.Refusal.{Refusal}
+use Rattle.bridge_core.specs.declared.refusal.Refusal.TheVariants as refusal
+use Rattle.bridge_core.specs.declared.hls.Hls.{Hls}
+use Rattle.bridge_core.specs.Bases.{file_url}
+use Rattle.bridge_core.specs.Refusals.{refusal_line, refusal_of_file}
+use Rattle.bridge_core.specs.Outcomes.{Outcome, Ends, Writes}
+use Rattle.bridge_core.specs.Playlists.{playlists, done_line}
+
+-- the bytes that a manifest has at most
+abbrev pub manifest_limit : ℕ
+manifest_limit = 8388608
+
+-- an MPD that is followed isn't built yet
+abbrev pub unless_live : TypedMpd (Option Segments) → Result (TypedMpd (Option Segments)) Refusal
+unless_live mpd = if mpd.facts.live then Err refusal.Unbuilt else Ok mpd
+
+-- the tree that bytes spell, its values, or the first refusal
+unfoldable pub mpd_of : List ℕ → Result (TypedMpd (Option Segments)) Refusal
+mpd_of bytes =
+    and_then (told_as refusal.Text (reading_of bytes)) (λ root.
+    and_then (told_as refusal.Rules (typed_mpd_of root)) unless_live)
+
+-- the presentation of an MPD at a URL, or the first refusal
+unfoldable pub presentation_of : (url : List ℕ) (now : Option ℤ) (bytes : List ℕ) → Result Presented Refusal
+presentation_of url now bytes = and_then (mpd_of bytes) (λ mpd. told_as refusal.Presentation (presented_of mpd url now))
+
+-- each listed segment has an address
+unfoldable pub checked : (unit : ℕ) → Presented → Result Presented Refusal
+checked unit p = and_then (told_as refusal.Presentation (verified p unit)) (λ longest. Ok p)
+
+unfoldable pub checked_presentation : Hls → (url bytes : List ℕ) → Result Presented Refusal
+checked_presentation job url bytes = and_then (presentation_of url job.instant bytes) (checked (10 ^ job.digits))
+
+-- ---- how the command ends
+
+abbrev pub refused_by : (file : List ℕ) → Refusal → Outcome
+refused_by file refusal = Ends verdict.Refused (refusal_line file refusal) true
+
+abbrev pub outcome_of : Hls → Result Presented Refusal → Outcome
+outcome_of job (Ok p) = Writes (playlists job.out job.digits p) (done_line p)
+outcome_of job (Err refusal) = refused_by job.mpd refusal
+
+-- the MPD is at this URL
+abbrev pub hls_at : Hls → (url : List ℕ) → Files → Outcome
+hls_at job url files =
+    outcome_of job (and_then (told_as refusal_of_file (whole_file manifest_limit job.mpd files)) (checked_presentation job url))
+
+-- a base that is refused is told without a file, and whatever the store tells
+abbrev pub base_refused : Outcome
+base_refused = Ends verdict.Refused (refusal_line (codes "-") refusal.Base) false
+
+abbrev pub hls_under : Hls → Option (List ℕ) → Option Files → Option Outcome
+hls_under job None files = Some base_refused
+hls_under job (Some url) files = option_map (hls_at job url) files
+
+unfoldable pub hls_outcome : Hls → Option Files → Option Outcome
+hls_outcome job files = hls_under job (file_url job.base job.mpd) files
