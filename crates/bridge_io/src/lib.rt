@@ -47,6 +47,3 @@ pub type Bytes = Sequence<u8>;
 
 /// Numbers of calls, counted from 0.
 pub type CallList = Sequence<u64>;
-
-/// Durations in whole seconds.
-pub type DurationList = Sequence<u32>;

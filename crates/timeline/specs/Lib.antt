@@ -13,7 +13,6 @@ pub mod Names
 pub mod OpenEnds
 pub mod OwnParts
 pub mod Places
-pub mod Plain
 pub mod Ratios
 pub mod Reaches
 pub mod Rows

@@ -16,7 +16,6 @@ mod listing;
 mod media_run;
 mod media_runs;
 mod names;
-mod plain;
 mod run;
 mod run_slice;
 mod run_table;
@@ -27,7 +26,6 @@ mod span;
 mod spans;
 mod time_walk;
 mod timelines;
-mod walk;
 mod window;
 
 use bridge_io::Sequence;
@@ -37,14 +35,12 @@ pub use fault::{ListFault, TimeFault};
 pub use laws::{closed_ends, ends_rise, open_ends, own_addresses, own_addresses_made};
 pub use listing::{Listing, Segment};
 pub use names::{Names, RefPart};
-pub use plain::{PlainRuns, PlainSpan};
 pub use runs::Runs;
 pub use shared_names::SharedNames;
 pub use shared_timeline::SharedTimeline;
 pub use span::Span;
 pub use time_walk::TimeWalk;
 use url_parts::Part;
-pub use walk::PlainWalk;
 pub use window::Window;
 
 /// The S elements of a SegmentTimeline.
