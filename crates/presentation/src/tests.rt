@@ -1,373 +1,379 @@
 // What no clause says: that calls succeed, and worked presentations.
-ghost use Rattle.std.specs.Prelude.{◌≡◌, ◌<◌, IfOk};
-ghost use Rattle.presentation.specs.Presented.{IsEnded};
+ghost use Rattle.std.specs.Prelude.{◌≡◌, ◌<◌, length};
 
 use super::*;
-use bridge_io::{Kind, Ledger, Steps, Text};
-use exact_time::{Digits, Nanos};
+use bridge_io::{Kind, Ledger, Steps};
+use exact_time::Digits;
+use mpd_rules::rules;
+use mpd_text::read_tree;
 use std::alloc::Global;
 use std::marker::Brand;
 use std::process::Abort;
 use std::sync::ledger::Blank;
 use std::test::Fail;
-use template_ids::Template;
-use timeline::{End, Names, RefList, RefPart, Runs, SEntry, SList, Scale};
-use url_parts::{Base, Part, UrlFault};
+use url_parts::Base;
 
-/// The S elements of a track in a section, by `d` and `r`, and the references of its segments, where they are listed.
-type Entries = (&'static [(u64, i64)], &'static [&'static str]);
-
-/// Two of them, of one track in two sections or of two tracks.
-struct Row {
-    timescale: u32,
-    is_split: bool,
-    entries: [Entries; 2],
-    digits: u8,
-    /// How many segments there are, and the longest printed durations.
-    want: Result<(u64, &'static [u64]), PresentationFault>,
-}
-
-/// Segments of 2 s and a third of a hundredth.
-const DRIFTING: Row = Row {
-    timescale: 48_000,
-    is_split: true,
-    entries: [(&[(96_256, 2)], &[]), (&[(96_256, 0)], &[])],
-    digits: 3,
-    want: Ok((4, &[2006])),
-};
-
-const ROWS: [Row; 12] = [
-    Row {
-        timescale: 1,
-        is_split: false,
-        entries: [(&[(2, 2)], &[]), (&[(3, 1), (1, 0)], &["a", "b", "c"])],
-        digits: 6,
-        want: Ok((6, &[2_000_000, 3_000_000])),
-    },
-    DRIFTING,
-    Row {
-        timescale: 48_000,
-        is_split: true,
-        entries: [(&[(96_256, 0)], &[]), (&[(96_256, 2)], &[])],
-        digits: 4,
-        want: Ok((4, &[20_054])),
-    },
-    Row {
-        timescale: 48_000,
-        is_split: false,
-        entries: [(&[(96_256, 0)], &[]), (&[(96_256, 2)], &[])],
-        digits: 9,
-        want: Ok((4, &[2_005_333_333, 2_005_333_334])),
-    },
-    Row {
-        timescale: 1,
-        is_split: true,
-        entries: [(&[(2, 0)], &[]), (&[], &[])],
-        digits: 3,
-        want: Err(PresentationFault::NoSegments {
-            section: 1,
-            track: 0,
-        }),
-    },
-    Row {
-        timescale: 1,
-        is_split: false,
-        entries: [(&[(1, 99_999_999_999)], &[]), (&[], &[])],
-        digits: 3,
-        want: Err(PresentationFault::NoSegments {
-            section: 0,
-            track: 1,
-        }),
-    },
-    Row {
-        timescale: 1,
-        is_split: false,
-        entries: [(&[(1, 99_999)], &[]), (&[(2, 0)], &[])],
-        digits: 3,
-        want: Ok((100_001, &[1000, 2000])),
-    },
-    Row {
-        timescale: 1,
-        is_split: true,
-        entries: [(&[(1, 99_999)], &[]), (&[(2, 0)], &[])],
-        digits: 3,
-        want: Err(PresentationFault::Limit),
-    },
-    Row {
-        timescale: 1,
-        is_split: false,
-        entries: [
-            (&[(2, 0)], &["https://a b/"]),
-            (&[(1, 99_999_999_999)], &[]),
-        ],
-        digits: 3,
-        want: Err(PresentationFault::Limit),
-    },
-    Row {
-        timescale: 1,
-        is_split: false,
-        entries: [
-            (&[(2, 1)], &["a", "https://a b/"]),
-            (&[(2, 0)], &["https://a b/"]),
-        ],
-        digits: 3,
-        want: Err(PresentationFault::Url(
-            UrlFault::Refused,
-            Spot::Segment {
-                section: 0,
-                track: 0,
-                segment: 1,
-            },
-        )),
-    },
-    Row {
-        timescale: 1,
-        is_split: false,
-        entries: [(&[(2, 0)], &["a"]), (&[(2, 0)], &["https://a b/"])],
-        digits: 3,
-        want: Err(PresentationFault::Url(
-            UrlFault::Refused,
-            Spot::Segment {
-                section: 0,
-                track: 1,
-                segment: 0,
-            },
-        )),
-    },
-    Row {
-        timescale: 1,
-        is_split: true,
-        entries: [
-            (&[(2, 0)], &["a"]),
-            (&[(2, 2)], &["a", "b", "https://a b/"]),
-        ],
-        digits: 3,
-        want: Err(PresentationFault::Url(
-            UrlFault::Refused,
-            Spot::Segment {
-                section: 1,
-                track: 0,
-                segment: 2,
-            },
-        )),
-    },
+/// What stands for what in the texts of the tables, one after another: an MPD with one Representation in one Period, of no
+/// known length or of 10 s; Periods of 4 s, in which a Representation has two segments; sets; audio Representations.
+const SHORT: [(&str, &str); 16] = [
+    (
+        "[ONE]",
+        r#"<MPD xmlns="urn:mpeg:dash:schema:mpd:2011"><Period><AdaptationSet mimeType="video/mp4"><Representation id="v0" bandwidth="1000">"#,
+    ),
+    (
+        "[TEN]",
+        r#"<MPD xmlns="urn:mpeg:dash:schema:mpd:2011"><Period duration="PT10S"><AdaptationSet mimeType="video/mp4"><Representation id="v0" bandwidth="1000">"#,
+    ),
+    ("[/ONE]", "</Representation></AdaptationSet></Period></MPD>"),
+    (
+        "[FOUR]",
+        r#"<MPD xmlns="urn:mpeg:dash:schema:mpd:2011">[PERIOD]"#,
+    ),
+    (
+        "[PERIOD]",
+        r#"<Period duration="PT4S"><SegmentTemplate initialization="i.mp4" media="s$Number$.m4s" duration="2"/>"#,
+    ),
+    ("[/FOUR]", "</Period></MPD>"),
+    (
+        "[VIDEO]",
+        r#"<AdaptationSet mimeType="video/mp4"><Representation id="v" bandwidth="1"/></AdaptationSet>"#,
+    ),
+    (
+        "[ENGLISH]",
+        r#"<AdaptationSet mimeType="video/mp4" lang="en"><Representation id="v" bandwidth="1"/></AdaptationSet>"#,
+    ),
+    (
+        "[EMPTY]",
+        r#"<AdaptationSet mimeType="audio/mp4"><Representation id="e" bandwidth="1"><SegmentTemplate><SegmentTimeline/></SegmentTemplate></Representation></AdaptationSet>"#,
+    ),
+    (
+        "[LONG]",
+        r#"<AdaptationSet mimeType="video/mp4"><Representation id="l" bandwidth="1"><SegmentTemplate><SegmentTimeline><S d="1" r="99999"/></SegmentTimeline></SegmentTemplate></Representation></AdaptationSet>"#,
+    ),
+    (
+        "[OUTSIDE]",
+        r#"<AdaptationSet mimeType="audio/mp4"><Representation id="o" bandwidth="1"><SegmentTemplate media="urn:x"/></Representation></AdaptationSet>"#,
+    ),
+    ("[AUDIO]", r#"<AdaptationSet mimeType="audio/mp4">"#),
+    ("[/SET]", "</AdaptationSet>"),
+    (
+        "[A]",
+        r#"<Representation id="a" bandwidth="1" codecs="a" mimeType="audio/mp4"/>"#,
+    ),
+    (
+        "[B]",
+        r#"<Representation id="b" bandwidth="1" codecs="b" mimeType="audio/mp4"/>"#,
+    ),
+    (
+        "[N]",
+        r#"<Representation id="n" bandwidth="1" mimeType="audio/mp4"/>"#,
+    ),
 ];
 
-fn names(alloc: Global, base: Base, references: &[&str]) -> Result<Names, Fail> {
-    if references.is_empty() {
-        let media = Template::read(alloc, "s$Number$.m4s")?;
-        return Ok(Names::of_template(media, Text::copy_of(alloc, "v")?, 0, base));
-    }
-    let mut parts = RefList::new(alloc);
-    for reference in references {
-        let reference = Some(Text::copy_of(alloc, reference)?);
-        let range = None;
-        parts.push(RefPart { reference, range })?;
-    }
-    Ok(Names::of_list(parts, base))
-}
+/// A presentation of a packager.
+const PACKAGED: &str = r#"<?xml version="1.0"?>
+<!-- packaged -->
+<MPD xmlns="urn:mpeg:dash:schema:mpd:2011" xmlns:xsi="http://www.w3.org/2001/XMLSchema-instance" xsi:schemaLocation="urn:mpeg:dash:schema:mpd:2011 DASH-MPD.xsd" type="static" mediaPresentationDuration="PT734.16668701171875S"><Period id="0">
+<AdaptationSet frameRate="24/1"><SegmentTemplate timescale="12288" duration="49152" initialization="$RepresentationID$/i.mp4" media="$RepresentationID$/$Number$.m4s"/>
+<Representation id="v0" mimeType="video/mp4" bandwidth="300000" codecs="avc1.42c01e" width="640" height="360"/>
+<Representation id="v1" mimeType="video/mp4" bandwidth="900000" codecs="avc1.4d401f" width="960" height="540"/>
+<Representation id="v2" mimeType="video/mp4" bandwidth="2400000" codecs="avc1.4d401f" width="1280" height="720"/></AdaptationSet>
+<AdaptationSet lang="en"><SegmentTemplate timescale="48000" duration="192000" initialization="$RepresentationID$/i.mp4" media="$RepresentationID$/$Number$.m4s"/>
+<Representation id="en" mimeType="audio/mp4" bandwidth="128000" codecs="mp4a.40.2"/></AdaptationSet>
+<AdaptationSet lang="de"><SegmentTemplate timescale="48000" duration="192000" initialization="$RepresentationID$/i.mp4" media="$RepresentationID$/$Number$.m4s"/>
+<Representation id="de" mimeType="audio/mp4" bandwidth="128000" codecs="mp4a.40.2"/></AdaptationSet>
+<AdaptationSet mimeType="image/jpeg"><EssentialProperty schemeIdUri="urn:x" value="1x1"/><Representation id="p" bandwidth="1"/></AdaptationSet></Period></MPD>"#;
 
-fn content(
-    rt: &impl Abort,
-    alloc: Global,
-    timescale: u32,
-    entries: &Entries,
-) -> Result<Content, Fail>
-    ensures { IfOk result IsEnded }
-{
-    let base = Base::of(alloc, "https://h.example/")?;
-    let address = base.join(alloc, "i.mp4")?;
-    let initialization = Part {
-        address,
-        range: None,
-    };
-    let mut list = SList::new(alloc);
-    for (d, r) in entries.0 {
-        list.push(SEntry {
-            t: None,
-            d: *d,
-            r: *r,
-        })?;
-    }
-    let scale = Scale {
-        ticks: timescale.max(1),
-        offset: 0,
-        start_number: 1,
-    };
-    let names = names(alloc, base, entries.1)?;
-    let runs = Runs::from_timeline(alloc, &list, End::Unbounded, false, scale, names)?;
-    assert!(rt; !runs.is_open());
-    Ok(Content {
-        initialization,
-        runs,
-    })
-}
+/// An MPD, how many decimals are printed, and what is told: how many segments there are, the longest printed duration of
+/// each track, and the audio groups; or the fault.
+const ROWS: [(&str, u8, &str); 30] = [
+    (
+        r#"[ONE]<SegmentTemplate initialization="i.mp4" media="s$Number$.m4s"><SegmentTimeline><S d="2"/><S d="2"/><S d="2"/></SegmentTimeline></SegmentTemplate>[/ONE]"#,
+        6,
+        "3 2000000",
+    ),
+    (
+        r#"[ONE]<SegmentTemplate initialization="i.mp4" media="s$Number$.m4s" timescale="48000"><SegmentTimeline><S d="96256" r="2"/></SegmentTimeline></SegmentTemplate>[/ONE]"#,
+        6,
+        "3 2005334",
+    ),
+    (
+        r#"[ONE]<SegmentTemplate initialization="i.mp4" media="s$Number$.m4s" timescale="48000"><SegmentTimeline><S d="96256" r="2"/></SegmentTimeline></SegmentTemplate>[/ONE]"#,
+        9,
+        "3 2005333334",
+    ),
+    (
+        r#"[ONE]<SegmentTemplate initialization="i.mp4" media="$RepresentationID$/$Number%05d$.m4s" startNumber="7"><SegmentTimeline><S d="4" r="2"/></SegmentTimeline></SegmentTemplate>[/ONE]"#,
+        3,
+        "3 4000",
+    ),
+    (
+        r#"[ONE]<SegmentTemplate initialization="i.mp4" media="a$$b-$Time$.m4s"><SegmentTimeline><S t="90000" d="2"/></SegmentTimeline></SegmentTemplate>[/ONE]"#,
+        6,
+        "1 2000000",
+    ),
+    (
+        r#"[ONE]<SegmentTemplate initialization="i.mp4" media="a$b.m4s"><SegmentTimeline><S d="2"/></SegmentTimeline></SegmentTemplate>[/ONE]"#,
+        6,
+        "Template(LoneDollar, Place { at: 87, line: 1 })",
+    ),
+    (
+        r#"[ONE]<BaseURL>../x/</BaseURL><SegmentTemplate initialization="i.mp4" media="s.m4s?k=1&amp;q=2"><SegmentTimeline><S d="2"/></SegmentTimeline></SegmentTemplate>[/ONE]"#,
+        6,
+        "1 2000000",
+    ),
+    (
+        r#"[ONE]<SegmentTemplate initialization="i.mp4" media="ftp://x/s"><SegmentTimeline><S d="2"/></SegmentTimeline></SegmentTemplate>[/ONE]"#,
+        6,
+        "Url(Scheme, Segment { section: 0, track: 0, segment: 0 })",
+    ),
+    (
+        r#"[ONE]<BaseURL>ftp://x/</BaseURL><SegmentTemplate initialization="i.mp4" media="s" duration="0"/>[/ONE]"#,
+        6,
+        "Url(Scheme, At(Place { at: 87, line: 1 }))",
+    ),
+    (
+        r#"[TEN]<SegmentTemplate initialization="i.mp4" media="s$Number$.m4s" timescale="1000"><SegmentTimeline><S d="3000" r="-1"/></SegmentTimeline></SegmentTemplate>[/ONE]"#,
+        6,
+        "4 3000000",
+    ),
+    (
+        r#"[TEN]<SegmentTemplate initialization="i.mp4" media="s$Number$.m4s" timescale="1000" duration="3000"/>[/ONE]"#,
+        6,
+        "4 3000000",
+    ),
+    (
+        r#"[ONE]<SegmentTemplate initialization="i.mp4" media="s$Number$.m4s"><SegmentTimeline><S t="0" d="4" r="-1"/><S t="10" d="4"/></SegmentTimeline></SegmentTemplate>[/ONE]"#,
+        6,
+        "4 4000000",
+    ),
+    (
+        r#"[ONE]<SegmentTemplate initialization="i.mp4" media="s$Number$.m4s"><SegmentTimeline><S t="0" d="4" r="-1"/><S t="9" d="4"/></SegmentTimeline></SegmentTemplate>[/ONE]"#,
+        6,
+        "Timeline(Step, Place { at: 87, line: 1 })",
+    ),
+    (
+        r#"[ONE]<SegmentTemplate initialization="i.mp4" media="s$Number$.m4s" timescale="100" presentationTimeOffset="1000"><SegmentTimeline><S t="700" d="200" r="2"/></SegmentTimeline></SegmentTemplate>[/ONE]"#,
+        6,
+        "2 2000000",
+    ),
+    (
+        "[FOUR][VIDEO]</Period>[PERIOD]<BaseURL>p2/</BaseURL>[VIDEO][/FOUR]",
+        6,
+        "4 2000000",
+    ),
+    (
+        "[FOUR][VIDEO]</Period>[PERIOD][ENGLISH][/FOUR]",
+        6,
+        "PeriodsDiffer(Place { at: 242, line: 1 })",
+    ),
+    (
+        PACKAGED,
+        6,
+        "920 4000000 4000000 4000000 4000000 4000000 [3, 4]",
+    ),
+    (
+        "[FOUR][AUDIO][A][A][/SET][AUDIO][A][/SET][/FOUR]",
+        6,
+        "6 2000000 2000000 2000000 [0, 2] [1, 2]",
+    ),
+    (
+        "[FOUR][AUDIO][A][/SET][AUDIO][A][A][/SET][/FOUR]",
+        6,
+        "6 2000000 2000000 2000000 [0, 1] [0, 2]",
+    ),
+    (
+        "[FOUR][AUDIO][A][B][/SET][AUDIO][B][A][B][/SET][/FOUR]",
+        6,
+        "10 2000000 2000000 2000000 2000000 2000000 [0, 3] [1, 2] [1, 4]",
+    ),
+    (
+        "[FOUR][AUDIO][A][B][/SET][AUDIO][B][/SET][/FOUR]",
+        6,
+        "6 2000000 2000000 2000000 [0, 2] [1, 2]",
+    ),
+    (
+        "[FOUR][AUDIO][N][A][/SET][AUDIO][A][N][N][/SET][/FOUR]",
+        6,
+        "10 2000000 2000000 2000000 2000000 2000000 [0, 3] [1, 2] [0, 4]",
+    ),
+    (
+        r#"[FOUR]<AdaptationSet><Representation id="v" bandwidth="1" codecs="a" mimeType="video/mp4"/>[A][A][/SET][/FOUR]"#,
+        6,
+        "6 2000000 2000000 2000000 [1] [2]",
+    ),
+    (
+        "[FOUR][VIDEO][EMPTY][/FOUR]",
+        6,
+        "NoSegments { section: 0, track: 1 }",
+    ),
+    (
+        "[FOUR][LONG][LONG][EMPTY][/FOUR]",
+        6,
+        "NoSegments { section: 0, track: 2 }",
+    ),
+    (
+        "[FOUR][VIDEO][OUTSIDE][/FOUR]",
+        6,
+        "Url(Scheme, Segment { section: 0, track: 1, segment: 0 })",
+    ),
+    (
+        r#"[ONE]<SegmentTemplate initialization="i.mp4" media="s$Number$.m4s"><SegmentTimeline><S d="1" r="99999999999"/></SegmentTimeline></SegmentTemplate>[/ONE]"#,
+        6,
+        "Limit",
+    ),
+    (
+        r#"[ONE]<SegmentTemplate initialization="i.mp4" media="urn:x"><SegmentTimeline><S d="1" r="100000"/></SegmentTimeline></SegmentTemplate>[/ONE]"#,
+        6,
+        "Limit",
+    ),
+    (
+        "[FOUR][LONG][LONG][LONG][LONG][LONG][VIDEO][/FOUR]",
+        6,
+        "Limit",
+    ),
+    (
+        r#"<MPD xmlns="urn:mpeg:dash:schema:mpd:2011" type="dynamic" availabilityStartTime="1970-01-01T00:00:00Z"><Period id="p" start="PT0S"><SegmentTemplate initialization="i" media="$Number$" duration="2"/>[VIDEO]</Period></MPD>"#,
+        6,
+        "NeedsNow",
+    ),
+];
 
-fn track() -> Track {
-    Track {
-        kind: Kind::Video,
-        set: 0,
-        language: None,
-        codecs: None,
-        bandwidth: 1000,
-        size: None,
-        frame_rate: None,
-    }
-}
-
-fn section(alloc: Global) -> Result<Section, Fail> {
-    Ok(Section {
-        id: Text::copy_of(alloc, "")?,
-        start: Nanos(0),
-        length: None,
-    })
-}
-
-fn present(rt: &impl Abort, alloc: Global, row: &Row) -> Result<Presentation, Fail> {
-    let mut sections = SectionList::new(alloc);
-    sections.push(section(alloc)?)?;
-    let mut tracks = TrackList::new(alloc);
-    tracks.push(track())?;
-    let mut contents = ContentList::new(alloc);
-    contents.push(content(rt, alloc, row.timescale, &row.entries[0])?)?;
-    contents.push(content(rt, alloc, row.timescale, &row.entries[1])?)?;
-    let left_out = 0;
-    if row.is_split {
-        sections.push(section(alloc)?)?;
-        return Ok(Presentation::from_parts(
-            alloc,
-            Parts {
-                tracks,
-                sections,
-                contents,
-                left_out,
-            },
-        )?);
-    }
-    tracks.push(track())?;
-    Ok(Presentation::from_parts(
-        alloc,
-        Parts {
-            tracks,
-            sections,
-            contents,
-            left_out,
-        },
-    )?)
-}
+/// The same of MPDs with something so many times between a front and an end.
+const MANY: [(&str, &str, u32, &str, &str); 3] = [
+    (
+        r#"<MPD xmlns="urn:mpeg:dash:schema:mpd:2011">"#,
+        "[PERIOD][VIDEO]</Period>",
+        1000,
+        "</MPD>",
+        "2000 2000000",
+    ),
+    (
+        r#"<MPD xmlns="urn:mpeg:dash:schema:mpd:2011">"#,
+        "[PERIOD][VIDEO]</Period>",
+        1001,
+        "</MPD>",
+        "Limit",
+    ),
+    ("[FOUR][AUDIO]", "[A]", 201, "[/SET][/FOUR]", "Limit"),
+];
 
 #[test]
-fn verifies(rt: HostRuntime) -> Result<(), Fail> {
-    verify_rows::<Brand>(&rt, rt.alloc(), Blank::new(1))
+fn answers(rt: HostRuntime) -> Result<(), Fail> {
+    answer_rows::<Brand>(&rt, rt.alloc(), Blank::new(1))
 }
 
-fn verify_rows<L: Ledger>(rt: &impl Abort, alloc: Global, blank: Blank) -> Result<(), Fail>
+fn answer_rows<L: Ledger>(rt: &impl Abort, alloc: Global, blank: Blank) -> Result<(), Fail>
     requires name { blank.name ≡ L.name }
     requires parts { blank.parts ≡ L.parts }
     requires some { 0 < blank.parts }
 {
     let mut steps = Steps::<L>::new(blank);
-    for (place, row) in ROWS.iter().enumerate() {
-        let presentation = present(rt, alloc, row)?;
-        let digits = Digits::of(row.digits).ok_or("digits")?;
-        let found = presentation.verify(alloc, digits, &mut steps);
-        match (found, &row.want) {
-            (Err(found), Err(want)) => assert!(rt; found == *want, "{place}"),
-            (Ok(longest), Ok((listed, want))) => {
-                assert!(rt; presentation.count()? == *listed, "{place}");
-                let tracks = presentation.tracks().len();
-                assert!(rt; tracks == want.len(), "{place}");
-                for (track, duration) in want.iter().enumerate() {
-                    assert!(rt; longest.of(track) == *duration, "{place}");
-                }
-            }
-            _ => assert!(rt; false, "{place}"),
-        }
+    for (text, digits, want) in ROWS {
+        let told = answer(alloc, text, digits, &mut steps)?;
+        assert!(rt; told.as_str() == want, "{told}");
+    }
+    for (front, piece, times, end, want) in MANY {
+        let text = repeated(alloc, front, piece, times, end)?;
+        let told = answer(alloc, text.as_str(), 6, &mut steps)?;
+        assert!(rt; told.as_str() == want, "{told}");
     }
     Ok(())
 }
 
-const HEAD: &str = "<MPD xmlns=\"urn:mpeg:dash:schema:mpd:2011\"";
+fn repeated(
+    alloc: Global,
+    front: &str,
+    piece: &str,
+    times: u32,
+    end: &str,
+) -> Result<String, Fail> {
+    let mut text = String::from_str(alloc, front)?;
+    for _ in 0..times {
+        text.push_str(piece)?;
+    }
+    text.push_str(end)?;
+    Ok(text)
+}
 
-const SET: &str =
-    "<AdaptationSet mimeType=\"video/mp4\"><Representation id=\"v\" bandwidth=\"1000\"><SegmentTemplate initialization=\"i.mp4\" media=\"s$Number$.m4s\"><SegmentTimeline><S d=\"2\"/><S d=\"2\"/><S d=\"2\"/></SegmentTimeline></SegmentTemplate></Representation></AdaptationSet>";
+/// What is told of an MPD.
+fn answer<L: Ledger>(
+    alloc: Global,
+    text: &str,
+    digits: u8,
+    steps: &mut Steps<L>,
+) -> Result<String, Fail> {
+    let text = written_out(alloc, text)?;
+    match presented(alloc, text.as_str())? {
+        Ok(presentation) => verified(alloc, &presentation, digits, steps),
+        Err(fault) => Ok(format!(in alloc; "{fault:?}")?),
+    }
+}
 
-/// What an MPD gives without an instant.
+fn written_out(alloc: Global, text: &str) -> Result<String, Fail> {
+    let mut text = String::from_str(alloc, text)?;
+    for (word, meaning) in SHORT {
+        text = text.replace(alloc, word, meaning)?;
+    }
+    Ok(text)
+}
+
 fn presented(alloc: Global, text: &str) -> Result<Result<Presentation, PresentationFault>, Fail> {
-    let tree = mpd_text::read_tree(alloc, text.as_bytes())?;
-    let mpd = mpd_rules::rules(alloc, &tree)?;
+    let tree = read_tree(alloc, text.as_bytes())?;
+    let mpd = rules(alloc, &tree)?;
     let base = Base::of(alloc, "https://h.example/m.mpd")?;
     Ok(Presentation::from_mpd(alloc, &mpd, &base, None))
 }
 
-fn name_of(fault: PresentationFault) -> &'static str {
-    match fault {
-        PresentationFault::PeriodsDiffer(_) => "PeriodsDiffer",
-        PresentationFault::Limit => "Limit",
-        PresentationFault::Url(_, Spot::At(_)) => "Url",
-        PresentationFault::Template(_, _) => "Template",
-        PresentationFault::Timeline(_, _) => "Timeline",
-        PresentationFault::NeedsNow => "NeedsNow",
-        _ => "another",
+fn verified<L: Ledger>(
+    alloc: Global,
+    presentation: &Presentation,
+    digits: u8,
+    steps: &mut Steps<L>,
+) -> Result<String, Fail> {
+    let digits = Digits::of(digits).unwrap_or_default();
+    match presentation.verify(alloc, digits, steps) {
+        Ok(longest) => listed(alloc, presentation, &longest),
+        Err(fault) => Ok(format!(in alloc; "{fault:?}")?),
     }
 }
 
-/// A set of one Representation, by its own text and the attributes of its SegmentTemplate.
-const FAULTS: [(&str, &str, &str); 4] = [
-    ("", " media=\"$\" duration=\"2\"", "Template"),
-    (
-        "<BaseURL>ftp://h/</BaseURL>",
-        " media=\"s\" duration=\"2\"",
-        "Url",
-    ),
-    ("", " media=\"s\" duration=\"0\"", "Timeline"),
-    ("", " media=\"s\" duration=\"2\"", "Timeline"),
-];
-
-#[test]
-fn presents(rt: HostRuntime) -> Result<(), Fail> {
-    let text = format!(in rt.alloc(); "{HEAD}><Period>{SET}</Period></MPD>")?;
-    let presentation = presented(rt.alloc(), text.as_str())??;
-    assert!(rt; presentation.count()? == 3);
-    assert!(rt; presentation.tracks().len() == 1);
-    assert!(rt; presentation.sections().len() == 1);
-    assert!(rt; presentation.left_out() == 0);
-    let part = presentation.initialization(0, 0);
-    assert!(rt; part.address.as_str() == "https://h.example/i.mp4");
-    Ok(())
+fn listed(alloc: Global, presentation: &Presentation, longest: &Longest) -> Result<String, Fail>
+    requires { length longest.now ≡ length presentation.now.tracks }
+{
+    let count = presentation.count().unwrap_or(0);
+    let mut text = format!(in alloc; "{count}")?;
+    for track in 0..presentation.tracks().len() {
+        let duration = format!(in alloc; " {}", longest.of(track))?;
+        text.push_str(duration.as_str())?;
+    }
+    for group in presentation.groups().as_slice() {
+        let members = format!(in alloc; " {:?}", group.as_slice())?;
+        text.push_str(members.as_str())?;
+    }
+    Ok(text)
 }
 
 #[test]
-fn refuses(rt: HostRuntime) -> Result<(), Fail> {
-    for (own, attributes, wanted) in FAULTS {
-        let text = format!(in rt.alloc();
-            "{HEAD}><Period><AdaptationSet mimeType=\"video/mp4\"><Representation id=\"v\" bandwidth=\"1\">{own}<SegmentTemplate initialization=\"i\"{attributes}/></Representation></AdaptationSet></Period></MPD>"
-        )?;
-        refuses_text(&rt, rt.alloc(), text.as_str(), wanted)?;
-    }
-    let dynamic = format!(in rt.alloc();
-        "{HEAD} type=\"dynamic\" availabilityStartTime=\"1970-01-01T00:00:00Z\"><Period id=\"p\" start=\"PT0S\">{SET}</Period></MPD>"
-    )?;
-    refuses_text(&rt, rt.alloc(), dynamic.as_str(), "NeedsNow")?;
-    let differing = format!(in rt.alloc();
-        "{HEAD}><Period duration=\"PT4S\">{SET}</Period><Period>{SET}{SET}</Period></MPD>"
-    )?;
-    refuses_text(&rt, rt.alloc(), differing.as_str(), "PeriodsDiffer")?;
-    let mut many = String::from_str(rt.alloc(), HEAD)?;
-    many.push_str(">")?;
-    for _ in 0..1001 {
-        many.push_str("<Period duration=\"PT6S\">")?;
-        many.push_str(SET)?;
-        many.push_str("</Period>")?;
-    }
-    many.push_str("</MPD>")?;
-    refuses_text(&rt, rt.alloc(), many.as_str(), "Limit")
-}
-
-fn refuses_text(rt: &impl Abort, alloc: Global, text: &str, wanted: &str) -> Result<(), Fail> {
-    match presented(alloc, text)? {
-        Ok(_) => assert!(rt; false, "{wanted}"),
-        Err(fault) => assert!(rt; name_of(fault) == wanted, "{wanted}"),
-    }
+fn parts(rt: HostRuntime) -> Result<(), Fail> {
+    let alloc = rt.alloc();
+    let mut tracks = TrackList::new(alloc);
+    tracks.push(Track {
+        kind: Kind::Audio,
+        set: 0,
+        language: None,
+        codecs: None,
+        bandwidth: 1,
+        size: None,
+        frame_rate: None,
+    })?;
+    let parts = Parts {
+        tracks,
+        sections: SectionList::new(alloc),
+        contents: ContentList::new(alloc),
+        left_out: 0,
+    };
+    let presentation = Presentation::from_parts(alloc, parts)?;
+    assert!(rt; presentation.groups().len() == 1);
     Ok(())
 }
