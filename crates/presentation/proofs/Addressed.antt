@@ -32,13 +32,21 @@ module _ (timeline : SegmentTimeline) where
   printed_have (x ∷ xs) [] all = All-nil (λ (x : PrintedTiming). HasAddress timeline x.times)
   printed_have (x ∷ xs) (d ∷ ds) all = All-cons (λ (x : PrintedTiming). HasAddress timeline x.times) (record { times = x; duration = d }) (with_durations xs ds) (All-head (HasAddress timeline) x xs all) (printed_have xs ds (All-tail (HasAddress timeline) x xs all))
 
-module _ (p : Presented) (unit s t : ℕ) where
-  content_has : (o : Option Content) → content_at p s t ≡ o → url_faults_at p t s ≡ [] → IfSome o (λ content. All (λ x. HasAddress content.runs x.times) (printed_timings unit (listed_at p s t)))
-  content_has None is none = tt
-  content_has (Some content) is none =
-      let faults : part_faults content.runs s t 0 (listed_at p s t) ≡ [] = subst (λ (o : Option Content). option_map_or (λ content. part_faults content.runs s t 0 (listed_at p s t)) o [] ≡ []) is none in
-      printed_have content.runs (listed_at p s t) (durations_of unit (listed_at p s t)) (all_have content.runs s t 0 (listed_at p s t) faults)
+module _ (p : Presented) (s t : ℕ) where
+  listed_have : (o : Option Content) → content_at p s t ≡ o → url_faults_at p t s ≡ [] → IfSome o (λ content. All (HasAddress content.runs) (listed_at p s t))
+  listed_have None is none = tt
+  listed_have (Some content) is none =
+      all_have content.runs s t 0 (listed_at p s t) (subst (λ (o : Option Content). option_map_or (λ content. part_faults content.runs s t 0 (listed_at p s t)) o [] ≡ []) is none)
 
-  pub addressed : url_faults p ≡ [] → s < length p.sections → t < length p.tracks → IfSome (content_at p s t) (λ content. All (λ x. HasAddress content.runs x.times) (printed_timings unit (listed_at p s t)))
-  addressed none in_sections in_tracks =
-      content_has (content_at p s t) refl (none_within (url_faults_at p t) (length p.sections) s (none_within (url_faults_of p) (length p.tracks) t none in_tracks) in_sections)
+  pub all_addressed : url_faults p ≡ [] → s < length p.sections → t < length p.tracks → IfSome (content_at p s t) (λ content. All (HasAddress content.runs) (listed_at p s t))
+  all_addressed none in_sections in_tracks =
+      listed_have (content_at p s t) refl (none_within (url_faults_at p t) (length p.sections) s (none_within (url_faults_of p) (length p.tracks) t none in_tracks) in_sections)
+
+  printed_in : (unit : ℕ) (o : Option Content) → IfSome o (λ content. All (HasAddress content.runs) (listed_at p s t))
+      → IfSome o (λ content. All (λ x. HasAddress content.runs x.times) (printed_timings unit (listed_at p s t)))
+  printed_in unit None has = tt
+  printed_in unit (Some content) has = printed_have content.runs (listed_at p s t) (durations_of unit (listed_at p s t)) has
+
+  pub addressed : (unit : ℕ) → url_faults p ≡ [] → s < length p.sections → t < length p.tracks
+      → IfSome (content_at p s t) (λ content. All (λ x. HasAddress content.runs x.times) (printed_timings unit (listed_at p s t)))
+  addressed unit none in_sections in_tracks = printed_in unit (content_at p s t) (all_addressed none in_sections in_tracks)

@@ -49,7 +49,7 @@ alike_long [] (other ∷ others) is = absurd (cc)
 alike_long (one ∷ ones) [] is = absurd (cc)
 alike_long (one ∷ ones) (other ∷ others) is = ap suc (alike_long ones others (and_both (is_alike one other) (are_alike ones others) is))
 
-none_behind : {X : Type 0} (xs ys : List X) → xs ++ ys ≡ [] → ys ≡ []
+pub none_behind : {X : Type 0} (xs ys : List X) → xs ++ ys ≡ [] → ys ≡ []
 none_behind [] ys is = is
 none_behind (x ∷ xs) ys is = absurd (cc)
 
@@ -71,7 +71,7 @@ as_long first (period ∷ later) is =
     (sym (length_in_order _ period.tracks) ∙ sym (alike_long first (in_order period.tracks) (holds _ _ (none_first (differs_told first period) _ is))))
     (as_long first later (none_behind (differs_told first period) _ is))
 
-all_as_long : (periods : List Period) → differ_told periods ≡ [] → All (λ (period : Period). length period.tracks ≡ length (first_rows periods)) periods
+pub all_as_long : (periods : List Period) → differ_told periods ≡ [] → All (λ (period : Period). length period.tracks ≡ length (first_rows periods)) periods
 all_as_long [] is = All-nil (λ (period : Period). length period.tracks ≡ 0)
 all_as_long (first ∷ later) is =
     All-cons (λ (period : Period). length period.tracks ≡ length first.tracks) first later refl (λ k d within. as_long (in_order first.tracks) later is k d within ∙ length_in_order _ first.tracks)

@@ -17,3 +17,9 @@ pub mod Extents
 pub mod Tracks
 pub mod Reached
 mod Verified
+pub mod Meant
+pub mod MeantParts
+pub mod Grids
+pub mod Telling
+pub mod Whole
+pub mod Static

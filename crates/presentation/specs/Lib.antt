@@ -9,3 +9,6 @@ pub mod Scales
 pub mod Rows
 pub mod Told
 pub mod Shared
+pub mod Meanings
+pub mod MeaningLaws
+pub mod Origins

@@ -1,6 +1,8 @@
 //! Laws of the definitions. The functions do nothing: what they ensure is the law.
 
 ghost use Rattle.presentation.specs.Laws.{CountedAreListed, VerifiedAreCounted, VerifiedHaveAddresses, EachHasLongest};
+ghost use Rattle.presentation.specs.MeaningLaws.{MadeAreMeant, VerifiedAreMeant, FinishedAreWhole, PresentedAreMeant, TextsAreMeant};
+ghost use Rattle.presentation.specs.Origins.{StaticAreFinished};
 
 /// Where `count` or `verify` answers Ok, `segments` and `extent` may be called for each track and section, and `verify`
 /// tells the longest duration of each track. Each listed segment then has an address.
@@ -9,4 +11,20 @@ pub fn answers_allow_listings()
     ensures verified { VerifiedAreCounted }
     ensures addresses { VerifiedHaveAddresses }
     ensures longest { EachHasLongest }
+{}
+
+/// What presentations mean. A segment that is made is the part that is meant. Where `verify` answers Ok, each listed segment
+/// is made so. A finished presentation for which `count` answers Ok has something of each track in each section. The
+/// presentation of an MPD means what the MPD means, and that is what its text means.
+pub fn presentations_mean_what_they_list()
+    ensures made { MadeAreMeant }
+    ensures verified { VerifiedAreMeant }
+    ensures finished { FinishedAreWhole }
+    ensures mpd { PresentedAreMeant }
+    ensures text { TextsAreMeant }
+{}
+
+/// What came from a static MPD is finished.
+pub fn static_mpds_are_finished()
+    ensures { StaticAreFinished }
 {}

@@ -22,7 +22,9 @@ mod verify;
 use bridge_io::Sequence;
 pub use extent::Extent;
 pub use fault::{PresentationFault, Spot};
-pub use laws::answers_allow_listings;
+pub use laws::{
+    answers_allow_listings, presentations_mean_what_they_list, static_mpds_are_finished,
+};
 pub use longest::Longest;
 pub use parts::{Content, Parts};
 pub use presentation::Presentation;

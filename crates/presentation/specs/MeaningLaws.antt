@@ -1,0 +1,38 @@
+-- What presentations say of meanings.
+use Rattle.std.specs.Prelude.{◌≡◌, ℕ, ◌<◌, ℤ, true, false, List, length, map, All, Option, Some, None, Ok, IfSome}
+use Rattle.url_parts.specs.declared.address.Part.{Part}
+use Rattle.timeline.specs.Expansions.{SegmentTimeline, Timing}
+use Rattle.timeline.specs.Listed.{part_of_timing}
+use Rattle.mpd_levels.specs.Segments.{Segments}
+use Rattle.mpd_rules.specs.Rules.{typed_mpd_of}
+use Rattle.mpd_rules.specs.Typed.{TypedMpd}
+use Rattle.mpd_text.specs.Trees.{Element}
+use Rattle.mpd_text.specs.Meaning.{reading_of}
+use Rattle.presentation.specs.Presented.{Presented, content_at, listed_at, is_finished}
+use Rattle.presentation.specs.Counting.{counted}
+use Rattle.presentation.specs.Verifying.{verified}
+use Rattle.presentation.specs.Told.{presented_of}
+use Rattle.presentation.specs.Meanings.{part_meant, head_of, rows_of, meaning_over, meaning_of, mpd_meaning, dash_meaning}
+
+-- a segment that is made is the part that is meant
+abbrev pub MadeAreMeant : Type 0
+MadeAreMeant = (timeline : SegmentTimeline) (x : Timing) (part : Part) → part_of_timing timeline x ≡ Ok part → part ≡ part_meant timeline x
+
+-- each listed segment of a verified presentation is made as the part that is meant
+abbrev pub VerifiedAreMeant : Type 0
+VerifiedAreMeant = (p : Presented) (unit s t : ℕ) (longest : List ℕ) → verified p unit ≡ Ok longest → s < length p.sections → t < length p.tracks
+    → IfSome (content_at p s t) (λ content. All (λ x. part_of_timing content.runs x ≡ Ok (part_meant content.runs x)) (listed_at p s t))
+
+-- a finished presentation of which the segments are counted has something of each track in each section
+abbrev pub FinishedAreWhole : Type 0
+FinishedAreWhole = (p : Presented) (n : ℕ) → is_finished p ≡ true → counted p ≡ Ok n → 0 < length p.tracks
+    → meaning_of p ≡ meaning_over (map head_of p.tracks) (rows_of p)
+
+-- the presentation of an MPD means what the MPD means
+abbrev pub PresentedAreMeant : Type 0
+PresentedAreMeant = (mpd : TypedMpd (Option Segments)) (url : List ℕ) (now : Option ℤ) (p : Presented) → presented_of mpd url now ≡ Ok p → mpd_meaning mpd url now ≡ meaning_of p
+
+-- and that is what its text means
+abbrev pub TextsAreMeant : Type 0
+TextsAreMeant = (bytes url : List ℕ) (now : Option ℤ) (tree : Element) (mpd : TypedMpd (Option Segments)) (p : Presented)
+    → reading_of bytes ≡ Ok tree → typed_mpd_of tree ≡ Ok mpd → presented_of mpd url now ≡ Ok p → dash_meaning bytes url now ≡ Some (meaning_of p)
