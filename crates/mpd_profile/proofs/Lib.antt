@@ -1,4 +1,6 @@
+pub mod Counting
 pub mod Passing
 pub mod Sound
 pub mod Standing
 pub mod Telling
+pub mod Untold

@@ -17,7 +17,7 @@ use Rattle.mpd_profile.specs.Elements.{child_of}
 use Rattle.mpd_profile.specs.LeftOut.{is_left_out, is_left_out_by, type_of}
 use Rattle.mpd_profile.specs.Passes.{addressing_of, refused_along, refused_child, refused_in, refused_inside, told_by}
 use Rattle.mpd_profile.specs.Refusals.{first_of, refusal}
-use Rattle.mpd_profile.specs.Visits.{Parent, Visit, inside, parent_in, root_parent, root_visit, visit_in, visits_in}
+use Rattle.mpd_profile.specs.Visits.{Parent, Visit, inside, parent_in, root_parent, root_visit, unless_empty, visit_in, visits_in}
 
 -- what a call answers of these refusals
 abbrev pub Tells : Result (Unit {0}) RuleFault → List RuleFault → Type 0
@@ -156,10 +156,28 @@ module _ (pass : Pass) (parent : Parent) (before : List Head) (e : Element) wher
   inside_told o type l result read kept is none told =
       rw (kept_is o type read kept) (told_behind (told_by pass (visit_as o)) (told_inside o) result (sym none) (rw is told))
 
-  pub nothing_inside : (o : Option Listed) (type : Option (List ℕ)) → IsRead o type → is_left_out_by type o e ≡ false → o ≡ None
+  empty_told : (o : Option Listed) (children : Forest) → unless_empty children o ≡ None → flat_map (told_by pass) (inside o (λ listed. visits_in (addressing_of pass) (parent_in parent listed e.head) [] children)) ≡ []
+  unfolding visits_in
+  empty_told None nothing none = refl
+  empty_told (Some l) nothing none = refl
+  empty_told o (element head children others) none = rw none refl
+
+  pub nothing_inside : (o : Option Listed) (type : Option (List ℕ)) → IsRead o type → is_left_out_by type o e ≡ false → unless_empty e.children o ≡ None
       → Ok tt ≡ first_of (told_by pass (visit_as o)) → Tells (Ok tt) (refused_child pass parent before e)
   nothing_inside o type read kept is none =
-      rw (kept_is o type read kept) (told_behind (told_by pass (visit_as o)) (told_inside o) (Ok tt) (sym none) (rw is refl))
+      rw (kept_is o type read kept) (told_behind (told_by pass (visit_as o)) (told_inside o) (Ok tt) (sym none) (rw (empty_told o e.children is) refl))
+
+pub around_is : (o : Option Listed) (l : Listed) (children : Forest) → unless_empty children o ≡ Some l → o ≡ Some l
+around_is o l nothing is = absurd (cc)
+around_is o l (element head children others) is = is
+
+pub none_around : (o : Option Listed) (children : Forest) → side_by_side children ≡ [] → None ≡ unless_empty children o
+none_around o nothing none = refl
+none_around o (element head children others) none = absurd (cc)
+
+pub some_around : (o : Option Listed) (children : Forest) (e : Element) (others : List Element) → side_by_side children ≡ e ∷ others → o ≡ unless_empty children o
+some_around o nothing e others some = absurd (cc)
+some_around o (element head children others) e rest some = refl
 
 -- ---- an MPD
 

@@ -34,7 +34,7 @@ untold : {X : Type 0} (b : Bool) (x : X) → (if b then x ∷ [] else []) ≡ []
 untold true x none = absurd (cc)
 untold false x none = refl
 
-neither : (a b : Bool) → (a || b) ≡ false → (a ≡ false) × (b ≡ false)
+pub neither : (a b : Bool) → (a || b) ≡ false → (a ≡ false) × (b ≡ false)
 neither true b some = absurd (cc)
 neither false b none = (refl, none)
 

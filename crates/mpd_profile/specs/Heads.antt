@@ -1,5 +1,5 @@
 -- What tags say.
-use Rattle.std.specs.Prelude.{ℕ, Bool, false, List, codes, bytes_eq, Option, Some, None, option_map}
+use Rattle.std.specs.Prelude.{ℕ, Bool, false, List, codes, bytes_eq, length, nat_lt, Option, Some, None, option_map}
 use Rattle.std.specs.List.{list_any}
 use Rattle.mpd_text.specs.Trees.{Head, Forest, Element}
 use Rattle.mpd_text.specs.Views.{attribute_named, side_by_side}
@@ -23,6 +23,10 @@ is_named name e = bytes_eq e.head.name name
 -- some element among these has this name
 abbrev pub has_child : List ℕ → Forest → Bool
 has_child name children = list_any (is_named name) (side_by_side children)
+
+-- shorter than "Subset" and "Period", the shortest of the names that say something of an element's siblings or refuse it
+abbrev pub is_short : List ℕ → Bool
+is_short name = nat_lt (length name) 6
 
 -- the text is there, and is this word
 abbrev pub is_word : List ℕ → Option (List ℕ) → Bool

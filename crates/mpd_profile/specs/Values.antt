@@ -1,5 +1,7 @@
 -- Values of attributes, as XML Schema part 2 and ISO/IEC 23009-1 write them.
-use Rattle.std.specs.Prelude.{ℕ, ◌||◌, Bool, true, List, codes, bytes_eq, is_some, is_ok}
+use Rattle.std.specs.Prelude.{ℕ, ◌^◌, ◌&&◌, ◌||◌, ◌==◌, nat_le, not, Bool, true, List, length, codes, bytes_eq, is_some, is_ok}
+use Rattle.std.specs.Char.{is_ascii_digit}
+use Rattle.std.specs.List.{list_all}
 use Rattle.iso_time.specs.Duration.{duration_of}
 use Rattle.iso_time.specs.Instant.{instant_of}
 use Rattle.url_parts.specs.Ranges.{range_of}
@@ -11,6 +13,14 @@ use Rattle.mpd_values.specs.Codecs.{are_read_codes}
 use Rattle.mpd_values.specs.Languages.{is_language}
 use Rattle.mpd_profile.specs.declared.value.Value.{Value}
 use Rattle.mpd_profile.specs.declared.value.Value.TheVariants.{MpdType, Instant, Duration, AnyText, Number, Signed, FrameRate, Codes, Language, Range}
+
+-- numbers below 10^18 are all within bounds
+abbrev pub has_room : (least bound : ℕ) → Bool
+has_room least bound = least == 0 && nat_le (10 ^ 18) bound
+
+-- a text that writes such a number
+abbrev pub are_few_digits : List ℕ → Bool
+are_few_digits text = list_all is_ascii_digit text && (not (length text == 0) && nat_le (length text) 18)
 
 -- a text is what an attribute is to be. Spaces around durations, instants, numbers and ranges are dropped
 unfoldable pub is_value : Value → List ℕ → Bool

@@ -40,6 +40,11 @@ abbrev pub inside : {X : Type 0} → Option Listed → (Listed → List X) → L
 inside None visits = []
 inside (Some listed) visits = visits listed
 
+-- what an element is read as, where others stand in it
+abbrev pub unless_empty : Forest → Option Listed → Option Listed
+unless_empty nothing listed = None
+unless_empty (element head children others) listed = listed
+
 -- the elements that stand in a parent, behind others
 unfoldable pub visits_in : Addressing → Parent → List Head → Forest → List Visit
 visits_in addressing parent before nothing = []

@@ -10,7 +10,7 @@ use crate::left_out::ESSENTIAL;
 use crate::listed::{Listed, named_in};
 use crate::tables;
 use bridge_io::Place;
-use mpd_text::Attr;
+use mpd_text::{Attr, Node};
 use mpd_values::{Blank, has_foreign_code, kind_of, trimmed};
 
 /// A feature that is refused wherever it stands.
@@ -79,6 +79,20 @@ pub(crate) fn has_foreign(media_type: Option<&str>, codecs: Option<&str>) -> boo
         },
         _ => false,
     }
+}
+
+/// Whether an element has an attribute of a name that may be a feature. It asks for no place.
+pub(crate) fn has_features(node: Node<'_>, listed: Listed, dynamic: bool) -> bool
+    ensures { result ≡ spec.has_features dynamic listed (element_of node.entry).head.attributes }
+{
+    node.attribute("availabilityTimeComplete").is_some()
+        || has_any(node, refused_attributes(dynamic, listed))
+}
+
+fn has_any(node: Node<'_>, rows: &[(&'static str, Feature)]) -> bool
+    ensures { result ≡ spec.has_any (map shown rows.now) (element_of node.entry).head.attributes }
+{
+    rows.iter().any(|row| node.attribute(row.0).is_some())
 }
 
 /// The feature that an attribute is.

@@ -12,6 +12,14 @@ pub fn value_named<'a>(node: Node<'a>, name: &str) -> Option<&'a str>
     Some(node.attribute(name)?.value)
 }
 
+/// Whether a name is shorter than each one that refuses an element or of which one parent has one, so that it is none of
+/// them.
+pub(crate) fn is_short(name: &str) -> bool
+    ensures { result ≡ spec.is_short name.now }
+{
+    name.len() < 6
+}
+
 /// Whether some child has this name.
 pub fn has_child(node: Node<'_>, name: &str) -> bool
     ensures { result ≡ spec.has_child name.now (element_of node.entry).children }

@@ -2,6 +2,8 @@
 ghost use Rattle.std.specs.Prelude.{◌≡◌, map};
 ghost use Rattle.mpd_profile.specs.Elements as spec;
 ghost use Rattle.mpd_profile.specs.Rows.{shown};
+ghost use Rattle.mpd_profile.specs.declared.listed.Addressing.TheVariants.{Segments};
+ghost use Rattle.mpd_profile.specs.declared.listed.Listed.TheVariants.{S};
 
 use crate::tables;
 use crate::value::Value;
@@ -56,7 +58,10 @@ impl Listed {
     pub fn attribute(self, name: &str, addressing: Addressing) -> Option<Value>
         ensures { result ≡ spec.value_of addressing self name.now }
     {
-        named_in(self.attributes(addressing), name)
+        match self {
+            Listed::S => run_value(name),
+            _ => named_in(self.attributes(addressing), name),
+        }
     }
 
     fn children(self, addressing: Addressing) -> &'static [(&'static str, Listed)]
@@ -91,6 +96,19 @@ impl Listed {
             (Listed::SegmentUrl, _) => &tables::OF_SEGMENT_URL,
             _ => &[],
         }
+    }
+}
+
+/// What an attribute of an S is to be, which most MPDs have the most of.
+fn run_value(name: &str) -> Option<Value>
+    ensures { result ≡ spec.value_of Segments S name.now }
+{
+    if "t" == name || "d" == name {
+        Some(Value::Number(0, 1 << 63))
+    } else if "r" == name {
+        Some(Value::Signed)
+    } else {
+        None
     }
 }
 

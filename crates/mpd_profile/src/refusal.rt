@@ -9,6 +9,7 @@ ghost use Rattle.mpd_profile.specs.Heads.{is_dynamic};
 ghost use Rattle.mpd_profile.specs.Passes as passes;
 ghost use Rattle.mpd_profile.specs.Refusals.{first_of, refusal, refusals_of, root_refusals};
 ghost use Rattle.mpd_profile.specs.Sound.{IsSound};
+ghost use Rattle.mpd_profile.specs.Visits.{unless_empty};
 
 use crate::fault::RuleFault;
 use crate::heads::{is_dynamic, value_named};
@@ -103,8 +104,18 @@ fn check_child<'a>(
         siblings,
     };
     visit.check(pass)?;
-    match listed {
+    match around_others(listed, node) {
         Some(listed) => check_inside(alloc, &Parent::of(listed, node, parent.dynamic), pass),
         None => Ok(()),
+    }
+}
+
+/// What an element is read as, where others stand in it.
+fn around_others(listed: Option<Listed>, node: Node<'_>) -> Option<Listed>
+    ensures { result ≡ unless_empty (element_of node.entry).children listed }
+{
+    match node.children().next() {
+        Some(_) => listed,
+        None => None,
     }
 }

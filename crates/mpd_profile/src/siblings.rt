@@ -9,7 +9,7 @@ ghost use Rattle.mpd_profile.specs.Refusals.{has_id, period_id};
 ghost use Rattle.mpd_profile.specs.declared.fault.RuleFault.TheVariants.{Memory};
 
 use crate::fault::RuleFault;
-use crate::heads::value_named;
+use crate::heads::{is_short, value_named};
 use mpd_text::Node;
 use std::alloc::Global;
 use std::collections::BTreeSet;
@@ -57,6 +57,9 @@ impl<'a> Siblings<'a> {
         ensures fault { IfErr result (λ fault. fault ≡ Memory) }
     {
         let name = node.name();
+        if is_short(name) {
+            return Ok(());
+        }
         self.segments = either(self.segments, is_segment_element(name));
         self.timeline = either(self.timeline, name == "SegmentTimeline");
         self.initialization = either(self.initialization, name == "Initialization");

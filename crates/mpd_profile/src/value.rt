@@ -1,6 +1,9 @@
 // What attributes are to be.
-ghost use Rattle.std.specs.Prelude.{◌≡◌};
-ghost use Rattle.mpd_profile.specs.Values.{is_value};
+ghost use Rattle.std.specs.Prelude.{◌≡◌, is_some};
+ghost use Rattle.std.specs.Char.{is_ascii_digit};
+ghost use Rattle.std.specs.List.{list_all};
+ghost use Rattle.mpd_values.specs.Numbers.{number_between};
+ghost use Rattle.mpd_profile.specs.Values.{are_few_digits, has_room, is_value};
 
 use iso_time::{read_duration, read_instant};
 use mpd_values::{
@@ -44,7 +47,7 @@ impl Value {
             Value::Instant => read_instant(trimmed(text, Blank::Space)).is_ok(),
             Value::Duration => read_duration(trimmed(text, Blank::Space)).is_ok(),
             Value::AnyText => true,
-            Value::Number(least, bound) => read_number(text, least, bound).is_some(),
+            Value::Number(least, bound) => is_number(text, least, bound),
             Value::Signed => read_signed(text).is_some(),
             Value::FrameRate => read_frame_rate(text).is_some(),
             Value::Codes => are_codes(text),
@@ -52,4 +55,34 @@ impl Value {
             Value::Range => read_range(trimmed(text, Blank::Space)).is_some(),
         }
     }
+}
+
+/// Whether a text is a number from `least` on and below `bound`. A number of few digits isn't added up.
+fn is_number(text: &str, least: u64, bound: u64) -> bool
+    ensures { result ≡ is_some (number_between least bound text.now) }
+{
+    if has_room(least, bound) && are_few_digits(text) {
+        return true;
+    }
+    read_number(text, least, bound).is_some()
+}
+
+/// Whether all numbers below 10^18 are within bounds.
+fn has_room(least: u64, bound: u64) -> bool
+    ensures { result ≡ has_room least bound }
+{
+    least == 0 && 1_000_000_000_000_000_000 <= bound
+}
+
+/// Whether a text is 1 to 18 digits.
+fn are_few_digits(text: &str) -> bool
+    ensures { result ≡ are_few_digits text.now }
+{
+    are_digits(text) && !text.is_empty() && text.len() <= 18
+}
+
+fn are_digits(text: &str) -> bool
+    ensures { result ≡ list_all is_ascii_digit text.now }
+{
+    text.as_bytes().iter().all(|byte| byte.is_ascii_digit())
 }

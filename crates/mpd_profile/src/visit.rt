@@ -11,8 +11,8 @@ ghost use Rattle.mpd_profile.specs.Passes.{addressing_of, told_by, visit_shown};
 ghost use Rattle.mpd_profile.specs.Refusals as refusals;
 
 use crate::fault::RuleFault;
-use crate::feature::{Feature, attribute_feature, element_feature, has_foreign};
-use crate::heads::value_named;
+use crate::feature::{Feature, attribute_feature, element_feature, has_features, has_foreign};
+use crate::heads::{is_short, value_named};
 use crate::listed::{Addressing, Listed};
 use crate::parent::Parent;
 use crate::siblings::Siblings;
@@ -84,6 +84,9 @@ impl<'a, 'b> Visit<'a, 'b> {
             result ≡ features.parent_feature (visit_shown self.now before).parent before (element_of self.now.node).head.name }
     {
         let name = self.node.name();
+        if is_short(name) {
+            return None;
+        }
         match self.parent {
             Some(parent) => element_feature(parent.listed, self.siblings.is_second(name), name),
             None => None,
@@ -208,6 +211,9 @@ fn is_other_value(addressing: Addressing, listed: Listed, attr: Attr<'_>) -> boo
 fn check_listed_features(node: Node<'_>, listed: Listed, dynamic: bool) -> Result<(), RuleFault>
     ensures { result ≡ refusals.first_of (features.attributes_told (Some listed) dynamic (element_of node.entry).head.attributes) }
 {
+    if !has_features(node, listed, dynamic) {
+        return Ok(());
+    }
     for attr in node.attributes() {
         if let Some(feature) = attribute_feature(dynamic, listed, attr) {
             return Err(feature.at(attr.place));

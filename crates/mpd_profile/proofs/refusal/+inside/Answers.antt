@@ -3,7 +3,7 @@ use Rattle.std.proofs.lemmas.Result.{err_from_is_err_and}
 use Rattle.mpd_text.specs.Nodes.{element_of, elements_left}
 use Rattle.mpd_text.specs.Trees.{depth}
 use Rattle.mpd_profile.specs.Passes.{parent_shown}
-use Rattle.mpd_profile.proofs.Passing.{at_end, at_first, at_next, inside_told, is_less, itself_told, nothing_inside, nothing_told, told_here}
+use Rattle.mpd_profile.proofs.Passing.{around_is, at_end, at_first, at_next, inside_told, is_less, itself_told, nothing_inside, nothing_told, told_here}
 use Rattle.mpd_profile.proofs.refusal.+inside.Goals as goal
 
 pub check_child-returns-then-is_left_out : goal.check_child-returns-then-is_left_out
@@ -23,13 +23,13 @@ pub check_child-returns-in-Some : goal.check_child-returns-in-Some
 check_child-returns-in-Some t c = λ before behind.
     inside_told c.args.pass (parent_shown c.args.parent.now) before (element_of c.args.node) _ _ c.in-Some.listed _
     (record { listed = rw (c.name.ensures, c.addressing.ensures) at c.child-listed.ensures; typed = c.args.parent.now.has_media_type }) (sym c.is_left_out.ensures ∙ c.if-is_left_out.false)
-    c.in-Some.is (c.in_ok-check.ensures before behind) (rw (c.of.ensures.listed, c.of.ensures.node, c.of.ensures.dynamic) at c.check_inside.ensures)
+    (around_is _ _ (element_of c.args.node).children (sym c.around_others.ensures ∙ c.in-Some.is)) (c.in_ok-check.ensures before behind) (rw (c.of.ensures.listed, c.of.ensures.node, c.of.ensures.dynamic) at c.check_inside.ensures)
 
 pub check_child-returns-in-None : goal.check_child-returns-in-None
 check_child-returns-in-None t c = λ before behind.
     nothing_inside c.args.pass (parent_shown c.args.parent.now) before (element_of c.args.node) _ _
     (record { listed = rw (c.name.ensures, c.addressing.ensures) at c.child-listed.ensures; typed = c.args.parent.now.has_media_type }) (sym c.is_left_out.ensures ∙ c.if-is_left_out.false)
-    c.in-None.is (c.in_ok-check.ensures before behind)
+    (sym c.around_others.ensures ∙ c.in-None.is) (c.in_ok-check.ensures before behind)
 
 pub check_inside-loop-node-init : goal.check_inside-loop-node-init
 check_inside-loop-node-init t c = (

@@ -6,7 +6,7 @@ use Rattle.mpd_text.specs.Nodes.{element_of}
 use Rattle.mpd_text.proofs.NameSets.{insert_has}
 use Rattle.mpd_profile.specs.Features.{is_segment_element}
 use Rattle.mpd_profile.specs.Refusals.{has_id, period_id}
-use Rattle.mpd_profile.proofs.Standing.{any_more, one_more_id}
+use Rattle.mpd_profile.proofs.Standing.{any_more, one_more_id, short_behind}
 use Rattle.mpd_profile.proofs.siblings.Siblings.add.Goals as goal
 
 pub returns-in_ok-insert-clause-added : goal.returns-in_ok-insert-clause-added
@@ -22,3 +22,7 @@ returns-in_ok-insert-clause-added c = λ before behind.
           ∙ one_more_id c.args.dynamic (period_id head) c.as_bytes.result.now id (list_any (has_id id) before) _ kept (behind.ids id)
           ∙ ap (λ some. c.args.dynamic && some) (sym (any_more (has_id id) before head));
     }
+
+pub returns-then-is_short-clause-added : goal.returns-then-is_short-clause-added
+returns-then-is_short-clause-added c = λ before behind.
+    short_behind c.args.self.now c.args.dynamic before (element_of c.args.node).head (rw (c.is_short.ensures, c.name-name.ensures) at c.if-is_short.true) behind

@@ -4,6 +4,7 @@ use Rattle.mpd_profile.specs.declared.feature.Feature.{Feature}
 use Rattle.mpd_profile.specs.declared.parent.Parent as parents
 use Rattle.mpd_profile.specs.Features.{feature_if, is_second, parent_feature}
 use Rattle.mpd_profile.specs.Passes.{parent_shown}
+use Rattle.mpd_profile.proofs.Untold.{short_untold}
 use Rattle.mpd_text.specs.Nodes.{element_of}
 use Rattle.mpd_text.specs.Trees.{Head}
 use Rattle.mpd_profile.proofs.visit.Visit.feature_by_name.Goals as goal
@@ -18,3 +19,7 @@ pub returns-in-Some : goal.returns-in-Some
 returns-in-Some c = λ before behind.
     named c.args.self.now.parent c.in-Some.parent before c.name-name.result.now (element_of c.args.self.now.node).head.name c.is_second.result c.element_feature.result
     c.in-Some.is c.name-name.ensures (c.is_second.ensures c.args.self.now.dynamic before behind) c.element_feature.ensures
+
+pub returns-then-is_short : goal.returns-then-is_short
+returns-then-is_short c = λ before behind.
+    short_untold (element_of c.args.self.now.node).head.name (rw (c.is_short.ensures, c.name-name.ensures) at c.if-is_short.true) _ before
