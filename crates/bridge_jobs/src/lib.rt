@@ -6,7 +6,8 @@ mod frame;
 mod header;
 mod input;
 mod jobs;
-pub mod laws;mod values;
+pub mod laws;
+mod values;
 mod verb;
 mod words;
 

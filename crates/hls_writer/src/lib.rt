@@ -5,19 +5,13 @@ mod attribute;
 mod entry;
 mod fault;
 mod finished;
-#[cfg(test)]
-mod finished_tests;
 mod items;
 mod keys;
 pub mod laws;
 mod line;
 mod master;
-#[cfg(test)]
-mod master_tests;
 mod piece;
 mod renditions;
-#[cfg(test)]
-mod tests;
 mod variants;
 
 pub use fault::OutFault;

@@ -9,8 +9,6 @@ mod level;
 mod readings;
 mod shared_text;
 mod tables;
-#[cfg(test)]
-mod tests;
 mod values;
 mod walks;
 

@@ -11,8 +11,6 @@ mod parent;
 mod refusal;
 mod siblings;
 mod tables;
-#[cfg(test)]
-mod tests;
 mod value;
 mod visit;
 

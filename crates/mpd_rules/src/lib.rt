@@ -11,8 +11,6 @@ mod passes;
 mod periods;
 mod readings;
 mod rows;
-#[cfg(test)]
-mod tests;
 mod told;
 mod typed;
 mod view;

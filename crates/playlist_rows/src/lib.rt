@@ -1,6 +1,10 @@
-//! The reading of playlists with ample memory: what no clause says.
+//! Playlists that are read and written with ample memory: what no clause says.
 #![tactic(auto)]
 
+#[cfg(test)]
+mod finished;
+#[cfg(test)]
+mod followed;
 #[cfg(test)]
 mod lines;
 #[cfg(test)]
@@ -9,3 +13,5 @@ mod masters;
 mod medias;
 #[cfg(test)]
 mod reloads;
+#[cfg(test)]
+mod written_masters;

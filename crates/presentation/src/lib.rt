@@ -45,6 +45,3 @@ pub type Group = Sequence<usize>;
 
 /// What the tracks have in the sections: by section, then by track.
 pub type ContentList = Sequence<Content>;
-
-#[cfg(test)]
-mod tests;

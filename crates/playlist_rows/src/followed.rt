@@ -2,9 +2,9 @@
 ghost use Rattle.std.specs.Prelude.{All, IfOk};
 ghost use Rattle.iso_time.specs.Instant.{IsWritable};
 
-use super::*;
 use bridge_io::{CallList, MemStore, Name};
 use exact_time::Digits;
+use hls_writer::*;
 use iso_time::Instant;
 use std::alloc::Global;
 use std::test::Fail;

@@ -1,8 +1,8 @@
-use crate::{
+use bridge_io::Place;
+use mpd_profile::{
     Addressing, Listed, RuleFault, Value, check, has_child, is_dynamic, is_left_out,
     is_representation_left_out, is_set_left_out, value_named,
 };
-use bridge_io::Place;
 use mpd_text::read_tree;
 
 #[test]

@@ -1,5 +1,5 @@
 -- the ledger is the blank one that was made
-use Rattle.presentation.proofs.tests.answers.Given as goal
+use Rattle.mpd_rows.proofs.presented.answers.Given as goal
 
 abbrev pub ghosts-answer_rows : goal.ghosts-answer_rows
 ghosts-answer_rows g a = record { name = a.blank.name; parts = a.blank.parts }

@@ -1,6 +1,6 @@
 // Worked masters.
-use super::*;
 use bridge_io::{CallList, Kind, MemStore, Name, Ratio, Size, Text};
+use hls_writer::*;
 use presentation::{ContentList, Parts, Presentation, SectionList, Track, TrackList};
 use std::alloc::Global;
 use std::test::Fail;

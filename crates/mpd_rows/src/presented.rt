@@ -1,11 +1,11 @@
 // What no clause says: that calls succeed, and worked presentations.
 ghost use Rattle.std.specs.Prelude.{◌≡◌, ◌<◌, length};
 
-use super::*;
 use bridge_io::{Kind, Ledger, Steps};
 use exact_time::Digits;
 use mpd_rules::rules;
 use mpd_text::read_tree;
+use presentation::*;
 use std::alloc::Global;
 use std::marker::Brand;
 use std::process::Abort;

@@ -1,5 +1,5 @@
 -- the ledger is the blank one that was made
-use Rattle.hls_writer.proofs.finished_tests.finished_playlists.Given as goal
+use Rattle.playlist_rows.proofs.finished.finished_playlists.Given as goal
 
 abbrev pub ghosts-write_track : goal.ghosts-write_track
 ghosts-write_track g a = record { name = a.blank.name; parts = a.blank.parts }

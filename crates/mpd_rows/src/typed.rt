@@ -1,4 +1,4 @@
-use crate::{Addressing, Mpd, RepView, RuleFault, rules, rules_indexed};
+use mpd_rules::{Addressing, Mpd, RepView, RuleFault, rules, rules_indexed};
 use mpd_text::read_tree;
 use std::alloc::Global;
 use std::test::Fail;

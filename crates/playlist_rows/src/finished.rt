@@ -2,9 +2,9 @@
 ghost use Rattle.std.specs.Prelude.{◌≡◌, ◌<◌, IfOk};
 ghost use Rattle.presentation.specs.Presented.{IsEnded};
 
-use super::*;
 use bridge_io::{CallList, Kind, Ledger, MemStore, Name, Steps, Text};
 use exact_time::{Digits, Nanos};
+use hls_writer::*;
 use presentation::{
     Content, ContentList, Parts, Presentation, Section, SectionList, Track, TrackList,
 };
