@@ -1,5 +1,5 @@
 -- Numbers of few digits.
-use Rattle.std.proofs.Common.{◌≡◌, ℕ, ◌^◌, ◌-◌, ◌<◌, ◌&&◌, zero, suc, Bool, true, false, List, [], ◌∷◌, length, refl, sym, arith}
+use Rattle.std.proofs.Common.{◌≡◌, ℕ, ◌-◌, ◌<◌, ◌&&◌, zero, suc, Bool, true, false, List, [], ◌∷◌, length, refl, sym, arith}
 use Rattle.std.specs.Prelude.{get_or, is_some}
 use Rattle.std.specs.Str.{all_ascii_digits}
 use Rattle.std.specs.Str.Parse.{digits_value}
