@@ -37,7 +37,7 @@ untrimmed : (text : List ℕ) → list_all is_ascii_digit text ≡ true → trim
 unfolding trimmed
 untrimmed text digits =
     let ends : length text - suffix_len (is_blank Space) text ≡ length text =
-        let none = suffix_len_is (is_blank Space) text (length text) 48 (omega arith) (λ k from to. absurd (omega arith)) (λ some. no_blank text (length text - 1) digits (omega arith)) in omega arith in
+    let none = suffix_len_is (is_blank Space) text (length text) 48 (omega arith) (λ k from to. absurd (omega arith)) (λ some. no_blank text (length text - 1) digits (omega arith)) in omega arith in
     let begins = prefix_len_is (is_blank Space) text 0 48 (omega arith) (λ k below. absurd (omega arith)) (λ some. no_blank text 0 digits some) in
     rw (ends, take_all (length text) text (omega arith), begins) refl
 
