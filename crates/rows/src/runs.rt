@@ -1,6 +1,6 @@
 // The rows of the table, over the outside in memory.
 use crate::outside::run_words;
-use crate::table::{ROWS, Row};
+use crate::table::{COMMANDS, ELEMENTS, FAULTS, LIMITS, NAMES, PRINTED, Row, TEXTS, TIMES};
 use bridge_core::Status;
 use bridge_io::{Bytes, MemStore, Name};
 use std::alloc::Global;
@@ -35,15 +35,74 @@ fn is_left(alloc: Global, store: &MemStore, row: &Row<'_>) -> Result<bool, Fail>
     Ok(is)
 }
 
+/// Whether a row's run ends, reports and leaves what the row says.
+fn agrees(alloc: Global, row: &Row<'_>) -> Result<bool, Fail> {
+    let file = (row.file, file_of(alloc, row)?);
+    let run = run_words(alloc, row.words, file, row.failing)?;
+    let is_told = run.status == row.status && run.report.bytes() == row.report.as_bytes();
+    Ok(is_told && is_left(alloc, &run.store, row)?)
+}
+
 #[test]
-fn ends_as_the_words_and_the_file_say(rt: HostRuntime) -> Result<(), Fail> {
-    let alloc = rt.alloc();
-    for row in &ROWS {
-        let file = (row.file, file_of(alloc, row)?);
-        let run = run_words(alloc, row.words, file, row.failing)?;
-        assert_eq!(rt; run.status, row.status, "{}", row.report);
-        assert_eq!(rt; run.report.bytes(), row.report.as_bytes());
-        assert!(rt; is_left(alloc, &run.store, row)?, "{}", row.report);
+fn prints_durations(rt: HostRuntime) -> Result<(), Fail> {
+    for row in &PRINTED {
+        assert!(rt; agrees(rt.alloc(), row)?, "{}", row.report);
+    }
+    Ok(())
+}
+
+#[test]
+fn names_segments(rt: HostRuntime) -> Result<(), Fail> {
+    for row in &NAMES {
+        assert!(rt; agrees(rt.alloc(), row)?, "{}", row.report);
+    }
+    Ok(())
+}
+
+#[test]
+fn expands_times(rt: HostRuntime) -> Result<(), Fail> {
+    for row in &TIMES {
+        assert!(rt; agrees(rt.alloc(), row)?, "{}", row.report);
+    }
+    Ok(())
+}
+
+#[test]
+fn takes_periods_and_refuses_elements(rt: HostRuntime) -> Result<(), Fail> {
+    for row in &ELEMENTS {
+        assert!(rt; agrees(rt.alloc(), row)?, "{}", row.report);
+    }
+    Ok(())
+}
+
+#[test]
+fn refuses_texts(rt: HostRuntime) -> Result<(), Fail> {
+    for row in &TEXTS {
+        assert!(rt; agrees(rt.alloc(), row)?, "{}", row.report);
+    }
+    Ok(())
+}
+
+#[test]
+fn refuses_past_the_limits(rt: HostRuntime) -> Result<(), Fail> {
+    for row in &LIMITS {
+        assert!(rt; agrees(rt.alloc(), row)?, "{}", row.report);
+    }
+    Ok(())
+}
+
+#[test]
+fn ends_at_a_fault(rt: HostRuntime) -> Result<(), Fail> {
+    for row in &FAULTS {
+        assert!(rt; agrees(rt.alloc(), row)?, "{}", row.report);
+    }
+    Ok(())
+}
+
+#[test]
+fn groups_tracks_and_reads_words(rt: HostRuntime) -> Result<(), Fail> {
+    for row in &COMMANDS {
+        assert!(rt; agrees(rt.alloc(), row)?, "{}", row.report);
     }
     Ok(())
 }

@@ -34,7 +34,7 @@ const TAIL: &str = "</Representation></AdaptationSet></Period></MPD>";
 const PLAYLIST: &str =
     "#EXTM3U\n#EXT-X-VERSION:6\n#EXT-X-TARGETDURATION:2\n#EXT-X-MEDIA-SEQUENCE:0\n#EXT-X-PLAYLIST-TYPE:VOD\n#EXT-X-MAP:URI=\"https://h.example/i.mp4\"\n#EXTINF:2.000000,\nhttps://h.example/s1.m4s\n#EXTINF:2.000000,\nhttps://h.example/s2.m4s\n#EXTINF:2.000000,\nhttps://h.example/s3.m4s\n#EXT-X-ENDLIST\n";
 
-pub const ROWS: [Row<'static>; 40] = [
+pub const PRINTED: [Row<'static>; 4] = [
     // three segments, and a master of one track
     Row {
         words: WORDS,
@@ -110,6 +110,9 @@ pub const ROWS: [Row<'static>; 40] = [
         )],
         absent: &[],
     },
+];
+
+pub const NAMES: [Row<'static>; 4] = [
     // a name with a padded number
     Row {
         words: WORDS,
@@ -179,6 +182,9 @@ pub const ROWS: [Row<'static>; 40] = [
         files: &[],
         absent: &["out/t0.m3u8", "out/master.m3u8"],
     },
+];
+
+pub const TIMES: [Row<'static>; 7] = [
     // addresses through all levels
     Row {
         words: &["hls", "a/b/live.mpd", "--base=https://cdn.example/"],
@@ -300,6 +306,9 @@ pub const ROWS: [Row<'static>; 40] = [
         )],
         absent: &[],
     },
+];
+
+pub const ELEMENTS: [Row<'static>; 4] = [
     // two Periods
     Row {
         words: WORDS,
@@ -365,6 +374,9 @@ pub const ROWS: [Row<'static>; 40] = [
         files: &[],
         absent: &["out/t0.m3u8", "out/master.m3u8"],
     },
+];
+
+pub const TEXTS: [Row<'static>; 6] = [
     // a text that is cut
     Row {
         words: WORDS,
@@ -439,6 +451,9 @@ pub const ROWS: [Row<'static>; 40] = [
         files: &[],
         absent: &["out/t0.m3u8", "out/master.m3u8"],
     },
+];
+
+pub const LIMITS: [Row<'static>; 3] = [
     // a segment past all limits
     Row {
         words: WORDS,
@@ -487,6 +502,9 @@ pub const ROWS: [Row<'static>; 40] = [
         files: &[],
         absent: &["out/t0.m3u8", "out/master.m3u8"],
     },
+];
+
+pub const FAULTS: [Row<'static>; 6] = [
     // a file that can't be made
     Row {
         words: WORDS,
@@ -583,6 +601,9 @@ pub const ROWS: [Row<'static>; 40] = [
         files: &[("out/t0.m3u8", PLAYLIST)],
         absent: &[],
     },
+];
+
+pub const COMMANDS: [Row<'static>; 6] = [
     // a packager's MPD
     Row {
         words: WORDS,
