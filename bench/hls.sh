@@ -1,0 +1,82 @@
+#!/usr/bin/env bash
+# Times `bridge hls` of an MPD of 4 MB with 100,000 S, and beside it on the same file whatever is installed of xmllint, ffprobe and
+# GStreamer's gst-discoverer-1.0; then how time and memory grow with the number of S. Each command is run eleven times, the shortest
+# run counts, with its largest memory. The table goes to docs/PERFORMANCE.md.
+#
+# It wants `rt` and python3, and proves the program first where that isn't kept.
+set -euo pipefail
+here=$(cd "$(dirname "$0")/.." && pwd)
+work=$(mktemp -d)
+trap 'rm -rf "$work"' EXIT
+
+(cd "$here/crates/bridge" && rt run -- hls data/vod.mpd --base=https://h.example/ --out="bench-$$" > "$work/build.log" 2>&1; rm -rf "bench-$$")
+bridge=$here/crates/bridge/out/bridge
+[ -x "$bridge" ] || { tail "$work/build.log"; exit 1; }
+
+cat > "$work/measure.py" <<'PY'
+import os, platform, shutil, sys, time
+
+bridge, work, table = sys.argv[1:]
+os.chdir(work)
+
+def mpd(count):
+    """An MPD with one Representation and so many S, whose durations differ."""
+    rows, at = [], 0
+    for k in range(count):
+        d = 180_000 + k * 7_919 % 1_000
+        rows.append(f'          <S t="{at:012d}" d="{d}"/>\n')
+        at += d
+    name = f"{count}.mpd"
+    with open(name, "w") as it:
+        it.write('<?xml version="1.0"?>\n<MPD xmlns="urn:mpeg:dash:schema:mpd:2011">\n<Period>\n<AdaptationSet mimeType="video/mp4">\n'
+                 '<Representation id="v0" bandwidth="1000000" codecs="avc1.64001f">\n'
+                 '<SegmentTemplate timescale="90000" initialization="v0/init.mp4" media="v0/$Number%06d$.m4s">\n<SegmentTimeline>\n'
+                 + "".join(rows) + "</SegmentTimeline>\n</SegmentTemplate>\n</Representation>\n</AdaptationSet>\n</Period>\n</MPD>\n")
+    return name
+
+def measure(command):
+    best, peak = 1e9, 0
+    for _ in range(11):
+        quiet = [(os.POSIX_SPAWN_OPEN, fd, "/dev/null", os.O_WRONLY, 0) for fd in (1, 2)]
+        start = time.perf_counter()
+        pid = os.posix_spawnp(command[0], command, os.environ, file_actions=quiet)
+        _, status, usage = os.wait4(pid, 0)
+        best, peak = min(best, time.perf_counter() - start), max(peak, usage.ru_maxrss)
+        if status:
+            return None
+    return best * 1000, peak / 1024
+
+def ours(name):
+    return measure([bridge, "hls", name, "--base=https://h.example/"])
+
+sizes = {count: mpd(count) for count in (1_000, 10_000, 100_000)}
+big = sizes[100_000]
+ms, mb = ours(big)
+rows = [("bridge hls", ms, mb)]
+for label, command in [
+    ("xmllint --noout", ["xmllint", "--noout", big]),
+    ("ffprobe", ["ffprobe", "-v", "quiet", big]),
+    ("gst-discoverer-1.0", ["gst-discoverer-1.0", "file://" + os.path.abspath(big)]),
+]:
+    if shutil.which(command[0]):
+        found = measure(command)
+        rows.append((label, *(found or (0, 0))))
+out = ["# Speed and memory", "",
+       f"`bridge hls` of an MPD of {os.path.getsize(big) / 1e6:.1f} MB with 100,000 S, which writes a playlist of "
+       f"{os.path.getsize('out/t0.m3u8') / 1e6:.1f} MB, and other readers on the same file: the shortest of eleven runs, and the largest memory. "
+       "`bench/hls.sh` measures this and writes this page.", "",
+       "| command | ms | MB | our time to its | our memory to its |", "|---|---|---|---|---|"]
+for label, t, m in rows:
+    if t:
+        out.append(f"| {label} | {t:.0f} | {m:.1f} | {ms / t:.2f} | {mb / m:.2f} |")
+    else:
+        out.append(f"| {label} | it refuses the file | | | |")
+out += ["", "How `bridge hls` grows:", "", "| S | MB of MPD | ms | MB |", "|---|---|---|---|"]
+for count, name in sizes.items():
+    t, m = ours(name)
+    out.append(f"| {count:,} | {os.path.getsize(name) / 1e6:.2f} | {t:.1f} | {m:.1f} |")
+text = "\n".join(out) + "\n"
+print(text)
+open(table, "w").write(text)
+PY
+python3 "$work/measure.py" "$bridge" "$work" "$here/docs/PERFORMANCE.md"
