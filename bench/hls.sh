@@ -14,7 +14,7 @@ bridge=$here/crates/bridge/out/bridge
 [ -x "$bridge" ] || { tail "$work/build.log"; exit 1; }
 
 cat > "$work/measure.py" <<'PY'
-import os, platform, shutil, sys, time
+import os, shutil, subprocess, sys
 
 bridge, work, table = sys.argv[1:]
 os.chdir(work)
@@ -34,17 +34,24 @@ def mpd(count):
                  + "".join(rows) + "</SegmentTimeline>\n</SegmentTemplate>\n</Representation>\n</AdaptationSet>\n</Period>\n</MPD>\n")
     return name
 
+# A process counts the memory of what started it as its own peak, so a small one starts each command.
+LAUNCH = """
+import os, sys, time
+quiet = [(os.POSIX_SPAWN_OPEN, fd, "/dev/null", os.O_WRONLY, 0) for fd in (1, 2)]
+start = time.perf_counter()
+pid = os.posix_spawnp(sys.argv[1], sys.argv[1:], os.environ, file_actions=quiet)
+_, status, usage = os.wait4(pid, 0)
+print(status, time.perf_counter() - start, usage.ru_maxrss)
+"""
+
 def measure(command):
-    best, peak = 1e9, 0
+    runs = []
     for _ in range(11):
-        quiet = [(os.POSIX_SPAWN_OPEN, fd, "/dev/null", os.O_WRONLY, 0) for fd in (1, 2)]
-        start = time.perf_counter()
-        pid = os.posix_spawnp(command[0], command, os.environ, file_actions=quiet)
-        _, status, usage = os.wait4(pid, 0)
-        best, peak = min(best, time.perf_counter() - start), max(peak, usage.ru_maxrss)
-        if status:
+        told = subprocess.run([sys.executable, "-S", "-c", LAUNCH, *command], capture_output=True, text=True, check=True).stdout.split()
+        if told[0] != "0":
             return None
-    return best * 1000, peak / 1024
+        runs.append((float(told[1]) * 1000, int(told[2]) / 1024))
+    return min(t for t, _ in runs), max(m for _, m in runs)
 
 def ours(name):
     return measure([bridge, "hls", name, "--base=https://h.example/"])
