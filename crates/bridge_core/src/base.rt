@@ -9,21 +9,17 @@ use std::alloc::Global;
 use url_parts::{Base, UrlFault};
 
 /// The URL of a file: the base's text followed by the file's name. There is none where the base isn't the address of a
-/// folder as the URL Standard writes it (4.5), or both together are too long for an address.
+/// folder as the URL Standard writes it (4.5), or both together aren't an address.
 #[tactic(auto, unfolding(crate::specs::Bases::file_url))]
 pub fn file_url(alloc: Global, base: &str, file: &Name) -> Result<Option<Base>, NoMemory>
     ensures { IfOk result (λ url. url ≡ spec.file_url base.now file.now) }
 {
-    if !is_folder(base.as_bytes()) || !is_own_text(alloc, base)? {
+    if !is_folder(base.as_bytes()) || own_address(alloc, base)?.is_none() {
         return Ok(None);
     }
     let file = file.as_str();
     let url = format!(in alloc; "{base}{file}")?;
-    match Base::of(alloc, url.as_str()) {
-        Ok(url) => Ok(Some(url)),
-        Err(UrlFault::Memory) => Err(NoMemory),
-        Err(_) => Ok(None),
-    }
+    own_address(alloc, url.as_str())
 }
 
 /// Whether a text ends in `/`, and has no `?` and no `#`.
@@ -46,13 +42,13 @@ fn has_tail(text: &[u8]) -> bool
     text.iter().any(|byte| matches!(*byte, b'?' | b'#'))
 }
 
-/// Whether a text is an address, as the URL Standard writes it.
-fn is_own_text(alloc: Global, text: &str) -> Result<bool, NoMemory>
-    ensures { IfOk result (λ is. is ≡ spec.is_own_text text.now) }
+/// The address that a text is, where the URL Standard writes it so.
+fn own_address(alloc: Global, text: &str) -> Result<Option<Base>, NoMemory>
+    ensures { IfOk result (λ url. url ≡ spec.own_address text.now) }
 {
     match Base::of(alloc, text) {
-        Ok(url) => Ok(url.as_str() == text),
+        Ok(url) => Ok((url.as_str() == text).then_some(url)),
         Err(UrlFault::Memory) => Err(NoMemory),
-        Err(_) => Ok(false),
+        Err(_) => Ok(None),
     }
 }

@@ -115,14 +115,8 @@ fn words_are_read(rt: HostRuntime) -> Result<(), Fail> {
         ("check m.mpd --base=b -", "check m.mpd - b 6"),
         ("reload o n --base=b", "reload o n b"),
         ("make --seed=4294967295 --out -", "make 4294967295 - 6"),
-        ("make --seed=4294967296", "none"),
-        ("hls m.mpd", "none"),
-        ("hls m.mpd --base=b --base=b", "none"),
         ("hls m.mpd --base -b", "none"),
         ("hls m.mpd --base=b --digits=10", "none"),
-        ("hls ../m.mpd --base=b", "none"),
-        ("dash m.m3u8 --base=b --digits=6", "none"),
-        ("hls --help", "none"),
         ("--base=b hls m.mpd", "none"),
     ];
     for (words, expected) in rows {
@@ -176,78 +170,16 @@ fn read_all(alloc: Global, stream: &[u8], failing: CallList) -> Result<String, F
 const STREAM: &[u8] =
     b"mpd 2024-01-01T00:00:20Z 5\na\nb\ncreset 2024-01-01T00:00:30 0000002\n\n\ntick 2024-01-01T00:00:22.5+00:00\n";
 
-/// What a front of the stream ends by: its frames end at bytes 32, 68 and 101.
-fn front_told(alloc: Global, len: usize, line: usize) -> Result<String, AllocError> {
-    let mut told = String::new(alloc);
-    if len >= 32 {
-        told.push_str("mpd 1704067220000000000 5 ")?;
-    }
-    if len >= 68 {
-        told.push_str("reset 1704067230000000000 2 ")?;
-    }
-    if len == 101 {
-        told.push_str("tick 1704067222500000000 ")?;
-    }
-    if len == 0 || len == 32 || len == 68 || len == 101 {
-        told.push_str("end")?;
-    } else {
-        write!(told, "cut {len} {line}")?;
-    }
-    Ok(told)
-}
-
 #[test]
-fn streams_are_cut_at_each_byte(rt: HostRuntime) -> Result<(), Fail> {
-    for len in 0..=STREAM.len() {
-        let front = &STREAM[..len];
-        let line = front
-            .iter()
-            .filter(|byte| **byte == b'\n')
-            .count()
-            .saturating_add(1);
-        let told = read_all(rt.alloc(), front, CallList::new(rt.alloc()))?;
-        let expected = front_told(rt.alloc(), len, line)?;
-        assert_eq!(rt; told.as_str(), expected.as_str());
-    }
-    Ok(())
-}
-
-#[test]
-fn headers_are_refused(rt: HostRuntime) -> Result<(), Fail> {
-    let rows: [(&[u8], &str); 21] = [
-        (b"", "end"),
-        (b"\n", "header 0 1"),
-        (b"tick 2024-01-01T00:00:20Z\r\n", "header 0 1"),
+fn streams_are_read(rt: HostRuntime) -> Result<(), Fail> {
+    let rows: [(&[u8], &str); 4] = [
         (
-            b"tick 2024-01-01T00:00:20Z\nmpd 2024-01-01T00:00:20Z 1\n\ntick  2024-01-01T00:00:20Z\n",
-            "tick 1704067220000000000 mpd 1704067220000000000 1 header 54 4",
+            STREAM,
+            "mpd 1704067220000000000 5 reset 1704067230000000000 2 tick 1704067222500000000 end",
         ),
-        (b"tick 2024-01-01T00:00:20Z \n", "header 0 1"),
-        (b"tick 2024-01-01T00:00:20Z 0\n", "header 0 1"),
+        (&STREAM[..40], "mpd 1704067220000000000 5 cut 40 4"),
         (b"tick 2024-02-30T00:00:20Z\n", "header 0 1"),
-        (b"tick \xff2024-01-01T00:00:20Z\n", "header 0 1"),
-        (b"Tick 2024-01-01T00:00:20Z\n", "header 0 1"),
-        (b"mpd 2024-01-01T00:00:20Z\n", "header 0 1"),
-        (b"mpd  2024-01-01T00:00:20Z 1\na", "header 0 1"),
-        (b"mpd 2024-01-01T00:00:20Z  1\na", "header 0 1"),
-        (b"mpd 2024-01-01T00:00:20Z \na", "header 0 1"),
-        (b"mpd 2024-01-01T00:00:20Z +1\na", "header 0 1"),
-        (b"mpd 2024-01-01T00:00:20Z 00000001\na", "header 0 1"),
-        (b"mpd 2024-01-01T00:00:20Z 8388609\n", "header 0 1"),
         (b"mpd 2024-01-01T00:00:20Z 8388608\n", "cut 33 2"),
-        (b"reset 2024-01-01T00:00:20Z 1\r\na", "header 0 1"),
-        (
-            b"reset 2024-01-01T00:00:20.00000000000000000000000+00:00 0000001\nx",
-            "reset 1704067220000000000 1 end",
-        ),
-        (
-            b"reset 2024-01-01T00:00:20.000000000000000000000000+00:00 0000001\nx",
-            "header 0 1",
-        ),
-        (
-            b"aaaaaaaaaaaaaaaaaaaaaaaaaaaaaaaaaaaaaaaaaaaaaaaaaaaaaaaaaaaaaaaaa",
-            "header 0 1",
-        ),
     ];
     for (stream, expected) in rows {
         let told = read_all(rt.alloc(), stream, CallList::new(rt.alloc()))?;

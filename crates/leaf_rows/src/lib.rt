@@ -4,8 +4,6 @@
 #[cfg(test)]
 mod addresses;
 #[cfg(test)]
-mod bytes;
-#[cfg(test)]
 mod dates;
 #[cfg(test)]
 mod jobs;

@@ -1,19 +1,13 @@
 -- Names that tell nothing.
-use Rattle.std.proofs.Common.{◌≡◌, ℕ, Bool, true, false, ◌||◌, List, [], ◌∷◌, Option, Some, None, refl, ap, bytes_eq, nat_lt, length, map, inl, inr}
-use Rattle.std.specs.Prelude.{codes, is_some}
-use Rattle.std.specs.List.{list_any}
+use Rattle.std.proofs.Common.{◌≡◌, ℕ, true, false, List, Option, Some, None, refl, ap, bytes_eq, nat_lt, length, inl, inr}
+use Rattle.std.specs.Prelude.{codes}
 use Rattle.std.proofs.lemmas.Bool.{cases_Bool}
-use Rattle.mpd_text.proofs.NameLemmas.{same_bytes, equals_itself}
-use Rattle.mpd_text.specs.Trees.{Attribute}
-use Rattle.mpd_text.specs.Views.{attribute_named}
-use Rattle.mpd_profile.specs.declared.feature.Feature.{Feature}
+use Rattle.mpd_text.proofs.NameLemmas.{same_bytes}
 use Rattle.mpd_profile.specs.declared.listed.Listed.{Listed}
 use Rattle.mpd_profile.specs.declared.listed.Listed.TheVariants as listed
-use Rattle.mpd_profile.specs.Elements.{Named, named_in}
-use Rattle.mpd_profile.specs.Features.{attributes_told, has_any, has_features, is_essential_in, is_segment_element, parent_feature, refused_attributes}
+use Rattle.mpd_profile.specs.Features.{is_essential_in, is_segment_element, parent_feature}
 use Rattle.mpd_profile.specs.Heads.{is_short}
 use Rattle.mpd_profile.specs.Visits.{Parent}
-use Rattle.mpd_profile.proofs.Sound.{neither}
 
 -- ---- short names
 
@@ -71,49 +65,3 @@ module _ (name : List ℕ) (short : is_short name ≡ true) where
         differs_too name (codes "Preselection") short refl,
         differs_too name (codes "PatchLocation") short refl,
       ) refl
-
--- ---- attributes
-
-pub any_shown : {X Y : Type 0} (p : X → Bool) (show : Y → X) (ys : List Y) → list_any (λ y. p (show y)) ys ≡ list_any p (map show ys)
-any_shown p show [] = refl
-any_shown p show (y ∷ ys) = ap (λ some. p (show y) || some) (any_shown p show ys)
-
--- the first one has none of the names, and neither have the others
-record IsNone (rows : List (Named Feature)) (a : Attribute) (others : List Attribute) : Type 0 where
-  here : named_in rows a.name ≡ None
-  rest : has_any rows others ≡ false
-
-unlike : (a b : List ℕ) → bytes_eq a b ≡ false → bytes_eq b a ≡ false
-unlike a b other = elim (cases_Bool (bytes_eq b a)) [
-  | inl same ↦
-      let own : bytes_eq a a ≡ false = rw (same_bytes b a same) at other in
-      let is = equals_itself a in
-      absurd (cc)
-  | inr apart ↦ apart
-]
-
-none_of : (rows : List (Named Feature)) (a : Attribute) (others : List Attribute) → has_any rows (a ∷ others) ≡ false → IsNone rows a others
-none_of [] a others none = record { here = refl; rest = refl }
-none_of (row ∷ rows) a others none = elim (cases_Bool (bytes_eq a.name row.0)) [
-  | inl same ↦ absurd (cc (rw same at none))
-  | inr other ↦ elim (cases_Bool (is_some (attribute_named row.0 others))) [
-    | inl there ↦ absurd (cc (rw (other, there) at none))
-    | inr gone ↦
-        let behind = none_of rows a others (rw (other, gone) at none) in
-        record { here = rw (unlike a.name row.0 other) behind.here; rest = rw gone behind.rest }
-  ]
-]
-
-no_word : (word : List ℕ) (a : Attribute) (others : List Attribute) → is_some (attribute_named word (a ∷ others)) ≡ false → (bytes_eq a.name word ≡ false) × (is_some (attribute_named word others) ≡ false)
-no_word word a others none = elim (cases_Bool (bytes_eq a.name word)) [
-  | inl same ↦ absurd (cc (rw same at none))
-  | inr other ↦ (other, rw other at none)
-]
-
-pub features_untold : (dynamic : Bool) (listed : Listed) (attributes : List Attribute) → has_features dynamic listed attributes ≡ false → attributes_told (Some listed) dynamic attributes ≡ []
-features_untold dynamic listed [] none = refl
-features_untold dynamic listed (a ∷ others) none =
-    let both = neither (is_some (attribute_named (codes "availabilityTimeComplete") (a ∷ others))) (has_any (refused_attributes dynamic listed) (a ∷ others)) none in
-    let word = no_word (codes "availabilityTimeComplete") a others both.0 in
-    let names = none_of (refused_attributes dynamic listed) a others both.1 in
-    rw (word.0, names.here) (features_untold dynamic listed others (rw (word.1, names.rest) refl))

@@ -1,10 +1,9 @@
 -- Features of ISO/IEC 23009-1 that are refused by name wherever they stand.
-use Rattle.std.specs.Prelude.{ℕ, ◌&&◌, ◌||◌, Bool, true, false, List, [], ◌∷◌, ◌++◌, codes, bytes_eq, flat_map, if◌then◌else◌, is_some, Option, Some, None, option_and_then}
+use Rattle.std.specs.Prelude.{ℕ, ◌&&◌, ◌||◌, Bool, true, false, List, [], ◌∷◌, ◌++◌, codes, bytes_eq, flat_map, if◌then◌else◌, Option, Some, None, option_and_then}
 use Rattle.std.specs.List.{list_any}
 use Rattle.bridge_io.specs.declared.place.Place.{Place}
 use Rattle.bridge_io.specs.declared.media.Kind.{Kind}
 use Rattle.mpd_text.specs.Trees.{Attribute, Head}
-use Rattle.mpd_text.specs.Views.{attribute_named}
 use Rattle.mpd_values.specs.declared.blank.Blank.TheVariants.{Space}
 use Rattle.mpd_values.specs.Blanks.{trimmed}
 use Rattle.mpd_values.specs.Codecs.{has_foreign_code}
@@ -97,15 +96,6 @@ is_incomplete attribute =
 abbrev pub attribute_feature : (dynamic : Bool) → Listed → Attribute → Option Feature
 attribute_feature dynamic listed attribute =
     if is_incomplete attribute then Some LowLatency else named_in (refused_attributes dynamic listed) attribute.name
-
--- some attribute has one of these names
-abbrev pub has_any : List (Named Feature) → List Attribute → Bool
-has_any rows attributes = list_any (λ row. is_some (attribute_named row.0 attributes)) rows
-
--- some attribute has a name that may be a feature
-abbrev pub has_features : (dynamic : Bool) → Listed → List Attribute → Bool
-has_features dynamic listed attributes =
-    is_some (attribute_named (codes "availabilityTimeComplete") attributes) || has_any (refused_attributes dynamic listed) attributes
 
 -- ---- the pass
 

@@ -1,6 +1,5 @@
 // Features that are refused by name.
 ghost use Rattle.std.specs.Prelude.{◌≡◌, map, option_map};
-ghost use Rattle.mpd_text.specs.Nodes.{element_of};
 ghost use Rattle.mpd_text.specs.Views.{attribute_shown};
 ghost use Rattle.mpd_profile.specs.Features as spec;
 ghost use Rattle.mpd_profile.specs.Rows.{shown};
@@ -10,7 +9,7 @@ use crate::left_out::ESSENTIAL;
 use crate::listed::{Listed, named_in};
 use crate::tables;
 use bridge_io::Place;
-use mpd_text::{Attr, Node};
+use mpd_text::Attr;
 use mpd_values::{Blank, has_foreign_code, kind_of, trimmed};
 
 /// A feature that is refused wherever it stands.
@@ -79,20 +78,6 @@ pub(crate) fn has_foreign(media_type: Option<&str>, codecs: Option<&str>) -> boo
         },
         _ => false,
     }
-}
-
-/// Whether an element has an attribute of a name that may be a feature. It asks for no place.
-pub(crate) fn has_features(node: Node<'_>, listed: Listed, dynamic: bool) -> bool
-    ensures { result ≡ spec.has_features dynamic listed (element_of node.entry).head.attributes }
-{
-    node.attribute("availabilityTimeComplete").is_some()
-        || has_any(node, refused_attributes(dynamic, listed))
-}
-
-fn has_any(node: Node<'_>, rows: &[(&'static str, Feature)]) -> bool
-    ensures { result ≡ spec.has_any (map shown rows.now) (element_of node.entry).head.attributes }
-{
-    rows.iter().any(|row| node.attribute(row.0).is_some())
 }
 
 /// The feature that an attribute is.

@@ -11,7 +11,7 @@ ghost use Rattle.mpd_profile.specs.Passes.{addressing_of, told_by, visit_shown};
 ghost use Rattle.mpd_profile.specs.Refusals as refusals;
 
 use crate::fault::RuleFault;
-use crate::feature::{Feature, attribute_feature, element_feature, has_features, has_foreign};
+use crate::feature::{Feature, attribute_feature, element_feature, has_foreign};
 use crate::heads::{is_short, value_named};
 use crate::listed::{Addressing, Listed};
 use crate::parent::Parent;
@@ -137,7 +137,7 @@ impl<'a, 'b> Visit<'a, 'b> {
     {
         for attr in self.node.attributes() {
             if self.is_refused(listed, attr, addressing) {
-                return Err(RuleFault::Value(attr.place));
+                return Err(RuleFault::Value(attr.place()));
             }
         }
         Ok(())
@@ -211,12 +211,9 @@ fn is_other_value(addressing: Addressing, listed: Listed, attr: Attr<'_>) -> boo
 fn check_listed_features(node: Node<'_>, listed: Listed, dynamic: bool) -> Result<(), RuleFault>
     ensures { result ≡ refusals.first_of (features.attributes_told (Some listed) dynamic (element_of node.entry).head.attributes) }
 {
-    if !has_features(node, listed, dynamic) {
-        return Ok(());
-    }
     for attr in node.attributes() {
         if let Some(feature) = attribute_feature(dynamic, listed, attr) {
-            return Err(feature.at(attr.place));
+            return Err(feature.at(attr.place()));
         }
     }
     Ok(())

@@ -137,10 +137,11 @@ fn shown(alloc: Global, node: &Node) -> Result<String, Fail> {
     let place = node.place();
     write!(shown, "{} {} {}", node.name(), place.at, place.line)?;
     for attr in node.attributes() {
+        let place = attr.place();
         write!(
             shown,
             " {}={} {} {}",
-            attr.name, attr.value, attr.place.at, attr.place.line
+            attr.name, attr.value, place.at, place.line
         )?;
     }
     write!(shown, " |{}|", node.text())?;
@@ -211,7 +212,7 @@ fn lines(rt: HostRuntime) -> Result<(), Fail> {
         let element = walk.next().ok_or("an element")?;
         let (at, line) = (4 + 10 * row, 2 + row);
         assert_eq!(rt; element.place(), Place { at, line });
-        let place = element.attribute("c").map(|attr| attr.place);
+        let place = element.attribute("c").map(|attr| attr.place());
         assert_eq!(rt; place, Some(Place { at: at + 3, line }));
     }
     assert!(rt; walk.next().is_none());

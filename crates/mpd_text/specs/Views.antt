@@ -1,5 +1,6 @@
 -- The tree that rows show.
 use Rattle.std.specs.Prelude.{ℕ, ◌+◌, ◌-◌, nat_lt, List, [], ◌∷◌, ◌++◌, map, length, slice_range, slice_index_or, if◌then◌else◌, Option, bytes_eq, find}
+use Rattle.std.specs.String.{string_bytes}
 use Rattle.bridge_io.specs.Places.{place_of}
 use Rattle.mpd_text.specs.declared.tree.Span.{Span}
 use Rattle.mpd_text.specs.declared.tree.ElementRow.{ElementRow}
@@ -63,7 +64,7 @@ attribute_named name attributes = find (λ attribute. bytes_eq attribute.name na
 
 -- an attribute without where its texts lie in memory
 abbrev pub attribute_shown : Attr → Attribute
-attribute_shown attr = record { name = attr.name.now; value = attr.value.now; place = attr.place }
+attribute_shown attr = record { name = attr.name.now; value = attr.value.now; place = place_of (string_bytes attr.tree.now.source) attr.at }
 
 -- the element at a place in document order
 abbrev pub element_at : Element → ℕ → Element

@@ -129,7 +129,8 @@ impl Tree {
         Attr {
             name: self.text_of(row.name),
             value: self.text_of(row.value),
-            place: self.place_of(row.name.start()),
+            tree: self,
+            at: row.name.start(),
         }
     }
 }

@@ -187,8 +187,9 @@ impl Setting<'_> {
             (spec.gathered (spec.one_told self.now.base.now self.now.live end.now) (rows_left rows.entry)) }
     {
         let mut tolds = Vec::new(alloc);
+        let mut former = self.base.copy(alloc)?;
         for row in rows {
-            match self.told(alloc, &row, end) {
+            match self.told(alloc, &row, end, &mut former) {
                 Ok(told) => tolds.push(told)?,
                 Err(fault) => return Err(fault),
             }

@@ -42,17 +42,18 @@ pub(crate) struct Setting<'a> {
 }
 
 impl Setting<'_> {
-    /// What a Representation has in its Period, which lasts so long.
+    /// What a Representation has in its Period, which lasts so long. Where its base is the former one's, that is kept once.
     pub(crate) fn told(
         &self,
         alloc: Global,
         row: &RepView<'_>,
         end: &End,
+        former: &mut Base,
     ) -> Result<Told, PresentationFault>
         requires { IsShared (track_in row.now).segments.tables self.now.shared.now }
         ensures { Gives (λ told. told) refusal result (spec.told_of self.now.base.now self.now.live end.now (row_of row.now)) }
     {
-        let content = self.content(alloc, row, &row.addressing(), *end)?;
+        let content = self.content(alloc, row, &row.addressing(), *end, former)?;
         Ok(Told {
             kind: row.kind(),
             content,
@@ -67,6 +68,7 @@ impl Setting<'_> {
         row: &RepView<'_>,
         told: &Addressing<'_>,
         end: End,
+        former: &mut Base,
     ) -> Result<Content, PresentationFault>
         requires { IsShared (tables_of told.now) self.now.shared.now }
         ensures { Gives (λ content. content) refusal result
@@ -75,7 +77,7 @@ impl Setting<'_> {
         let place = row.place();
         let media = media_of(alloc, told, place)?;
         let template = init_of(alloc, told, place)?;
-        let base = base_of(alloc, self.base, row)?;
+        let base = base_of(alloc, self.base, row, former)?;
         let initialization = initialization_of(alloc, row, told, &template, &base)?;
         let names = self.names_of(alloc, row, told, media, base)?;
         let runs = self.runs_of(alloc, told, end, names, place)?;
@@ -213,13 +215,28 @@ fn init_template(alloc: Global, text: &str) -> Result<Template, TemplateFault>
 }
 
 /// What the BaseURLs of a Representation give.
-fn base_of(alloc: Global, url: &Base, row: &RepView<'_>) -> Result<Base, PresentationFault>
+fn base_of(
+    alloc: Global,
+    url: &Base,
+    row: &RepView<'_>,
+    former: &mut Base,
+) -> Result<Base, PresentationFault>
     ensures { Gives (λ base. base) refusal result (spec.base_of url.now (row_of row.now).description) }
 {
     match deepest(alloc, url, row.base_references()) {
-        Ok(base) => Ok(base),
+        Ok(base) => Ok(kept_once(alloc, base, former)?),
         Err(fault) => Err(at_url(fault, row.place())),
     }
+}
+
+/// A base, which is kept once where it is the former one.
+fn kept_once(alloc: Global, base: Base, former: &mut Base) -> Result<Base, NoMemory>
+    ensures { IfOk result (λ kept. kept ≡ base) }
+{
+    if base.as_str() != former.as_str() {
+        *former = base;
+    }
+    former.copy(alloc)
 }
 
 /// The base that references give one after another.

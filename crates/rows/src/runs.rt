@@ -43,68 +43,51 @@ fn agrees(alloc: Global, row: &Row<'_>) -> Result<bool, Fail> {
     Ok(is_told && is_left(alloc, &run.store, row)?)
 }
 
-#[test]
-fn prints_durations(rt: HostRuntime) -> Result<(), Fail> {
-    for row in &PRINTED {
-        assert!(rt; agrees(rt.alloc(), row)?, "{}", row.report);
+fn agree(rt: &impl Abort, alloc: Global, rows: &[Row<'_>]) -> Result<(), Fail> {
+    for row in rows {
+        assert!(rt; agrees(alloc, row)?, "{}", row.report);
     }
     Ok(())
+}
+
+#[test]
+fn prints_durations(rt: HostRuntime) -> Result<(), Fail> {
+    agree(&rt, rt.alloc(), &PRINTED)
 }
 
 #[test]
 fn names_segments(rt: HostRuntime) -> Result<(), Fail> {
-    for row in &NAMES {
-        assert!(rt; agrees(rt.alloc(), row)?, "{}", row.report);
-    }
-    Ok(())
+    agree(&rt, rt.alloc(), &NAMES)
 }
 
 #[test]
 fn expands_times(rt: HostRuntime) -> Result<(), Fail> {
-    for row in &TIMES {
-        assert!(rt; agrees(rt.alloc(), row)?, "{}", row.report);
-    }
-    Ok(())
+    agree(&rt, rt.alloc(), &TIMES)
 }
 
 #[test]
 fn takes_periods_and_refuses_elements(rt: HostRuntime) -> Result<(), Fail> {
-    for row in &ELEMENTS {
-        assert!(rt; agrees(rt.alloc(), row)?, "{}", row.report);
-    }
-    Ok(())
+    agree(&rt, rt.alloc(), &ELEMENTS)
 }
 
 #[test]
 fn refuses_texts(rt: HostRuntime) -> Result<(), Fail> {
-    for row in &TEXTS {
-        assert!(rt; agrees(rt.alloc(), row)?, "{}", row.report);
-    }
-    Ok(())
+    agree(&rt, rt.alloc(), &TEXTS)
 }
 
 #[test]
 fn refuses_past_the_limits(rt: HostRuntime) -> Result<(), Fail> {
-    for row in &LIMITS {
-        assert!(rt; agrees(rt.alloc(), row)?, "{}", row.report);
-    }
-    Ok(())
+    agree(&rt, rt.alloc(), &LIMITS)
 }
 
 #[test]
 fn ends_at_a_fault(rt: HostRuntime) -> Result<(), Fail> {
-    for row in &FAULTS {
-        assert!(rt; agrees(rt.alloc(), row)?, "{}", row.report);
-    }
-    Ok(())
+    agree(&rt, rt.alloc(), &FAULTS)
 }
 
 #[test]
 fn groups_tracks_and_reads_words(rt: HostRuntime) -> Result<(), Fail> {
-    for row in &COMMANDS {
-        assert!(rt; agrees(rt.alloc(), row)?, "{}", row.report);
-    }
-    Ok(())
+    agree(&rt, rt.alloc(), &COMMANDS)
 }
 
 #[test]

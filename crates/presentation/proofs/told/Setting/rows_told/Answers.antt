@@ -8,7 +8,7 @@ use Rattle.presentation.specs.Shared.{IsShared}
 use Rattle.mpd_rules.specs.Views.{track_in, tracks_left}
 use Rattle.presentation.specs.Rows.{row_of, rows_left, shown}
 use Rattle.presentation.specs.Told.{gathered, one_told, told_of}
-use Rattle.presentation.proofs.Gathering.{behind, goes_on, step_told, stops}
+use Rattle.presentation.proofs.Gathering.{behind, behind_nothing, goes_on, step_told, stops}
 use Rattle.presentation.proofs.told.Setting.rows_told.Goals as goal
 
 pub returns-in-Err : goal.returns-in-Err
@@ -18,6 +18,14 @@ returns-in-Err c =
     stops give (row_of c.in-Some.row) (rows_left c.next.new.self) c.loop-row.tolds.items c.in-Err.fault _
     (ap (λ rows. behind c.loop-row.tolds.items (gathered give rows)) (sym rows) ∙ c.loop-row.invariant.told)
     (step_told (told_of c.args.self.now.base.now c.args.self.now.live c.args.end.now (row_of c.in-Some.row)) _ c.in-Err.fault c.in-Err.ensures)
+
+pub loop-row-init : goal.loop-row-init
+loop-row-init c = rw (c.into_iter-row-iterator.ensures.into_iter_gives, c.new-tolds.ensures.items) (record {
+  can_next = tt;
+  finite = tt;
+  shared = c.requires;
+  told = behind_nothing _;
+})
 
 pub loop-row-preserved : goal.loop-row-preserved
 loop-row-preserved c =
