@@ -37,7 +37,8 @@ fn sum_of_places(element: &Node) -> u64 {
     let mut sum = 0u64;
     for name in ["t", "d", "r"] {
         if let Some(attr) = element.attribute(name) {
-            sum = sum.wrapping_add(attr.place.at).wrapping_add(attr.place.line);
+            let place = attr.place();
+            sum = sum.wrapping_add(place.at).wrapping_add(place.line);
         }
     }
     sum

@@ -1,5 +1,6 @@
 pub mod Bases
 pub mod Courses
+pub mod Promises
 pub mod Hls
 pub mod Outcomes
 pub mod Playlists

@@ -1,9 +1,10 @@
 // The rows of the table, over the outside in memory.
-use crate::outside::run_words;
+use crate::outside::{Failing, run_words};
 use crate::table::{COMMANDS, ELEMENTS, FAULTS, LIMITS, NAMES, PRINTED, Row, TEXTS, TIMES};
 use bridge_core::Status;
 use bridge_io::{Bytes, MemStore, Name};
 use std::alloc::Global;
+use std::process::Abort;
 use std::test::Fail;
 
 fn file_of(alloc: Global, row: &Row<'_>) -> Result<Bytes, Fail> {
@@ -88,6 +89,64 @@ fn ends_at_a_fault(rt: HostRuntime) -> Result<(), Fail> {
 #[test]
 fn groups_tracks_and_reads_words(rt: HostRuntime) -> Result<(), Fail> {
     agree(&rt, rt.alloc(), &COMMANDS)
+}
+
+/// Whether each file that a row's run may begin is a front of its text.
+fn are_fronts(alloc: Global, store: &MemStore, row: &Row<'_>) -> Result<bool, Fail> {
+    for (name, text) in row.files {
+        let name = Name::read(alloc, name)?;
+        let begun = store.file(&name).unwrap_or(b"");
+        if !text.as_bytes().starts_with(begun) {
+            return Ok(false);
+        }
+    }
+    Ok(true)
+}
+
+// Each of the two files is made and added to once.
+#[test]
+fn leaves_fronts_at_each_write(rt: HostRuntime) -> Result<(), Fail> {
+    let (alloc, row) = (rt.alloc(), &ELEMENTS[0]);
+    for call in 0..4 {
+        let failing = Failing {
+            writes: &[call],
+            ..Failing::NONE
+        };
+        let run = run_words(alloc, row.words, (row.file, file_of(alloc, row)?), failing)?;
+        assert_eq!(rt; run.status, Status::WriteFault, "{call}");
+        assert!(rt; are_fronts(alloc, &run.store, row)?, "{call}");
+    }
+    Ok(())
+}
+
+// The file is read in one call, and the next one tells its end.
+#[test]
+fn leaves_nothing_at_each_read(rt: HostRuntime) -> Result<(), Fail> {
+    let (alloc, row) = (rt.alloc(), &ELEMENTS[0]);
+    for call in 0..2 {
+        let failing = Failing {
+            reads: &[call],
+            ..Failing::NONE
+        };
+        let run = run_words(alloc, row.words, (row.file, file_of(alloc, row)?), failing)?;
+        assert_eq!(rt; run.status, Status::ReadFault, "{call}");
+        assert!(rt; lacks(alloc, &run.store, "out/t0.m3u8")?, "{call}");
+    }
+    Ok(())
+}
+
+#[test]
+fn is_cut_at_each_byte(rt: HostRuntime) -> Result<(), Fail> {
+    let (alloc, row) = (rt.alloc(), &PRINTED[0]);
+    let whole = file_of(alloc, row)?;
+    for len in 0..whole.len() {
+        let mut front = Bytes::new(alloc);
+        front.extend(&whole.as_slice()[..len])?;
+        let run = run_words(alloc, row.words, (row.file, front), Failing::NONE)?;
+        let report = format!(in alloc; "refused m.mpd text 3 Cut at {len} line 1\n")?;
+        assert!(rt; run.report.bytes() == report.as_bytes(), "{len}");
+    }
+    Ok(())
 }
 
 #[test]

@@ -1,0 +1,45 @@
+#!/usr/bin/env bash
+# Times the writing of a media playlist of 100,000 segments by a template, 6 MB of text: a run of `bridge hls`, less one of the same
+# MPD with a second Representation whose first segment has an address of more than 2,048 bytes, which is refused after each segment of
+# the first one was made and before anything is written. The shortest of eleven runs counts, with the largest memory.
+#
+# It wants `rt` and python3, and proves the program first where that isn't kept.
+set -euo pipefail
+here=$(cd "$(dirname "$0")/.." && pwd)
+work=$(mktemp -d)
+trap 'rm -rf "$work"' EXIT
+
+(cd "$here/crates/bridge" && rt run -- hls data/vod.mpd --base=https://h.example/ --out="bench-$$" > "$work/build.log" 2>&1; rm -rf "bench-$$")
+bridge=$here/crates/bridge/out/bridge
+[ -x "$bridge" ] || { tail "$work/build.log"; exit 1; }
+
+cat > "$work/measure.py" <<'PY'
+import os, sys, time
+
+bridge, work = sys.argv[1:]
+os.chdir(work)
+
+def mpd(name, others):
+    with open(name, "w") as it:
+        it.write('<MPD xmlns="urn:mpeg:dash:schema:mpd:2011" mediaPresentationDuration="PT400000S"><Period><AdaptationSet mimeType="video/mp4">'
+                 '<SegmentTemplate timescale="1" duration="4" initialization="init.mp4" media="video/$RepresentationID$/$Number%06d$.m4s"/>'
+                 '<Representation id="v0" bandwidth="1000000"/>' + others + "</AdaptationSet></Period></MPD>")
+
+def measure(name, wanted):
+    best, peak = 1e9, 0
+    quiet = [(os.POSIX_SPAWN_OPEN, 1, "/dev/null", os.O_WRONLY, 0)]
+    for _ in range(11):
+        start = time.perf_counter()
+        pid = os.posix_spawn(bridge, [bridge, "hls", name, "--base=https://h.example/videos/main/"], os.environ, file_actions=quiet)
+        _, status, usage = os.wait4(pid, 0)
+        assert os.waitstatus_to_exitcode(status) == wanted, (name, status)
+        best, peak = min(best, time.perf_counter() - start), max(peak, usage.ru_maxrss / 1024)
+    return best * 1000, peak
+
+mpd("written.mpd", "")
+mpd("refused.mpd", '<Representation id="' + "v" * 2100 + '" bandwidth="1"/>')
+written, refused = measure("written.mpd", 0), measure("refused.mpd", 1)
+size = os.path.getsize("out/t0.m3u8")
+print(f"made {refused[0]:.0f} ms, {refused[1]:.1f} MB; made and written {written[0]:.0f} ms, {written[1]:.1f} MB; {size} bytes in {written[0] - refused[0]:.0f} ms")
+PY
+python3 "$work/measure.py" "$bridge" "$work"

@@ -1,0 +1,85 @@
+-- What words say of the folder and the digits of a job.
+use Rattle.std.proofs.Common.{◌≡◌, ℕ, ℤ, ◌-◌, ◌≤◌, ◌&&◌, Bool, true, false, IsTrue, List, [], ◌∷◌, Option, None, Some, IfSome, refl, arith, inl, inr}
+use Rattle.std.specs.Prelude.{nat_le, codes, unwrap_or}
+use Rattle.std.proofs.lemmas.Bool.{cases_Bool}
+use Rattle.std.proofs.lemmas.Bool.Decides.{nat_tests}
+use Rattle.bridge_jobs.specs.declared.jobs.Job.{Job}
+use Rattle.bridge_jobs.specs.declared.jobs.Job.TheVariants as job
+use Rattle.bridge_jobs.specs.declared.verb.Verb.{Verb}
+use Rattle.bridge_jobs.specs.declared.verb.Verb.TheVariants as verb
+use Rattle.clap.specs.Words.{Row, first_of}
+use Rattle.bridge_jobs.specs.Jobs.{◌>>=◌, job_of, job_by, hls_of, dash_of, follow_of, show_of, check_of, reload_of, make_of, is_folder, folder_in, digits_in, digits_of, digits_or_six, file_of, base_of, now_of, out_of, seed_of, first_verb}
+use Rattle.bridge_jobs.specs.Verbs.{values_of}
+
+-- a job's folder leaves room for the names of its files, and its digits are few
+abbrev pub IsBounded : Job → Type 0
+IsBounded (job.Hls mpd base now out digits) = IsTrue (is_folder out) × (digits ≤ 9)
+IsBounded other = Unit {0}
+
+-- ---- what holds of the end of some steps
+
+behind : {A B : Type 0} (P : B → Type 0) (a : Option A) (next : A → Option B) → ((x : A) → IfSome (next x) P) → IfSome (a >>= next) P
+behind P None next each = tt
+behind P (Some x) next each = each x
+
+three : {A B C D : Type 0} (P : D → Type 0) (a : Option A) (b : Option B) (c : Option C) (end : A → B → C → D) → ((x : A) (y : B) (z : C) → P (end x y z))
+    → IfSome (a >>= (λ x. b >>= (λ y. c >>= (λ z. Some (end x y z))))) P
+three P None b c end each = tt
+three P (Some x) None c end each = tt
+three P (Some x) (Some y) None end each = tt
+three P (Some x) (Some y) (Some z) end each = each x y z
+
+four : {A B C D E : Type 0} (P : E → Type 0) (a : Option A) (b : Option B) (c : Option C) (d : Option D) (end : A → B → C → D → E) → ((x : A) (y : B) (z : C) (w : D) → P (end x y z w))
+    → IfSome (a >>= (λ x. b >>= (λ y. c >>= (λ z. d >>= (λ w. Some (end x y z w)))))) P
+four P None b c d end each = tt
+four P (Some x) b c d end each = three P b c d (end x) (each x)
+
+-- ---- folders and digits
+
+folder_is : (text out : List ℕ) → folder_in text ≡ Some out → IsTrue (is_folder out)
+folder_is text out is = elim (cases_Bool (is_folder text)) [
+  | inl is_so ↦ (let same : text ≡ out = (let e = rw is_so at is in cc) in rw (← same, is_so) refl)
+  | inr other ↦ absurd (let e = rw other at is in cc)
+]
+
+few_in : (text : List ℕ) (digits : ℕ) → digits_in text ≡ Some digits → digits ≤ 9
+few_in [] digits is = absurd (cc)
+few_in (c ∷ []) digits is = elim (cases_Bool (nat_le 51 c && nat_le c 57)) [
+  | inl is_so ↦ (let same : c - 48 ≡ digits = (let e = rw is_so at is in cc) in grind (arith, nat_tests, is_so, same))
+  | inr other ↦ absurd (let e = rw other at is in cc)
+]
+few_in (c ∷ (d ∷ text)) digits is = absurd (cc)
+
+few_or_six : (text : Option (List ℕ)) (digits : ℕ) → digits_or_six text ≡ Some digits → digits ≤ 9
+few_or_six None digits is = (let same : 6 ≡ digits = cc in omega (arith, same))
+few_or_six (Some text) digits is = few_in text digits is
+
+few_of : (rows : List Row) (digits : ℕ) → digits_of rows ≡ Some digits → digits ≤ 9
+unfolding digits_of
+few_of rows digits is = few_or_six (first_of (codes "digits") rows) digits is
+
+bounded_in : (out : Option (List ℕ)) (digits : Option ℕ) (mpd base : List ℕ) (now : Option ℤ) → ((o : List ℕ) → out ≡ Some o → IsTrue (is_folder o)) → ((d : ℕ) → digits ≡ Some d → d ≤ 9)
+    → IfSome (out >>= (λ o. digits >>= (λ d. Some (job.Hls mpd base now o d)))) IsBounded
+bounded_in None digits mpd base now room few = tt
+bounded_in (Some o) None mpd base now room few = tt
+bounded_in (Some o) (Some d) mpd base now room few = (room o refl, few d refl)
+
+hls_bounded : (rows : List Row) → IfSome (hls_of rows) IsBounded
+unfolding hls_of out_of
+hls_bounded rows =
+    behind IsBounded (file_of (codes "mpd") rows) _ (λ mpd. behind IsBounded (base_of rows) _ (λ base. behind IsBounded (now_of rows) _ (λ now.
+    bounded_in (out_of rows) (digits_of rows) mpd base now (folder_is (unwrap_or (first_of (codes "out") rows) (codes "out"))) (few_of rows))))
+
+bounded_by : (v : Verb) (rows : List Row) → IfSome (job_by v rows) IsBounded
+unfolding dash_of follow_of show_of check_of reload_of make_of
+bounded_by verb.Hls rows = hls_bounded rows
+bounded_by verb.Dash rows = three IsBounded (file_of (codes "master") rows) (base_of rows) (out_of rows) job.Dash (λ _ _ _. tt)
+bounded_by verb.Follow rows = four IsBounded (file_of (codes "name") rows) (base_of rows) (out_of rows) (digits_of rows) job.Follow (λ _ _ _ _. tt)
+bounded_by verb.Show rows = four IsBounded (file_of (codes "file") rows) (base_of rows) (now_of rows) (digits_of rows) job.Show (λ _ _ _ _. tt)
+bounded_by verb.Check rows = four IsBounded (file_of (codes "mpd") rows) (file_of (codes "master") rows) (base_of rows) (digits_of rows) job.Check (λ _ _ _ _. tt)
+bounded_by verb.Reload rows = three IsBounded (file_of (codes "old") rows) (file_of (codes "new") rows) (base_of rows) job.Reload (λ _ _ _. tt)
+bounded_by verb.Make rows = three IsBounded (seed_of rows) (out_of rows) (digits_of rows) job.Make (λ _ _ _. tt)
+
+pub bounded : (words : List (List ℕ)) → IfSome (job_of words) IsBounded
+unfolding job_of
+bounded words = behind IsBounded (first_verb words) _ (λ command. behind IsBounded (values_of command words) (job_by command) (bounded_by command))

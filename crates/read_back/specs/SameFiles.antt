@@ -1,0 +1,53 @@
+-- The files that are written of a presentation, and what they mean together (RFC 8216, 4.3).
+use Rattle.std.specs.Prelude.{◌≡◌, ℕ, ◌^◌, ◌<◌, ◌≤◌, true, List, [], ◌∷◌, ◌++◌, codes, length, Some}
+use Rattle.bridge_io.specs.Names.{is_name}
+use Rattle.bridge_io.specs.Outside.{Files}
+use Rattle.url_parts.specs.Addresses.{folder_of}
+use Rattle.hls_meaning.specs.Meanings.{hls_meaning}
+use Rattle.meaning.specs.Meanings.{Meaning}
+use Rattle.meaning.specs.Same.{SameFloor}
+use Rattle.presentation.specs.Meanings.{meaning_of}
+use Rattle.presentation.specs.Presented.{Presented}
+use Rattle.hls_writer.specs.Attributes.{playlist_name}
+use Rattle.hls_writer.specs.Finished.{media_text}
+use Rattle.hls_writer.specs.Master.{master_text}
+use Rattle.hls_writer.specs.Verified.{IsVerified}
+use Rattle.read_back.specs.ReadMedia.{IsReadableTrack}
+use Rattle.read_back.specs.Same.{SegmentsEndInTurn}
+use Rattle.read_back.specs.Tracks.{AreWritable}
+
+abbrev pub master_name : List ℕ
+master_name = codes "master.m3u8"
+
+-- what stands before the names of the files, nothing or a folder with its `/`, so that they are names of a store
+pub record HoldsFiles (prefix : List ℕ) (tracks : ℕ) : Type 0 where
+  pub folder : folder_of prefix ≡ prefix
+  pub master : is_name (prefix ++ master_name) ≡ true
+  pub playlists : (t : ℕ) → t < tracks → is_name (prefix ++ playlist_name t) ≡ true
+
+-- a presentation's master, and beside it the playlist of each track
+pub record AreWritten (files : Files) (prefix : List ℕ) (p : Presented) (digits : ℕ) : Type 0 where
+  pub master : files (prefix ++ master_name) ≡ Some (master_text p)
+  pub playlists : (t : ℕ) → t < length p.tracks → files (prefix ++ playlist_name t) ≡ Some (media_text p digits t)
+
+-- a folder of a store with its `/`, in which these are names
+abbrev pub FoldersHoldFiles : Type 0
+FoldersHoldFiles = (folder : List ℕ) (tracks : ℕ) → is_name folder ≡ true → is_name (folder ++ 47 ∷ master_name) ≡ true
+    → ((t : ℕ) → t < tracks → is_name (folder ++ 47 ∷ playlist_name t) ≡ true) → HoldsFiles (folder ++ 47 ∷ []) tracks
+
+-- A master's files under a folder mean what a presentation means, with each time rounded down.
+abbrev pub MeanTheSame : Files → (folder url : List ℕ) → Presented → (digits : ℕ) → Type 0
+MeanTheSame files folder url p digits = (m : Meaning) × ((hls_meaning files folder url ≡ Some m) × SameFloor (10 ^ digits) (meaning_of p) m)
+
+-- what has to hold of a presentation
+pub record IsReadable (p : Presented) (digits : ℕ) : Type 0 where
+  pub verified : IsVerified p digits
+  pub few : digits ≤ 9
+  pub ordered : SegmentsEndInTurn p
+  pub tracks : AreWritable p.tracks
+  pub playlists : (t : ℕ) → t < length p.tracks → IsReadableTrack p digits t
+
+-- what is written of a presentation means what it means
+abbrev pub WrittenMeanTheSame : Type 0
+WrittenMeanTheSame = (p : Presented) (digits : ℕ) (files : Files) (folder prefix : List ℕ) → IsReadable p digits → folder_of folder ≡ folder
+    → HoldsFiles prefix (length p.tracks) → AreWritten files prefix p digits → MeanTheSame files folder (folder ++ (prefix ++ master_name)) p digits

@@ -1,0 +1,23 @@
+//! What is written is read back: laws of the playlists that are written of a presentation.
+//!
+//! The definitions stand in `specs/`; the crate has no code.
+#![tactic(auto)]
+
+mod lines;
+mod master;
+mod media;
+mod origins;
+mod same;
+
+pub use lines::written_lines_are_read;
+pub use master::written_masters_are_read;
+pub use media::{
+    playlists_are_read_again, track_playlists_are_read_again, written_values_are_read,
+};
+pub use origins::{
+    read_trees_are_of_bytes, static_parts_are_located, static_segments_are_in_pace,
+    static_tracks_are_writable,
+};
+pub use same::{
+    read_playlists_mean_the_same, written_means_the_same, written_playlists_mean_the_same,
+};
