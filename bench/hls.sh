@@ -13,8 +13,10 @@ trap 'rm -rf "$work"' EXIT
 bridge=$here/crates/bridge/out/bridge
 [ -x "$bridge" ] || { tail "$work/build.log"; exit 1; }
 
-cat > "$work/measure.py" <<'PY'
-import os, shutil, subprocess, sys
+cat > "$work/hls.py" <<'PY'
+import os, shutil, sys
+
+from measure import measure
 
 bridge, work, table = sys.argv[1:]
 os.chdir(work)
@@ -33,25 +35,6 @@ def mpd(count):
                  '<SegmentTemplate timescale="90000" initialization="v0/init.mp4" media="v0/$Number%06d$.m4s">\n<SegmentTimeline>\n'
                  + "".join(rows) + "</SegmentTimeline>\n</SegmentTemplate>\n</Representation>\n</AdaptationSet>\n</Period>\n</MPD>\n")
     return name
-
-# A process counts the memory of what started it as its own peak, so a small one starts each command.
-LAUNCH = """
-import os, sys, time
-quiet = [(os.POSIX_SPAWN_OPEN, fd, "/dev/null", os.O_WRONLY, 0) for fd in (1, 2)]
-start = time.perf_counter()
-pid = os.posix_spawnp(sys.argv[1], sys.argv[1:], os.environ, file_actions=quiet)
-_, status, usage = os.wait4(pid, 0)
-print(status, time.perf_counter() - start, usage.ru_maxrss)
-"""
-
-def measure(command):
-    runs = []
-    for _ in range(11):
-        told = subprocess.run([sys.executable, "-S", "-c", LAUNCH, *command], capture_output=True, text=True, check=True).stdout.split()
-        if told[0] != "0":
-            return None
-        runs.append((float(told[1]) * 1000, int(told[2]) / 1024))
-    return min(t for t, _ in runs), max(m for _, m in runs)
 
 def ours(name):
     return measure([bridge, "hls", name, "--base=https://h.example/"])
@@ -86,4 +69,4 @@ text = "\n".join(out) + "\n"
 print(text)
 open(table, "w").write(text)
 PY
-python3 "$work/measure.py" "$bridge" "$work" "$here/docs/PERFORMANCE.md"
+PYTHONPATH=$here/bench python3 "$work/hls.py" "$bridge" "$work" "$here/docs/PERFORMANCE.md"

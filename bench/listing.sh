@@ -216,19 +216,6 @@ RS
 (cd "$work/ours" && git init -q && cd crates/lists && rt run -- none > "$work/build.log" 2>&1) || { tail "$work/build.log"; exit 1; }
 ours=$work/ours/crates/lists/out/lists
 
-cat > "$work/measure.py" <<'PY'
-import os, sys, time
-command = sys.argv[1:]
-best, peak = 1e9, 0
-for _ in range(11):
-    start = time.perf_counter()
-    pid = os.spawnvp(os.P_NOWAIT, command[0], command)
-    _, status, usage = os.wait4(pid, 0)
-    best = min(best, time.perf_counter() - start)
-    peak = max(peak, usage.ru_maxrss)
-    assert status == 0, status
-print(f"{command[1]}: {best * 1000:.0f} ms, {peak / 1024:.1f} MB")
-PY
 for word in none join template addresses-only addresses list share; do
-    python3 "$work/measure.py" "$ours" "$word"
+    python3 "$here/bench/measure.py" "$word" "$ours" "$ours" "$word"
 done

@@ -65,20 +65,6 @@ cp "$work/few/m.m3u8" "$work/ours/crates/reads/"
 ours=$work/ours/crates/reads/out/reads
 [ -x "$ours" ] || { tail "$work/build.log"; exit 1; }
 
-cat > "$work/measure.py" <<'PY'
-import os, sys, time
-name, folder, command = sys.argv[1], sys.argv[2], sys.argv[3:]
-os.chdir(folder)
-best, peak = 1e9, 0
-for _ in range(5):
-    start = time.perf_counter()
-    pid = os.spawnvp(os.P_NOWAIT, command[0], command)
-    _, status, usage = os.wait4(pid, 0)
-    best = min(best, time.perf_counter() - start)
-    peak = max(peak, usage.ru_maxrss)
-    assert status == 0, status
-print(f"{name}: {best * 1000:.0f} ms, {peak / 1024:.1f} MB for a file of {os.path.getsize('m.m3u8')} bytes")
-PY
-python3 "$work/measure.py" "200 addresses" "$work/few" "$ours"
-python3 "$work/measure.py" "200,000 addresses" "$work/many" "$ours"
-python3 "$work/measure.py" "130,000 renditions" "$work/names" "$ours"
+python3 "$here/bench/measure.py" "200 addresses" "$work/few/m.m3u8" "$ours"
+python3 "$here/bench/measure.py" "200,000 addresses" "$work/many/m.m3u8" "$ours"
+python3 "$here/bench/measure.py" "130,000 renditions" "$work/names/m.m3u8" "$ours"

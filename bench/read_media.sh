@@ -61,26 +61,11 @@ cp "$work/plain/v.m3u8" "$work/ours/crates/reads/"
 (cd "$work/ours" && git init -q && cd crates/reads && rt run > "$work/build.log" 2>&1) || { tail "$work/build.log"; exit 1; }
 ours=$work/ours/crates/reads/out/reads
 
-cat > "$work/measure.py" <<'PY'
-import os, sys, time
-name, folder, command = sys.argv[1], sys.argv[2], sys.argv[3:]
-os.chdir(folder)
-best, peak = 1e9, 0
-for _ in range(11):
-    start = time.perf_counter()
-    pid = os.spawnvp(os.P_NOWAIT, command[0], command)
-    _, status, usage = os.wait4(pid, 0)
-    best = min(best, time.perf_counter() - start)
-    peak = max(peak, usage.ru_maxrss)
-    assert status == 0, status
-size = os.path.getsize("v.m3u8")
-print(f"{name}: {best * 1000:.0f} ms, {peak / 1024:.1f} MB, {(peak * 1024 - size) / 100_000:.0f} bytes a segment beside the file of {size}")
-PY
-python3 "$work/measure.py" read_media "$work/plain" "$ours"
-python3 "$work/measure.py" "read_media, long map" "$work/long" "$ours"
+python3 "$here/bench/measure.py" read_media "$work/plain/v.m3u8" "$ours"
+python3 "$here/bench/measure.py" "read_media, long map" "$work/long/v.m3u8" "$ours"
 if command -v ffprobe > /dev/null; then
-    python3 "$work/measure.py" ffprobe "$work/plain" ffprobe -v quiet -allowed_extensions ALL v.m3u8 || true
+    python3 "$here/bench/measure.py" ffprobe "$work/plain/v.m3u8" ffprobe -v quiet -allowed_extensions ALL v.m3u8
 fi
 if python3 -c 'import m3u8' 2> /dev/null; then
-    python3 "$work/measure.py" m3u8 "$work/plain" python3 -c 'import m3u8; m3u8.load("v.m3u8")'
+    python3 "$here/bench/measure.py" m3u8 "$work/plain/v.m3u8" python3 -c 'import m3u8; m3u8.load("v.m3u8")'
 fi

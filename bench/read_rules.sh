@@ -70,21 +70,7 @@ cp "$work/entries/m.mpd" "$work/ours/crates/judges/"
 (cd "$work/ours" && git init -q && cd crates/judges && rt run > "$work/build.log" 2>&1) || { tail "$work/build.log"; exit 1; }
 ours=$work/ours/crates/judges/out/judges
 
-cat > "$work/measure.py" <<'PY'
-import os, sys, time
-name, folder, command = sys.argv[1], sys.argv[2], sys.argv[3:]
-os.chdir(folder)
-best, peak = 1e9, 0
-for _ in range(11):
-    start = time.perf_counter()
-    pid = os.spawnvp(os.P_NOWAIT, command[0], command)
-    _, status, usage = os.wait4(pid, 0)
-    best = min(best, time.perf_counter() - start)
-    peak = max(peak, usage.ru_maxrss)
-    assert status == 0, status
-print(f"{name}: {best * 1000:.0f} ms, {peak / 1024:.1f} MB for a file of {os.path.getsize('m.mpd')} bytes")
-PY
 for file in entries periods ids; do
-    python3 "$work/measure.py" "$file, tree" "$work/$file" "$ours"
-    python3 "$work/measure.py" "$file, tree and rules" "$work/$file" "$ours" rules
+    python3 "$here/bench/measure.py" "$file, tree" "$work/$file/m.mpd" "$ours"
+    python3 "$here/bench/measure.py" "$file, tree and rules" "$work/$file/m.mpd" "$ours" rules
 done

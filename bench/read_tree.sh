@@ -98,22 +98,7 @@ fn main() {
 RS
 (cd "$work/rox" && cargo build -q --release --offline)
 
-cat > "$work/measure.py" <<'PY'
-import os, resource, sys, time
-name, folder, command = sys.argv[1], sys.argv[2], sys.argv[3:]
-os.chdir(folder)
-best, peak = 1e9, 0
-for _ in range(11):
-    start = time.perf_counter()
-    pid = os.spawnvp(os.P_NOWAIT, command[0], command)
-    _, status, usage = os.wait4(pid, 0)
-    best = min(best, time.perf_counter() - start)
-    peak = max(peak, usage.ru_maxrss)
-    assert status == 0, status
-size = os.path.getsize("m.mpd")
-print(f"{name}: {best * 1000:.0f} ms, {peak / 1024:.1f} MB, {peak * 1024 / size:.1f} bytes of memory a byte of {size}")
-PY
-python3 "$work/measure.py" read_tree "$work" "$ours"
-python3 "$work/measure.py" "read_tree and a walk" "$work" "$ours" walk
-python3 "$work/measure.py" roxmltree "$work" "$work/rox/target/release/rox"
-python3 "$work/measure.py" xmllint "$work" xmllint --noout --huge m.mpd
+python3 "$here/bench/measure.py" read_tree "$work/m.mpd" "$ours"
+python3 "$here/bench/measure.py" "read_tree and a walk" "$work/m.mpd" "$ours" walk
+python3 "$here/bench/measure.py" roxmltree "$work/m.mpd" "$work/rox/target/release/rox"
+python3 "$here/bench/measure.py" xmllint "$work/m.mpd" xmllint --noout --huge m.mpd

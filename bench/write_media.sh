@@ -13,8 +13,10 @@ trap 'rm -rf "$work"' EXIT
 bridge=$here/crates/bridge/out/bridge
 [ -x "$bridge" ] || { tail "$work/build.log"; exit 1; }
 
-cat > "$work/measure.py" <<'PY'
-import os, sys, time
+cat > "$work/write.py" <<'PY'
+import os, sys
+
+from measure import measure
 
 bridge, work = sys.argv[1:]
 os.chdir(work)
@@ -25,21 +27,13 @@ def mpd(name, others):
                  '<SegmentTemplate timescale="1" duration="4" initialization="init.mp4" media="video/$RepresentationID$/$Number%06d$.m4s"/>'
                  '<Representation id="v0" bandwidth="1000000"/>' + others + "</AdaptationSet></Period></MPD>")
 
-def measure(name, wanted):
-    best, peak = 1e9, 0
-    quiet = [(os.POSIX_SPAWN_OPEN, 1, "/dev/null", os.O_WRONLY, 0)]
-    for _ in range(11):
-        start = time.perf_counter()
-        pid = os.posix_spawn(bridge, [bridge, "hls", name, "--base=https://h.example/videos/main/"], os.environ, file_actions=quiet)
-        _, status, usage = os.wait4(pid, 0)
-        assert os.waitstatus_to_exitcode(status) == wanted, (name, status)
-        best, peak = min(best, time.perf_counter() - start), max(peak, usage.ru_maxrss / 1024)
-    return best * 1000, peak
+def run(name, status):
+    return measure([bridge, "hls", name, "--base=https://h.example/videos/main/"], status)
 
 mpd("written.mpd", "")
 mpd("refused.mpd", '<Representation id="' + "v" * 2100 + '" bandwidth="1"/>')
-written, refused = measure("written.mpd", 0), measure("refused.mpd", 1)
+written, refused = run("written.mpd", 0), run("refused.mpd", 1)
 size = os.path.getsize("out/t0.m3u8")
 print(f"made {refused[0]:.0f} ms, {refused[1]:.1f} MB; made and written {written[0]:.0f} ms, {written[1]:.1f} MB; {size} bytes in {written[0] - refused[0]:.0f} ms")
 PY
-python3 "$work/measure.py" "$bridge" "$work"
+PYTHONPATH=$here/bench python3 "$work/write.py" "$bridge" "$work"
