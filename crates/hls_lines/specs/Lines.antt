@@ -1,5 +1,5 @@
 -- The lines of a playlist (RFC 8216 4.1): tags and URIs, without blank lines and comments.
-use Rattle.std.specs.Prelude.{ℕ, ◌+◌, ◌-◌, ◌==◌, ◌||◌, Bool, true, false, List, [], ◌∷◌, length, take, codes, bytes_eq, nat_eq, if◌then◌else◌, unwrap_or, Option, Some, None, Result, Ok, Err}
+use Rattle.std.specs.Prelude.{ℕ, ◌+◌, ◌-◌, ◌==◌, ◌||◌, ◌&&◌, not, is_some, Bool, true, false, List, [], ◌∷◌, length, take, codes, bytes_eq, nat_eq, if◌then◌else◌, unwrap_or, Option, Some, None, Result, Ok, Err}
 use Rattle.std.specs.List.{starts_with, before_first, slice_split, suffix_len}
 use Rattle.std.specs.Str.{is_utf8}
 use Rattle.std.specs.Str.Lossy.{utf8_valid_len}
@@ -49,6 +49,10 @@ line_behind None text place = Some (uri text place)
 -- what a line says that has no blanks at its end
 abbrev pub line_of : List ℕ → Place → Option PlaylistLine
 line_of text place = if length text == 0 then None else line_behind (after_mark 35 text) text place
+
+-- a line says a URI that has no blanks at its end
+abbrev pub is_uri_line : List ℕ → Bool
+is_uri_line text = not (length text == 0) && not (is_some (after_mark 35 text))
 
 -- the place of the next line
 abbrev pub behind : List ℕ → Place → Place

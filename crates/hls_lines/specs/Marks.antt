@@ -1,6 +1,10 @@
 -- Texts cut at single bytes.
 use Rattle.std.specs.Prelude.{ℕ, ◌+◌, ◌==◌, Bool, List, [], ◌∷◌, take, drop, position, if◌then◌else◌, Option, Some, None, option_map}
 
+-- the byte that a text is cut at
+abbrev pub is_mark : ℕ → ℕ → Bool
+is_mark mark b = b == mark
+
 -- what stands before and after the first such byte
 abbrev pub parts_at : (ℕ → Bool) → List ℕ → Option (List ℕ × List ℕ)
 parts_at test text = option_map (λ at. (take at text, drop (at + 1) text)) (position test text)

@@ -8,7 +8,7 @@ ghost use Rattle.hls_lines.specs.Lines.{refusal};
 ghost use Rattle.hls_lines.specs.Pairs.{pair_of, pairs_of};
 
 use crate::LineFault;
-use crate::marks::{after, without_spaces};
+use crate::marks::{after, cut_at, without_spaces};
 use bridge_io::{NoMemory, Place};
 use std::alloc::Global;
 use std::collections::BTreeSet;
@@ -121,7 +121,7 @@ fn repeats_a_name(alloc: Global, pairs: &[(&str, &str)]) -> Result<bool, NoMemor
 fn attribute_at(text: &str) -> Option<Found<'_>>
     ensures { option_map found_of result ≡ attribute_at text.now }
 {
-    let (name, rest) = text.split_once('=')?;
+    let (name, rest) = cut_at(text, b'=')?;
     if !is_name(name.as_bytes()) {
         return None;
     }
@@ -152,7 +152,7 @@ fn value_at(text: &str) -> Option<(&str, &str)>
     ensures { option_map pair_of result ≡ value_at text.now }
 {
     match after(text, '"') {
-        Some(quoted) => quoted.split_once('"'),
+        Some(quoted) => cut_at(quoted, b'"'),
         None => plain_value(text),
     }
 }

@@ -6,6 +6,7 @@ ghost use Rattle.hls_lines.specs.Characters.{begins_with_high_control, high_cont
 ghost use Rattle.hls_lines.specs.Lines.{clean};
 
 use crate::LineFault;
+use crate::marks::find_mark;
 use bridge_io::Place;
 use byte_scan::{Class, count_lf, first_outside};
 
@@ -17,14 +18,20 @@ fn begins_with_high_control(bytes: &[u8]) -> bool
     matches!(bytes, [0xc2, 0x80..=0x9f, ..])
 }
 
+/// The first byte of each character U+0080 to U+00BF.
+const LEAD: u8 = 0xc2;
+
 /// Where a character U+0080 to U+009F begins for the first time.
 fn first_high_control(bytes: &[u8]) -> Option<usize>
     ensures { result ≡ high_control_from 0 bytes.now }
 {
-    for at in 0..bytes.len() {
+    let mut at = 0;
+    while let Some(passed) = find_mark(&bytes[at..], LEAD) {
+        at += passed;
         if begins_with_high_control(&bytes[at..]) {
             return Some(at);
         }
+        at += 1;
     }
     None
 }

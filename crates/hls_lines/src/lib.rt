@@ -15,3 +15,4 @@ pub use laws::{
     file_faults_are_in_order, lines_are_as_written,
 };
 pub use lines::{Line, Lines};
+pub use marks::cut_at;

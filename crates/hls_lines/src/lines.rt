@@ -1,13 +1,13 @@
 // The lines of a playlist.
 ghost use Rattle.std.specs.Prelude.{◌≡◌, ◌+◌, ◌-◌, ◌^◌, ◌≤◌, ◌⊎◌, ◌<◌, [], length, take, slice_index, option_map, count_by, IfNone};
 ghost use Rattle.std.specs.List.{suffix_len};
-ghost use Rattle.hls_lines.specs.Lines.{is_blank, line_of, trimmed, marked_line, behind, has_header, text_lines, with_line, is_uri};
+ghost use Rattle.hls_lines.specs.Lines.{is_blank, line_of, trimmed, marked_line, behind, has_header, text_lines, with_line, is_uri, is_uri_line};
 ghost use Rattle.hls_lines.specs.Bounds.{HasRoom};
 ghost use Rattle.hls_lines.specs.Said.{said};
 
 use crate::LineFault;
 use crate::clean::clean;
-use crate::marks::after;
+use crate::marks::{after, cut_at};
 use bridge_io::Place;
 use std::marker::Model;
 
@@ -111,10 +111,14 @@ impl<'a> Lines<'a> {
         ensures count { result ≡ count_by is_uri self.now }
         ensures few { length self.now ≤ 2 ^ 63 }
     {
-        let mut lines = self.copy();
+        let mut rest = self.rest;
+        let mut place = self.place;
         let mut count = 0;
-        while let Some(line) = lines.next() {
-            if matches!(line, Line::Uri { .. }) {
+        while !rest.is_empty() {
+            let first = first_line(rest, place);
+            rest = first.rest;
+            place = first.next;
+            if is_uri_line(first.line) {
                 count += 1;
             }
         }
@@ -137,7 +141,7 @@ fn first_line(text: &str, place: Place) -> FirstLine<'_>
     ensures room { HasRoom result.next (length result.rest.now) }
     ensures shorter { 0 < length text.now → length result.rest.now < length text.now }
 {
-    match text.split_once('\n') {
+    match cut_at(text, b'\n') {
         Some((line, rest)) => FirstLine {
             line,
             rest,
@@ -177,6 +181,15 @@ fn read_line(line: &str, place: Place) -> Option<Line<'_>>
     }
 }
 
+/// Whether a line says a URI.
+#[inline(always)]
+fn is_uri_line(line: &str) -> bool
+    ensures { result ≡ is_uri_line (trimmed line.now) }
+{
+    let text = trimmed(line);
+    !text.is_empty() && after(text, '#').is_none()
+}
+
 /// What a `#` begins: a tag or a comment.
 fn marked_line(text: &str, place: Place) -> Option<Line<'_>>
     ensures { option_map said result ≡ marked_line text.now place }
@@ -184,7 +197,7 @@ fn marked_line(text: &str, place: Place) -> Option<Line<'_>>
     if !text.starts_with("EXT") {
         return None;
     }
-    let (name, rest) = text.split_once(':').unwrap_or((text, ""));
+    let (name, rest) = cut_at(text, b':').unwrap_or((text, ""));
     Some(Line::Tag { name, rest, place })
 }
 
@@ -216,9 +229,6 @@ fn is_blank(byte: u8) -> bool
 fn has_header(text: &str) -> bool
     ensures { result ≡ has_header text.now }
 {
-    let line = match text.split_once('\n') {
-        Some((line, _)) => line,
-        None => text,
-    };
+    let (line, _) = cut_at(text, b'\n').unwrap_or((text, ""));
     trimmed(line) == "#EXTM3U"
 }

@@ -1,6 +1,27 @@
 // Texts cut at single bytes.
-ghost use Rattle.std.specs.Prelude.{◌≡◌, ◌<◌, option_map};
-ghost use Rattle.hls_lines.specs.Marks.{after_mark, without_spaces};
+ghost use Rattle.std.specs.Prelude.{◌≡◌, ◌<◌, position, option_map};
+ghost use Rattle.hls_lines.specs.Marks.{after_mark, is_mark, parts_at, without_spaces};
+ghost use Rattle.hls_lines.specs.Pairs.{pair_of};
+
+use memchr::memchr;
+
+/// Where a byte stands for the first time.
+#[inline(always)]
+pub(crate) fn find_mark(bytes: &[u8], mark: u8) -> Option<usize>
+    ensures { result ≡ position (is_mark mark) bytes.now }
+{
+    memchr(mark, bytes)
+}
+
+/// What stands before and behind an ASCII character where that stands in a text for the first time. It takes no memory.
+#[inline(always)]
+pub fn cut_at(text: &str, mark: u8) -> Option<(&str, &str)>
+    requires { mark < 128 }
+    ensures { option_map pair_of result ≡ parts_at (is_mark mark) text.now }
+{
+    let at = find_mark(text.as_bytes(), mark)?;
+    Some((&text[..at], &text[at + 1..]))
+}
 
 /// What follows the ASCII character that a text begins with.
 pub(crate) fn after(text: &str, mark: char) -> Option<&str>

@@ -18,7 +18,8 @@ use Rattle.hls_media.specs.Laws.{IsBounded, IsBoundedPart, IsBoundedRange, IsBou
 use Rattle.hls_media.specs.Media.{address_or_fault, after, after_all, after_tag, after_uri, and_then, attributes_or_fault, fault_in, faults_of, first_fault, former_end, length_or_fault, line_fault, line_faults, lines_or_fault, map_at, map_in, map_of, map_range_of, media_at, media_in, media_of, media_values, most_segments, range_or_fault, section_of, segment_lasting, segment_of, segment_range, segment_value, segment_with, tag_fault, value_or_fault, values_or_fault, with_fault}
 use Rattle.hls_media.specs.States.{State, nothing}
 use Rattle.hls_media.specs.Tags.{tag_of}
-use Rattle.hls_media.specs.Values.{below, duration_of, end_of, first_of, fitting, number_of, parts_at, range_from, range_parts, range_with, is_at}
+use Rattle.hls_lines.specs.Marks.{parts_at}
+use Rattle.hls_media.specs.Values.{below, duration_of, end_of, first_of, fitting, number_of, range_from, range_parts, range_with, is_at}
 use Rattle.hls_media.specs.declared.fault.MediaFault.{MediaFault}
 use Rattle.hls_media.specs.declared.fault.MediaFault.TheVariants as fault
 use Rattle.hls_media.specs.declared.media.Media.{Media}
@@ -227,7 +228,7 @@ after_uri_in url s text place is none =
       listed = IsListed-push s.segments value (section_of s) is.listed (bounded_value url s text made.0 is told took) (in_section url s text) took.room;
     }
 
-nothing_with : (o : Option MediaFault) (others : List MediaFault) → with_fault o others ≡ [] → (o ≡ None) × (others ≡ [])
+pub nothing_with : (o : Option MediaFault) (others : List MediaFault) → with_fault o others ≡ [] → (o ≡ None) × (others ≡ [])
 nothing_with None others e = (refl, e)
 nothing_with (Some f) others e = absurd (cc)
 

@@ -48,7 +48,7 @@ tag_counts : (url : List ℕ) (s : State) (t : Tag) (rest : List ℕ) (place : P
 tag_counts url s tags.Discontinuity rest place = refl
 tag_counts url s _ rest place = omega arith
 
-tag_same : (url : List ℕ) (s : State) (t : Tag) (rest : List ℕ) (place : Place) → (after_tag url s t rest place).segments ≡ s.segments
+pub tag_same : (url : List ℕ) (s : State) (t : Tag) (rest : List ℕ) (place : Place) → (after_tag url s t rest place).segments ≡ s.segments
 tag_same url s tags.Map rest place = refl
 tag_same url s _ rest place = refl
 

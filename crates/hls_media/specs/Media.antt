@@ -237,6 +237,10 @@ abbrev pub is_long : ℕ → Option ℕ → Bool
 is_long target None = false
 is_long target (Some nanos) = nat_lt (target * 10 ^ 9 + 5 * 10 ^ 8) nanos
 
+-- a segment's isn't
+abbrev pub is_short : ℕ → MediaSegment → Bool
+is_short target segment = not (is_long target (Some segment.duration))
+
 -- such durations, where they are told
 abbrev pub long_faults : ℕ → List PlaylistLine → List MediaFault
 long_faults target [] = []

@@ -1,7 +1,8 @@
 -- The values of a media playlist's tags (RFC 8216 4.3.2 and 4.3.3).
-use Rattle.std.specs.Prelude.{ℕ, ◌+◌, ◌-◌, ◌*◌, ◌^◌, ◌==◌, ◌&&◌, not, nat_lt, nat_le, Bool, false, List, [], length, take, position, drop, if◌then◌else◌, unwrap_or, is_some, Option, Some, None, option_map}
+use Rattle.std.specs.Prelude.{ℕ, ◌+◌, ◌-◌, ◌*◌, ◌^◌, ◌==◌, ◌&&◌, not, nat_lt, nat_le, Bool, false, List, [], length, take, if◌then◌else◌, unwrap_or, is_some, Option, Some, None}
 use Rattle.std.specs.Str.{all_ascii_digits}
 use Rattle.std.specs.Str.Parse.{digits_value}
+use Rattle.hls_lines.specs.Marks.{parts_at}
 use Rattle.url_parts.specs.declared.range.Range.{Range}
 
 abbrev pub is_comma : ℕ → Bool
@@ -12,10 +13,6 @@ is_point b = b == 46
 
 abbrev pub is_at : ℕ → Bool
 is_at b = b == 64
-
--- what stands before and after the first such byte
-abbrev pub parts_at : (ℕ → Bool) → List ℕ → Option (List ℕ × List ℕ)
-parts_at test text = option_map (λ at. (take at text, drop (at + 1) text)) (position test text)
 
 -- ---- numbers
 

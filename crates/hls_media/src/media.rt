@@ -1,9 +1,10 @@
 // Media playlists.
-ghost use Rattle.std.specs.Prelude.{◌≡◌, length, option_map};
+ghost use Rattle.std.specs.Prelude.{◌≡◌, length, Some, None, true, option_map};
+ghost use Rattle.std.specs.List.{list_all};
 ghost use Rattle.bridge_io.specs.Answer.{Gives};
 ghost use Rattle.bridge_io.specs.Places.{place_of};
 ghost use Rattle.hls_lines.specs.Lines.{lines_of};
-ghost use Rattle.hls_media.specs.Media.{media_of, media_in, lines_or_fault, first_fault, long_faults, is_long, refusal};
+ghost use Rattle.hls_media.specs.Media.{media_of, media_in, lines_or_fault, first_fault, long_faults, is_long, is_short, refusal};
 ghost use Rattle.hls_media.specs.Values.{duration_of};
 ghost use Rattle.hls_media.specs.declared.fault.MediaFault.TheVariants.{LongSegment};
 
@@ -54,7 +55,7 @@ pub fn read_media(alloc: Global, bytes: &[u8], base: &Base) -> Result<Media, Med
     ensures { Gives (λ media. media) refusal result (media_of bytes.now base.now) }
 {
     let lines = lines_of(bytes)?;
-    media_in(alloc, lines, end_of(bytes), base)
+    media_in(alloc, lines, bytes, base)
 }
 
 fn lines_of(bytes: &[u8]) -> Result<Lines<'_>, MediaFault>
@@ -76,22 +77,39 @@ fn end_of(bytes: &[u8]) -> Place
     }
 }
 
-/// The playlist of these lines, or its first fault.
-fn media_in(alloc: Global, lines: Lines<'_>, end: Place, base: &Base) -> Result<Media, MediaFault>
-    ensures { Gives (λ media. media) refusal result (media_in end base.now lines.entry) }
+/// The playlist of these lines of a file, or its first fault.
+fn media_in(alloc: Global, lines: Lines<'_>, bytes: &[u8], base: &Base) -> Result<Media, MediaFault>
+    ensures { Gives (λ media. media) refusal result (media_in (place_of bytes.now (length bytes.now)) base.now lines.entry) }
 {
     let reader = read_lines(alloc, lines.copy(), base)?;
     let Some(target) = reader.target else {
-        return Err(MediaFault::NoTarget(end));
+        return Err(MediaFault::NoTarget(end_of(bytes)));
     };
-    if let Some(place) = first_long(lines, target) {
+    if let Some(place) = first_long(reader.segments.as_slice(), lines, target) {
         return Err(MediaFault::LongSegment(place));
     }
     Ok(reader.finish(target))
 }
 
-/// Where an EXTINF stands for the first time that is more than half a second above the target duration.
-fn first_long(mut lines: Lines<'_>, target: u64) -> Option<Place>
+/// Where an EXTINF stands for the first time that is more than half a second above the target duration. The lines are
+/// read once more only where one of their segments is.
+fn first_long(segments: &[MediaSegment], lines: Lines<'_>, target: u64) -> Option<Place>
+    requires { list_all (is_short target) segments.now ≡ true → first_fault (long_faults target lines) ≡ None }
+    ensures { option_map LongSegment result ≡ first_fault (long_faults target lines.entry) }
+{
+    if are_short(segments, target) {
+        return None;
+    }
+    first_long_line(lines, target)
+}
+
+fn are_short(segments: &[MediaSegment], target: u64) -> bool
+    ensures { result ≡ list_all (is_short target) segments.now }
+{
+    segments.iter().all(|segment| !is_above(u128::from(segment.duration.0), target))
+}
+
+fn first_long_line(mut lines: Lines<'_>, target: u64) -> Option<Place>
     ensures { option_map LongSegment result ≡ first_fault (long_faults target lines.entry) }
 {
     while let Some(line) = lines.next() {
@@ -108,7 +126,14 @@ fn is_long(duration: &str, target: u64) -> bool
     ensures { result ≡ is_long target (duration_of duration.now) }
 {
     match read_duration(duration) {
-        Some(nanos) => nanos > u128::from(target) * 1_000_000_000 + 500_000_000,
+        Some(nanos) => is_above(nanos, target),
         None => false,
     }
+}
+
+/// Whether a duration is more than half a second above the target.
+fn is_above(nanos: u128, target: u64) -> bool
+    ensures { result ≡ is_long target (Some nanos) }
+{
+    nanos > u128::from(target) * 1_000_000_000 + 500_000_000
 }

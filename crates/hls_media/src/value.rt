@@ -4,6 +4,7 @@ ghost use Rattle.std.specs.Str.{all_ascii_digits};
 ghost use Rattle.std.specs.Str.Parse.{digits_value};
 ghost use Rattle.hls_media.specs.Values as spec;
 
+use hls_lines::cut_at;
 use url_parts::Range;
 
 /// The bound of places in a file.
@@ -71,7 +72,7 @@ fn fraction_nanos(digits: &[u8]) -> u128
 fn before_title(text: &str) -> &str
     ensures { result.now ≡ spec.before_title text.now }
 {
-    let (number, _title) = text.split_once(',').unwrap_or((text, ""));
+    let (number, _title) = cut_at(text, b',').unwrap_or((text, ""));
     number
 }
 
@@ -80,7 +81,7 @@ fn decimal_parts(text: &str) -> (&str, &str)
     ensures whole { result.0.now ≡ (spec.decimal_parts text.now).0 }
     ensures fraction { result.1.now ≡ (spec.decimal_parts text.now).1 }
 {
-    text.split_once('.').unwrap_or((text, ""))
+    cut_at(text, b'.').unwrap_or((text, ""))
 }
 
 /// The nanoseconds of `n`, `n.` or `n.f`, behind which a comma and a title may stand. n has 1 to 20 digits and f at most
@@ -107,7 +108,7 @@ fn nanos(whole: &[u8], fraction: &[u8]) -> Option<u128>
 pub(crate) fn read_range(text: &str, otherwise: Option<u128>) -> Option<Range>
     ensures { result ≡ spec.fitting (spec.range_from otherwise text.now) }
 {
-    let (count, first) = match text.split_once('@') {
+    let (count, first) = match cut_at(text, b'@') {
         Some((count, offset)) => (count, Some(u128::from(read_number(offset, PLACES)?))),
         None => (text, otherwise),
     };
@@ -125,7 +126,7 @@ pub(crate) fn read_range(text: &str, otherwise: Option<u128>) -> Option<Range>
 pub(crate) fn is_range(text: &str) -> bool
     ensures { result ≡ spec.is_range text.now }
 {
-    match text.split_once('@') {
+    match cut_at(text, b'@') {
         Some(_) => read_range(text, None).is_some(),
         None => is_positive(text),
     }

@@ -1,6 +1,6 @@
 use Rattle.std.proofs.Common.{◌≡◌, length}
 use Rattle.hls_media.specs.Media.{first_fault, long_faults}
-use Rattle.hls_media.proofs.media.first_long.Given as goal
+use Rattle.hls_media.proofs.media.first_long_line.Given as goal
 
 abbrev pub invariant-loop-line : goal.invariant-loop-line
 invariant-loop-line l = first_fault (long_faults l.target l.lines) ≡ first_fault (long_faults l.target l.fn.lines)
