@@ -4,7 +4,7 @@ ghost use Rattle.std.specs.String.{string_bytes};
 ghost use Rattle.bridge_io.specs.Fault.{HasCause};
 ghost use Rattle.bridge_io.specs.InOrder.{put_all, MayBegin, AreBegun};
 ghost use Rattle.bridge_io.specs.Outside.{put, Changes};
-ghost use Rattle.hls_writer.specs.declared.fault.OutFault.TheVariants.{WriteFault};
+ghost use Rattle.file_pieces.specs.declared.fault.OutFault.TheVariants.{WriteFault};
 ghost use Rattle.presentation.specs.Counting.{count_of_all};
 ghost use Rattle.bridge_jobs.specs.Laws.{in_folder, playlist_of};
 ghost use Rattle.bridge_core.specs.Playlists as spec;

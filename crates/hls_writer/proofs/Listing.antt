@@ -1,13 +1,10 @@
 -- Attributes, renditions and variants one after another.
-use Rattle.std.proofs.Common.{◌≡◌, ◌||◌, Bool, true, false, ℕ, List, [], ◌∷◌, ◌++◌, map, flat_map, get_or, Option, None, Some, option_map, option_to_list, refl, sym, ap, ◌∙◌}
+use Rattle.std.proofs.Common.{◌≡◌, ℕ, List, [], ◌∷◌, ◌++◌, map, flat_map, get_or, Option, None, Some, option_map, option_to_list, refl, sym, ap, ◌∙◌}
 use Rattle.std.specs.Borrow.{Bor}
-use Rattle.std.specs.List.{list_any}
-use Rattle.std.proofs.lemmas.List.{append-nil, map-append}
+use Rattle.std.proofs.lemmas.List.{append-nil}
 use Rattle.std.proofs.lemmas.List.Concat.{flat_map-append}
 use Rattle.hls_writer.specs.Attributes.{attribute_bytes, further_bytes}
-use Rattle.hls_writer.specs.AttributeRows.{told, all_told, is_text, texts_of}
-use Rattle.hls_writer.specs.Variants.{with_code, with_codes}
-use Rattle.presentation.specs.Groups.{same_text}
+use Rattle.hls_writer.specs.AttributeRows.{told, all_told, texts_of}
 use Rattle.hls_writer.specs.Lines.{WrittenLine, line_text, lines_text}
 use Rattle.hls_writer.specs.declared.attribute.Attribute.{Attribute}
 
@@ -50,21 +47,6 @@ text_of_each line (x ∷ xs) = ap (λ t. line_text (line x) ++ t) (text_of_each 
 pub text_of_all : {X : Type 0} (lines : X → List WrittenLine) (xs : List X) → flat_map (λ x. lines_text (lines x)) xs ≡ lines_text (flat_map lines xs)
 text_of_all lines [] = refl
 text_of_all lines (x ∷ xs) = ap (λ t. lines_text (lines x) ++ t) (text_of_all lines xs) ∙ sym (flat_map-append line_text (lines x) (flat_map lines xs))
-
-list_any-map : {X Y : Type 0} (p : X → Bool) (h : Y → X) (ys : List Y) → list_any p (map h ys) ≡ list_any (λ y. p (h y)) ys
-list_any-map p h [] = refl
-list_any-map p h (y ∷ ys) = ap (λ some. p (h y) || some) (list_any-map p h ys)
-
--- a code that was there, or wasn't
-pub known_code : (found : List (Bor (List ℕ))) (code : List ℕ) → list_any (is_text code) found ≡ true → texts_of found ≡ with_code (texts_of found) code
-known_code found code there = rw (list_any-map (same_text code) (λ text. text.now) found ∙ there) refl
-
-pub fresh_code : (found : List (Bor (List ℕ))) (code : Bor (List ℕ)) → list_any (is_text code.now) found ≡ false → texts_of (found ++ code ∷ []) ≡ with_code (texts_of found) code.now
-fresh_code found code none = rw (list_any-map (same_text code.now) (λ text. text.now) found ∙ none) (map-append (λ text. text.now) found (code ∷ []))
-
-pub one_more_code : (found codes : List (List ℕ)) (code : List ℕ) → with_codes found (codes ++ code ∷ []) ≡ with_code (with_codes found codes) code
-one_more_code found [] code = refl
-one_more_code found (one ∷ codes) code = one_more_code (with_code found one) codes code
 
 -- a code behind a `,`, as it was read from a list
 pub code_at : (codes : List (Bor (List ℕ))) (i : ℕ) (d : Bor (List ℕ)) (bytes : List ℕ) → bytes ≡ (get_or codes i d).now → 44 ∷ (bytes ++ []) ≡ code_after (get_or codes i d)

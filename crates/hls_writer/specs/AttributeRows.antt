@@ -1,7 +1,6 @@
 -- Attributes as they are written.
-use Rattle.std.specs.Prelude.{ℕ, Bool, List, map, Option, option_map}
+use Rattle.std.specs.Prelude.{ℕ, List, map, Option, option_map}
 use Rattle.std.specs.Borrow.{Bor}
-use Rattle.presentation.specs.Groups.{same_text}
 use Rattle.hls_writer.specs.Attributes.{WrittenAttribute, media_type, group_id, name, language, default, autoselect, playlist, bandwidth, codecs, resolution, frame_rate, renditions}
 use Rattle.hls_writer.specs.Renditions.{present}
 use Rattle.hls_writer.specs.declared.attribute.Attribute.{Attribute}
@@ -9,9 +8,6 @@ use Rattle.hls_writer.specs.declared.attribute.Attribute.TheVariants as attribut
 
 abbrev pub texts_of : List (Bor (List ℕ)) → List (List ℕ)
 texts_of texts = map (λ text. text.now) texts
-
-abbrev pub is_text : List ℕ → Bor (List ℕ) → Bool
-is_text text other = same_text text other.now
 
 abbrev pub texts_in : Bor (List (Bor (List ℕ))) → List (List ℕ)
 texts_in texts = texts_of texts.now

@@ -1,13 +1,10 @@
-pub mod Adding
 pub mod AttributeRows
 pub mod Attributes
-pub mod Faults
 pub mod Finished
 pub mod Items
 pub mod Laws
 pub mod Lines
 pub mod Master
-pub mod Pieces
 pub mod Playlists
 pub mod Renditions
 pub mod Rows

@@ -1,5 +1,5 @@
 -- The variants of a master (RFC 8216, 4.3.4.2).
-use Rattle.std.specs.Prelude.{ℕ, ◌+◌, ◌*◌, ◌==◌, max, List, [], ◌∷◌, ◌++◌, map, slice_get, if◌then◌else◌, Option, Some, None, option_map, option_and_then, option_to_list, unwrap_or}
+use Rattle.std.specs.Prelude.{ℕ, Bool, is_some, ◌+◌, ◌*◌, ◌==◌, max, List, [], ◌∷◌, ◌++◌, map, slice_get, if◌then◌else◌, Option, Some, None, option_map, option_and_then, option_to_list, unwrap_or}
 use Rattle.std.specs.List.{flat_map, list_any, slice_split}
 use Rattle.std.specs.Option.{option_map_or}
 use Rattle.bridge_io.specs.declared.media.Kind.TheVariants as kind
@@ -13,6 +13,7 @@ use Rattle.hls_writer.specs.Lines.{WrittenLine, variant, uri, lines_text}
 use Rattle.hls_writer.specs.Renditions.{places_of, members_in, present}
 use Rattle.hls_writer.specs.declared.attribute.RenditionGroup.TheVariants.{Audio, Subtitles}
 use Rattle.hls_writer.specs.declared.variants.Variant.{Variant}
+use Rattle.text_lists.specs.Lists.{parts_in}
 
 -- a group without video, by the member of the first audio set
 abbrev pub sound_variant : ℕ → List ℕ → Variant
@@ -85,6 +86,13 @@ with_codes found (code ∷ later) = with_codes (with_code found code) later
 -- the codes of a list
 abbrev pub codes_in : List ℕ → List (List ℕ)
 codes_in text = slice_split (λ b. b == 44) text
+
+abbrev pub has_codes : List Track → ℕ → Bool
+has_codes tracks place = is_some (codecs_at tracks place)
+
+-- the codes of each track, and none of a track whose codes aren't known
+abbrev pub code_lists : List Track → List (List (List ℕ))
+code_lists tracks = map (λ track. parts_in track.codecs) tracks
 
 -- the codes of some tracks, each once, behind those that were found before; none where one of the tracks has none
 abbrev pub codes_from : List Track → List (List ℕ) → List ℕ → Option (List (List ℕ))

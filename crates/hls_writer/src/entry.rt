@@ -1,7 +1,7 @@
 // Segments as playlists list them.
 ghost use Rattle.std.specs.Prelude.{◌≡◌, All, replicate, option_map, IfSome};
 ghost use Rattle.iso_time.specs.Instant.{IsWritable};
-ghost use Rattle.hls_writer.specs.Adding.{Adds, shown};
+ghost use Rattle.file_pieces.specs.Adding.{Adds, shown};
 ghost use Rattle.hls_writer.specs.Lines.{lines_text, discontinuity, program_date_time, byte_range};
 ghost use Rattle.hls_writer.specs.Playlists.{rise, begins_section, own_lines, item_lines};
 ghost use Rattle.hls_writer.specs.Rows.{written, all_written, entry_item, CanBeThere};

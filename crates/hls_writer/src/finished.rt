@@ -8,12 +8,12 @@ ghost use Rattle.presentation.specs.Laws.{HasAddress};
 ghost use Rattle.presentation.specs.Printing.{IsAtEnd, IsNext};
 ghost use Rattle.presentation.specs.Verifying.{verified};
 ghost use Rattle.hls_writer.specs.Verified.{IsVerified};
-ghost use Rattle.hls_writer.specs.Adding.{Adds, shown};
+ghost use Rattle.file_pieces.specs.Adding.{Adds, shown};
 ghost use Rattle.hls_writer.specs.Finished as spec;
 ghost use Rattle.hls_writer.specs.Lines.{lines_text, on_demand};
 ghost use Rattle.hls_writer.specs.Playlists.{head_lines, items_lines, item_lines, last_section};
 ghost use Rattle.hls_writer.specs.Rows.{all_written, CanBeThere};
-ghost use Rattle.hls_writer.specs.declared.fault.OutFault.TheVariants.{WriteFault};
+ghost use Rattle.file_pieces.specs.declared.fault.OutFault.TheVariants.{WriteFault};
 
 use crate::OutFault;
 use crate::entry::Entry;

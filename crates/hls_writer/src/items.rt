@@ -4,12 +4,12 @@ ghost use Rattle.bridge_io.specs.Fault.{HasCause};
 ghost use Rattle.bridge_io.specs.Outside.{put, Changes};
 ghost use Rattle.bridge_io.specs.Written.{HasFront};
 ghost use Rattle.iso_time.specs.Instant.{IsWritable};
-ghost use Rattle.hls_writer.specs.Adding.{Adds, shown};
+ghost use Rattle.file_pieces.specs.Adding.{Adds, shown};
 ghost use Rattle.hls_writer.specs.Items.{item_of, items_text};
 ghost use Rattle.hls_writer.specs.Lines.{lines_text, discontinuity_sequence};
 ghost use Rattle.hls_writer.specs.Playlists.{head_lines, items_lines};
 ghost use Rattle.hls_writer.specs.Rows.{all_written, entry_item, CanBeThere};
-ghost use Rattle.hls_writer.specs.declared.fault.OutFault.TheVariants.{WriteFault};
+ghost use Rattle.file_pieces.specs.declared.fault.OutFault.TheVariants.{WriteFault};
 
 use crate::OutFault;
 use crate::entry::Entry;

@@ -1,13 +1,13 @@
 // Lines of playlists.
 ghost use Rattle.std.specs.Prelude.{◌≡◌, ◌+◌, ◌/◌, ◌%◌, ◌<◌, ◌++◌, ◌∷◌, [], All, decimal};
 ghost use Rattle.iso_time.specs.Digits.{padded_digits};
-ghost use Rattle.hls_writer.specs.Adding.{Adds, shown};
+ghost use Rattle.file_pieces.specs.Adding.{Adds, shown};
 ghost use Rattle.hls_writer.specs.Lines.{line_text, lines_text, initialization, duration};
 ghost use Rattle.hls_writer.specs.Rows.{written, all_written, CanBeWritten, CanBeThere};
 
-use crate::piece::{Piece, push_pieces};
 use bridge_io::{Fail, FileWriter, Store};
 use exact_time::Digits;
+use file_pieces::{Piece, push_pieces};
 use iso_time::{Instant, write_instant_ms};
 use url_parts::{Address, Part, Range};
 

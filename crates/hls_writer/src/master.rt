@@ -4,7 +4,7 @@ ghost use Rattle.std.specs.List.{flat_map};
 ghost use Rattle.bridge_io.specs.Fault.{HasCause};
 ghost use Rattle.bridge_io.specs.Outside.{put, Changes};
 ghost use Rattle.bridge_io.specs.Written.{HasFront};
-ghost use Rattle.hls_writer.specs.Adding.{Adds, shown};
+ghost use Rattle.file_pieces.specs.Adding.{Adds, shown};
 ghost use Rattle.hls_writer.specs.Lines.{header, version, line_text, lines_text};
 ghost use Rattle.hls_writer.specs.Master.{master_text, lines_with};
 ghost use Rattle.hls_writer.specs.Renditions.{places_of, renditions_of, rendition_line, rendition_text};
@@ -12,15 +12,15 @@ ghost use Rattle.hls_writer.specs.Variants.{variants_of, variant_lines, variant_
 ghost use Rattle.hls_writer.specs.AttributeRows.{texts_in};
 ghost use Rattle.bridge_io.specs.declared.media.Kind.TheVariants.{Text};
 ghost use Rattle.hls_writer.specs.Rows.{all_written, CanBeThere};
-ghost use Rattle.hls_writer.specs.declared.fault.OutFault.TheVariants.{WriteFault};
+ghost use Rattle.file_pieces.specs.declared.fault.OutFault.TheVariants.{WriteFault};
 
 use crate::OutFault;
 use crate::attribute::{Attribute, push_tag};
 use crate::line::{Line, push_lines};
-use crate::piece::{Piece, push_pieces};
 use crate::renditions::{Rendition, places_of, renditions_of};
-use crate::variants::{Cast, Variant, variants_of};
+use crate::variants::{Cast, Variant, code_lists, variants_of};
 use bridge_io::{Fail, FileWriter, Kind, Name, NoMemory, Store};
+use file_pieces::{Piece, push_pieces};
 use presentation::{Group, Presentation, Track};
 use std::alloc::Global;
 
@@ -146,19 +146,37 @@ fn push_variants<F: Store>(
 {
     let variants = variants_of(alloc, tracks, groups)?;
     let texts = places_of(alloc, Kind::Text, tracks)?;
+    push_told(alloc, writer, store, tracks, groups, &texts, &variants)
+}
+
+/// Adds the lines of variants, with the places of the text tracks.
+fn push_told<'a, F: Store>(
+    alloc: Global,
+    writer: &mut FileWriter<'_>,
+    store: &mut F,
+    tracks: &'a [Track],
+    groups: &'a [Group],
+    texts: &'a [usize],
+    variants: &[Variant],
+) -> Result<(), Fail>
+    ensures { let shows = shown F.files F.read_faults F.write_faults in
+        Adds (flat_map (variant_text tracks.now groups.now texts.now) variants.now) writer.old writer.new (shows store.old) (shows store.new) result }
+{
+    let codes = code_lists(alloc, tracks)?;
     let cast = Cast {
         tracks,
         groups,
-        texts: &texts,
+        texts,
+        codes: &codes,
     };
-    push_variant_lines(alloc, writer, store, &cast, &variants)
+    push_variant_lines(alloc, writer, store, &cast, variants)
 }
 
 fn push_variant_lines<F: Store>(
     alloc: Global,
     writer: &mut FileWriter<'_>,
     store: &mut F,
-    cast: &Cast<'_>,
+    cast: &Cast<'_, '_>,
     variants: &[Variant],
 ) -> Result<(), Fail>
     ensures { let shows = shown F.files F.read_faults F.write_faults in
@@ -175,7 +193,7 @@ fn push_variant<F: Store>(
     alloc: Global,
     writer: &mut FileWriter<'_>,
     store: &mut F,
-    cast: &Cast<'_>,
+    cast: &Cast<'_, '_>,
     variant: Variant,
 ) -> Result<(), Fail>
     ensures { let shows = shown F.files F.read_faults F.write_faults in
@@ -192,7 +210,7 @@ fn push_variant<F: Store>(
 fn push_coded_variant<F: Store>(
     writer: &mut FileWriter<'_>,
     store: &mut F,
-    cast: &Cast<'_>,
+    cast: &Cast<'_, '_>,
     variant: Variant,
     codes: Option<&[&str]>,
 ) -> Result<(), Fail>

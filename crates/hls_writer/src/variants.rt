@@ -1,7 +1,7 @@
 // The variants of a master.
 ghost use Rattle.std.specs.Prelude.{◌≡◌, ◌++◌, [], IfOk, OnOk, map, option_map, option_and_then};
-ghost use Rattle.std.specs.List.{list_any};
-ghost use Rattle.hls_writer.specs.AttributeRows.{told, all_told, is_text, texts_of, texts_in};
+ghost use Rattle.std.specs.List.{list_all};
+ghost use Rattle.hls_writer.specs.AttributeRows.{told, all_told, texts_of, texts_in};
 ghost use Rattle.hls_writer.specs.Attributes.{resolution, codecs};
 ghost use Rattle.hls_writer.specs.Variants as spec;
 
@@ -11,6 +11,7 @@ use crate::renditions::{members_in, places_of};
 use bridge_io::{Kind, NoMemory, Ratio, Size};
 use presentation::{Group, Track};
 use std::alloc::Global;
+use text_lists::TextLists;
 
 /// A video track with an audio group, or one of the two alone (RFC 8216, 4.3.4.2).
 #[derive(Clone, Copy)]
@@ -112,15 +113,17 @@ fn sound_variant(group: usize, members: &[usize]) -> Variant
     }
 }
 
-/// What the lines of variants are told from: the tracks, the audio groups and the places of the text tracks.
+/// What the lines of variants are told from: the tracks, the audio groups, the places of the text tracks and the codes by track.
 #[derive(Clone, Copy)]
-pub(crate) struct Cast<'a> {
+pub(crate) struct Cast<'a, 'b> {
     pub(crate) tracks: &'a [Track],
     pub(crate) groups: &'a [Group],
     pub(crate) texts: &'a [usize],
+    pub(crate) codes: &'b TextLists<'a>,
+    ghost told: { codes.now ≡ spec.code_lists tracks.now },
 }
 
-impl<'a> Cast<'a> {
+impl<'a> Cast<'a, '_> {
     /// The group's tracks.
     fn members(&self, variant: Variant) -> &'a [usize]
         ensures { result.now ≡ spec.members_of self.now.groups.now variant.group }
@@ -155,7 +158,11 @@ impl<'a> Cast<'a> {
         ensures { IfOk result (λ codes. option_map (λ found. texts_of found.items) codes
             ≡ spec.codes_of self.now.tracks.now (spec.cast_of self.now.groups.now self.now.texts.now variant)) }
     {
-        codes_at(alloc, self.tracks, &self.places(alloc, variant)?)
+        let places = self.places(alloc, variant)?;
+        if !have_codes(self.tracks, &places) {
+            return Ok(None);
+        }
+        Ok(Some(self.codes.merged(&places)?))
     }
 
     /// The places of the video track, the group's tracks and the text tracks.
@@ -172,11 +179,11 @@ impl<'a> Cast<'a> {
     }
 
     /// What a variant's line says behind its bandwidth.
-    pub(crate) fn attributes<'b>(
+    pub(crate) fn attributes<'c>(
         &self,
         variant: Variant,
-        codes: Option<&'b [&'b str]>,
-    ) -> [Option<Attribute<'b>>; 5]
+        codes: Option<&'c [&'c str]>,
+    ) -> [Option<Attribute<'c>>; 5]
         ensures { all_told result ≡ spec.variant_attributes self.now.tracks.now self.now.texts.now (option_map texts_in codes.entry) variant }
     {
         [
@@ -209,61 +216,39 @@ fn greatest(tracks: &[Track], places: &[usize]) -> u64
     most
 }
 
-fn codecs_at(tracks: &[Track], place: usize) -> Option<&str>
-    ensures { option_map (λ text. text.now) result ≡ spec.codecs_at tracks.now place }
+/// The codes of each track, and none of a track whose codes aren't known.
+pub(crate) fn code_lists(alloc: Global, tracks: &[Track]) -> Result<TextLists<'_>, NoMemory>
+    ensures { IfOk result (λ lists. lists ≡ spec.code_lists tracks.now) }
 {
-    match &tracks.get(place)?.codecs {
+    let mut lists = TextLists::new(alloc);
+    for track in tracks {
+        lists.add(codecs_of(track))?;
+    }
+    Ok(lists)
+}
+
+fn codecs_of(track: &Track) -> Option<&str>
+    ensures { option_map (λ text. text.now) result ≡ track.now.codecs }
+{
+    match &track.codecs {
         Some(codecs) => Some(codecs.as_str()),
         None => None,
     }
 }
 
-/// The codes of some tracks, each once.
-fn codes_at<'a>(
-    alloc: Global,
-    tracks: &'a [Track],
-    places: &[usize],
-) -> Result<Option<Vec<&'a str>>, NoMemory>
-    ensures { IfOk result (λ codes. option_map (λ found. texts_of found.items) codes ≡ spec.codes_from tracks.now [] places.now) }
+fn have_codes(tracks: &[Track], places: &[usize]) -> bool
+    ensures { result ≡ list_all (spec.has_codes tracks.now) places.now }
 {
-    let mut found = Vec::new(alloc);
-    for place in places {
-        let Some(codecs) = codecs_at(tracks, *place) else {
-            return Ok(None);
-        };
-        add_codes(&mut found, codecs)?;
+    places.iter().all(|place| has_codes(tracks, *place))
+}
+
+fn has_codes(tracks: &[Track], place: usize) -> bool
+    ensures { result ≡ spec.has_codes tracks.now place }
+{
+    match tracks.get(place) {
+        Some(track) => track.codecs.is_some(),
+        None => false,
     }
-    Ok(Some(found))
-}
-
-fn add_codes<'a>(found: &mut Vec<&'a str>, codecs: &'a str) -> Result<(), NoMemory>
-    ensures { OnOk result (texts_of found.new.items ≡ spec.with_codes (texts_of found.old.items) (spec.codes_in codecs.now)) }
-{
-    for code in codecs.split(',') {
-        add_code(found, code)?;
-    }
-    Ok(())
-}
-
-fn add_code<'a>(found: &mut Vec<&'a str>, code: &'a str) -> Result<(), NoMemory>
-    ensures { OnOk result (texts_of found.new.items ≡ spec.with_code (texts_of found.old.items) code.now) }
-{
-    if !is_among(found, code) {
-        found.push(code)?;
-    }
-    Ok(())
-}
-
-fn is_among(found: &[&str], code: &str) -> bool
-    ensures { result ≡ list_any (is_text code.now) found.now }
-{
-    found.iter().any(|other| is_text(code, other))
-}
-
-fn is_text(code: &str, other: &str) -> bool
-    ensures { result ≡ is_text code.now other.entry }
-{
-    code == other
 }
 
 fn codecs_attribute<'b>(codes: Option<&'b [&'b str]>) -> Option<Attribute<'b>>

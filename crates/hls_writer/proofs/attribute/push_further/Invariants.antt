@@ -1,5 +1,5 @@
 use Rattle.std.proofs.Common.{take, flat_map, Ok}
-use Rattle.hls_writer.specs.Adding.{Adds, shown}
+use Rattle.file_pieces.specs.Adding.{Adds, shown}
 use Rattle.hls_writer.proofs.Listing.{there_bytes}
 use Rattle.hls_writer.proofs.attribute.push_further.Given as goal
 

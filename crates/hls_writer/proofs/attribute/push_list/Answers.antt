@@ -3,7 +3,7 @@ use Rattle.std.specs.Borrow.{Bor}
 use Rattle.std.proofs.lemmas.List.{append-nil}
 use Rattle.hls_writer.specs.Attributes.{codes_bytes}
 use Rattle.hls_writer.specs.AttributeRows.{texts_of}
-use Rattle.hls_writer.proofs.Adding.{adds_same, adds_then, adds_stop_at}
+use Rattle.file_pieces.proofs.Adding.{adds_same, adds_then, adds_stop_at}
 use Rattle.hls_writer.proofs.attribute.push_list.Goals as goal
 
 -- the codes are the first one and the others

@@ -1,5 +1,5 @@
 use Rattle.std.proofs.Common.{take, replicate, Ok}
-use Rattle.hls_writer.specs.Adding.{Adds, shown}
+use Rattle.file_pieces.specs.Adding.{Adds, shown}
 use Rattle.hls_writer.specs.Lines.{lines_text, discontinuity}
 use Rattle.hls_writer.proofs.entry.push_discontinuities.Given as goal
 

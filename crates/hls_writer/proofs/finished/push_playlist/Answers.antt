@@ -2,7 +2,7 @@ use Rattle.std.proofs.Common.{◌^◌, None, ap, true}
 use Rattle.hls_writer.specs.Finished.{track_items}
 use Rattle.hls_writer.specs.Lines.{lines_text, on_demand}
 use Rattle.hls_writer.specs.Playlists.{finished_text, head_lines, items_lines, end_lines}
-use Rattle.hls_writer.proofs.Adding.{adds_same, adds_then, adds_stop, adds_stop_at}
+use Rattle.file_pieces.proofs.Adding.{adds_same, adds_then, adds_stop, adds_stop_at}
 use Rattle.hls_writer.proofs.Following.{media_text}
 use Rattle.hls_writer.proofs.finished.push_playlist.Goals as goal
 

@@ -3,7 +3,7 @@ use Rattle.presentation.specs.Presented.{content_at, listed_at}
 use Rattle.presentation.proofs.Allowed.{have_addresses, verified_are_counted}
 use Rattle.hls_writer.specs.Lines.{lines_text}
 use Rattle.hls_writer.specs.Playlists.{items_lines}
-use Rattle.hls_writer.proofs.Adding.{adds_same}
+use Rattle.file_pieces.proofs.Adding.{adds_same}
 use Rattle.hls_writer.proofs.Sections.{rest_addressed, rest_items}
 use Rattle.hls_writer.proofs.finished.push_section.Goals as goal
 

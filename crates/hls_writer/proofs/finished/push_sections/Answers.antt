@@ -4,7 +4,7 @@ use Rattle.presentation.proofs.Counts.{from_on, from_on-end, from_on-first, from
 use Rattle.hls_writer.specs.Finished.{section_items}
 use Rattle.hls_writer.specs.Lines.{lines_text}
 use Rattle.hls_writer.specs.Playlists.{items_lines}
-use Rattle.hls_writer.proofs.Adding.{adds_answered, adds_none, adds_same, adds_then, adds_stop_at}
+use Rattle.file_pieces.proofs.Adding.{adds_answered, adds_none, adds_same, adds_then, adds_stop_at}
 use Rattle.hls_writer.proofs.Sections.{more_items}
 use Rattle.hls_writer.proofs.finished.push_sections.Goals as goal
 

@@ -1,6 +1,6 @@
 use Rattle.std.proofs.Common.{◌≡◌, ℕ, ◌^◌, ◌-◌, List, ◌++◌, flat_map, length, None, Ok}
 use Rattle.std.specs.List.{range_with_len}
-use Rattle.hls_writer.specs.Adding.{Adds, shown}
+use Rattle.file_pieces.specs.Adding.{Adds, shown}
 use Rattle.hls_writer.specs.Finished.{section_items, track_items}
 use Rattle.hls_writer.specs.Lines.{lines_text}
 use Rattle.hls_writer.specs.Playlists.{items_lines}

@@ -3,7 +3,7 @@ use Rattle.presentation.specs.Printing.{IsNext}
 use Rattle.hls_writer.specs.Finished.{item_of}
 use Rattle.hls_writer.specs.Lines.{lines_text}
 use Rattle.hls_writer.specs.Playlists.{item_lines}
-use Rattle.hls_writer.proofs.Adding.{adds_none, adds_same, adds_then, adds_stop_at, adds_wanting}
+use Rattle.file_pieces.proofs.Adding.{adds_none, adds_same, adds_then, adds_stop_at, adds_wanting}
 use Rattle.hls_writer.proofs.Sections.{next_item, one_more, still_addressed}
 use Rattle.hls_writer.proofs.finished.push_segments.Goals as goal
 

@@ -1,5 +1,5 @@
 use Rattle.std.proofs.Common.{take, flat_map, Ok}
-use Rattle.hls_writer.specs.Adding.{Adds, shown}
+use Rattle.file_pieces.specs.Adding.{Adds, shown}
 use Rattle.hls_writer.proofs.Present.{there_text}
 use Rattle.hls_writer.proofs.line.push_lines.Given as goal
 

@@ -1,5 +1,5 @@
 use Rattle.std.proofs.lemmas.List.Concat.{flat_map-append}
-use Rattle.hls_writer.proofs.Adding.{adds_then, adds_stop_at}
+use Rattle.file_pieces.proofs.Adding.{adds_then, adds_stop_at}
 use Rattle.hls_writer.proofs.entry.Entry.push_to.Goals as goal
 
 pub returns-in_err-push_discontinuities : goal.returns-in_err-push_discontinuities
