@@ -12,6 +12,8 @@ mod masters;
 #[cfg(test)]
 mod medias;
 #[cfg(test)]
+mod presented;
+#[cfg(test)]
 mod reloads;
 #[cfg(test)]
 mod written_masters;

@@ -1,0 +1,15 @@
+pub mod Faults
+pub mod Gathering
+pub mod Cutting
+pub mod Rows
+pub mod Came
+pub mod Silent
+pub mod Grouping
+pub mod Timed
+pub mod Spanned
+pub mod Only
+pub mod Told
+pub mod Turns
+pub mod Laid
+pub mod Counting
+pub mod Counted

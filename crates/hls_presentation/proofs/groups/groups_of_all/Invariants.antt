@@ -1,0 +1,7 @@
+use Rattle.std.proofs.Common.{◌≡◌, map, take}
+use Rattle.hls_presentation.specs.Sections.{groups_in}
+use Rattle.hls_presentation.specs.Views.{source_of}
+use Rattle.hls_presentation.proofs.groups.groups_of_all.Given as goal
+
+abbrev pub invariant-loop-track : goal.invariant-loop-track
+invariant-loop-track l = l.groups.items ≡ map groups_in (map source_of (take l.track-index l.tracks))

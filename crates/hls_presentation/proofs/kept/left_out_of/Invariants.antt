@@ -1,0 +1,10 @@
+use Rattle.std.proofs.Common.{◌≡◌, ◌≤◌, map, take}
+use Rattle.hls_presentation.specs.Tracks.{left_out}
+use Rattle.hls_presentation.specs.Views.{source_of}
+use Rattle.hls_presentation.proofs.kept.left_out_of.Given as goal
+
+abbrev pub invariant-loop-source : goal.invariant-loop-source
+invariant-loop-source l = record {
+  count : l.count ≡ left_out (map source_of (take l.source-index l.sources));
+  bounded : l.count ≤ l.source-index;
+}

@@ -1,0 +1,17 @@
+//! The presentation of a finished HLS presentation: a master's tracks with their media playlists (RFC 8216, 4.3).
+#![tactic(auto)]
+
+mod checks;
+mod contents;
+mod fault;
+mod groups;
+mod kept;
+mod laws;
+mod playlists;
+mod tracks;
+
+pub use fault::HlsFault;
+pub use laws::{
+    only_faults_are_refused, playlists_are_counted, presented_are_laid_out, what_is_read_is_silent,
+};
+pub use playlists::{MediaFiles, from_hls};

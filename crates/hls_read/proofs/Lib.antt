@@ -1,0 +1,5 @@
+pub mod Apart
+pub mod Numbered
+pub mod Timed
+pub mod Meant
+pub mod Filed

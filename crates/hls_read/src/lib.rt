@@ -1,0 +1,16 @@
+//! That what is presented of playlists means what they tell. The functions do nothing: what they ensure is the law.
+#![tactic(auto)]
+
+ghost use Rattle.hls_read.specs.Files.{PresentedMeanTheirFiles};
+ghost use Rattle.hls_read.specs.Laws.{PresentedMeanWhatIsTold};
+
+/// A presentation of playlists that are read means what a master's tracks with these playlists mean, with equal times.
+pub fn presented_mean_what_is_told()
+    ensures { PresentedMeanWhatIsTold }
+{}
+
+/// A presentation of a master and of the media playlists that it mentions, which are files under a folder, means what these
+/// files mean, with equal times.
+pub fn presented_mean_their_files()
+    ensures { PresentedMeanTheirFiles }
+{}
