@@ -17,3 +17,5 @@ mod presented;
 mod reloads;
 #[cfg(test)]
 mod written_masters;
+#[cfg(test)]
+mod written_mpds;

@@ -1,4 +1,7 @@
 // Presentations of worked playlists.
+ghost use Rattle.std.specs.Prelude.{IfOk};
+ghost use Rattle.presentation.specs.Origins.{CameFromPlaylists};
+
 use bridge_io::{Kind, Sequence};
 use hls_master::{Master, read_master};
 use hls_media::read_media;
@@ -127,11 +130,13 @@ fn medias_of(alloc: Global, master: &Master, texts: &[&str]) -> Result<MediaFile
     Ok(medias)
 }
 
-fn presented(
+pub(crate) fn presented(
     alloc: Global,
     master: &str,
     medias: &[&str],
-) -> Result<Result<Presentation, HlsFault>, Fail> {
+) -> Result<Result<Presentation, HlsFault>, Fail>
+    ensures { IfOk result (λ made. IfOk made CameFromPlaylists) }
+{
     let master = read_master(alloc, master.as_bytes(), &Base::of(alloc, URL)?)?;
     let medias = medias_of(alloc, &master, medias)?;
     Ok(from_hls(alloc, &master, &medias))

@@ -1,0 +1,7 @@
+pub mod Escaping
+pub mod Neighbours
+pub mod Nodes
+pub mod Origins
+pub mod RunLemmas
+pub mod Sections
+pub mod Urls

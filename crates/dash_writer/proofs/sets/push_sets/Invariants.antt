@@ -1,0 +1,21 @@
+use Rattle.std.proofs.Common.{◌≡◌, ℕ, ◌-◌, ◌≤◌, List, ◌++◌, length, Ok}
+use Rattle.file_pieces.specs.Adding.{Adds, shown}
+use Rattle.dash_writer.specs.Manifest.{adaptation_sets, all_sets, stand_together}
+use Rattle.dash_writer.specs.Runs.{longest_runs}
+use Rattle.dash_writer.specs.Written.{elements_text}
+use Rattle.dash_writer.proofs.sets.push_sets.Given as goal
+
+-- what is added so far goes on to the whole
+abbrev pub invariant-loop-first : goal.invariant-loop-first
+invariant-loop-first g l =
+    let shows = shown g.F.Store.files g.F.Store.read_faults g.F.Store.write_faults in
+    let p = l.presentation in
+    record {
+      within : length l.rest ≤ length p.tracks;
+      done : (done : List ℕ)
+          × (done ++ elements_text (adaptation_sets p l.section (length p.tracks - length l.rest) (longest_runs stand_together l.rest)) ≡ elements_text (all_sets p l.section))
+          × Adds {T = Unit {0}} done l.initial.writer l.writer (shows l.initial.store) (shows l.store) (Ok tt);
+    }
+
+abbrev pub decreases-loop-first : goal.decreases-loop-first
+decreases-loop-first g l = length l.rest

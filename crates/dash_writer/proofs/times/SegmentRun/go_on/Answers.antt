@@ -1,0 +1,10 @@
+use Rattle.std.proofs.Common.{◌==◌, inl, inr}
+use Rattle.std.proofs.lemmas.Bool.{cases_Bool, eqb-true}
+use Rattle.dash_writer.proofs.Nodes.{adds_fails}
+use Rattle.dash_writer.proofs.times.SegmentRun.go_on.Goals as goal
+
+pub returns-in_err-push_to-clause-adds : goal.returns-in_err-push_to-clause-adds
+returns-in_err-push_to-clause-adds g c = let run = c.args.self in elim (cases_Bool (c.args.duration == run.duration)) [
+  | inl is ↦ absurd (c.if-duration-self.false (eqb-true c.args.duration run.duration is))
+  | inr isnt ↦ rw isnt (adds_fails c.from_residual.result c.from_residual.ensures.1 c.in_err-push_to.ensures)
+]

@@ -1,0 +1,68 @@
+-- The segments of a Representation as they are listed (ISO/IEC 23009-1, 5.3.9).
+use Rattle.std.specs.Prelude.{ℕ, ◌==◌, ◌-ℤ◌, Bool, List, [], ◌∷◌, ◌++◌, length, map, codes, decimal, Option, Some, None, option_map, if◌then◌else◌, Result, Ok, Err}
+use Rattle.url_parts.specs.declared.address.Part.{Part}
+use Rattle.timeline.specs.declared.fault.ListFault.{ListFault}
+use Rattle.timeline.specs.Expansions.{SegmentTimeline, Timing}
+use Rattle.timeline.specs.Listed.{part_of_timing}
+use Rattle.timeline.specs.Ratios.{natural}
+use Rattle.dash_writer.specs.Elements.{Attribute, Element, leaf, node}
+use Rattle.dash_writer.specs.Runs.{longest_runs}
+use Rattle.dash_writer.specs.Values.{range_text}
+
+-- S (5.3.9.6): segments that last as long as one another, as many as there are repeats after the first one
+abbrev pub s_element : (time : Option ℕ) → (duration repeats : ℕ) → Element
+s_element time duration repeats = leaf (codes "S") (
+    (codes "t", option_map decimal time)
+    ∷ (codes "d", Some (decimal duration))
+    ∷ (codes "r", if repeats == 0 then None else Some (decimal repeats))
+    ∷ []
+    )
+
+-- a run of equal durations, which is never empty
+abbrev pub s_of : (time : Option ℕ) → List ℕ → List Element
+s_of time [] = []
+s_of time (duration ∷ others) = s_element time duration (length others) ∷ []
+
+-- one S for each run, of which the first one tells that media time begins at 0
+abbrev pub s_elements : (time : Option ℕ) → List (List ℕ) → List Element
+s_elements time [] = []
+s_elements time (run ∷ runs) = s_of time run ++ s_elements None runs
+
+-- how long a segment lasts, in ticks
+abbrev pub duration_of : Timing → ℕ
+duration_of x = natural (x.end.ticks -ℤ x.start.ticks)
+
+abbrev pub same_duration : ℕ → ℕ → Bool
+same_duration one other = one == other
+
+abbrev pub timeline_elements : List ℕ → List Element
+timeline_elements durations = s_elements (Some 0) (longest_runs same_duration durations)
+
+-- the part of a segment that has an address
+abbrev pub part_or_none : Result Part ListFault → Part
+part_or_none (Ok part) = part
+part_or_none (Err fault) = record { address = []; range = None }
+
+-- SegmentURL (5.3.9.3.2)
+abbrev pub segment_url : Part → Element
+segment_url part = leaf (codes "SegmentURL") ((codes "media", Some part.address) ∷ (codes "mediaRange", option_map range_text part.range) ∷ [])
+
+abbrev pub segment_urls : SegmentTimeline → List Timing → List Element
+segment_urls timeline listed = map (λ x. segment_url (part_or_none (part_of_timing timeline x))) listed
+
+-- Initialization (5.3.9.2.2)
+abbrev pub initialization : Part → Element
+initialization part = leaf (codes "Initialization") ((codes "sourceURL", Some part.address) ∷ (codes "range", option_map range_text part.range) ∷ [])
+
+-- what stands in a SegmentList
+abbrev pub list_contents : SegmentTimeline → Part → List Timing → List Element
+list_contents timeline part listed =
+    initialization part ∷ node (codes "SegmentTimeline") [] (timeline_elements (map duration_of listed)) ∷ segment_urls timeline listed
+
+abbrev pub list_attributes : SegmentTimeline → List Attribute
+list_attributes timeline = (codes "timescale", Some (decimal timeline.ticks)) ∷ []
+
+-- SegmentList (5.3.9.3)
+abbrev pub segment_list : SegmentTimeline → Part → List Timing → Element
+segment_list timeline part listed =
+    node (codes "SegmentList") (list_attributes timeline) (list_contents timeline part listed)

@@ -1,0 +1,132 @@
+// Attributes.
+ghost use Rattle.file_pieces.specs.Adding.{Adds, shown};
+ghost use Rattle.mpd_text.specs.Escapes.{escape_all};
+ghost use Rattle.dash_writer.specs.Elements.{attributes_of};
+ghost use Rattle.dash_writer.specs.Values.{range_text, rate_text};
+ghost use Rattle.dash_writer.specs.Written.{all_told, attributes_text, known_text, told, value_text};
+
+use crate::escape::push_escaped;
+use bridge_io::{Fail, FileWriter, Ratio, Store};
+use exact_time::Nanos;
+use file_pieces::{Piece, push_pieces};
+use iso_time::write_duration;
+use url_parts::Range;
+
+/// The value of an attribute.
+#[derive(Clone, Copy)]
+pub(crate) enum Value<'a> {
+    /// A text.
+    Text(&'a str),
+    /// A whole number.
+    Number(u64),
+    /// A whole number that may need more than 64 bits.
+    Wide(u128),
+    /// A duration.
+    Duration(Nanos),
+    /// The id of the track at a place.
+    Id(usize),
+    /// Frames a second.
+    Rate(Ratio),
+    /// The places of the first and the last byte.
+    Range(Range),
+}
+
+/// An attribute by its name, which is there where it has a value.
+pub(crate) type Attribute<'a> = (&'a str, Option<Value<'a>>);
+
+impl Value<'_> {
+    /// Adds what is written between the quotes.
+    fn push_to<F: Store>(&self, writer: &mut FileWriter<'_>, store: &mut F) -> Result<(), Fail>
+        ensures { let shows = shown F.files F.read_faults F.write_faults in
+            Adds (escape_all (value_text self.now)) writer.old writer.new (shows store.old) (shows store.new) result }
+    {
+        match *self {
+            Value::Text(text) => push_escaped(writer, store, text.as_bytes()),
+            Value::Number(number) => push_pieces(writer, store, &[Piece::Number(number)]),
+            Value::Wide(number) => push_pieces(writer, store, &[Piece::Wide(number)]),
+            Value::Duration(nanos) => {
+                push_escaped(writer, store, write_duration(nanos).as_str().as_bytes())
+            }
+            Value::Id(place) => push_pieces(
+                writer,
+                store,
+                &[Piece::Text(b"t"), Piece::Number(place as u64)],
+            ),
+            Value::Rate(ratio) => push_rate(writer, store, ratio),
+            Value::Range(range) => push_range(writer, store, range),
+        }
+    }
+}
+
+/// Adds a frame rate.
+fn push_rate<F: Store>(writer: &mut FileWriter<'_>, store: &mut F, ratio: Ratio) -> Result<(), Fail>
+    ensures { let shows = shown F.files F.read_faults F.write_faults in
+        Adds (escape_all (rate_text ratio)) writer.old writer.new (shows store.old) (shows store.new) result }
+{
+    if ratio.n % ratio.m == 0 {
+        let whole = u64::from(ratio.n / ratio.m);
+        return push_pieces(writer, store, &[Piece::Number(whole)]);
+    }
+    let n = Piece::Number(u64::from(ratio.n));
+    let m = Piece::Number(u64::from(ratio.m));
+    push_pieces(writer, store, &[n, Piece::Text(b"/"), m])
+}
+
+/// Adds the places of the first and the last byte.
+fn push_range<F: Store>(
+    writer: &mut FileWriter<'_>,
+    store: &mut F,
+    range: Range,
+) -> Result<(), Fail>
+    ensures { let shows = shown F.files F.read_faults F.write_faults in
+        Adds (escape_all (range_text range)) writer.old writer.new (shows store.old) (shows store.new) result }
+{
+    let behind = u128::from(range.first) + u128::from(range.count);
+    push_pieces(
+        writer,
+        store,
+        &[
+            Piece::Number(range.first),
+            Piece::Text(b"-"),
+            Piece::Wide(behind.saturating_sub(1)),
+        ],
+    )
+}
+
+/// Adds the attributes that have values, in order.
+pub(crate) fn push_attributes<F: Store>(
+    writer: &mut FileWriter<'_>,
+    store: &mut F,
+    attributes: &[Attribute<'_>],
+) -> Result<(), Fail>
+    ensures { let shows = shown F.files F.read_faults F.write_faults in
+        Adds (attributes_text (attributes_of (all_told attributes.now))) writer.old writer.new (shows store.old) (shows store.new) result }
+{
+    for attribute in attributes {
+        push_attribute(writer, store, attribute)?;
+    }
+    Ok(())
+}
+
+/// Adds an attribute, if it has a value.
+fn push_attribute<F: Store>(
+    writer: &mut FileWriter<'_>,
+    store: &mut F,
+    attribute: &Attribute<'_>,
+) -> Result<(), Fail>
+    ensures { let shows = shown F.files F.read_faults F.write_faults in
+        Adds (known_text (told attribute.now)) writer.old writer.new (shows store.old) (shows store.new) result }
+{
+    let (name, value) = attribute;
+    let Some(value) = value else {
+        return Ok(());
+    };
+    let name = Piece::Text(name.as_bytes());
+    push_pieces(
+        writer,
+        store,
+        &[Piece::Text(b" "), name, Piece::Text(b"=\"")],
+    )?;
+    value.push_to(writer, store)?;
+    push_pieces(writer, store, &[Piece::Text(b"\"")])
+}

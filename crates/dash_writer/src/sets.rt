@@ -1,0 +1,264 @@
+// The tracks of a section: AdaptationSets with their Representations.
+ghost use Rattle.std.specs.Prelude.{◌≡◌, ◌+◌, ◌<◌, ◌≤◌, ◌∷◌, false, length, take, drop, codes, decimal, option_map, option_and_then};
+ghost use Rattle.file_pieces.specs.Adding.{Adds, shown};
+ghost use Rattle.presentation.specs.Origins.{CameFromPlaylists};
+ghost use Rattle.presentation.specs.Rows.{is_of, same_language};
+ghost use Rattle.dash_writer.specs.Elements.{tag_of};
+ghost use Rattle.dash_writer.specs.Manifest as spec;
+ghost use Rattle.dash_writer.specs.Runs.{longest_runs};
+ghost use Rattle.dash_writer.specs.Values.{known_rate};
+ghost use Rattle.dash_writer.specs.Written.{element_text, elements_text, start_text, value_text};
+
+use crate::attribute::Value;
+use crate::element::{push_end, push_start};
+use crate::segments::push_segments;
+use bridge_io::{Fail, FileWriter, Kind, Ledger, Ratio, Size, Steps, Store, Text};
+use presentation::{Presentation, Track};
+use std::alloc::Global;
+
+/// Adds the AdaptationSets of the section at a place (ISO/IEC 23009-1, 5.3.3).
+pub(crate) fn push_sets<F: Store, L: Ledger>(
+    alloc: Global,
+    presentation: &Presentation,
+    section: usize,
+    writer: &mut FileWriter<'_>,
+    store: &mut F,
+    steps: &mut Steps<L>,
+) -> Result<(), Fail>
+    requires origin { CameFromPlaylists presentation.now }
+    requires section { section < length presentation.now.sections }
+    ensures { let shows = shown F.files F.read_faults F.write_faults in
+        Adds (elements_text (spec.all_sets presentation.now section)) writer.old writer.new (shows store.old) (shows store.new) result }
+{
+    let tracks = presentation.tracks().as_slice();
+    let mut rest = tracks;
+    while let Some((first, others)) = rest.split_first() {
+        let place = tracks.len() - rest.len();
+        let (set, behind) = rest.split_at(1 + standing_with(first, others));
+        push_set(
+            alloc,
+            presentation,
+            section,
+            place,
+            set,
+            writer,
+            store,
+            steps,
+        )?;
+        rest = behind;
+    }
+    Ok(())
+}
+
+/// How many tracks stand in the AdaptationSet of a track that they follow on.
+fn standing_with(first: &Track, others: &[Track]) -> usize
+    ensures within { result ≤ length others.now }
+    ensures run { longest_runs spec.stand_together (first.now ∷ others.now)
+        ≡ (first.now ∷ take result others.now) ∷ longest_runs spec.stand_together (drop result others.now) }
+{
+    match others.split_first() {
+        Some((next, rest)) if stand_together(first, next) => 1 + standing_with(next, rest),
+        _ => 0,
+    }
+}
+
+/// Whether two neighbours stand in one AdaptationSet.
+fn stand_together(one: &Track, other: &Track) -> bool
+    ensures { result ≡ spec.stand_together one.now other.now }
+{
+    is_of(one.kind, other.kind)
+        && (is_of(Kind::Video, one.kind) || one.set == other.set)
+        && is_same_language(&one.language, &other.language)
+}
+
+fn is_of(kind: Kind, other: Kind) -> bool
+    ensures { result ≡ is_of kind other }
+{
+    match (kind, other) {
+        (Kind::Video, Kind::Video) | (Kind::Audio, Kind::Audio) | (Kind::Text, Kind::Text) => true,
+        _ => false,
+    }
+}
+
+fn is_same_language(one: &Option<Text>, other: &Option<Text>) -> bool
+    ensures { result ≡ same_language one.now other.now }
+{
+    match (one, other) {
+        (Some(one), Some(other)) => one.as_str() == other.as_str(),
+        (None, None) => true,
+        _ => false,
+    }
+}
+
+/// Adds the AdaptationSet of tracks from a place on.
+fn push_set<F: Store, L: Ledger>(
+    alloc: Global,
+    presentation: &Presentation,
+    section: usize,
+    place: usize,
+    set: &[Track],
+    writer: &mut FileWriter<'_>,
+    store: &mut F,
+    steps: &mut Steps<L>,
+) -> Result<(), Fail>
+    requires origin { CameFromPlaylists presentation.now }
+    requires section { section < length presentation.now.sections }
+    requires tracks { place + length set.now ≤ length presentation.now.tracks }
+    ensures { let shows = shown F.files F.read_faults F.write_faults in
+        Adds (elements_text (spec.adaptation_set presentation.now section place set.now)) writer.old writer.new (shows store.old) (shows store.new) result }
+{
+    let Some((track, _)) = set.split_first() else {
+        return Ok(());
+    };
+    push_set_start(track, writer, store)?;
+    push_representations(
+        alloc,
+        presentation,
+        section,
+        place,
+        set,
+        writer,
+        store,
+        steps,
+    )?;
+    push_end(writer, store, "AdaptationSet", false)
+}
+
+/// Adds what stands before the Representations of a set with this first track.
+fn push_set_start<F: Store>(
+    track: &Track,
+    writer: &mut FileWriter<'_>,
+    store: &mut F,
+) -> Result<(), Fail>
+    ensures { let shows = shown F.files F.read_faults F.write_faults in
+        Adds (start_text (tag_of (codes "AdaptationSet") (spec.set_attributes track.now)) false) writer.old writer.new (shows store.old) (shows store.new) result }
+{
+    let attributes = [
+        ("mimeType", Some(Value::Text(mime_type(track.kind)))),
+        ("lang", text(&track.language)),
+    ];
+    push_start(writer, store, "AdaptationSet", &attributes, false)
+}
+
+fn mime_type<'a>(kind: Kind) -> &'a str
+    ensures { result.now ≡ spec.mime_type kind }
+{
+    match kind {
+        Kind::Video => "video/mp4",
+        Kind::Audio => "audio/mp4",
+        Kind::Text => "application/mp4",
+    }
+}
+
+/// A text as a value, where it is known.
+fn text(known: &Option<Text>) -> Option<Value<'_>>
+    ensures { option_map value_text result ≡ known.now }
+{
+    match known {
+        Some(text) => Some(Value::Text(text.as_str())),
+        None => None,
+    }
+}
+
+/// Adds the Representations of tracks from a place on (5.3.5).
+fn push_representations<F: Store, L: Ledger>(
+    alloc: Global,
+    presentation: &Presentation,
+    section: usize,
+    place: usize,
+    tracks: &[Track],
+    writer: &mut FileWriter<'_>,
+    store: &mut F,
+    steps: &mut Steps<L>,
+) -> Result<(), Fail>
+    requires origin { CameFromPlaylists presentation.now }
+    requires section { section < length presentation.now.sections }
+    requires tracks { place + length tracks.now ≤ length presentation.now.tracks }
+    ensures { let shows = shown F.files F.read_faults F.write_faults in
+        Adds (elements_text (spec.representations presentation.now section place tracks.now)) writer.old writer.new (shows store.old) (shows store.new) result }
+{
+    let _ = presentation.tracks().len(); // which fits a number
+    let mut rest = tracks;
+    let mut place = place;
+    while let Some((track, others)) = rest.split_first() {
+        push_representation(
+            alloc,
+            presentation,
+            section,
+            place,
+            track,
+            writer,
+            store,
+            steps,
+        )?;
+        place += 1;
+        rest = others;
+    }
+    Ok(())
+}
+
+/// Adds the Representation of the track at a place.
+fn push_representation<F: Store, L: Ledger>(
+    alloc: Global,
+    presentation: &Presentation,
+    section: usize,
+    place: usize,
+    track: &Track,
+    writer: &mut FileWriter<'_>,
+    store: &mut F,
+    steps: &mut Steps<L>,
+) -> Result<(), Fail>
+    requires origin { CameFromPlaylists presentation.now }
+    requires section { section < length presentation.now.sections }
+    requires track { place < length presentation.now.tracks }
+    ensures { let shows = shown F.files F.read_faults F.write_faults in
+        Adds (element_text (spec.representation presentation.now section place track.now)) writer.old writer.new (shows store.old) (shows store.new) result }
+{
+    push_track_start(place, track, writer, store)?;
+    push_segments(alloc, presentation, section, place, writer, store, steps)?;
+    push_end(writer, store, "Representation", false)
+}
+
+/// Adds what stands before the segments of the track at a place.
+fn push_track_start<F: Store>(
+    place: usize,
+    track: &Track,
+    writer: &mut FileWriter<'_>,
+    store: &mut F,
+) -> Result<(), Fail>
+    ensures { let shows = shown F.files F.read_faults F.write_faults in
+        Adds (start_text (tag_of (codes "Representation") (spec.representation_attributes place track.now)) false) writer.old writer.new (shows store.old) (shows store.new) result }
+{
+    let attributes = [
+        ("id", Some(Value::Id(place))),
+        ("bandwidth", Some(Value::Number(track.bandwidth))),
+        ("codecs", text(&track.codecs)),
+        ("width", width(track.size)),
+        ("height", height(track.size)),
+        ("frameRate", frame_rate(track.frame_rate)),
+    ];
+    push_start(writer, store, "Representation", &attributes, false)
+}
+
+fn width<'a>(size: Option<Size>) -> Option<Value<'a>>
+    ensures { option_map value_text result ≡ option_map (λ size. decimal size.width) size }
+{
+    Some(Value::Number(u64::from(size?.width)))
+}
+
+fn height<'a>(size: Option<Size>) -> Option<Value<'a>>
+    ensures { option_map value_text result ≡ option_map (λ size. decimal size.height) size }
+{
+    Some(Value::Number(u64::from(size?.height)))
+}
+
+/// A frame rate as a value, where it is known and not 0.
+fn frame_rate<'a>(rate: Option<Ratio>) -> Option<Value<'a>>
+    ensures { option_map value_text result ≡ option_and_then known_rate rate }
+{
+    let rate = rate?;
+    if rate.n == 0 {
+        return None;
+    }
+    Some(Value::Rate(rate))
+}

@@ -1,0 +1,10 @@
+pub mod Plain
+pub mod Ordered
+pub mod Whole
+pub mod ReadOrder
+pub mod ReadTold
+pub mod ReadRates
+pub mod Parts
+pub mod Bytes
+pub mod Located
+pub mod TrackAddresses

@@ -1,0 +1,13 @@
+pub mod Numbers
+pub mod Lists
+pub mod Times
+pub mod Addressed
+pub mod Contents
+pub mod Views
+pub mod Representations
+pub mod Sets
+pub mod Orders
+pub mod Periods
+pub mod Plain
+pub mod Legal
+pub mod Texts

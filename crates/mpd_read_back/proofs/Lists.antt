@@ -1,0 +1,163 @@
+-- The elements of a written SegmentList are read as they were written.
+use Rattle.std.proofs.Common.{◌≡◌, ℕ, zero, suc, ◌≤◌, ◌==◌, pos, Bool, true, false, List, [], ◌∷◌, ◌++◌, length, map, filter, codes, Option, Some, None, if◌then◌else◌, IfSome, option_map, option_and_then, unwrap_or, refl, sym, ◌∙◌, ap, ap₂, subst, arith}
+use Rattle.std.proofs.lemmas.List.{length-map}
+use Rattle.std.specs.Prelude.{decimal}
+use Rattle.std.specs.List.{AllByRecursion}
+use Rattle.bridge_io.specs.declared.place.Place.{Place}
+use Rattle.url_parts.specs.declared.address.Part.{Part}
+use Rattle.url_parts.specs.declared.range.Range.{Range}
+use Rattle.mpd_text.specs.Trees.{Element}
+use Rattle.mpd_text.specs.Grammar.{past}
+use Rattle.mpd_text.specs.Views.{side_by_side}
+use Rattle.mpd_profile.specs.Heads.{is_named, or_else}
+use Rattle.mpd_values.specs.Numbers.{signed_of}
+use Rattle.mpd_levels.specs.Readings.{number_named}
+use Rattle.mpd_levels.specs.Segments.{segments_of}
+use Rattle.mpd_levels.specs.Segments as level
+use Rattle.mpd_levels.specs.declared.initialization.Initialization.{Initialization}
+use Rattle.mpd_markup.specs.Markup.{opening}
+use Rattle.mpd_markup.specs.Placed.{placed}
+use Rattle.dash_writer.specs.Elements.{Element as Written, in_order, leaf}
+use Rattle.dash_writer.specs.Runs.{longest_runs, with_first}
+use Rattle.dash_writer.specs.Segments.{s_element, s_elements, same_duration, duration_of, part_or_none, segment_url, segment_list, initialization}
+use Rattle.timeline.specs.Expansions.{SegmentTimeline, Timing}
+use Rattle.timeline.specs.Listed.{part_of_timing}
+use Rattle.mpd_read_back.specs.Told.{list_told, ListsAreRead, AreReadable, told_of, read_at, run_told, runs_of, url_of, IsReadable, IsShort}
+use Rattle.mpd_read_back.proofs.Views.{behind, none_named, nothing_above}
+use Rattle.mpd_read_back.proofs.Numbers.{number_read, signed_read, range_read}
+
+-- ---- an element alone
+
+url_read : (here : Place) (part : Part) → IsReadable part → level.url_of (read_at here (segment_url part)) ≡ url_of part
+url_read here part readable = go part.address part.range readable where
+  go : (address : List ℕ) (range : Option Range) → IsReadable (record { address = address; range = range })
+      → level.url_of (read_at here (segment_url (record { address = address; range = range }))) ≡ url_of (record { address = address; range = range })
+  go address None readable = refl
+  go address (Some range) readable = rw (range_read range readable) refl
+
+abbrev pub initialization_of : Part → Initialization
+initialization_of part = record { reference = Some part.address; range = part.range }
+
+pub initialization_read : (here : Place) (part : Part) → IsReadable part → level.initialization_of (read_at here (initialization part)) ≡ initialization_of part
+initialization_read here part readable = go part.address part.range readable where
+  go : (address : List ℕ) (range : Option Range) → IsReadable (record { address = address; range = range })
+      → level.initialization_of (read_at here (initialization (record { address = address; range = range })))
+      ≡ initialization_of (record { address = address; range = range })
+  go address None readable = refl
+  go address (Some range) readable = rw (range_read range readable) refl
+
+-- how often an S is repeated
+repeats_read : (repeats : ℕ) → IsShort repeats
+    → unwrap_or (option_and_then signed_of (if repeats == 0 then None else Some (decimal repeats))) (pos 0) ≡ pos repeats
+repeats_read zero short = refl
+repeats_read (suc repeats) short = let some : (suc repeats == 0) ≡ false = grind arith in rw (some, signed_read (suc repeats) short) refl
+
+run_with : (here : Place) (time : Option ℕ) (duration : ℕ) (repeats : Option (List ℕ)) → IfSome time IsShort → IsShort duration
+    → level.run_of (read_at here (leaf (codes "S") ((codes "t", option_map decimal time) ∷ (codes "d", Some (decimal duration)) ∷ (codes "r", repeats) ∷ [])))
+    ≡ record { t = time; d = duration; r = unwrap_or (option_and_then signed_of repeats) (pos 0) }
+run_with here None duration None t d = rw (number_read duration d) refl
+run_with here None duration (Some text) t d = rw (number_read duration d) refl
+run_with here (Some time) duration None t d = rw (number_read time t, number_read duration d) refl
+run_with here (Some time) duration (Some text) t d = rw (number_read time t, number_read duration d) refl
+
+run_read : (here : Place) (time : Option ℕ) (duration repeats : ℕ) → IfSome time IsShort → IsShort duration → IsShort repeats
+    → level.run_of (read_at here (s_element time duration repeats)) ≡ run_told time duration repeats
+run_read here time duration repeats t d r =
+    run_with here time duration (if repeats == 0 then None else Some (decimal repeats)) t d
+    ∙ ap (λ r. record { t = time; d = duration; r = r }) (repeats_read repeats r)
+
+-- ---- elements one after another
+
+-- those of a name
+abbrev pub named_at : List ℕ → Place → List Written → List Element
+named_at name here xs = filter (is_named name) (side_by_side (placed here (in_order xs)))
+
+pub urls_read : {X : Type 0} (part_of : X → Part) (here : Place) (xs : List X) → AllByRecursion (λ x. IsReadable (part_of x)) xs
+    → map level.url_of (named_at (codes "SegmentURL") here (map (λ x. segment_url (part_of x)) xs)) ≡ map url_of (map part_of xs)
+urls_read part_of here [] readable = refl
+urls_read part_of here (x ∷ xs) readable =
+    ap₂ (λ url urls. url ∷ urls) (url_read (past here (codes "\n")) (part_of x) readable.0)
+    (urls_read part_of (behind here (segment_url (part_of x))) xs readable.1)
+
+abbrev IsShortRun : ℕ → List ℕ → Type 0
+IsShortRun n run = AllByRecursion IsShort run × (length run ≤ n)
+
+runs_read : (here : Place) (n : ℕ) (time : Option ℕ) (runs : List (List ℕ)) → IfSome time IsShort → IsShort n → AllByRecursion (IsShortRun n) runs
+    → map level.run_of (named_at (codes "S") here (s_elements time runs)) ≡ runs_of time runs
+runs_read here n time [] t few short = refl
+runs_read here n time ([] ∷ runs) t few short = runs_read here n None runs tt few short.1
+runs_read here n time ((d ∷ others) ∷ runs) t few short =
+    ap₂ (λ run more. run ∷ more) (run_read (past here (codes "\n")) time d (length others) t short.0.0.0 (omega (arith, short.0.1)))
+    (runs_read (behind here (s_element time d (length others))) n None runs tt few short.1)
+
+-- ---- runs of durations that can be written
+
+more_allowed : (n : ℕ) (runs : List (List ℕ)) → AllByRecursion (IsShortRun n) runs → AllByRecursion (IsShortRun (suc n)) runs
+more_allowed n [] short = tt
+more_allowed n (run ∷ runs) short = ((short.0.0, omega (arith, short.0.1)), more_allowed n runs short.1)
+
+one_more : (n d : ℕ) (runs : List (List ℕ)) → IsShort d → AllByRecursion (IsShortRun n) runs
+    → AllByRecursion (IsShortRun (suc n)) (with_first same_duration d runs)
+one_more n d [] short all = (((short, tt), omega arith), tt)
+one_more n d ([] ∷ runs) short all = (((short, tt), omega arith), more_allowed n runs all.1)
+one_more n d ((e ∷ run) ∷ runs) short all = go (same_duration d e) where
+  go : (same : Bool) → AllByRecursion (IsShortRun (suc n)) (if same then (d ∷ e ∷ run) ∷ runs else (d ∷ []) ∷ (e ∷ run) ∷ runs)
+  go true = (((short, all.0.0), omega (arith, all.0.1)), more_allowed n runs all.1)
+  go false = (((short, tt), omega arith), more_allowed n ((e ∷ run) ∷ runs) all)
+
+runs_short : (ds : List ℕ) → AllByRecursion IsShort ds → AllByRecursion (IsShortRun (length ds)) (longest_runs same_duration ds)
+runs_short [] short = tt
+runs_short (d ∷ ds) short = one_more (length ds) d (longest_runs same_duration ds) short.0 (runs_short ds short.1)
+
+pub timeline_read : (here : Place) (ds : List ℕ) → AllByRecursion IsShort ds → IsShort (length ds)
+    → map level.run_of (named_at (codes "S") here (s_elements (Some 0) (longest_runs same_duration ds))) ≡ runs_of (Some 0) (longest_runs same_duration ds)
+timeline_read here ds short few = runs_read here (length ds) (Some 0) (longest_runs same_duration ds) (omega arith) few (runs_short ds short)
+
+-- ---- the list
+
+-- a list at a place
+record OfList (here : Place) (timeline : SegmentTimeline) (part : Part) (listed : List Timing) : Type 0 where
+  ticks : number_named (codes "timescale") (read_at here (segment_list timeline part listed)).head ≡ Some timeline.ticks
+  initialized : level.initialization_in (read_at here (segment_list timeline part listed)) ≡ Some (initialization_of part)
+  timed : level.timeline_in (read_at here (segment_list timeline part listed)) ≡ Some (runs_of (Some 0) (longest_runs same_duration (map duration_of listed)))
+  named : level.urls_in (read_at here (segment_list timeline part listed))
+      ≡ level.if_any (map url_of (map (λ x. part_or_none (part_of_timing timeline x)) listed))
+
+of_list : (here : Place) (timeline : SegmentTimeline) (part : Part) (listed : List Timing) → AreReadable timeline part listed → OfList here timeline part listed
+of_list here timeline part listed readable = record {
+  ticks = number_read timeline.ticks readable.ticks;
+  initialized = ap Some (initialization_read _ part readable.initialization);
+  timed = ap Some (timeline_read _ (map duration_of listed) readable.durations (subst IsShort (sym (length-map listed duration_of)) readable.few));
+  named = ap level.if_any (urls_read (λ x. part_or_none (part_of_timing timeline x)) _ listed readable.parts);
+}
+
+-- what a list tells by its parts
+told_with : (ticks : ℕ) (part : Part) (ds : List ℕ) (parts : List Part) (values : level.Values)
+    → values.attributes ≡ record { media = None; initialization = None; timescale = Some ticks; duration = None; start_number = None; time_offset = None }
+    → values.initialization ≡ Some (initialization_of part) → values.timeline ≡ Some (runs_of (Some 0) (longest_runs same_duration ds))
+    → values.urls ≡ level.if_any (map url_of parts)
+    → level.told true values ≡ list_told ticks part ds parts
+told_with ticks part ds parts values attributes initialized timed named = rw (attributes, initialized, timed, named) refl
+
+-- what a list says, alone
+pub list_values : (here : Place) (timeline : SegmentTimeline) (part : Part) (listed : List Timing) → AreReadable timeline part listed
+    → level.told true (level.values_in true (read_at here (segment_list timeline part listed) ∷ [])) ≡ told_of timeline part listed
+list_values here timeline part listed readable =
+    let is = of_list here timeline part listed readable in
+    told_with timeline.ticks part (map duration_of listed) (map (λ x. part_or_none (part_of_timing timeline x)) listed)
+    (level.values_in true (read_at here (segment_list timeline part listed) ∷ []))
+    (ap (λ t. record { media = None; initialization = None; timescale = or_else t None; duration = None; start_number = None; time_offset = None }) is.ticks)
+    (nothing_above _ ∙ is.initialized)
+    (nothing_above _ ∙ is.timed)
+    (nothing_above _ ∙ is.named)
+
+-- ---- levels
+
+pub lists_are_read : ListsAreRead
+unfolding segments_of
+lists_are_read timeline part listed representation set period representations sets a b c readable in_set in_period =
+    rw (
+      none_named (codes "Representation") (codes "SegmentList") refl (past b (opening set ++ codes ">")) representations in_set,
+      none_named (codes "AdaptationSet") (codes "SegmentList") refl (past c (opening period ++ codes ">")) sets in_period,
+      list_values _ timeline part listed readable,
+    ) refl

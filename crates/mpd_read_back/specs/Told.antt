@@ -1,0 +1,101 @@
+-- What is read of the segments of a Representation that are listed (ISO/IEC 23009-1, 5.3.9).
+use Rattle.std.specs.Prelude.{◌≡◌, ℕ, ◌+◌, ◌^◌, ◌<◌, ◌≤◌, pos, Bool, true, List, [], ◌∷◌, ◌++◌, length, map, codes, bytes_eq, Option, Some, None, IfSome}
+use Rattle.std.specs.List.{list_all, AllByRecursion}
+use Rattle.bridge_io.specs.declared.place.Place.{Place}
+use Rattle.url_parts.specs.declared.address.Part.{Part}
+use Rattle.url_parts.specs.declared.range.Range.{Range}
+use Rattle.timeline.specs.Expansions.{SegmentTimeline, Timing}
+use Rattle.timeline.specs.Listed.{part_of_timing}
+use Rattle.mpd_text.specs.Trees.{Element}
+use Rattle.mpd_text.specs.Grammar.{past}
+use Rattle.mpd_levels.specs.declared.tables.SView.{SView}
+use Rattle.mpd_levels.specs.declared.tables.SegmentUrl.{SegmentUrl}
+use Rattle.mpd_levels.specs.Segments.{Segments, if_any, segments_of}
+use Rattle.mpd_markup.specs.Markup.{Tag, opening}
+use Rattle.mpd_markup.specs.Placed.{head_at, placed}
+use Rattle.dash_writer.specs.Elements.{Element as Written, in_order}
+use Rattle.dash_writer.specs.Runs.{longest_runs}
+use Rattle.dash_writer.specs.Segments.{duration_of, part_or_none, same_duration, segment_list}
+
+-- ---- elements
+
+-- an element that is written at a place
+abbrev pub read_at : Place → Written → Element
+read_at here x = record { head = head_at here x.0 x.1; children = placed (past here (opening x.0 ++ codes ">")) x.1 }
+
+-- ---- segments
+
+-- an S (5.3.9.6)
+abbrev pub run_told : (time : Option ℕ) → (duration repeats : ℕ) → SView
+run_told time duration repeats = record { t = time; d = duration; r = pos repeats }
+
+abbrev pub run_of : (time : Option ℕ) → List ℕ → List SView
+run_of time [] = []
+run_of time (duration ∷ others) = run_told time duration (length others) ∷ []
+
+abbrev pub runs_of : (time : Option ℕ) → List (List ℕ) → List SView
+runs_of time [] = []
+runs_of time (run ∷ runs) = run_of time run ++ runs_of None runs
+
+abbrev pub url_of : Part → SegmentUrl
+url_of part = record { media = Some part.address; range = part.range }
+
+-- segments of these durations and files
+abbrev pub list_told : (ticks : ℕ) → Part → (durations : List ℕ) → List Part → Segments
+list_told ticks initialization durations parts = record {
+  is_list = true;
+  media = None;
+  timescale = ticks;
+  duration = None;
+  start_number = 1;
+  time_offset = 0;
+  timeline = Some (runs_of (Some 0) (longest_runs same_duration durations));
+  urls = if_any (map url_of parts);
+  init_template = None;
+  init_reference = Some initialization.address;
+  init_range = initialization.range;
+  has_initialization = true;
+}
+
+-- ---- values that are read as they are written
+
+-- a byte or more, of places below 2^63
+pub record IsSomeBytes (range : Range) : Type 0 where
+  pub some : 0 < range.count
+  pub bounded : range.first + range.count ≤ 2 ^ 63
+
+abbrev pub IsReadable : Part → Type 0
+IsReadable part = IfSome part.range IsSomeBytes
+
+-- a number of at most 64 digits
+abbrev pub IsShort : ℕ → Type 0
+IsShort n = n < 10 ^ 64
+
+pub record AreReadable (timeline : SegmentTimeline) (part : Part) (listed : List Timing) : Type 0 where
+  pub ticks : IsShort timeline.ticks
+  pub initialization : IsReadable part
+  pub durations : AllByRecursion IsShort (map duration_of listed)
+  pub few : IsShort (length listed)
+  pub parts : AllByRecursion (λ x. IsReadable (part_or_none (part_of_timing timeline x))) listed
+
+-- what was written of a timeline
+abbrev pub told_of : SegmentTimeline → Part → List Timing → Segments
+told_of timeline part listed = list_told timeline.ticks part (map duration_of listed) (map (λ x. part_or_none (part_of_timing timeline x)) listed)
+
+-- ---- a Representation in its set and its Period
+
+abbrev pub is_named : List ℕ → Written → Bool
+is_named name x = bytes_eq x.0.name name
+
+-- all elements have this name
+abbrev pub AreNamed : List ℕ → List Written → Type 0
+AreNamed name xs = list_all (is_named name) xs ≡ true
+
+-- Its only child is the list; its set has Representations alone, and its Period sets.
+abbrev pub ListsAreRead : Type 0
+ListsAreRead = (timeline : SegmentTimeline) (part : Part) (listed : List Timing) (representation set period : Tag) (representations sets : List Written)
+    (a b c : Place)
+    → AreReadable timeline part listed → AreNamed (codes "Representation") representations → AreNamed (codes "AdaptationSet") sets
+    → segments_of (read_at a (representation, in_order (segment_list timeline part listed ∷ [])) ∷ read_at b (set, in_order representations) ∷ read_at c
+    (period, in_order sets) ∷ [])
+    ≡ Some (told_of timeline part listed)

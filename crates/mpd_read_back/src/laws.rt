@@ -1,0 +1,35 @@
+// Laws of written MPDs.
+ghost use Rattle.mpd_read_back.specs.Told.{ListsAreRead};
+ghost use Rattle.mpd_read_back.specs.Contents.{ContentsAreMeant};
+ghost use Rattle.mpd_read_back.specs.Meant.{TreesMean};
+ghost use Rattle.mpd_read_back.specs.Texts.{TextsMean};
+
+use mpd_markup::printed_trees_are_read;
+
+/// The segments of a Representation whose only child is a written SegmentList, where neither its set nor its Period has a
+/// child but for sets and Representations, are told as they were written (ISO/IEC 23009-1, 5.3.9).
+pub fn written_lists_are_read()
+    ensures { ListsAreRead }
+{}
+
+/// What a track has in a section means the same when it is read of the written SegmentList, whatever the URL of the MPD and
+/// the end of its Period: segments begin with the section and lie one behind another, each with a duration and an address of
+/// its own (ISO/IEC 23009-1, 5.3.9.6).
+pub fn written_contents_mean_the_same()
+    ensures { ContentsAreMeant }
+{}
+
+/// The tree of a presentation's MPD means what the presentation means, at any URL and instant. The presentation is finished
+/// and has a section, its tracks stand in order, and each has segments of its own in each section (ISO/IEC 23009-1, 5.3.1 to
+/// 5.3.9).
+pub fn written_trees_mean_the_same()
+    ensures { TreesMean }
+{}
+
+/// The text of a presentation's MPD means what the presentation means, at any URL and instant, where also languages and codes
+/// are texts that a value can carry (ISO/IEC 23009-1, 5.3; XML 1.0, 2.2 and 3.3.3).
+pub fn written_texts_mean_the_same()
+    ensures { TextsMean }
+{
+    printed_trees_are_read();
+}
