@@ -1,5 +1,5 @@
 -- What words say of the folder and the digits of a job.
-use Rattle.std.proofs.Common.{◌≡◌, ℕ, ℤ, ◌-◌, ◌≤◌, ◌&&◌, Bool, true, false, IsTrue, List, [], ◌∷◌, Option, None, Some, IfSome, refl, arith, inl, inr}
+use Rattle.std.proofs.Common.{◌≡◌, ℕ, ℤ, ◌-◌, ◌≤◌, ◌&&◌, IsTrue, List, [], ◌∷◌, Option, None, Some, IfSome, refl, arith, inl, inr}
 use Rattle.std.specs.Prelude.{nat_le, codes, unwrap_or}
 use Rattle.std.proofs.lemmas.Bool.{cases_Bool}
 use Rattle.std.proofs.lemmas.Bool.Decides.{nat_tests}
@@ -8,12 +8,14 @@ use Rattle.bridge_jobs.specs.declared.jobs.Job.TheVariants as job
 use Rattle.bridge_jobs.specs.declared.verb.Verb.{Verb}
 use Rattle.bridge_jobs.specs.declared.verb.Verb.TheVariants as verb
 use Rattle.clap.specs.Words.{Row, first_of}
-use Rattle.bridge_jobs.specs.Jobs.{◌>>=◌, job_of, job_by, hls_of, dash_of, follow_of, show_of, check_of, reload_of, make_of, is_folder, folder_in, digits_in, digits_of, digits_or_six, file_of, base_of, now_of, out_of, seed_of, first_verb}
+use Rattle.bridge_io.specs.Names.{is_name}
+use Rattle.bridge_jobs.specs.Jobs.{◌>>=◌, name_in, job_of, job_by, hls_of, dash_of, follow_of, show_of, check_of, reload_of, make_of, is_folder, folder_in, digits_in, digits_of, digits_or_six, file_of, base_of, now_of, out_of, seed_of, first_verb}
 use Rattle.bridge_jobs.specs.Verbs.{values_of}
 
--- a job's folder leaves room for the names of its files, and its digits are few
+-- a job's folder leaves room for the names of its files, its digits are few, and a master's file has a name
 abbrev pub IsBounded : Job → Type 0
 IsBounded (job.Hls mpd base now out digits) = IsTrue (is_folder out) × (digits ≤ 9)
+IsBounded (job.Dash master base out) = IsTrue (is_name master)
 IsBounded other = Unit {0}
 
 -- ---- what holds of the end of some steps
@@ -70,10 +72,30 @@ hls_bounded rows =
     behind IsBounded (file_of (codes "mpd") rows) _ (λ mpd. behind IsBounded (base_of rows) _ (λ base. behind IsBounded (now_of rows) _ (λ now.
     bounded_in (out_of rows) (digits_of rows) mpd base now (folder_is (unwrap_or (first_of (codes "out") rows) (codes "out"))) (few_of rows))))
 
+named : (text name : List ℕ) → name_in text ≡ Some name → IsTrue (is_name name)
+named text name is = elim (cases_Bool (is_name text)) [
+  | inl is_so ↦ (let same : text ≡ name = (let e = rw is_so at is in cc) in rw (← same, is_so) refl)
+  | inr other ↦ absurd (let e = rw other at is in cc)
+]
+
+named_in : (text : Option (List ℕ)) (name : List ℕ) → (text >>= name_in) ≡ Some name → IsTrue (is_name name)
+named_in None name is = absurd (cc)
+named_in (Some text) name is = named text name is
+
+dash_in : (master base out : Option (List ℕ)) → ((m : List ℕ) → master ≡ Some m → IsTrue (is_name m)) → IfSome (master >>= (λ m. base >>= (λ b. out >>= (λ o. Some (job.Dash m b o))))) IsBounded
+dash_in None base out is = tt
+dash_in (Some m) None out is = tt
+dash_in (Some m) (Some b) None is = tt
+dash_in (Some m) (Some b) (Some o) is = is m refl
+
+dash_bounded : (rows : List Row) → IfSome (dash_of rows) IsBounded
+unfolding dash_of file_of
+dash_bounded rows = dash_in (file_of (codes "master") rows) (base_of rows) (out_of rows) (named_in (first_of (codes "master") rows))
+
 bounded_by : (v : Verb) (rows : List Row) → IfSome (job_by v rows) IsBounded
-unfolding dash_of follow_of show_of check_of reload_of make_of
+unfolding follow_of show_of check_of reload_of make_of
 bounded_by verb.Hls rows = hls_bounded rows
-bounded_by verb.Dash rows = three IsBounded (file_of (codes "master") rows) (base_of rows) (out_of rows) job.Dash (λ _ _ _. tt)
+bounded_by verb.Dash rows = dash_bounded rows
 bounded_by verb.Follow rows = four IsBounded (file_of (codes "name") rows) (base_of rows) (out_of rows) (digits_of rows) job.Follow (λ _ _ _ _. tt)
 bounded_by verb.Show rows = four IsBounded (file_of (codes "file") rows) (base_of rows) (now_of rows) (digits_of rows) job.Show (λ _ _ _ _. tt)
 bounded_by verb.Check rows = four IsBounded (file_of (codes "mpd") rows) (file_of (codes "master") rows) (base_of rows) (digits_of rows) job.Check (λ _ _ _ _. tt)

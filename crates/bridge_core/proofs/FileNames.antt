@@ -11,14 +11,13 @@ use Rattle.bridge_io.specs.Outside.{Files, put}
 use Rattle.bridge_jobs.specs.Laws.{in_folder, playlist_of}
 use Rattle.mpd_text.proofs.NameLemmas.{same_bytes, equals_itself}
 use Rattle.presentation.specs.Presented.{Presented}
-use Rattle.hls_writer.specs.Finished.{media_text}
 use Rattle.hls_writer.specs.Master.{master_text}
 use Rattle.read_back.specs.SameFiles.{AreWritten, master_name}
 use Rattle.bridge_core.specs.Playlists.{playlists, track_file, track_files, master_file}
 
 -- ---- one file
 
-put_there : (name bytes : List ℕ) (files : Files) → put name bytes files name ≡ Some bytes
+pub put_there : (name bytes : List ℕ) (files : Files) → put name bytes files name ≡ Some bytes
 put_there name bytes files = rw (equals_itself name) refl
 
 put_elsewhere : (name other bytes : List ℕ) (files : Files) → (name ≡ other → ⊥) → put name bytes files other ≡ files other

@@ -1,6 +1,12 @@
 pub mod Files
 pub mod Opened
+mod Pushing
+pub mod Found
+pub mod Begun
+mod Beginning
+mod Lengths
 pub mod Works
 pub mod Asked
 pub mod FileNames
 pub mod Promises
+pub mod MpdPromises

@@ -8,13 +8,14 @@ use Rattle.presentation.specs.Counting.{unless_any, counted, count_faults, count
 use Rattle.presentation.specs.Verifying.{verified, url_faults}
 use Rattle.bridge_runs.specs.declared.status.Verdict.TheVariants as verdict
 use Rattle.bridge_runs.specs.declared.ending.Ending.{Ending}
-use Rattle.bridge_core.specs.declared.refusal.Refusal.{Refusal}
+use Rattle.bridge_report.specs.declared.refusal.Refusal.{Refusal}
 use Rattle.bridge_core.specs.declared.hls.Hls.{Hls}
-use Rattle.bridge_core.specs.Bases.{file_url}
-use Rattle.bridge_core.specs.Outcomes.{Ends, course_by, Reads, IsEnding, IsRefusal}
+use Rattle.bridge_report.specs.Bases.{file_url}
+use Rattle.bridge_report.specs.Outcomes.{Ends, course_by, Reads, IsEnding, IsRefusal}
 use Rattle.presentation.specs.Told.{and_then, told_as}
-use Rattle.bridge_core.specs.Refusals.{refusal_of_file}
-use Rattle.bridge_core.specs.Hls.{manifest_limit, checked_presentation, outcome_of, hls_at, hls_under, hls_outcome}
+use Rattle.bridge_report.specs.Refusals.{refusal_of_file}
+use Rattle.bridge_report.specs.Reading.{manifest_limit}
+use Rattle.bridge_core.specs.Hls.{checked_presentation, outcome_of, hls_at, hls_under, hls_outcome}
 
 pub outcome_is : (job : Hls) (files : Option Files) → hls_outcome job files ≡ hls_under job (file_url job.base job.mpd) files
 unfolding hls_outcome
@@ -37,9 +38,9 @@ uncounted job (Ok p) is = absurd (let e = is in cc)
 uncounted job (Err refusal) is = absurd (let e = is in cc)
 
 -- a refusal that is told, or want of memory
-pub refusal_ends : (line : List ℕ) (reads : Bool) (told : Ending) (before after : Option Files) → IsRefusal line told → after ≡ before → IsEnding (Ends verdict.Refused line reads) told before after
-refusal_ends line reads told before after (inl is) same = rw is (refl, refl, same)
-refusal_ends line reads told before after (inr is) same = rw is (inl same)
+pub refusal_ends : (line : List ℕ) (reads counts : Bool) (told : Ending) (before after : Option Files) → IsRefusal line told → after ≡ before → IsEnding (Ends verdict.Refused line reads counts) told before after
+refusal_ends line reads counts told before after (inl is) same = rw is (refl, refl, same)
+refusal_ends line reads counts told before after (inr is) same = rw is (inl same)
 
 no_faults : {X Y : Type 0} (faults more : List PresentationFault) (x y : X) (z : Y) → unless_any (faults ++ more) x ≡ Ok y → unless_any faults z ≡ Ok z
 no_faults [] more x y z is = refl

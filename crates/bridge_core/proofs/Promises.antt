@@ -1,25 +1,22 @@
 -- What is written means what the MPD means.
-use Rattle.std.proofs.Common.{◌≡◌, ℕ, ◌+◌, ◌-◌, ◌^◌, ◌<◌, ◌≤◌, ◌&&◌, not, Bool, true, false, IsTrue, List, [], ◌∷◌, ◌++◌, length, take, drop, reverse, Option, None, Some, option_map, Result, Ok, Err, IfSome, bytes_eq, refl, sym, ◌∙◌, ap, subst, arith, inl, inr, append_assoc, take_all}
+use Rattle.std.proofs.Common.{◌≡◌, ℕ, ◌+◌, ◌-◌, ◌^◌, ◌<◌, ◌≤◌, ◌&&◌, not, Bool, true, false, IsTrue, List, [], ◌∷◌, ◌++◌, length, take, Option, None, Some, option_map, Result, Ok, Err, IfSome, bytes_eq, refl, sym, ◌∙◌, ap, subst, arith, inl, inr, append_assoc, take_all}
 use Rattle.std.specs.Prelude.{is_some, nat_le, nat_lt, if◌then◌else◌}
 use Rattle.std.proofs.lemmas.Bool.{cases_Bool, and_parts}
 use Rattle.std.proofs.lemmas.List.{append-nil, take_more}
 use Rattle.std.proofs.lemmas.List.Folds.{list_all-append}
 use Rattle.std.specs.Prelude.{◌==◌, slice_index}
-use Rattle.std.specs.List.{list_all, list_any, prefix_len}
+use Rattle.std.specs.List.{list_all, list_any}
 use Rattle.std.proofs.lemmas.Bool.{ltb-true, eqb-true}
-use Rattle.std.proofs.lemmas.List.{reverse-append}
 use Rattle.bridge_io.specs.InOrder.{put_all}
 use Rattle.bridge_io.specs.Names.{is_name}
 use Rattle.bridge_io.specs.Outside.{Files}
 use Rattle.bridge_io.specs.Slurped.{whole_file, within}
-use Rattle.bridge_jobs.specs.Jobs.{is_folder, job_of}
-use Rattle.bridge_jobs.specs.Laws.{FoldersHoldTheirFiles, in_folder, playlist_of}
-use Rattle.bridge_jobs.specs.declared.jobs.Job.TheVariants as jobs
+use Rattle.bridge_jobs.specs.Jobs.{is_folder}
+use Rattle.bridge_jobs.specs.Laws.{FoldersHoldTheirFiles}
 use Rattle.bridge_runs.specs.Courses.{Course, World, files_of}
 use Rattle.bridge_runs.specs.Laws.{DoneIsWhole, VerdictKeepsSteps}
 use Rattle.bridge_runs.specs.Runs.{IsRun}
 use Rattle.bridge_runs.specs.declared.status.Status.TheVariants as status
-use Rattle.bridge_runs.specs.declared.status.Verdict.{Verdict}
 use Rattle.bridge_runs.specs.declared.status.Verdict.TheVariants as verdict
 use Rattle.mpd_text.proofs.NameLemmas.{not_true, same_bytes}
 use Rattle.mpd_text.specs.Meaning.{reading_of}
@@ -28,7 +25,7 @@ use Rattle.mpd_rules.specs.Rules.{typed_mpd_of}
 use Rattle.mpd_rules.specs.Typed.{TypedMpd}
 use Rattle.presentation.proofs.Filling.{steps_of, ok_under}
 use Rattle.presentation.specs.MeaningLaws.{TextsAreMeant}
-use Rattle.presentation.specs.Meanings.{dash_meaning, meaning_of}
+use Rattle.presentation.specs.Meanings.{meaning_of}
 use Rattle.presentation.specs.Origins.{CameFromStaticMpd}
 use Rattle.presentation.specs.Presented.{Presented}
 use Rattle.presentation.specs.Told.{and_then, told_as, presented_of}
@@ -37,19 +34,20 @@ use Rattle.url_parts.specs.Addresses.{IsAddress, absolute, folder_of, is_tail}
 use Rattle.read_back.proofs.SameFolders.{no_tail, own_with_slash}
 use Rattle.hls_writer.specs.Verified.{IsVerified}
 use Rattle.hls_meaning.specs.Meanings.{hls_meaning}
-use Rattle.read_back.specs.Origins.{IsFound, IsOfBytes, ReadingsAreOfBytes, OwnTextsAreAddresses, StaticHaveFewTracks}
-use Rattle.read_back.specs.SameFiles.{AreWritten, FoldersHoldFiles, HoldsFiles, MeanTheSame, master_name}
+use Rattle.read_back.specs.Origins.{IsFound, ReadingsAreOfBytes, OwnTextsAreAddresses, StaticHaveFewTracks}
+use Rattle.read_back.specs.SameFiles.{AreWritten, FoldersHoldFiles, HoldsFiles, master_name}
 use Rattle.read_back.specs.SameStatic.{WrittenMeansTheSame}
-use Rattle.bridge_core.specs.Bases.{ends_in_slash, file_url, own_address, if_written_so, is_folder as is_base}
+use Rattle.bridge_report.specs.Bases.{ends_in_slash, file_url, own_address, if_written_so, is_folder as is_base}
 use Rattle.bridge_core.specs.Courses.{outcome_of_job, outcome_of_words}
-use Rattle.bridge_core.specs.Hls.{hls_outcome, hls_under, hls_at, base_refused, outcome_of, checked_presentation, presentation_of, checked, mpd_of, unless_live, manifest_limit}
-use Rattle.bridge_core.specs.Outcomes.{Outcome, Ends, Writes, course_by}
+use Rattle.bridge_core.specs.Hls.{hls_outcome, hls_under, outcome_of, checked_presentation, presentation_of, checked, mpd_of, unless_live}
+use Rattle.bridge_report.specs.Outcomes.{Ends, base_refused, course_by}
+use Rattle.bridge_report.specs.Reading.{manifest_limit}
 use Rattle.bridge_core.specs.Playlists.{playlists}
-use Rattle.bridge_core.specs.Promises.{AreOfBytes, AsksFor, job_asked, MeansTheSame, WrittenMeansTheMpd, master_url}
-use Rattle.bridge_core.specs.Refusals.{refusal_of_file}
+use Rattle.bridge_core.specs.Promises.{AreOfBytes, job_asked, MeansTheSame, WrittenMeansTheMpd}
+use Rattle.bridge_report.specs.Refusals.{refusal_of_file}
 use Rattle.bridge_core.specs.declared.hls.Hls.{Hls}
-use Rattle.bridge_core.specs.declared.refusal.Refusal.{Refusal}
-use Rattle.bridge_core.specs.declared.refusal.Refusal.TheVariants.{Unbuilt}
+use Rattle.bridge_report.specs.declared.refusal.Refusal.{Refusal}
+use Rattle.bridge_report.specs.declared.refusal.Refusal.TheVariants.{Unbuilt}
 use Rattle.bridge_core.proofs.Asked.{IsBounded, bounded}
 use Rattle.bridge_core.proofs.FileNames.{are_written}
 
@@ -95,18 +93,18 @@ read_of job bytes url p is =
 
 -- ---- where it lies
 
-record IsAt (base mpd url : List ℕ) : Type 0 where
-  folder : is_base base ≡ true
-  own : absolute url ≡ Ok url
+pub record IsAt (base mpd url : List ℕ) : Type 0 where
+  pub folder : is_base base ≡ true
+  pub own : absolute url ≡ Ok url
 
-written_so : (text url : List ℕ) (r : Result (List ℕ) _) → if_written_so text r ≡ Some url → (r ≡ Ok url) × (url ≡ text)
+pub written_so : (text url : List ℕ) (r : Result (List ℕ) _) → if_written_so text r ≡ Some url → (r ≡ Ok url) × (url ≡ text)
 written_so text url (Ok found) is = elim (cases_Bool (bytes_eq found text)) [
   | inl same ↦ (let e : found ≡ url = (let all = rw same at is in cc) in (ap Ok e, sym e ∙ same_bytes found text same))
   | inr other ↦ absurd (let e = rw other at is in cc)
 ]
 written_so text url (Err fault) is = absurd (cc)
 
-at_of : (base mpd url : List ℕ) → file_url base mpd ≡ Some url → IsAt base mpd url
+pub at_of : (base mpd url : List ℕ) → file_url base mpd ≡ Some url → IsAt base mpd url
 unfolding file_url
 at_of base mpd url is = elim (cases_Bool (is_base base && is_some (own_address base))) [
   | inl is_so ↦
@@ -115,7 +113,7 @@ at_of base mpd url is = elim (cases_Bool (is_base base && is_some (own_address b
   | inr other ↦ absurd (let e = rw other at is in cc)
 ]
 
-there_of : (limit : ℕ) (found : Option (List ℕ)) (bytes : List ℕ) → within limit found ≡ Ok bytes → found ≡ Some bytes
+pub there_of : (limit : ℕ) (found : Option (List ℕ)) (bytes : List ℕ) → within limit found ≡ Ok bytes → found ≡ Some bytes
 there_of limit None bytes is = absurd (cc)
 there_of limit (Some all) bytes is = elim (cases_Bool (nat_lt limit (length all))) [
   | inl long ↦ absurd (let e = rw long at is in cc)
@@ -135,18 +133,18 @@ record IsDoneBy (job : Hls) (first : Files) (course : Course) : Type 0 where
   goes : course ≡ course_by (outcome_of job (Ok p))
 
 module _ (keeps : VerdictKeepsSteps) (before after : World) where
-  not_refused : (line : List ℕ) (reads : Bool) → IsRun (course_by (Ends verdict.Refused line reads)) status.Done before after → ⊥
-  not_refused line reads run = (let e = (keeps _ verdict.Done before after run).0 in absurd (cc))
+  pub not_refused : (line : List ℕ) (reads counts : Bool) → IsRun (course_by (Ends verdict.Refused line reads counts)) status.Done before after → ⊥
+  not_refused line reads counts run = (let e = (keeps _ verdict.Done before after run).0 in absurd (cc))
 
   by_answer : (job : Hls) (r : Result Presented Refusal) → IsRun (course_by (outcome_of job r)) status.Done before after → (p : Presented) × (r ≡ Ok p)
   by_answer job (Ok p) run = (p, refl)
-  by_answer job (Err fault) run = absurd (not_refused _ _ run)
+  by_answer job (Err fault) run = absurd (not_refused _ _ _ run)
 
   by_url : (job : Hls) (first : Files) (course : Course) (url : Option (List ℕ)) → file_url job.base job.mpd ≡ url
       → option_map course_by (hls_under job url (Some first)) ≡ Some course → IsRun course status.Done before after → IsDoneBy job first course
   by_url job first course None at goes run =
       let same : course ≡ course_by (base_refused) = cc in
-      absurd (not_refused _ _ (subst (λ c. IsRun c status.Done before after) same run))
+      absurd (not_refused _ _ _ (subst (λ c. IsRun c status.Done before after) same run))
   by_url job first course (Some url) at goes run =
       let same : course ≡ course_by (outcome_of job (answer job url first)) = cc in
       let found = by_answer job (answer job url first) (subst (λ c. IsRun c status.Done before after) same run) in

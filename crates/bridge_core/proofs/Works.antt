@@ -1,5 +1,5 @@
 -- How the work of a run ends follows from what it leaves of the files.
-use Rattle.std.proofs.Common.{◌≡◌, ◌⊎◌, ◌+◌, ◌≤◌, ℕ, Bool, true, false, not, IsTrue, List, [], Option, None, Some, option_map, inl, inr, refl, sym, ap, ◌∙◌, subst, arith}
+use Rattle.std.proofs.Common.{◌≡◌, ◌⊎◌, ◌+◌, ◌≤◌, ℕ, Bool, true, false, IsTrue, List, [], Option, None, Some, option_map, inl, inr, refl, sym, ap, ◌∙◌, subst, arith}
 use Rattle.std.proofs.lemmas.List.{append-nil}
 use Rattle.bridge_io.specs.Fault.{Rose}
 use Rattle.bridge_io.specs.Outside.{Files, Changes, Appends}
@@ -13,7 +13,7 @@ use Rattle.bridge_runs.specs.declared.ending.Ending.{Ending}
 use Rattle.bridge_runs.specs.declared.ending.Ending.TheVariants as ending
 use Rattle.bridge_runs.specs.Runs.{Works, Finishes, NeverFalls, Tells, TellsAs, IsRun, status_of, status_untold, words_line}
 use Rattle.bridge_runs.specs.Courses.{Course, World, Whole, Step, Reaches, last_step}
-use Rattle.bridge_core.specs.Outcomes.{Outcome, Ends, Writes, course_by, IsSaid, IsEnding}
+use Rattle.bridge_report.specs.Outcomes.{Outcome, Ends, Writes, course_by, IsSaid, IsEnding}
 
 none_put : (before after : Option Files) → after ≡ before → Changes (put_all []) before after
 none_put None after same = same
@@ -32,25 +32,25 @@ uncounted is = absurd (let e = is in cc)
 
 -- nothing is done yet
 at_first : (outcome : Outcome) (w : World) → Whole 0 (course_by outcome) w w
-at_first (Ends v l reads) w = record { files = none_put w.files w.files refl; report = none_told w.report w.report refl; made = none_made (not reads) w.made w.made (λ is. refl) }
-at_first (Writes files l) w = record { files = none_put w.files w.files refl; report = none_told w.report w.report refl; made = none_made false w.made w.made (λ is. refl) }
+at_first (Ends v l reads counts) w = record { files = none_put w.files w.files refl; report = none_told w.report w.report refl; made = none_made counts w.made w.made (λ is. refl) }
+at_first (Writes files l reads) w = record { files = none_put w.files w.files refl; report = none_told w.report w.report refl; made = none_made false w.made w.made (λ is. refl) }
 
 abbrev first_step : Outcome → Step
-first_step (Ends v l reads) = last_step (course_by (Ends v l reads)).end
-first_step (Writes files l) = record { files = files; lines = []; least = 0; most = 0; reads = true }
+first_step (Ends v l reads counts) = last_step (course_by (Ends v l reads counts)).end
+first_step (Writes files l reads) = record { files = files; lines = []; least = 0; most = 0; reads = reads }
 
 reached : (outcome : Outcome) (w : World) → Reaches (course_by outcome) w w (first_step outcome)
-reached (Ends v l reads) w = record { n = 0; next = refl; whole = at_first (Ends v l reads) w }
-reached (Writes files l) w = record { n = 0; next = refl; whole = at_first (Writes files l) w }
+reached (Ends v l reads counts) w = record { n = 0; next = refl; whole = at_first (Ends v l reads counts) w }
+reached (Writes files l reads) w = record { n = 0; next = refl; whole = at_first (Writes files l reads) w }
 
 said : (outcome : Outcome) (end : Verdict) (line : List ℕ) (before after : World) → IsSaid outcome end line before.files after.files → after.report ≡ before.report
     → (IsTrue (course_by outcome).counts → after.made ≡ before.made) → Finishes (course_by outcome) end line before after
-said (Ends v l reads) end line before after is report made = record {
-  whole = record { files = none_put before.files after.files is.2; report = none_told before.report after.report report; made = none_made (not reads) before.made after.made made };
+said (Ends v l reads counts) end line before after is report made = record {
+  whole = record { files = none_put before.files after.files is.2; report = none_told before.report after.report report; made = none_made counts before.made after.made made };
   verdict = is.0;
   lines = is.1;
 }
-said (Writes files l) end line before after is report made = record {
+said (Writes files l reads) end line before after is report made = record {
   whole = record {
     files = is.2 ∙ ap (λ fs. option_map (put_all fs) before.files) (sym (append-nil files));
     report = none_told before.report after.report report;
@@ -66,57 +66,57 @@ pub works : (outcome : Outcome) (told : Ending) (before after : World) → IsEnd
     → after.report ≡ before.report → (IsTrue (course_by outcome).counts → after.made ≡ before.made) → Works (course_by outcome) told before after
 works outcome (ending.Ended end line) before after is read write report made = said outcome end line before after is report made
 works outcome ending.Words before after is read write report made = said outcome verdict.Words words_line before after is report made
-works (Ends v l reads) ending.ReadFault before after is read write report made = record {
+works (Ends v l reads counts) ending.ReadFault before after is read write report made = record {
   mid = before;
-  step = first_step (Ends v l reads);
-  reaches = reached (Ends v l reads) before;
+  step = first_step (Ends v l reads counts);
+  reaches = reached (Ends v l reads counts) before;
   reads = is.0;
   rose = inl (read refl);
   files = is.1;
-  made = none_made (not reads) before.made after.made made;
+  made = none_made counts before.made after.made made;
   report = report;
 }
-works (Writes files l) ending.ReadFault before after is read write report made = record {
+works (Writes files l reads) ending.ReadFault before after is read write report made = record {
   mid = before;
-  step = first_step (Writes files l);
-  reaches = reached (Writes files l) before;
+  step = first_step (Writes files l reads);
+  reaches = reached (Writes files l reads) before;
   reads = is.0;
   rose = inl (read refl);
   files = is.1;
   made = none_made false before.made after.made made;
   report = report;
 }
-works (Ends v l reads) ending.WriteFault before after is read write report made = absurd is
-works (Writes files l) ending.WriteFault before after is read write report made = record {
+works (Ends v l reads counts) ending.WriteFault before after is read write report made = absurd is
+works (Writes files l reads) ending.WriteFault before after is read write report made = record {
   mid = before;
-  step = first_step (Writes files l);
-  reaches = reached (Writes files l) before;
+  step = first_step (Writes files l reads);
+  reaches = reached (Writes files l reads) before;
   rose = write refl;
   files = is;
   made = none_made false before.made after.made made;
   report = report;
 }
-works (Ends v l reads) ending.Memory before after (inl same) read write report made = record {
+works (Ends v l reads counts) ending.Memory before after (inl same) read write report made = record {
   mid = before;
-  step = first_step (Ends v l reads);
-  reaches = reached (Ends v l reads) before;
+  step = first_step (Ends v l reads counts);
+  reaches = reached (Ends v l reads counts) before;
   files = inl same;
-  made = none_made (not reads) before.made after.made made;
+  made = none_made counts before.made after.made made;
   report = report;
 }
-works (Ends v l reads) ending.Memory before after (inr begun) read write report made = absurd begun
-works (Writes files l) ending.Memory before after (inl same) read write report made = record {
+works (Ends v l reads counts) ending.Memory before after (inr begun) read write report made = absurd begun
+works (Writes files l reads) ending.Memory before after (inl same) read write report made = record {
   mid = before;
-  step = first_step (Writes files l);
-  reaches = reached (Writes files l) before;
+  step = first_step (Writes files l reads);
+  reaches = reached (Writes files l reads) before;
   files = inl same;
   made = none_made false before.made after.made made;
   report = report;
 }
-works (Writes files l) ending.Memory before after (inr begun) read write report made = record {
+works (Writes files l reads) ending.Memory before after (inr begun) read write report made = record {
   mid = before;
-  step = first_step (Writes files l);
-  reaches = reached (Writes files l) before;
+  step = first_step (Writes files l reads);
+  reaches = reached (Writes files l reads) before;
   files = inr (inl begun);
   made = none_made false before.made after.made made;
   report = report;

@@ -1,5 +1,5 @@
 -- What a run does where nothing fails, by its words and the store's files.
-use Rattle.std.specs.Prelude.{ℕ, false, List, Option, Some, option_map}
+use Rattle.std.specs.Prelude.{ℕ, true, false, List, Option, Some, option_map}
 use Rattle.bridge_io.specs.Outside.{Files}
 use Rattle.bridge_jobs.specs.declared.jobs.Job.{Job}
 use Rattle.bridge_jobs.specs.declared.jobs.Job.TheVariants as job
@@ -7,15 +7,23 @@ use Rattle.bridge_jobs.specs.Jobs.{job_of}
 use Rattle.bridge_runs.specs.declared.status.Verdict.TheVariants as verdict
 use Rattle.bridge_runs.specs.Runs.{words_line}
 use Rattle.bridge_runs.specs.Courses.{Course, World}
-use Rattle.bridge_core.specs.Outcomes.{Outcome, Ends, course_by}
+use Rattle.bridge_report.specs.Outcomes.{Outcome, Ends, course_by}
+use Rattle.bridge_core.specs.Dash.{dash_outcome}
 use Rattle.bridge_core.specs.Hls.{hls_outcome}
+use Rattle.bridge_core.specs.Make.{make_outcome}
+use Rattle.bridge_core.specs.Show.{show_outcome}
+use Rattle.bridge_playlists.specs.Reload.{reload_outcome}
 
 abbrev pub no_job : Outcome
-no_job = Ends verdict.Words words_line false
+no_job = Ends verdict.Words words_line false true
 
--- only `hls` is built yet: the other commands are no job of the program
+-- `follow` and `check` aren't built yet: they are no job of the program
 abbrev pub outcome_of_job : Option Job → Option Files → Option Outcome
 outcome_of_job (Some (job.Hls mpd base now out digits)) files = hls_outcome (record { mpd = mpd; base = base; instant = now; out = out; digits = digits }) files
+outcome_of_job (Some (job.Dash master base out)) files = dash_outcome (record { master = master; base = base; out = out }) files
+outcome_of_job (Some (job.Show file base now digits)) files = show_outcome (record { file = file; base = base; instant = now; digits = digits }) files
+outcome_of_job (Some (job.Reload old new base)) files = reload_outcome (record { old = old; new = new; base = base }) files
+outcome_of_job (Some (job.Make seed out digits)) files = Some (make_outcome (record { seed = seed; out = out; digits = digits }))
 outcome_of_job other files = Some no_job
 
 -- How a run of these words ends over these files. Where the store doesn't tell its files, it is known if the words alone
@@ -29,6 +37,10 @@ course_of words files = option_map course_by (outcome_of_words words files)
 -- a job that isn't built yet
 abbrev pub IsUnbuilt : Job → Type 0
 IsUnbuilt (job.Hls mpd base now out digits) = ⊥
+IsUnbuilt (job.Dash master base out) = ⊥
+IsUnbuilt (job.Show file base now digits) = ⊥
+IsUnbuilt (job.Reload old new base) = ⊥
+IsUnbuilt (job.Make seed out digits) = ⊥
 IsUnbuilt other = Unit {0}
 
 -- what a run meets, in the order of its record

@@ -1,5 +1,5 @@
 -- From an MPD to playlists.
-use Rattle.std.specs.Prelude.{ℕ, ℤ, ◌^◌, true, false, List, codes, if◌then◌else◌, Option, Some, None, option_map, Result, Ok, Err}
+use Rattle.std.specs.Prelude.{ℕ, ℤ, ◌^◌, true, false, List, if◌then◌else◌, Option, Some, None, option_map, Result, Ok, Err}
 use Rattle.bridge_io.specs.Outside.{Files}
 use Rattle.bridge_io.specs.Slurped.{whole_file}
 use Rattle.mpd_text.specs.Meaning.{reading_of}
@@ -10,17 +10,15 @@ use Rattle.presentation.specs.Presented.{Presented}
 use Rattle.presentation.specs.Told.{and_then, told_as, presented_of}
 use Rattle.presentation.specs.Verifying.{verified}
 use Rattle.bridge_runs.specs.declared.status.Verdict.TheVariants as verdict
-use Rattle.bridge_core.specs.declared.refusal.Refusal.{Refusal}
-use Rattle.bridge_core.specs.declared.refusal.Refusal.TheVariants as refusal
+use Rattle.bridge_report.specs.declared.refusal.Refusal.{Refusal}
+use Rattle.bridge_report.specs.declared.refusal.Refusal.TheVariants as refusal
 use Rattle.bridge_core.specs.declared.hls.Hls.{Hls}
-use Rattle.bridge_core.specs.Bases.{file_url}
-use Rattle.bridge_core.specs.Refusals.{refusal_line, refusal_of_file}
-use Rattle.bridge_core.specs.Outcomes.{Outcome, Ends, Writes}
-use Rattle.bridge_core.specs.Playlists.{playlists, done_line}
-
--- the bytes that a manifest has at most
-abbrev pub manifest_limit : ℕ
-manifest_limit = 8388608
+use Rattle.bridge_report.specs.Bases.{file_url}
+use Rattle.bridge_report.specs.Refusals.{refusal_line, refusal_of_file}
+use Rattle.bridge_report.specs.Outcomes.{Outcome, Ends, Writes, base_refused}
+use Rattle.bridge_report.specs.Reading.{manifest_limit}
+use Rattle.bridge_core.specs.Done.{done_line}
+use Rattle.bridge_core.specs.Playlists.{playlists}
 
 -- an MPD that is followed isn't built yet
 abbrev pub unless_live : TypedMpd (Option Segments) → Result (TypedMpd (Option Segments)) Refusal
@@ -31,6 +29,13 @@ unfoldable pub mpd_of : List ℕ → Result (TypedMpd (Option Segments)) Refusal
 mpd_of bytes =
     and_then (told_as refusal.Text (reading_of bytes)) (λ root.
     and_then (told_as refusal.Rules (typed_mpd_of root)) unless_live)
+
+-- the same of any MPD, live or not
+unfoldable pub any_mpd_of : List ℕ → Result (TypedMpd (Option Segments)) Refusal
+any_mpd_of bytes = and_then (told_as refusal.Text (reading_of bytes)) (λ root. told_as refusal.Rules (typed_mpd_of root))
+
+unfoldable pub any_presentation_of : (url : List ℕ) (now : Option ℤ) (bytes : List ℕ) → Result Presented Refusal
+any_presentation_of url now bytes = and_then (any_mpd_of bytes) (λ mpd. told_as refusal.Presentation (presented_of mpd url now))
 
 -- the presentation of an MPD at a URL, or the first refusal
 unfoldable pub presentation_of : (url : List ℕ) (now : Option ℤ) (bytes : List ℕ) → Result Presented Refusal
@@ -46,20 +51,16 @@ checked_presentation job url bytes = and_then (presentation_of url job.instant b
 -- ---- how the command ends
 
 abbrev pub refused_by : (file : List ℕ) → Refusal → Outcome
-refused_by file refusal = Ends verdict.Refused (refusal_line file refusal) true
+refused_by file refusal = Ends verdict.Refused (refusal_line file refusal) true false
 
 abbrev pub outcome_of : Hls → Result Presented Refusal → Outcome
-outcome_of job (Ok p) = Writes (playlists job.out job.digits p) (done_line p)
+outcome_of job (Ok p) = Writes (playlists job.out job.digits p) (done_line p) true
 outcome_of job (Err refusal) = refused_by job.mpd refusal
 
 -- the MPD is at this URL
 abbrev pub hls_at : Hls → (url : List ℕ) → Files → Outcome
 hls_at job url files =
     outcome_of job (and_then (told_as refusal_of_file (whole_file manifest_limit job.mpd files)) (checked_presentation job url))
-
--- a base that is refused is told without a file, and whatever the store tells
-abbrev pub base_refused : Outcome
-base_refused = Ends verdict.Refused (refusal_line (codes "-") refusal.Base) false
 
 abbrev pub hls_under : Hls → Option (List ℕ) → Option Files → Option Outcome
 hls_under job None files = Some base_refused

@@ -1,8 +1,9 @@
-pub mod Bases
 pub mod Courses
-pub mod Promises
+pub mod Dash
+pub mod Done
 pub mod Hls
-pub mod Outcomes
+pub mod Make
 pub mod Playlists
-pub mod Refusals
-pub mod Words
+pub mod Promises
+pub mod Show
+pub mod Source

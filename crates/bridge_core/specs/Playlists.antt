@@ -1,7 +1,7 @@
--- The files that `hls` writes of a presentation, and what it reports.
-use Rattle.std.specs.Prelude.{ℕ, List, [], ◌∷◌, ◌++◌, map, length, codes, decimal}
+-- The files that `hls` writes of a presentation.
+use Rattle.std.specs.Prelude.{ℕ, List, [], ◌∷◌, ◌++◌, map, codes}
 use Rattle.presentation.specs.Presented.{Presented}
-use Rattle.presentation.specs.Counting.{tracks_of, count_of_all}
+use Rattle.presentation.specs.Counting.{tracks_of}
 use Rattle.hls_writer.specs.Finished.{media_text}
 use Rattle.hls_writer.specs.Master.{master_text}
 use Rattle.bridge_jobs.specs.Laws.{in_folder, playlist_of}
@@ -19,16 +19,3 @@ master_file out p = (in_folder out (codes "master.m3u8"), master_text p)
 -- the playlists of the tracks in order, and the master last
 abbrev pub playlists : (out : List ℕ) (digits : ℕ) → Presented → List (List ℕ × List ℕ)
 playlists out digits p = track_files out digits p ++ master_file out p ∷ []
-
-unfoldable pub tracks_text : (tracks sections : ℕ) → List ℕ
-tracks_text tracks sections = codes "done tracks=" ++ decimal tracks ++ codes " sections=" ++ decimal sections ++ codes " segments="
-
-unfoldable pub segments_text : (segments left_out : ℕ) → List ℕ
-segments_text segments left_out = decimal segments ++ codes " left-out=" ++ decimal left_out ++ codes "\n"
-
-unfoldable pub done_text : (tracks sections segments left_out : ℕ) → List ℕ
-done_text tracks sections segments left_out = tracks_text tracks sections ++ segments_text segments left_out
-
--- the line of the report
-abbrev pub done_line : Presented → List ℕ
-done_line p = done_text (length p.tracks) (length p.sections) (count_of_all p) p.left_out

@@ -1,19 +1,19 @@
 // From an MPD to playlists.
-ghost use Rattle.std.specs.Prelude.{◌≡◌, ◌⊎◌, ◌≤◌, Ok, IfOk, IsTrue};
+ghost use Rattle.std.specs.Prelude.{◌≡◌, ◌≤◌, Ok, IfOk, IsTrue};
 ghost use Rattle.std.specs.Option.{ForSome};
 ghost use Rattle.bridge_io.specs.Answer.{Gives};
 ghost use Rattle.bridge_io.specs.Fault.{Rose};
 ghost use Rattle.bridge_runs.specs.declared.status.Status.TheVariants as status;
 ghost use Rattle.bridge_runs.specs.Runs.{status_of};
-ghost use Rattle.bridge_core.specs.Refusals.{refused_in, refusal_line};
-ghost use Rattle.bridge_core.specs.Outcomes.{IsEnding, IsRefusal, course_by};
+ghost use Rattle.bridge_report.specs.Refusals.{refused_in};
+ghost use Rattle.bridge_report.specs.Outcomes.{IsEnding, course_by};
 ghost use Rattle.bridge_core.specs.Hls as spec;
 
-use crate::base::file_url;
+use crate::done::done_line;
 use crate::manifest::{Ready, checked, presentation_of};
-use crate::playlists::{done_line, write_playlists};
-use crate::refusal::{Refusal, Stop, refusal_line};
+use crate::playlists::write_playlists;
 use bridge_io::{Ledger, Name, NoMemory, Slurp, Steps, Store, Text, slurp};
+use bridge_report::{Refusal, Stop, file_url, refused};
 use bridge_runs::{Ending, Verdict};
 use exact_time::Digits;
 use hls_writer::OutFault;
@@ -141,23 +141,12 @@ fn write<F: Store, L: Ledger>(
     ensures reads { F.read_faults store.new ≡ F.read_faults store.old }
     ensures writes { F.write_faults store.old ≤ F.write_faults store.new }
 {
-    let Ok(line) = done_line(alloc, ready) else {
+    let Ok(line) = done_line(alloc, &ready.presentation) else {
         return Ending::Memory;
     };
     match write_playlists(alloc, &job.out, ready, store, steps) {
         Ok(()) => Ending::Ended(Verdict::Done, line),
         Err(OutFault::WriteFault) => Ending::WriteFault,
         Err(OutFault::Memory) => Ending::Memory,
-    }
-}
-
-/// How a run ends whose input is refused.
-fn refused(alloc: Global, file: &str, refusal: Refusal) -> Ending
-    ensures line { IsRefusal (refusal_line file.now refusal) result }
-    ensures status { (status_of result ≡ status.Refused) ⊎ (status_of result ≡ status.Memory) }
-{
-    match refusal_line(alloc, file, refusal) {
-        Ok(line) => Ending::Ended(Verdict::Refused, line),
-        Err(NoMemory) => Ending::Memory,
     }
 }

@@ -1,8 +1,14 @@
 //! Laws of the program's runs. The functions do nothing: what they ensure is the law.
-ghost use Rattle.bridge_core.specs.Promises.{WrittenMeansTheMpd};
+ghost use Rattle.bridge_core.specs.Promises.{WrittenMeansTheMpd, WrittenMpdMeansThePlaylists};
 
 use bridge_jobs::laws::folders_hold_their_files;
 use bridge_runs::{a_verdict_keeps_the_steps, done_is_whole};
+use hls_media::what_is_read_is_bounded;
+use hls_read::presented_mean_their_files;
+use mpd_from_playlists::{
+    read_tracks_can_be_written, what_is_read_has_addresses,
+    written_playlists_mean_the_same as written_mpds_mean_the_same,
+};
 use presentation::presentations_mean_what_they_list;
 use read_back::{
     read_trees_are_of_bytes, static_tracks_are_writable, written_means_the_same,
@@ -23,4 +29,19 @@ pub fn what_is_written_means_the_mpd()
     written_means_the_same();
     read_trees_are_of_bytes();
     static_tracks_are_writable();
+}
+
+/// Where a run of `dash` is done, the MPD that it wrote means, at any URL and instant, what the master and its playlists mean:
+/// the same tracks, addresses and ranges in order, at equal times (RFC 8216, 4.3; ISO/IEC 23009-1, 5.3).
+pub fn what_is_written_means_the_playlists()
+    ensures { WrittenMpdMeansThePlaylists }
+{
+    done_is_whole();
+    a_verdict_keeps_the_steps();
+    what_is_read_is_bounded();
+    presented_mean_their_files();
+    read_trees_are_of_bytes();
+    read_tracks_can_be_written();
+    what_is_read_has_addresses();
+    written_mpds_mean_the_same();
 }

@@ -1,15 +1,19 @@
 //! The jobs of the manifest bridge and its top call.
 #![tactic(auto)]
 
-mod base;
-mod fault_words;
+mod dash;
+mod done;
 mod hls;
 mod laws;
+mod listing;
+mod make;
 mod manifest;
 mod playlists;
-mod refusal;
 mod run;
+mod seconds;
+mod show;
+mod source;
 
 pub use bridge_runs::Status;
-pub use laws::what_is_written_means_the_mpd;
+pub use laws::{what_is_written_means_the_mpd, what_is_written_means_the_playlists};
 pub use run::bridge;

@@ -7,11 +7,11 @@ ghost use Rattle.mpd_rules.specs.Rules.{typed_mpd_of};
 ghost use Rattle.mpd_rules.specs.Views.{segments_mpd};
 ghost use Rattle.presentation.specs.Told.{told_as};
 ghost use Rattle.presentation.specs.Verifying.{verified};
-ghost use Rattle.bridge_core.specs.Refusals.{refused_in};
+ghost use Rattle.bridge_report.specs.Refusals.{refused_in};
 ghost use Rattle.bridge_core.specs.Hls as spec;
 
-use crate::refusal::{Refusal, Stop};
 use bridge_io::{Ledger, Steps};
+use bridge_report::{Refusal, Stop};
 use exact_time::Digits;
 use iso_time::Instant;
 use mpd_rules::{Mpd, rules};
@@ -43,6 +43,23 @@ pub fn presentation_of(
     ensures { Gives (λ presentation. presentation) refused_in result (spec.presentation_of url.now now bytes.now) }
 {
     let mpd = mpd_of(alloc, bytes)?;
+    match Presentation::from_mpd(alloc, &mpd, url, now) {
+        Ok(presentation) => Ok(presentation),
+        Err(fault) => Err(Stop::of_presentation(fault)),
+    }
+}
+
+/// The same of any MPD, live or not.
+#[tactic(auto, unfolding(crate::specs::Hls::any_presentation_of))]
+pub fn any_presentation_of(
+    alloc: Global,
+    bytes: &[u8],
+    url: &Base,
+    now: Option<Instant>,
+) -> Result<Presentation, Stop>
+    ensures { Gives (λ presentation. presentation) refused_in result (spec.any_presentation_of url.now now bytes.now) }
+{
+    let mpd = any_mpd_of(alloc, bytes)?;
     match Presentation::from_mpd(alloc, &mpd, url, now) {
         Ok(presentation) => Ok(presentation),
         Err(fault) => Err(Stop::of_presentation(fault)),
@@ -81,6 +98,15 @@ fn mpd_of(alloc: Global, bytes: &[u8]) -> Result<Mpd, Stop>
         return Err(Stop::Refused(Refusal::Unbuilt));
     }
     Ok(mpd)
+}
+
+/// The values of any MPD, live or not, or the first refusal.
+#[tactic(auto, unfolding(crate::specs::Hls::any_mpd_of))]
+fn any_mpd_of(alloc: Global, bytes: &[u8]) -> Result<Mpd, Stop>
+    ensures { Gives segments_mpd refused_in result (spec.any_mpd_of bytes.now) }
+{
+    let tree = tree_of(alloc, bytes)?;
+    values_of(alloc, &tree)
 }
 
 fn tree_of(alloc: Global, bytes: &[u8]) -> Result<Tree, Stop>

@@ -1,20 +1,17 @@
 // The playlists of a presentation.
-ghost use Rattle.std.specs.Prelude.{◌≡◌, ◌<◌, ◌++◌, length, codes, IfOk, OnOk, OnErr};
-ghost use Rattle.std.specs.String.{string_bytes};
+ghost use Rattle.std.specs.Prelude.{◌≡◌, ◌<◌, length, codes, IfOk, OnOk, OnErr};
 ghost use Rattle.bridge_io.specs.Fault.{HasCause};
 ghost use Rattle.bridge_io.specs.InOrder.{put_all, MayBegin, AreBegun};
 ghost use Rattle.bridge_io.specs.Outside.{put, Changes};
 ghost use Rattle.file_pieces.specs.declared.fault.OutFault.TheVariants.{WriteFault};
-ghost use Rattle.presentation.specs.Counting.{count_of_all};
 ghost use Rattle.bridge_jobs.specs.Laws.{in_folder, playlist_of};
 ghost use Rattle.bridge_core.specs.Playlists as spec;
 
 use crate::manifest::Ready;
-use bridge_io::{Ledger, Name, NoMemory, Steps, Store, Text};
+use bridge_io::{Ledger, Name, NoMemory, Steps, Store};
 use hls_writer::{OutFault, write_master, write_media};
 use presentation::Presentation;
-use std::alloc::{AllocError, Global};
-use std::fmt::Write;
+use std::alloc::Global;
 
 /// Writes the playlists of a presentation to the files of a folder: that of each track in order, and the master last.
 ///
@@ -119,52 +116,4 @@ fn master_name(alloc: Global, out: &Name) -> Result<Name, NoMemory>
     let out = out.as_str();
     let name = format!(in alloc; "{out}/master.m3u8")?;
     Name::read(alloc, name.as_str()).map_err(|_| NoMemory)
-}
-
-/// The line of the report for a presentation whose playlists are written.
-pub fn done_line(alloc: Global, ready: &Ready) -> Result<Text, NoMemory>
-    ensures { IfOk result (λ line. line ≡ spec.done_line ready.now.presentation) }
-{
-    let presentation = &ready.presentation;
-    let tracks = presentation.tracks().len() as u64;
-    let sections = presentation.sections().len() as u64;
-    let left_out = presentation.left_out();
-    done_text(alloc, tracks, sections, count_of(ready), left_out)
-}
-
-#[tactic(auto, unfolding(crate::specs::Playlists::done_text))]
-fn done_text(
-    alloc: Global,
-    tracks: u64,
-    sections: u64,
-    segments: u64,
-    left_out: u64,
-) -> Result<Text, NoMemory>
-    ensures { IfOk result (λ line. line ≡ spec.done_text tracks sections segments left_out) }
-{
-    let mut line = String::new(alloc);
-    push_tracks(&mut line, tracks, sections)?;
-    push_segments(&mut line, segments, left_out)?;
-    Ok(Text::from(line))
-}
-
-#[tactic(auto, unfolding(crate::specs::Playlists::tracks_text))]
-fn push_tracks(line: &mut String, tracks: u64, sections: u64) -> Result<(), AllocError>
-    ensures { OnOk result (string_bytes line.new ≡ string_bytes line.old ++ spec.tracks_text tracks sections) }
-{
-    write!(line, "done tracks={tracks} sections={sections} segments=")
-}
-
-#[tactic(auto, unfolding(crate::specs::Playlists::segments_text))]
-fn push_segments(line: &mut String, segments: u64, left_out: u64) -> Result<(), AllocError>
-    ensures { OnOk result (string_bytes line.new ≡ string_bytes line.old ++ spec.segments_text segments left_out) }
-{
-    write!(line, "{segments} left-out={left_out}\n")
-}
-
-/// How many segments are listed.
-fn count_of(ready: &Ready) -> u64
-    ensures { result ≡ count_of_all ready.now.presentation }
-{
-    ready.presentation.count().unwrap_or(0)
 }

@@ -7,19 +7,26 @@ ghost use Rattle.bridge_runs.specs.declared.status.Status.TheVariants as status;
 ghost use Rattle.bridge_runs.specs.Runs.{IsRun, status_by, status_of};
 ghost use Rattle.bridge_runs.specs.Laws.{IsCalm};
 ghost use Rattle.bridge_core.specs.Courses.{IsUnbuilt, course_of, outcome_of_job, outcome_of_words, world_of};
-ghost use Rattle.bridge_core.specs.Outcomes.{IsEnding, course_by};
+ghost use Rattle.bridge_report.specs.Outcomes.{IsEnding, course_by};
 
-use crate::hls::{Hls, translate};
+use crate::dash::{self, Dash};
+use crate::hls::{self, Hls};
+use crate::make::{self, Make};
+use crate::show::{self, Show};
 use bridge_io::{Ledger, NoMemory, Sink, Source, Steps, Store, Text};
 use bridge_jobs::{Job, job};
+use bridge_playlists::{Reload, judge};
 use bridge_runs::{Ending, Status, tell};
 use std::alloc::Global;
 
 /// Runs the command that the words are, without the program's own name: it reads and writes the files of the store,
 /// and reports its end in one line. The input is left as it was.
 ///
-/// Only `hls` is built yet: it writes the playlists of an MPD, `t0.m3u8` and so on for each track and `master.m3u8` for
-/// all, to a folder. Nothing is written before every refusal is ruled out, and the master comes last.
+/// Five commands are built yet. `hls` writes the playlists of an MPD, `t0.m3u8` and so on for each track and `master.m3u8` for
+/// all, to a folder, the master last. `dash` writes the MPD of a master and its playlists, `manifest.mpd`. Neither writes
+/// anything before every refusal is ruled out. `show` tells the tracks and sections of an MPD or of a master. `reload` reads two
+/// media playlists and tells whether the second may take the first one's place, or the first rule that it breaks. `make` writes an
+/// MPD that is made from a seed, `source.mpd`, and then what `hls` writes of it, and reads nothing.
 pub fn bridge<I: Source, F: Store, P: Sink, L: Ledger>(
     alloc: Global,
     words: &[Text],
@@ -106,8 +113,34 @@ fn run_job<F: Store, L: Ledger>(
                 out,
                 digits,
             };
-            translate(alloc, &job, store, steps)
+            hls::translate(alloc, &job, store, steps)
         }
+        Some(Job::Dash { master, base, out }) => {
+            dash::translate(alloc, &Dash { master, base, out }, store, steps)
+        }
+        Some(
+            Job::Show {
+                file,
+                base,
+                now,
+                digits,
+            },
+        ) => {
+            let job = Show {
+                file,
+                base,
+                instant: now,
+                digits,
+            };
+            show::tell(alloc, &job, store, steps)
+        }
+        Some(Job::Reload { old, new, base }) => judge(alloc, &Reload { old, new, base }, store),
+        Some(Job::Make { seed, out, digits }) => make::translate(
+            alloc,
+            &Make { seed, out, digits },
+            store,
+            steps,
+        ),
         _ => Ending::Words,
     }
 }

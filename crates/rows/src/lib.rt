@@ -6,6 +6,8 @@ mod listings;
 #[cfg(test)]
 mod outside;
 #[cfg(test)]
+mod playlists;
+#[cfg(test)]
 mod runs;
 #[cfg(test)]
 mod table;

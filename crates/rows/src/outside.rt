@@ -40,6 +40,14 @@ fn list(alloc: Global, calls: &[u64]) -> Result<CallList, Fail> {
     Ok(list)
 }
 
+fn store_failing(alloc: Global, failing: Failing) -> Result<MemStore, Fail> {
+    Ok(MemStore::new(
+        alloc,
+        list(alloc, failing.reads)?,
+        list(alloc, failing.writes)?,
+    ))
+}
+
 /// Runs the words over a store that has one file.
 pub fn run_words(
     alloc: Global,
@@ -47,12 +55,33 @@ pub fn run_words(
     file: (&str, Bytes),
     failing: Failing,
 ) -> Result<Run, Fail> {
-    let mut store = MemStore::new(
-        alloc,
-        list(alloc, failing.reads)?,
-        list(alloc, failing.writes)?,
-    );
+    let mut store = store_failing(alloc, failing)?;
     store.put(Name::read(alloc, file.0)?, file.1)?;
+    run_over(alloc, words, store, failing)
+}
+
+/// Runs the words over a store that has these files.
+pub fn run_files(
+    alloc: Global,
+    words: &[&str],
+    files: &[(&str, &str)],
+    failing: Failing,
+) -> Result<Run, Fail> {
+    let mut store = store_failing(alloc, failing)?;
+    for (name, text) in files {
+        let mut bytes = Bytes::new(alloc);
+        bytes.extend(text.as_bytes())?;
+        store.put(Name::read(alloc, name)?, bytes)?;
+    }
+    run_over(alloc, words, store, failing)
+}
+
+fn run_over(
+    alloc: Global,
+    words: &[&str],
+    mut store: MemStore,
+    failing: Failing,
+) -> Result<Run, Fail> {
     let mut report = MemSink::new(alloc, list(alloc, failing.report)?);
     let mut copies = Sequence::new(alloc);
     for word in words {

@@ -603,7 +603,7 @@ pub const FAULTS: [Row<'static>; 6] = [
     },
 ];
 
-pub const COMMANDS: [Row<'static>; 6] = [
+pub const COMMANDS: [Row<'static>; 7] = [
     // a packager's MPD
     Row {
         words: WORDS,
@@ -688,9 +688,21 @@ pub const COMMANDS: [Row<'static>; 6] = [
         files: &[],
         absent: &["out/t0.m3u8", "out/master.m3u8"],
     },
+    // tracks and sections are told
+    Row {
+        words: &["show", "m.mpd", "--base=https://h.example/"],
+        file: "m.mpd",
+        mpd: &[HEAD, TEMPLATE, TAIL],
+        pad: 0,
+        failing: Failing::NONE,
+        status: Status::Done,
+        report: "mpd tracks=1 sections=1 segments=3 left-out=0\ntrack 0 video - section 0 segments=3 length=6.000000\n",
+        files: &[],
+        absent: &["out/t0.m3u8", "out/master.m3u8"],
+    },
     // a command that is not built
     Row {
-        words: &["dash", "m.mpd", "--base=https://h.example/"],
+        words: &["follow", "m.mpd", "--base=https://h.example/"],
         file: "m.mpd",
         mpd: &[HEAD, TEMPLATE, TAIL],
         pad: 0,

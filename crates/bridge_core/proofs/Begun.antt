@@ -1,0 +1,12 @@
+-- Files that are begun.
+use Rattle.std.proofs.Common.{◌≡◌, ℕ, List, [], ◌∷◌, Option, None, Some, option_map, Result, Ok, Err, IsTrue, refl, sym, subst}
+use Rattle.bridge_io.specs.Outside.{Files}
+use Rattle.bridge_io.specs.InOrder.{AreBegun, MayBegin, put_all}
+
+none_before : (before : Option Files) → option_map (put_all []) before ≡ before
+none_before None = refl
+none_before (Some files) = refl
+
+-- the only file is begun
+pub begun : (file : List ℕ × List ℕ) (before after : Option Files) → MayBegin file before after → AreBegun (file ∷ []) before after
+begun file before after may = record { count = 0; file = file; next = refl; begun = subst (λ b. MayBegin file b after) (sym (none_before before)) may }

@@ -1,0 +1,103 @@
+-- What is told of the tracks and sections of an MPD or of a master.
+use Rattle.std.specs.Prelude.{ℕ, ◌^◌, ◌==◌, ◌&&◌, ◌||◌, nat_le, Bool, true, false, List, [], ◌∷◌, ◌++◌, length, codes, decimal, drop, flat_map, slice_get, slice_index, if◌then◌else◌, Option, Some, None, option_map, Result, Ok, Err}
+use Rattle.std.specs.Option.{option_and_then, option_map_or}
+use Rattle.bridge_io.specs.Outside.{Files}
+use Rattle.bridge_io.specs.declared.media.Kind.{Kind}
+use Rattle.bridge_io.specs.declared.media.Kind.TheVariants.{Video, Audio, Text}
+use Rattle.hls_writer.specs.Lines.{seconds_bytes}
+use Rattle.presentation.specs.Counting.{sections_of, tracks_of}
+use Rattle.presentation.specs.Presented.{Presented, listed_at}
+use Rattle.presentation.specs.Told.{and_then}
+use Rattle.presentation.specs.Verifying.{length_of}
+use Rattle.presentation.specs.declared.track.Track.{Track}
+use Rattle.bridge_runs.specs.declared.status.Verdict.{Verdict}
+use Rattle.bridge_runs.specs.declared.status.Verdict.TheVariants as verdict
+use Rattle.bridge_report.specs.Outcomes.{Outcome, base_refused, outcome_told}
+use Rattle.bridge_report.specs.Reading.{Named, content_of, of_file}
+use Rattle.bridge_playlists.specs.declared.place.Place.{Place}
+use Rattle.bridge_playlists.specs.Places.{place_of}
+use Rattle.bridge_playlists.specs.Playlists.{presented_in}
+use Rattle.bridge_core.specs.Done.{counts_line}
+use Rattle.bridge_core.specs.Hls.{any_presentation_of, checked}
+use Rattle.bridge_core.specs.declared.show.Show.{Show}
+
+-- ---- which manifest it is
+
+-- white space (XML 1.0, 2.3)
+abbrev pub is_white : ℕ → Bool
+is_white byte = byte == 32 || byte == 9 || byte == 10 || byte == 13
+
+-- the first byte behind white space is `<`
+abbrev pub begins_with_tag : List ℕ → Bool
+begins_with_tag [] = false
+begins_with_tag (byte ∷ bytes) = if is_white byte then begins_with_tag bytes else byte == 60
+
+-- a byte order mark stands first
+abbrev pub has_mark : List ℕ → Bool
+has_mark bytes = nat_le 3 (length bytes) && (slice_index bytes 0 == 239 && (slice_index bytes 1 == 187 && slice_index bytes 2 == 191))
+
+abbrev pub without_mark : List ℕ → List ℕ
+without_mark bytes = if has_mark bytes then drop 3 bytes else bytes
+
+abbrev pub is_mpd : List ℕ → Bool
+is_mpd bytes = begins_with_tag (without_mark bytes)
+
+-- ---- the report
+
+abbrev pub kind_word : Kind → List ℕ
+kind_word Video = codes "video"
+kind_word Audio = codes "audio"
+kind_word Text = codes "text"
+
+abbrev pub language_word : Option (List ℕ) → List ℕ
+language_word None = codes "-"
+language_word (Some language) = language
+
+unfoldable pub entry_text : (track : ℕ) (kind language : List ℕ) (section segments : ℕ) → List ℕ
+entry_text track kind language section segments =
+    codes "track " ++ decimal track ++ codes " " ++ kind ++ codes " " ++ language ++ codes " section " ++ decimal section ++ codes " segments=" ++ decimal segments ++ codes " length="
+
+-- a track in a section: how many segments are listed, and how long they last
+abbrev pub entry_line : (digits : ℕ) → Presented → (track section : ℕ) → Track → List ℕ
+entry_line digits p track section t =
+    let listed = listed_at p section track in
+    entry_text track (kind_word t.kind) (language_word t.language) section (length listed) ++ (seconds_bytes digits (length_of (10 ^ digits) listed) ++ codes "\n")
+
+abbrev pub entry_lines : (digits : ℕ) → Presented → (track : ℕ) → Track → List ℕ
+entry_lines digits p track t = flat_map (λ section. entry_line digits p track section t) (sections_of p)
+
+-- a track's lines in all sections
+abbrev pub track_lines : (digits : ℕ) → Presented → (track : ℕ) → List ℕ
+track_lines digits p track = option_map_or (entry_lines digits p track) (slice_get p.tracks track) []
+
+abbrev pub shown : (word : List ℕ) (digits : ℕ) → Presented → List ℕ
+shown word digits p = counts_line word p ++ flat_map (track_lines digits p) (tracks_of p)
+
+-- ---- how the command ends
+
+unfoldable pub mpd_shown : Show → Place → (bytes : List ℕ) → Result (List ℕ) Named
+mpd_shown job place bytes =
+    and_then (of_file place.file (and_then (any_presentation_of place.url job.instant bytes) (checked (10 ^ job.digits)))) (λ p. Ok (shown (codes "mpd") job.digits p))
+
+unfoldable pub master_shown : Show → Place → Files → (bytes : List ℕ) → Result (List ℕ) Named
+master_shown job place files bytes = and_then (presented_in place files bytes) (λ p. Ok (shown (codes "hls") job.digits p))
+
+abbrev pub bytes_shown : Show → Place → Files → (bytes : List ℕ) → Result (List ℕ) Named
+bytes_shown job place files bytes = if is_mpd bytes then mpd_shown job place bytes else master_shown job place files bytes
+
+unfoldable pub told : Show → Place → Files → Result (List ℕ) Named
+told job place files = and_then (content_of place.file files) (bytes_shown job place files)
+
+abbrev pub is_done : List ℕ → Result (Verdict × List ℕ) Named
+is_done lines = Ok (verdict.Done, lines)
+
+-- the file is at this place
+abbrev pub show_at : Show → Place → Files → Outcome
+show_at job place files = outcome_told (and_then (told job place files) is_done)
+
+abbrev pub show_under : Show → Option Place → Option Files → Option Outcome
+show_under job None files = Some base_refused
+show_under job (Some place) files = option_map (show_at job place) files
+
+unfoldable pub show_outcome : Show → Option Files → Option Outcome
+show_outcome job files = show_under job (place_of job.base job.file) files

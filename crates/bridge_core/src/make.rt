@@ -1,0 +1,249 @@
+// From a made MPD to playlists.
+ghost use Rattle.std.specs.Prelude.{◌≡◌, ◌≤◌, ◌^◌, ◌++◌, Ok, IfOk, OnOk, OnErr, IsTrue};
+ghost use Rattle.std.specs.String.{string_bytes};
+ghost use Rattle.bridge_io.specs.Answer.{Gives};
+ghost use Rattle.bridge_io.specs.Fault.{HasCause, Rose};
+ghost use Rattle.bridge_io.specs.InOrder.{put_all, MayBegin, AreBegun};
+ghost use Rattle.bridge_io.specs.Outside.{put, Changes};
+ghost use Rattle.bridge_jobs.specs.Laws.{in_folder};
+ghost use Rattle.bridge_runs.specs.declared.status.Status.TheVariants as status;
+ghost use Rattle.bridge_runs.specs.Runs.{status_of};
+ghost use Rattle.bridge_report.specs.Refusals.{refused_in};
+ghost use Rattle.bridge_report.specs.Outcomes.{IsEnding, course_by};
+ghost use Rattle.file_pieces.specs.declared.fault.OutFault.TheVariants.{WriteFault};
+ghost use Rattle.bridge_core.specs.Make as spec;
+ghost use Rattle.bridge_core.specs.Source.{source_text};
+
+use crate::manifest::{Ready, checked, presentation_of};
+use crate::playlists::write_playlists;
+use crate::seconds::push_seconds;
+use crate::source::source_text;
+use bridge_io::{FileWriter, Ledger, Name, NoMemory, Steps, Store, Text};
+use bridge_report::{Refusal, Stop, file_url, refused};
+use bridge_runs::{Ending, Verdict};
+use exact_time::Digits;
+use hls_writer::OutFault;
+use presentation::answers_allow_listings;
+use std::alloc::{AllocError, Global};
+use url_parts::Base;
+
+/// The URL of the folder that the MPD is thought to be in.
+const BASE: &str = "https://make.example/";
+
+/// The MPD's file.
+const SOURCE: &str = "source.mpd";
+
+/// An MPD that is to be made, with its playlists.
+#[derive(Debug, Drop)]
+pub struct Make {
+    /// What the MPD is made from.
+    pub seed: u32,
+    /// The folder of the MPD and of the playlists.
+    pub out: Name,
+    /// The decimals of printed durations.
+    pub digits: Digits,
+}
+
+/// Writes the MPD that is made from a job's seed, and then its playlists. Nothing is read.
+#[tactic(auto, unfolding(crate::specs::Make::make_outcome))]
+pub fn translate<F: Store, L: Ledger>(
+    alloc: Global,
+    job: &Make,
+    store: &mut F,
+    steps: &mut Steps<L>,
+) -> Ending
+    ensures ending { IsEnding (spec.make_outcome job.now) result (F.files store.old) (F.files store.new) }
+    ensures made { IsTrue (course_by (spec.make_outcome job.now)).counts → steps.new ≡ steps.old }
+    ensures status { (status_of result ≡ status.ReadFault → ⊥) × (status_of result ≡ status.Words → ⊥) }
+    ensures write_fault { status_of result ≡ status.WriteFault → Rose (F.write_faults store.old) (F.write_faults store.new) }
+    ensures counts { (F.read_faults store.new ≡ F.read_faults store.old) × (F.write_faults store.old ≤ F.write_faults store.new) }
+{
+    match source_url(alloc) {
+        Ok(Some(url)) => make_at(alloc, job, &url, store, steps),
+        Ok(None) => refused(alloc, "-", Refusal::Base),
+        Err(NoMemory) => Ending::Memory,
+    }
+}
+
+/// The URL of the MPD.
+fn source_url(alloc: Global) -> Result<Option<Base>, NoMemory>
+    ensures { IfOk result (λ url. url ≡ spec.source_url) }
+{
+    let name = Name::read(alloc, SOURCE).map_err(|_| NoMemory)?;
+    file_url(alloc, BASE, &name)
+}
+
+/// Writes the MPD and its playlists as those of an MPD at this URL.
+fn make_at<F: Store, L: Ledger>(
+    alloc: Global,
+    job: &Make,
+    url: &Base,
+    store: &mut F,
+    steps: &mut Steps<L>,
+) -> Ending
+    ensures ending { IsEnding (spec.outcome_of job.now (spec.made_presentation job.now url.now)) result (F.files store.old) (F.files store.new) }
+    ensures status { (status_of result ≡ status.ReadFault → ⊥) × (status_of result ≡ status.Words → ⊥) }
+    ensures write_fault { status_of result ≡ status.WriteFault → Rose (F.write_faults store.old) (F.write_faults store.new) }
+    ensures counts { (F.read_faults store.new ≡ F.read_faults store.old) × (F.write_faults store.old ≤ F.write_faults store.new) }
+{
+    let Ok(text) = source_text(alloc, job.seed) else {
+        return Ending::Memory;
+    };
+    match ready(alloc, job, url, &text, steps) {
+        Ok(ready) => write(alloc, job, &text, &ready, store, steps),
+        Err(Stop::Refused(refusal)) => refused(alloc, SOURCE, refusal),
+        Err(Stop::Memory) => Ending::Memory,
+    }
+}
+
+/// The presentation of the MPD, whose segments all have addresses, or the first refusal.
+#[tactic(auto, unfolding(crate::specs::Make::made_presentation))]
+fn ready<L: Ledger>(
+    alloc: Global,
+    job: &Make,
+    url: &Base,
+    text: &Text,
+    steps: &mut Steps<L>,
+) -> Result<Ready, Stop>
+    requires { text.now ≡ source_text job.now.seed }
+    ensures ready { Gives (λ ready. ready.presentation) refused_in result (spec.made_presentation job.now url.now) }
+    ensures digits { IfOk result (λ ready. ready.digits ≡ job.now.digits) }
+{
+    let presentation = presentation_of(alloc, text.as_str().as_bytes(), url, None)?;
+    checked(alloc, presentation, job.digits, steps)
+}
+
+/// Writes the MPD and the playlists of its presentation.
+fn write<F: Store, L: Ledger>(
+    alloc: Global,
+    job: &Make,
+    text: &Text,
+    ready: &Ready,
+    store: &mut F,
+    steps: &mut Steps<L>,
+) -> Ending
+    requires text { text.now ≡ source_text job.now.seed }
+    requires digits { ready.now.digits ≡ job.now.digits }
+    ensures ending { IsEnding (spec.outcome_of job.now (Ok ready.now.presentation)) result (F.files store.old) (F.files store.new) }
+    ensures status { (status_of result ≡ status.ReadFault → ⊥) × (status_of result ≡ status.Words → ⊥) }
+    ensures write_fault { status_of result ≡ status.WriteFault → Rose (F.write_faults store.old) (F.write_faults store.new) }
+    ensures counts { (F.read_faults store.new ≡ F.read_faults store.old) × (F.write_faults store.old ≤ F.write_faults store.new) }
+{
+    let Ok(line) = made_line(alloc, ready) else {
+        return Ending::Memory;
+    };
+    match write_files(alloc, job, text, ready, store, steps) {
+        Ok(()) => Ending::Ended(Verdict::Done, line),
+        Err(OutFault::WriteFault) => Ending::WriteFault,
+        Err(OutFault::Memory) => Ending::Memory,
+    }
+}
+
+/// Writes the MPD, and then the playlists.
+fn write_files<F: Store, L: Ledger>(
+    alloc: Global,
+    job: &Make,
+    text: &Text,
+    ready: &Ready,
+    store: &mut F,
+    steps: &mut Steps<L>,
+) -> Result<(), OutFault>
+    requires text { text.now ≡ source_text job.now.seed }
+    requires digits { ready.now.digits ≡ job.now.digits }
+    ensures ok { OnOk result (Changes (put_all (spec.made_files job.now ready.now.presentation)) (F.files store.old) (F.files store.new)) }
+    ensures err { OnErr result (AreBegun (spec.made_files job.now ready.now.presentation) (F.files store.old) (F.files store.new)) }
+    ensures cause { HasCause WriteFault (F.write_faults store.old) (F.write_faults store.new) result }
+    ensures reads { F.read_faults store.new ≡ F.read_faults store.old }
+{
+    write_source(alloc, &job.out, text, store)?;
+    write_playlists(alloc, &job.out, ready, store, steps)
+}
+
+/// Writes the MPD.
+fn write_source<F: Store>(
+    alloc: Global,
+    out: &Name,
+    text: &Text,
+    store: &mut F,
+) -> Result<(), OutFault>
+    ensures ok { OnOk result (Changes (put (in_folder out.now spec.source_name) text.now) (F.files store.old) (F.files store.new)) }
+    ensures err { OnErr result (MayBegin (in_folder out.now spec.source_name, text.now) (F.files store.old) (F.files store.new)) }
+    ensures cause { HasCause WriteFault (F.write_faults store.old) (F.write_faults store.new) result }
+    ensures reads { F.read_faults store.new ≡ F.read_faults store.old }
+{
+    match source_name(alloc, out) {
+        Ok(name) => write_text(alloc, &name, text, store),
+        Err(NoMemory) => Err(OutFault::Memory),
+    }
+}
+
+/// Writes a text to a file.
+fn write_text<F: Store>(
+    alloc: Global,
+    name: &Name,
+    text: &Text,
+    store: &mut F,
+) -> Result<(), OutFault>
+    ensures ok { OnOk result (Changes (put name.now text.now) (F.files store.old) (F.files store.new)) }
+    ensures err { OnErr result (MayBegin (name.now, text.now) (F.files store.old) (F.files store.new)) }
+    ensures cause { HasCause WriteFault (F.write_faults store.old) (F.write_faults store.new) result }
+    ensures reads { F.read_faults store.new ≡ F.read_faults store.old }
+{
+    let mut writer = FileWriter::create(alloc, store, name)?;
+    writer.push(store, text.as_str().as_bytes())?;
+    writer.flush(store)?;
+    Ok(())
+}
+
+/// The name of the MPD. A folder of a job leaves room for it.
+fn source_name(alloc: Global, out: &Name) -> Result<Name, NoMemory>
+    ensures { IfOk result (λ name. name ≡ in_folder out.now spec.source_name) }
+{
+    let out = out.as_str();
+    let name = format!(in alloc; "{out}/source.mpd")?;
+    Name::read(alloc, name.as_str()).map_err(|_| NoMemory)
+}
+
+/// The line of the report.
+fn made_line(alloc: Global, ready: &Ready) -> Result<Text, NoMemory>
+    ensures { IfOk result (λ line. line ≡ spec.made_line ready.now.digits ready.now.presentation) }
+{
+    let mut line = String::new(alloc);
+    push_lengths(
+        &mut line,
+        ready.digits,
+        length_at(ready, 0),
+        length_at(ready, 4),
+    )?;
+    Ok(Text::from(line))
+}
+
+#[tactic(auto, unfolding(crate::specs::Make::lengths_line))]
+fn push_lengths(
+    line: &mut String,
+    digits: Digits,
+    video: u128,
+    audio: u128,
+) -> Result<(), AllocError>
+    ensures { OnOk result (string_bytes line.new ≡ string_bytes line.old ++ spec.lengths_line digits video audio) }
+{
+    line.push_str("made tracks=6 segments=120000 video=")?;
+    push_seconds(line, digits, video)?;
+    line.push_str(" audio=")?;
+    push_seconds(line, digits, audio)?;
+    line.push_str("\n")?;
+    Ok(())
+}
+
+/// How long a track is in the first section, in units of the last decimal of a second, and 0 where there is no such track.
+fn length_at(ready: &Ready, track: usize) -> u128
+    ensures { result ≡ spec.length_at (10 ^ ready.now.digits) ready.now.presentation track }
+{
+    answers_allow_listings();
+    let presentation = &ready.presentation;
+    if track < presentation.tracks().len() && 0 < presentation.sections().len() {
+        presentation.extent(0, track, ready.digits).units
+    } else {
+        0
+    }
+}

@@ -1,0 +1,12 @@
+-- Where a master lies.
+use Rattle.std.specs.Prelude.{ℕ, List, Option, option_map}
+use Rattle.std.specs.Option.{option_and_then}
+use Rattle.bridge_report.specs.Bases.{file_url, folder_url}
+use Rattle.bridge_playlists.specs.declared.place.Place.{Place}
+
+abbrev pub place_with : (file folder url : List ℕ) → Place
+place_with file folder url = record { file = file; folder = folder; url = url }
+
+-- a master lies under the address of a folder, and has an address itself
+unfoldable pub place_of : (base file : List ℕ) → Option Place
+place_of base file = option_and_then (λ folder. option_map (place_with file folder) (file_url base file)) (folder_url base)

@@ -1,0 +1,13 @@
+//! Playlists in the files of a store: a master with its media playlists as a presentation, and one media playlist in the place
+//! of another.
+#![tactic(auto)]
+
+mod medias;
+mod place;
+mod presented;
+mod reload;
+
+pub use medias::Medias;
+pub use place::{Place, place_of};
+pub use presented::{presented_at, presented_in};
+pub use reload::{Reload, judge};

@@ -1,0 +1,124 @@
+// The media playlists of a master's tracks.
+ghost use Rattle.std.specs.Prelude.{◌≡◌, IfOk};
+ghost use Rattle.std.specs.Option.{ForSome};
+ghost use Rattle.bridge_io.specs.Answer.{Gives};
+ghost use Rattle.bridge_io.specs.Fault.{HasCause};
+ghost use Rattle.bridge_report.specs.declared.reading.Halt.TheVariants.{ReadFault};
+ghost use Rattle.hls_media.specs.Laws.{IsBounded};
+ghost use Rattle.bridge_report.specs.Reading.{halted, IsNoReadFault};
+ghost use Rattle.bridge_playlists.specs.Playlists as spec;
+
+use crate::Place;
+use bridge_io::{NoMemory, Store};
+use bridge_report::{Halt, Refusal, media_at};
+use hls_master::MasterTrack;
+use hls_media::Media;
+use hls_presentation::MediaFiles;
+use std::alloc::Global;
+use url_parts::{Address, Base, UrlFault, local_name};
+
+/// How many segments all playlists may have together.
+const SEGMENT_LIMIT: u64 = 500_000;
+
+/// Media playlists that are read one after another.
+#[derive(Debug, Drop)]
+pub struct Medias {
+    /// The playlists in the order of their tracks.
+    pub files: MediaFiles,
+    /// How many segments they have in all, at most 500,000.
+    pub segments: u64,
+}
+
+/// Reads the playlists of some tracks, one after another.
+pub(crate) fn medias_of<F: Store>(
+    alloc: Global,
+    place: &Place,
+    tracks: &[MasterTrack],
+    store: &mut F,
+) -> Result<Medias, Halt>
+    ensures medias { ForSome (F.files store.old) (λ files. Gives (λ medias. medias) halted result (spec.medias_of place.now files spec.none_read tracks.now)) }
+    ensures counted { IfOk result spec.AreCounted }
+    ensures cause { HasCause ReadFault (F.read_faults store.old) (F.read_faults store.new) result }
+    ensures files { F.files store.new ≡ F.files store.old }
+    ensures writes { F.write_faults store.new ≡ F.write_faults store.old }
+{
+    let mut medias = Medias {
+        files: MediaFiles::new(alloc),
+        segments: 0,
+    };
+    for track in tracks {
+        medias = medias_with(alloc, place, medias, track, store)?;
+    }
+    Ok(medias)
+}
+
+/// Reads the playlist of one more track.
+#[tactic(auto, unfolding(crate::specs::Playlists::medias_with))]
+fn medias_with<F: Store>(
+    alloc: Global,
+    place: &Place,
+    medias: Medias,
+    track: &MasterTrack,
+    store: &mut F,
+) -> Result<Medias, Halt>
+    requires counted { spec.AreCounted medias }
+    ensures medias { ForSome (F.files store.old) (λ files. Gives (λ medias. medias) halted result (spec.medias_with place.now files medias track.now)) }
+    ensures counted { IfOk result spec.AreCounted }
+    ensures cause { HasCause ReadFault (F.read_faults store.old) (F.read_faults store.new) result }
+    ensures files { F.files store.new ≡ F.files store.old }
+    ensures writes { F.write_faults store.new ≡ F.write_faults store.old }
+{
+    let media = media_under(alloc, place, &track.address, store)?;
+    added(alloc, place, medias, media)
+}
+
+/// Adds a playlist, unless there are too many segments.
+fn added(alloc: Global, place: &Place, medias: Medias, media: Media) -> Result<Medias, Halt>
+    requires counted { spec.AreCounted medias }
+    requires bounded { IsBounded media }
+    ensures medias { Gives (λ medias. medias) halted result (spec.within_limit place.now (spec.with_media medias media)) }
+    ensures counted { IfOk result spec.AreCounted }
+    ensures no_fault { IsNoReadFault result }
+{
+    let Medias {
+        mut files,
+        segments,
+    } = medias;
+    let segments = segments + media.segments.len() as u64;
+    if segments > SEGMENT_LIMIT {
+        return Err(Halt::refused(alloc, &place.file, Refusal::TooManySegments));
+    }
+    files.push(media)?;
+    Ok(Medias { files, segments })
+}
+
+/// Reads the playlist of an address, which is a file under the folder.
+#[tactic(auto, unfolding(crate::specs::Playlists::media_under))]
+fn media_under<F: Store>(
+    alloc: Global,
+    place: &Place,
+    address: &Address,
+    store: &mut F,
+) -> Result<Media, Halt>
+    ensures media { ForSome (F.files store.old) (λ files. Gives (λ media. media) halted result (spec.media_under place.now files address.now)) }
+    ensures bounded { IfOk result IsBounded }
+    ensures cause { HasCause ReadFault (F.read_faults store.old) (F.read_faults store.new) result }
+    ensures files { F.files store.new ≡ F.files store.old }
+    ensures writes { F.write_faults store.new ≡ F.write_faults store.old }
+{
+    match local_name(alloc, &place.folder, address)? {
+        Some(file) => media_at(alloc, store, &file, &base_at(alloc, address)?),
+        None => Err(Halt::refused(alloc, &place.file, Refusal::OutsideBase)),
+    }
+}
+
+/// An address as a base of references.
+fn base_at(alloc: Global, address: &Address) -> Result<Base, NoMemory>
+    ensures { IfOk result (λ base. base ≡ address.now) }
+{
+    match Base::of(alloc, address.as_str()) {
+        Ok(base) => Ok(base),
+        Err(UrlFault::Memory) => Err(NoMemory),
+        Err(_) => unreachable!(),
+    }
+}

@@ -1,0 +1,41 @@
+// Where a master lies.
+ghost use Rattle.std.specs.Prelude.{◌≡◌, IfOk, option_map};
+ghost use Rattle.bridge_playlists.specs.Places as spec;
+
+use bridge_io::{Name, NoMemory};
+use bridge_report::{file_url, folder_url};
+use std::alloc::Global;
+use url_parts::Base;
+
+/// Where a master lies.
+#[derive(Debug, Drop)]
+pub struct Place {
+    /// Its file.
+    pub file: Name,
+    /// The URL of the folder that the store's root stands for.
+    pub folder: Base,
+    /// The URL of the file.
+    pub url: Base,
+}
+
+/// Where the master of a file lies. There is none where the base isn't the address of a folder as the URL Standard writes it
+/// (4.5), or gives with the file's name no address.
+#[tactic(auto, unfolding(crate::specs::Places::place_of))]
+pub fn place_of(alloc: Global, base: &str, file: &Name) -> Result<Option<Place>, NoMemory>
+    ensures { IfOk result (λ place. place ≡ spec.place_of base.now file.now) }
+{
+    let Some(folder) = folder_url(alloc, base)? else {
+        return Ok(None);
+    };
+    let Some(url) = file_url(alloc, base, file)? else {
+        return Ok(None);
+    };
+    let file = copy_of(alloc, file)?;
+    Ok(Some(Place { file, folder, url }))
+}
+
+fn copy_of(alloc: Global, name: &Name) -> Result<Name, NoMemory>
+    ensures { IfOk result (λ copy. copy ≡ name.now) }
+{
+    Name::read(alloc, name.as_str()).map_err(|_| NoMemory)
+}

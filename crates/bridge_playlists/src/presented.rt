@@ -1,0 +1,116 @@
+// The presentation of a master's playlists.
+ghost use Rattle.std.specs.Prelude.{◌≡◌, All, IfOk, Ok};
+ghost use Rattle.std.specs.Option.{ForSome};
+ghost use Rattle.bridge_io.specs.Answer.{Gives};
+ghost use Rattle.bridge_io.specs.Fault.{HasCause};
+ghost use Rattle.hls_presentation.specs.Origins.{IsSilentTrack};
+ghost use Rattle.presentation.specs.Counting.{counted, count_of_all};
+ghost use Rattle.presentation.specs.Origins.{CameFromPlaylists};
+ghost use Rattle.bridge_report.specs.declared.reading.Halt.TheVariants.{ReadFault};
+ghost use Rattle.bridge_report.specs.Reading.{halted, IsNoReadFault};
+ghost use Rattle.bridge_playlists.specs.Playlists as spec;
+
+use crate::Place;
+use crate::medias::{Medias, medias_of};
+use bridge_io::Store;
+use bridge_report::{Halt, Refusal, content_of};
+use hls_master::{Master, MasterFault, read_master};
+use hls_presentation::{HlsFault, from_hls, playlists_are_counted, what_is_read_is_silent};
+use presentation::Presentation;
+use std::alloc::Global;
+
+/// The presentation of the master at a place, whose playlists lie in files of the store, or why one of the files isn't read.
+/// Everything is read before anything is told of the whole. [`Halt::ReadFault`] comes only where the store's count of failed
+/// reads rose.
+#[tactic(auto, unfolding(crate::specs::Playlists::presented_at))]
+pub fn presented_at<F: Store>(
+    alloc: Global,
+    place: &Place,
+    store: &mut F,
+) -> Result<Presentation, Halt>
+    ensures presented { ForSome (F.files store.old) (λ files. Gives (λ presentation. presentation) halted result (spec.presented_at place.now files)) }
+    ensures came { IfOk result CameFromPlaylists }
+    ensures counted { IfOk result (λ p. counted p ≡ Ok (count_of_all p)) }
+    ensures cause { HasCause ReadFault (F.read_faults store.old) (F.read_faults store.new) result }
+    ensures files { F.files store.new ≡ F.files store.old }
+    ensures writes { F.write_faults store.new ≡ F.write_faults store.old }
+{
+    let bytes = content_of(alloc, store, &place.file)?;
+    presented_in(alloc, place, bytes.as_slice(), store)
+}
+
+/// The presentation of the master that these bytes are, which lies at a place, or why one of the files isn't read.
+pub fn presented_in<F: Store>(
+    alloc: Global,
+    place: &Place,
+    bytes: &[u8],
+    store: &mut F,
+) -> Result<Presentation, Halt>
+    ensures presented { ForSome (F.files store.old) (λ files. Gives (λ presentation. presentation) halted result (spec.presented_in place.now files bytes.now)) }
+    ensures came { IfOk result CameFromPlaylists }
+    ensures counted { IfOk result (λ p. counted p ≡ Ok (count_of_all p)) }
+    ensures cause { HasCause ReadFault (F.read_faults store.old) (F.read_faults store.new) result }
+    ensures files { F.files store.new ≡ F.files store.old }
+    ensures writes { F.write_faults store.new ≡ F.write_faults store.old }
+{
+    let master = master_in(alloc, place, bytes)?;
+    presented_with(alloc, place, &master, store)
+}
+
+/// The master that bytes are.
+#[tactic(auto, unfolding(crate::specs::Playlists::master_in))]
+fn master_in(alloc: Global, place: &Place, bytes: &[u8]) -> Result<Master, Halt>
+    ensures master { Gives (λ master. master) halted result (spec.master_in place.now bytes.now) }
+    ensures silent { IfOk result (λ master. All IsSilentTrack master) }
+    ensures no_fault { IsNoReadFault result }
+{
+    what_is_read_is_silent();
+    match read_master(alloc, bytes, &place.url) {
+        Ok(master) => Ok(master),
+        Err(MasterFault::Memory) => Err(Halt::Memory),
+        Err(fault) => Err(Halt::refused(alloc, &place.file, Refusal::Master(fault))),
+    }
+}
+
+/// The presentation of a master, whose playlists are read now.
+#[tactic(auto, unfolding(crate::specs::Playlists::presented_with))]
+fn presented_with<F: Store>(
+    alloc: Global,
+    place: &Place,
+    master: &Master,
+    store: &mut F,
+) -> Result<Presentation, Halt>
+    requires { All IsSilentTrack master.now }
+    ensures presented { ForSome (F.files store.old) (λ files. Gives (λ presentation. presentation) halted result (spec.presented_with place.now files master.now)) }
+    ensures came { IfOk result CameFromPlaylists }
+    ensures counted { IfOk result (λ p. counted p ≡ Ok (count_of_all p)) }
+    ensures cause { HasCause ReadFault (F.read_faults store.old) (F.read_faults store.new) result }
+    ensures files { F.files store.new ≡ F.files store.old }
+    ensures writes { F.write_faults store.new ≡ F.write_faults store.old }
+{
+    let medias = medias_of(alloc, place, master.tracks().as_slice(), store)?;
+    presented_by(alloc, place, master, &medias)
+}
+
+/// The presentation of a master with its playlists.
+#[tactic(auto, unfolding(crate::specs::Playlists::presented_by))]
+fn presented_by(
+    alloc: Global,
+    place: &Place,
+    master: &Master,
+    medias: &Medias,
+) -> Result<Presentation, Halt>
+    requires silent { All IsSilentTrack master.now }
+    requires counted { spec.AreCounted medias.now }
+    ensures presented { Gives (λ presentation. presentation) halted result (spec.presented_by place.now master.now medias.now.files) }
+    ensures came { IfOk result CameFromPlaylists }
+    ensures counted { IfOk result (λ p. counted p ≡ Ok (count_of_all p)) }
+    ensures no_fault { IsNoReadFault result }
+{
+    playlists_are_counted();
+    match from_hls(alloc, master, &medias.files) {
+        Ok(presentation) => Ok(presentation),
+        Err(HlsFault::Memory) => Err(Halt::Memory),
+        Err(fault) => Err(Halt::refused(alloc, &place.file, Refusal::Hls(fault))),
+    }
+}

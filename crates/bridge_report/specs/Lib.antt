@@ -1,0 +1,5 @@
+pub mod Bases
+pub mod Outcomes
+pub mod Reading
+pub mod Refusals
+pub mod Words

@@ -1,0 +1,44 @@
+-- The files of a job, or the first of them that is refused.
+use Rattle.std.specs.Prelude.{ℕ, List, Option, Some, None, Result, IsErrOf}
+use Rattle.bridge_io.specs.Outside.{Files}
+use Rattle.bridge_io.specs.Slurped.{whole_file}
+use Rattle.hls_media.specs.declared.media.Media.{Media}
+use Rattle.hls_media.specs.Media.{media_of}
+use Rattle.presentation.specs.Told.{and_then, told_as}
+use Rattle.bridge_report.specs.declared.reading.Halt.{Halt}
+use Rattle.bridge_report.specs.declared.reading.Halt.TheVariants as halt
+use Rattle.bridge_report.specs.declared.refusal.Refusal.{Refusal}
+use Rattle.bridge_report.specs.declared.refusal.Refusal.TheVariants as refusal
+use Rattle.bridge_report.specs.Refusals.{refusal_of_file}
+
+-- the bytes that a manifest has at most
+abbrev pub manifest_limit : ℕ
+manifest_limit = 8388608
+
+-- a refusal with the name of its file
+abbrev pub Named : Type 0
+Named = List ℕ × Refusal
+
+abbrev pub of_file : {X : Type 0} → (file : List ℕ) → Result X Refusal → Result X Named
+of_file file read = told_as (λ refusal. (file, refusal)) read
+
+-- the whole content of a file
+abbrev pub content_of : (file : List ℕ) → Files → Result (List ℕ) Named
+content_of file files = of_file file (told_as refusal_of_file (whole_file manifest_limit file files))
+
+abbrev pub media_in : (file url bytes : List ℕ) → Result Media Named
+media_in file url bytes = of_file file (told_as refusal.Media (media_of bytes url))
+
+-- the media playlist of a file that is at this URL
+unfoldable pub media_at : (file url : List ℕ) → Files → Result Media Named
+media_at file url files = and_then (content_of file files) (media_in file url)
+
+-- what an answer tells of the files: nothing where it is a fault or want of memory
+abbrev pub halted : Halt → Option Named
+halted (halt.Refused file refusal) = Some (file, refusal)
+halted halt.ReadFault = None
+halted halt.Memory = None
+
+-- no read failed
+abbrev pub IsNoReadFault : {X : Type 0} → Result X Halt → Type 0
+IsNoReadFault read = IsErrOf read halt.ReadFault → ⊥

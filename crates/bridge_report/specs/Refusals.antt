@@ -1,0 +1,170 @@
+-- Why a job's input is refused, and the line of the report that tells it.
+use Rattle.std.specs.Prelude.{ℕ, List, [], ◌++◌, codes, decimal, Option, Some, None}
+use Rattle.bridge_io.specs.Slurped.{Unread, Long, Missing}
+use Rattle.mpd_text.specs.declared.fault.TextFault.{TextFault}
+use Rattle.mpd_text.specs.declared.fault.TextFault.TheVariants as text
+use Rattle.mpd_profile.specs.declared.fault.RuleFault.{RuleFault}
+use Rattle.mpd_profile.specs.declared.fault.RuleFault.TheVariants as rules
+use Rattle.hls_lines.specs.declared.fault.LineFault.{LineFault}
+use Rattle.hls_lines.specs.declared.fault.LineFault.TheVariants as line
+use Rattle.hls_master.specs.declared.fault.MasterFault.{MasterFault}
+use Rattle.hls_master.specs.declared.fault.MasterFault.TheVariants as master
+use Rattle.hls_media.specs.declared.fault.MediaFault.{MediaFault}
+use Rattle.hls_media.specs.declared.fault.MediaFault.TheVariants as media
+use Rattle.presentation.specs.declared.fault.Spot.{Spot}
+use Rattle.presentation.specs.declared.fault.Spot.TheVariants.{At, Segment}
+use Rattle.presentation.specs.declared.fault.PresentationFault.{PresentationFault}
+use Rattle.presentation.specs.declared.fault.PresentationFault.TheVariants as presentation
+use Rattle.bridge_report.specs.declared.refusal.Refusal.{Refusal}
+use Rattle.bridge_report.specs.declared.refusal.Refusal.TheVariants as refusal
+use Rattle.bridge_report.specs.declared.refusal.Stop.{Stop}
+use Rattle.bridge_report.specs.declared.refusal.Stop.TheVariants as stop
+use Rattle.bridge_report.specs.Words.{text_words, rule_words, presentation_words, media_words, master_words, hls_words}
+
+-- ---- where
+
+abbrev pub text_spot : TextFault → Option Spot
+text_spot (text.NotUtf8 place) = Some (At place)
+text_spot (text.BadChar place) = Some (At place)
+text_spot (text.Cut place) = Some (At place)
+text_spot (text.Syntax place) = Some (At place)
+text_spot (text.TagMismatch place) = Some (At place)
+text_spot (text.DoubleAttribute place) = Some (At place)
+text_spot (text.Entity place) = Some (At place)
+text_spot (text.Doctype place) = Some (At place)
+text_spot (text.Cdata place) = Some (At place)
+text_spot (text.Instruction place) = Some (At place)
+text_spot (text.Depth place) = Some (At place)
+text_spot text.Memory = None
+
+abbrev pub rule_spot : RuleFault → Option Spot
+rule_spot (rules.Root place) = Some (At place)
+rule_spot (rules.Namespace place) = Some (At place)
+rule_spot (rules.Missing place) = Some (At place)
+rule_spot (rules.Value place) = Some (At place)
+rule_spot (rules.NoStart place) = Some (At place)
+rule_spot (rules.PeriodOrder place) = Some (At place)
+rule_spot (rules.Encryption place) = Some (At place)
+rule_spot (rules.Events place) = Some (At place)
+rule_spot (rules.LowLatency place) = Some (At place)
+rule_spot (rules.Remote place) = Some (At place)
+rule_spot (rules.Essential place) = Some (At place)
+rule_spot (rules.Unsupported place) = Some (At place)
+rule_spot (rules.IndexNeeded place) = Some (At place)
+rule_spot (rules.NoTracks place) = Some (At place)
+rule_spot rules.Memory = None
+
+-- a track without segments is told as its first one
+abbrev pub presentation_spot : PresentationFault → Option Spot
+presentation_spot (presentation.PeriodsDiffer place) = Some (At place)
+presentation_spot presentation.Limit = None
+presentation_spot (presentation.NoSegments section track) = Some (Segment section track 0)
+presentation_spot (presentation.Url fault spot) = Some spot
+presentation_spot (presentation.Template fault place) = Some (At place)
+presentation_spot (presentation.Timeline fault place) = Some (At place)
+presentation_spot presentation.NeedsNow = None
+presentation_spot presentation.Memory = None
+
+abbrev pub line_spot : LineFault → Option Spot
+line_spot (line.NotUtf8 place) = Some (At place)
+line_spot (line.BadChar place) = Some (At place)
+line_spot (line.Header place) = Some (At place)
+line_spot (line.Attribute place) = Some (At place)
+line_spot (line.DoubleAttribute place) = Some (At place)
+line_spot line.Memory = None
+
+abbrev pub media_spot : MediaFault → Option Spot
+media_spot (media.Line fault) = line_spot fault
+media_spot (media.NoTarget place) = Some (At place)
+media_spot (media.Duration place) = Some (At place)
+media_spot (media.LongSegment place) = Some (At place)
+media_spot (media.RangeStart place) = Some (At place)
+media_spot (media.Limit place) = Some (At place)
+media_spot (media.Encryption place) = Some (At place)
+media_spot (media.Events place) = Some (At place)
+media_spot (media.LowLatency place) = Some (At place)
+media_spot (media.Unsupported place) = Some (At place)
+media_spot (media.Url fault place) = Some (At place)
+media_spot (media.Value place) = Some (At place)
+media_spot (media.Misplaced place) = Some (At place)
+media_spot media.Memory = None
+
+abbrev pub master_spot : MasterFault → Option Spot
+master_spot (master.Line fault) = line_spot fault
+master_spot (master.Missing place) = Some (At place)
+master_spot (master.Value place) = Some (At place)
+master_spot (master.Misplaced place) = Some (At place)
+master_spot (master.Url fault place) = Some (At place)
+master_spot (master.Muxed place) = Some (At place)
+master_spot (master.GroupUnknown place) = Some (At place)
+master_spot (master.SameName place) = Some (At place)
+master_spot (master.Encryption place) = Some (At place)
+master_spot (master.Unsupported place) = Some (At place)
+master_spot (master.NoTracks place) = Some (At place)
+master_spot (master.Limit place) = Some (At place)
+master_spot master.Memory = None
+
+abbrev pub spot_of : Refusal → Option Spot
+spot_of refusal.Base = None
+spot_of (refusal.TooLong place) = Some (At place)
+spot_of refusal.Absent = None
+spot_of (refusal.Text fault) = text_spot fault
+spot_of (refusal.Rules fault) = rule_spot fault
+spot_of refusal.Unbuilt = None
+spot_of (refusal.Presentation fault) = presentation_spot fault
+spot_of (refusal.Media fault) = media_spot fault
+spot_of (refusal.Master fault) = master_spot fault
+spot_of refusal.OutsideBase = None
+spot_of refusal.TooManySegments = None
+spot_of (refusal.Hls fault) = None
+
+abbrev pub spot_text : Option Spot → List ℕ
+spot_text None = []
+spot_text (Some (At place)) = codes " at " ++ decimal place.at ++ codes " line " ++ decimal place.line
+spot_text (Some (Segment section track segment)) = codes " section " ++ decimal section ++ codes " track " ++ decimal track ++ codes " segment " ++ decimal segment
+
+-- ---- what
+
+abbrev pub words_of : Refusal → List ℕ
+words_of refusal.Base = codes "job 1 Base"
+words_of (refusal.TooLong place) = codes "io 1 TooLong"
+words_of refusal.Absent = codes "io 2 Absent"
+words_of (refusal.Text fault) = text_words fault
+words_of (refusal.Rules fault) = rule_words fault
+words_of refusal.Unbuilt = codes "job 5 Unbuilt"
+words_of (refusal.Presentation fault) = presentation_words fault
+words_of (refusal.Media fault) = media_words fault
+words_of (refusal.Master fault) = master_words fault
+words_of refusal.OutsideBase = codes "job 2 OutsideBase"
+words_of refusal.TooManySegments = codes "job 3 Limit"
+words_of (refusal.Hls fault) = hls_words fault
+
+-- the refusal of a file, or of no file where it is named `-`
+abbrev pub refused_line : (file words spot : List ℕ) → List ℕ
+refused_line file words spot = codes "refused " ++ file ++ codes " " ++ words ++ spot ++ codes "\n"
+
+unfoldable pub refusal_line : (file : List ℕ) → Refusal → List ℕ
+refusal_line file refusal = refused_line file (words_of refusal) (spot_text (spot_of refusal))
+
+-- ---- what is answered where memory is wanting, which tells nothing of the input
+
+abbrev pub refused_in : Stop → Option Refusal
+refused_in (stop.Refused refusal) = Some refusal
+refused_in stop.Memory = None
+
+abbrev pub stop_of_text : TextFault → Stop
+stop_of_text text.Memory = stop.Memory
+stop_of_text fault = stop.Refused (refusal.Text fault)
+
+abbrev pub stop_of_rules : RuleFault → Stop
+stop_of_rules rules.Memory = stop.Memory
+stop_of_rules fault = stop.Refused (refusal.Rules fault)
+
+abbrev pub stop_of_presentation : PresentationFault → Stop
+stop_of_presentation presentation.Memory = stop.Memory
+stop_of_presentation fault = stop.Refused (refusal.Presentation fault)
+
+-- a file that isn't read whole
+abbrev pub refusal_of_file : Unread → Refusal
+refusal_of_file (Long place) = refusal.TooLong place
+refusal_of_file Missing = refusal.Absent

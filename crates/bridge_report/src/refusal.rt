@@ -1,0 +1,273 @@
+// Why the input of a job is refused, and the line of the report that tells it.
+ghost use Rattle.std.specs.Prelude.{◌≡◌, IfOk};
+ghost use Rattle.bridge_report.specs.Refusals as spec;
+
+use crate::fault_words::{
+    hls_words, master_words, media_words, presentation_words, rule_words, text_words,
+};
+use bridge_io::{NoMemory, Place, Text};
+use hls_lines::LineFault;
+use hls_master::MasterFault;
+use hls_media::MediaFault;
+use hls_presentation::HlsFault;
+use mpd_rules::RuleFault;
+use mpd_text::TextFault;
+use presentation::{PresentationFault, Spot};
+use std::alloc::Global;
+
+/// Why the input of a job is refused.
+#[derive(Clone, Copy, Debug, PartialEq, Eq)]
+pub enum Refusal {
+    /// The base isn't the URL of a folder as the URL Standard writes it, or too long for the file's URL.
+    Base,
+    /// The file has too many bytes: the first one past the limit.
+    TooLong(Place),
+    /// There is no such file.
+    Absent,
+    /// The bytes spell no tree.
+    Text(TextFault),
+    /// The tree isn't that of an MPD of the profile.
+    Rules(RuleFault),
+    /// The MPD is one that isn't built yet.
+    Unbuilt,
+    /// The MPD gives no presentation.
+    Presentation(PresentationFault),
+    /// The file is no media playlist of the profile.
+    Media(MediaFault),
+    /// The file is no master of the profile.
+    Master(MasterFault),
+    /// A media playlist of the master lies in no file under the base.
+    OutsideBase,
+    /// The master's playlists have more than 500,000 segments together.
+    TooManySegments,
+    /// The master's playlists give no presentation.
+    Hls(HlsFault),
+}
+
+/// Why the input of a job isn't read.
+#[derive(Clone, Copy, Debug, PartialEq, Eq)]
+pub enum Stop {
+    /// It is refused.
+    Refused(Refusal),
+    /// Memory is wanting, which tells nothing of the input.
+    Memory,
+}
+
+impl Stop {
+    /// A fault of a text.
+    pub fn of_text(fault: TextFault) -> Stop
+        ensures { result ≡ spec.stop_of_text fault }
+    {
+        match fault {
+            TextFault::Memory => Stop::Memory,
+            _ => Stop::Refused(Refusal::Text(fault)),
+        }
+    }
+
+    /// A fault against the rules of an MPD.
+    pub fn of_rules(fault: RuleFault) -> Stop
+        ensures { result ≡ spec.stop_of_rules fault }
+    {
+        match fault {
+            RuleFault::Memory => Stop::Memory,
+            _ => Stop::Refused(Refusal::Rules(fault)),
+        }
+    }
+
+    /// A fault of a presentation.
+    pub fn of_presentation(fault: PresentationFault) -> Stop
+        ensures { result ≡ spec.stop_of_presentation fault }
+    {
+        match fault {
+            PresentationFault::Memory => Stop::Memory,
+            _ => Stop::Refused(Refusal::Presentation(fault)),
+        }
+    }
+}
+
+/// The line of the report for the refusal of a file, or of no file where it is named `-`.
+#[tactic(auto, unfolding(crate::specs::Refusals::refusal_line))]
+pub fn refusal_line(alloc: Global, file: &str, refusal: Refusal) -> Result<Text, NoMemory>
+    ensures { IfOk result (λ line. line ≡ spec.refusal_line file.now refusal) }
+{
+    let words = words(refusal);
+    match spot(refusal) {
+        None => plain_line(alloc, file, words),
+        Some(Spot::At(place)) => line_at(alloc, file, words, place),
+        Some(
+            Spot::Segment {
+                section,
+                track,
+                segment,
+            },
+        ) => Ok(Text::from(format!(in alloc;
+            "refused {file} {words} section {section} track {track} segment {segment}\n"
+        )?)),
+    }
+}
+
+fn plain_line(alloc: Global, file: &str, words: &str) -> Result<Text, NoMemory>
+    ensures { IfOk result (λ line. line ≡ spec.refused_line file.now words.now (spec.spot_text None)) }
+{
+    Ok(Text::from(format!(in alloc; "refused {file} {words}\n")?))
+}
+
+fn line_at(alloc: Global, file: &str, words: &str, place: Place) -> Result<Text, NoMemory>
+    ensures { IfOk result (λ line. line ≡ spec.refused_line file.now words.now (spec.spot_text (Some (Spot.At place)))) }
+{
+    let (at, line) = (place.at, place.line);
+    Ok(Text::from(format!(in alloc; "refused {file} {words} at {at} line {line}\n")?))
+}
+
+/// The layer's word, the number and the name.
+fn words(refusal: Refusal) -> &'static str
+    ensures { result.now ≡ spec.words_of refusal }
+{
+    match refusal {
+        Refusal::Base => "job 1 Base",
+        Refusal::TooLong(_) => "io 1 TooLong",
+        Refusal::Absent => "io 2 Absent",
+        Refusal::Text(fault) => text_words(fault),
+        Refusal::Rules(fault) => rule_words(fault),
+        Refusal::Unbuilt => "job 5 Unbuilt",
+        Refusal::Presentation(fault) => presentation_words(fault),
+        Refusal::Media(fault) => media_words(fault),
+        Refusal::Master(fault) => master_words(fault),
+        Refusal::OutsideBase => "job 2 OutsideBase",
+        Refusal::TooManySegments => "job 3 Limit",
+        Refusal::Hls(fault) => hls_words(fault),
+    }
+}
+
+/// Where it stands, if that is told.
+fn spot(refusal: Refusal) -> Option<Spot>
+    ensures { result ≡ spec.spot_of refusal }
+{
+    match refusal {
+        Refusal::Base
+        | Refusal::Absent
+        | Refusal::Unbuilt
+        | Refusal::OutsideBase
+        | Refusal::TooManySegments
+        | Refusal::Hls(_) => None,
+        Refusal::TooLong(place) => Some(Spot::At(place)),
+        Refusal::Text(fault) => text_spot(fault),
+        Refusal::Rules(fault) => rule_spot(fault),
+        Refusal::Presentation(fault) => presentation_spot(fault),
+        Refusal::Media(fault) => media_spot(fault),
+        Refusal::Master(fault) => master_spot(fault),
+    }
+}
+
+fn text_spot(fault: TextFault) -> Option<Spot>
+    ensures { result ≡ spec.text_spot fault }
+{
+    match fault {
+        TextFault::NotUtf8(place)
+        | TextFault::BadChar(place)
+        | TextFault::Cut(place)
+        | TextFault::Syntax(place)
+        | TextFault::TagMismatch(place)
+        | TextFault::DoubleAttribute(place)
+        | TextFault::Entity(place)
+        | TextFault::Doctype(place)
+        | TextFault::Cdata(place)
+        | TextFault::Instruction(place)
+        | TextFault::Depth(place) => Some(Spot::At(place)),
+        TextFault::Memory => None,
+    }
+}
+
+fn rule_spot(fault: RuleFault) -> Option<Spot>
+    ensures { result ≡ spec.rule_spot fault }
+{
+    match fault {
+        RuleFault::Root(place)
+        | RuleFault::Namespace(place)
+        | RuleFault::Missing(place)
+        | RuleFault::Value(place)
+        | RuleFault::NoStart(place)
+        | RuleFault::PeriodOrder(place)
+        | RuleFault::Encryption(place)
+        | RuleFault::Events(place)
+        | RuleFault::LowLatency(place)
+        | RuleFault::Remote(place)
+        | RuleFault::Essential(place)
+        | RuleFault::Unsupported(place)
+        | RuleFault::IndexNeeded(place)
+        | RuleFault::NoTracks(place) => Some(Spot::At(place)),
+        RuleFault::Memory => None,
+    }
+}
+
+/// A track without segments is told as its first one.
+fn presentation_spot(fault: PresentationFault) -> Option<Spot>
+    ensures { result ≡ spec.presentation_spot fault }
+{
+    match fault {
+        PresentationFault::NoSegments { section, track } => Some(Spot::Segment {
+            section,
+            track,
+            segment: 0,
+        }),
+        PresentationFault::Url(_, spot) => Some(spot),
+        PresentationFault::PeriodsDiffer(place)
+        | PresentationFault::Template(_, place)
+        | PresentationFault::Timeline(_, place) => Some(Spot::At(place)),
+        PresentationFault::Limit | PresentationFault::NeedsNow | PresentationFault::Memory => None,
+    }
+}
+
+fn line_spot(fault: LineFault) -> Option<Spot>
+    ensures { result ≡ spec.line_spot fault }
+{
+    match fault {
+        LineFault::NotUtf8(place)
+        | LineFault::BadChar(place)
+        | LineFault::Header(place)
+        | LineFault::Attribute(place)
+        | LineFault::DoubleAttribute(place) => Some(Spot::At(place)),
+        LineFault::Memory => None,
+    }
+}
+
+fn media_spot(fault: MediaFault) -> Option<Spot>
+    ensures { result ≡ spec.media_spot fault }
+{
+    match fault {
+        MediaFault::Line(fault) => line_spot(fault),
+        MediaFault::NoTarget(place)
+        | MediaFault::Duration(place)
+        | MediaFault::LongSegment(place)
+        | MediaFault::RangeStart(place)
+        | MediaFault::Limit(place)
+        | MediaFault::Encryption(place)
+        | MediaFault::Events(place)
+        | MediaFault::LowLatency(place)
+        | MediaFault::Unsupported(place)
+        | MediaFault::Url(_, place)
+        | MediaFault::Value(place)
+        | MediaFault::Misplaced(place) => Some(Spot::At(place)),
+        MediaFault::Memory => None,
+    }
+}
+
+fn master_spot(fault: MasterFault) -> Option<Spot>
+    ensures { result ≡ spec.master_spot fault }
+{
+    match fault {
+        MasterFault::Line(fault) => line_spot(fault),
+        MasterFault::Missing(place)
+        | MasterFault::Value(place)
+        | MasterFault::Misplaced(place)
+        | MasterFault::Url(_, place)
+        | MasterFault::Muxed(place)
+        | MasterFault::GroupUnknown(place)
+        | MasterFault::SameName(place)
+        | MasterFault::Encryption(place)
+        | MasterFault::Unsupported(place)
+        | MasterFault::NoTracks(place)
+        | MasterFault::Limit(place) => Some(Spot::At(place)),
+        MasterFault::Memory => None,
+    }
+}

@@ -1,0 +1,288 @@
+// Runs over playlists.
+use crate::outside::{Failing, run_files};
+use bridge_core::Status;
+use bridge_io::{MemStore, Name};
+use std::alloc::Global;
+use std::process::Abort;
+use std::test::Fail;
+
+/// A run over a store that has these files.
+#[derive(Clone, Copy)]
+struct Row<'a> {
+    words: &'a [&'a str],
+    /// Names and texts.
+    files: &'a [(&'a str, &'a str)],
+    status: Status,
+    report: &'a str,
+    /// Files that are written.
+    written: &'a [(&'a str, &'a str)],
+}
+
+const RELOAD: &[&str] = &["reload", "o.m3u8", "n.m3u8", "--base=https://h.example/"];
+
+const DASH: &[&str] = &["dash", "m.m3u8", "--base=https://h.example/"];
+
+const OLD: &str =
+    "#EXTM3U\n#EXT-X-TARGETDURATION:4\n#EXT-X-MEDIA-SEQUENCE:5\n#EXTINF:4,\na.m4s\n#EXTINF:4,\nb.m4s\n#EXTINF:4,\nc.m4s\n";
+
+const RELOADS: [Row<'static>; 7] = [
+    // one segment more and one less
+    Row {
+        words: RELOAD,
+        files: &[
+            ("o.m3u8", OLD),
+            (
+                "n.m3u8",
+                "#EXTM3U\n#EXT-X-TARGETDURATION:4\n#EXT-X-MEDIA-SEQUENCE:6\n#EXTINF:4,\nb.m4s\n#EXTINF:4,\nc.m4s\n#EXTINF:4,\nd.m4s\n",
+            ),
+        ],
+        status: Status::Done,
+        report: "lawful kept=2 added=1 removed=1\n",
+        written: &[],
+    },
+    // less than three target durations stay
+    Row {
+        words: RELOAD,
+        files: &[
+            ("o.m3u8", OLD),
+            (
+                "n.m3u8",
+                "#EXTM3U\n#EXT-X-TARGETDURATION:4\n#EXT-X-MEDIA-SEQUENCE:6\n#EXTINF:4,\nb.m4s\n#EXTINF:4,\nc.m4s\n",
+            ),
+        ],
+        status: Status::Differ,
+        report: "unlawful 7 ThreeTargets\n",
+        written: &[],
+    },
+    // a segment of another duration
+    Row {
+        words: RELOAD,
+        files: &[
+            ("o.m3u8", OLD),
+            (
+                "n.m3u8",
+                "#EXTM3U\n#EXT-X-TARGETDURATION:4\n#EXT-X-MEDIA-SEQUENCE:6\n#EXTINF:3.5,\nb.m4s\n#EXTINF:4,\nc.m4s\n#EXTINF:4,\nd.m4s\n",
+            ),
+        ],
+        status: Status::Differ,
+        report: "unlawful 3 Segment at 6\n",
+        written: &[],
+    },
+    // the old playlist is read first, and is at fault
+    Row {
+        words: RELOAD,
+        files: &[(
+            "o.m3u8",
+            "#EXTM3U\n#EXT-X-TARGETDURATION:4\n#EXTINF:4,\n#EXT-X-BYTERANGE:500\na.mp4\n",
+        )],
+        status: Status::Refused,
+        report: "refused o.m3u8 media 5 RangeStart at 43 line 4\n",
+        written: &[],
+    },
+    // a fault of the new one names it, and an inner layer's words are told
+    Row {
+        words: RELOAD,
+        files: &[("o.m3u8", OLD), ("n.m3u8", "#EXTM\n")],
+        status: Status::Refused,
+        report: "refused n.m3u8 line 3 Header at 0 line 1\n",
+        written: &[],
+    },
+    Row {
+        words: RELOAD,
+        files: &[("n.m3u8", OLD)],
+        status: Status::Refused,
+        report: "refused o.m3u8 io 2 Absent\n",
+        written: &[],
+    },
+    Row {
+        words: &["reload", "o.m3u8", "n.m3u8", "--base=h.example"],
+        files: &[],
+        status: Status::Refused,
+        report: "refused - job 1 Base\n",
+        written: &[],
+    },
+];
+
+const MASTER: &str =
+    "#EXTM3U\n#EXT-X-STREAM-INF:BANDWIDTH=800000,CODECS=\"avc1.64001f\",RESOLUTION=640x360,FRAME-RATE=29.970\nv.m3u8\n";
+
+const VIDEO: &str =
+    "#EXTM3U\n#EXT-X-TARGETDURATION:9\n#EXT-X-MAP:URI=\"i.mp4\"\n#EXTINF:9.009,\ns0.m4s\n#EXTINF:9.009,\ns1.m4s\n#EXTINF:3.003,\ns2.m4s\n#EXT-X-ENDLIST\n";
+
+const MPD: &str = r#"<?xml version="1.0" encoding="UTF-8"?>
+<MPD xmlns="urn:mpeg:dash:schema:mpd:2011" profiles="urn:mpeg:dash:profile:full:2011" type="static" minBufferTime="PT2S" mediaPresentationDuration="PT21.021S">
+<Period id="0" start="PT0S" duration="PT21.021S">
+<AdaptationSet mimeType="video/mp4">
+<Representation id="t0" bandwidth="800000" codecs="avc1.64001f" width="640" height="360" frameRate="29970/1000">
+<SegmentList timescale="1000000">
+<Initialization sourceURL="https://h.example/i.mp4"/>
+<SegmentTimeline>
+<S t="0" d="9009000" r="1"/>
+<S d="3003000"/>
+</SegmentTimeline>
+<SegmentURL media="https://h.example/s0.m4s"/>
+<SegmentURL media="https://h.example/s1.m4s"/>
+<SegmentURL media="https://h.example/s2.m4s"/>
+</SegmentList>
+</Representation>
+</AdaptationSet>
+</Period>
+</MPD>
+"#;
+
+const TRANSLATED: [Row<'static>; 7] = [
+    Row {
+        words: DASH,
+        files: &[("m.m3u8", MASTER), ("v.m3u8", VIDEO)],
+        status: Status::Done,
+        report: "done tracks=1 sections=1 segments=3 left-out=0\n",
+        written: &[("out/manifest.mpd", MPD)],
+    },
+    // a duration that is no whole number of microseconds
+    Row {
+        words: DASH,
+        files: &[
+            ("m.m3u8", "#EXTM3U\n#EXT-X-STREAM-INF:BANDWIDTH=1\nv.m3u8\n"),
+            (
+                "v.m3u8",
+                "#EXTM3U\n#EXT-X-TARGETDURATION:6\n#EXT-X-MAP:URI=\"i.mp4\"\n#EXTINF:6.0060060060,\ns0.m4s\n#EXT-X-ENDLIST\n",
+            ),
+        ],
+        status: Status::Done,
+        report: "done tracks=1 sections=1 segments=1 left-out=0\n",
+        written: &[(
+            "out/manifest.mpd",
+            r#"<?xml version="1.0" encoding="UTF-8"?>
+<MPD xmlns="urn:mpeg:dash:schema:mpd:2011" profiles="urn:mpeg:dash:profile:full:2011" type="static" minBufferTime="PT2S" mediaPresentationDuration="PT6.006006006S">
+<Period id="0" start="PT0S" duration="PT6.006006006S">
+<AdaptationSet mimeType="video/mp4">
+<Representation id="t0" bandwidth="1">
+<SegmentList timescale="1000000000">
+<Initialization sourceURL="https://h.example/i.mp4"/>
+<SegmentTimeline>
+<S t="0" d="6006006006"/>
+</SegmentTimeline>
+<SegmentURL media="https://h.example/s0.m4s"/>
+</SegmentList>
+</Representation>
+</AdaptationSet>
+</Period>
+</MPD>
+"#,
+        )],
+    },
+    // a playlist that isn't ended
+    Row {
+        words: DASH,
+        files: &[
+            ("m.m3u8", MASTER),
+            (
+                "v.m3u8",
+                "#EXTM3U\n#EXT-X-TARGETDURATION:9\n#EXT-X-MAP:URI=\"i.mp4\"\n#EXTINF:9.009,\ns0.m4s\n",
+            ),
+        ],
+        status: Status::Refused,
+        report: "refused m.m3u8 hls 1 NotEnded\n",
+        written: &[],
+    },
+    // the media playlist isn't there, and is named
+    Row {
+        words: DASH,
+        files: &[("m.m3u8", MASTER)],
+        status: Status::Refused,
+        report: "refused v.m3u8 io 2 Absent\n",
+        written: &[],
+    },
+    Row {
+        words: DASH,
+        files: &[(
+            "m.m3u8",
+            "#EXTM3U\n#EXT-X-STREAM-INF:BANDWIDTH=1\nhttps://o.example/v.m3u8\n",
+        )],
+        status: Status::Refused,
+        report: "refused m.m3u8 job 2 OutsideBase\n",
+        written: &[],
+    },
+    Row {
+        words: DASH,
+        files: &[(
+            "m.m3u8",
+            "#EXTM3U\n#EXT-X-STREAM-INF:BANDWIDTH=1,CODECS=\"avc1.64001f\",AUDIO=\"x\"\nv.m3u8\n",
+        )],
+        status: Status::Refused,
+        report: "refused m.m3u8 master 7 GroupUnknown at 8 line 2\n",
+        written: &[],
+    },
+    Row {
+        words: DASH,
+        files: &[(
+            "m.m3u8",
+            "#EXTM3U\n#EXT-X-STREAM-INF:BANDWIDTH=1,CODECS=\"avc1.64001f,mp4a.40.2\"\nv.m3u8\n",
+        )],
+        status: Status::Refused,
+        report: "refused m.m3u8 master 6 Muxed at 8 line 2\n",
+        written: &[],
+    },
+];
+
+fn has(alloc: Global, store: &MemStore, name: &str, text: &str) -> Result<bool, Fail> {
+    let name = Name::read(alloc, name)?;
+    Ok(store.file(&name) == Some(text.as_bytes()))
+}
+
+fn agrees(alloc: Global, row: &Row<'_>) -> Result<bool, Fail> {
+    let run = run_files(alloc, row.words, row.files, Failing::NONE)?;
+    let mut is = run.status == row.status && run.report.bytes() == row.report.as_bytes();
+    for (name, text) in row.written {
+        is = is && has(alloc, &run.store, name, text)?;
+    }
+    Ok(is)
+}
+
+fn agree(rt: &impl Abort, alloc: Global, rows: &[Row<'_>]) -> Result<(), Fail> {
+    for row in rows {
+        assert!(rt; agrees(alloc, row)?, "{}", row.report);
+    }
+    Ok(())
+}
+
+#[test]
+fn judges_reloads(rt: HostRuntime) -> Result<(), Fail> {
+    agree(&rt, rt.alloc(), &RELOADS)
+}
+
+#[test]
+fn translates_playlists(rt: HostRuntime) -> Result<(), Fail> {
+    agree(&rt, rt.alloc(), &TRANSLATED)
+}
+
+// The MPD is made and added to once, and the two playlists are each asked for and read to their ends.
+#[test]
+fn ends_at_each_fault(rt: HostRuntime) -> Result<(), Fail> {
+    let (alloc, row) = (rt.alloc(), &TRANSLATED[0]);
+    for call in 0..2 {
+        let failing = Failing {
+            writes: &[call],
+            ..Failing::NONE
+        };
+        let run = run_files(alloc, row.words, row.files, failing)?;
+        assert_eq!(rt; run.status, Status::WriteFault, "{call}");
+        let begun = run.store.file(&Name::read(alloc, "out/manifest.mpd")?);
+        assert!(rt; MPD.as_bytes().starts_with(begun.unwrap_or(b"")), "{call}");
+    }
+    for call in 0..6 {
+        let failing = Failing {
+            reads: &[call],
+            ..Failing::NONE
+        };
+        let run = run_files(alloc, row.words, row.files, failing)?;
+        assert_eq!(rt; run.status, Status::ReadFault, "{call}");
+        assert!(rt;
+            run.store
+                .file(&Name::read(alloc, "out/manifest.mpd")?)
+                .is_none(),
+            "{call}"
+        );
+    }
+    Ok(())
+}
