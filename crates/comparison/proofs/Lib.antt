@@ -1,0 +1,4 @@
+mod Walks
+mod Firsts
+mod Ratios
+mod Opened

@@ -1,0 +1,11 @@
+-- Times from one tick to another.
+use Rattle.exact_time.specs.Time.{Time, difference}
+use Rattle.exact_time.specs.Tick.{time_of}
+use Rattle.comparison.specs.declared.elapsed.Elapsed.{Elapsed}
+use Rattle.comparison.specs.declared.stretch.Stretch.{Stretch}
+
+abbrev pub time_since : Elapsed → Time
+time_since x = record { ticks = x.ticks; scale = x.scale }
+
+abbrev pub stretch_of : Stretch → Time
+stretch_of x = difference (time_of x.end) (time_of x.begin)

@@ -1,0 +1,11 @@
+// A time that is told as a difference of two ticks.
+ghost use Rattle.std.specs.Prelude.{◌<◌};
+
+/// A time from one tick to another, which is negative where the latter is the earlier one.
+#[derive(Clone, Copy, Debug)]
+pub(crate) struct Elapsed {
+    pub(crate) ticks: i128,
+    /// How many ticks make a second.
+    pub(crate) scale: u64,
+    ghost positive: { 0 < scale },
+}

@@ -1,0 +1,93 @@
+// What the tracks are.
+ghost use Rattle.std.specs.Prelude.{◌≡◌, ◌==◌, bytes_eq, option_map, length};
+ghost use Rattle.std.specs.Option.{option_eq};
+ghost use Rattle.meaning.specs.Differences.{in_all, in_track, is_same_kind};
+ghost use Rattle.presentation.specs.Meanings.{language_of};
+ghost use Rattle.comparison.specs.Comparing as spec;
+
+use bridge_io::Kind;
+use meaning::{Aspect, Difference};
+use presentation::{Presentation, Track};
+
+/// What differs first of the numbers of sections and of tracks, and of what each track is.
+pub(crate) fn heads_difference(mpd: &Presentation, playlists: &Presentation) -> Option<Difference>
+    ensures { result ≡ spec.heads_difference mpd.now playlists.now }
+{
+    if sections_meant(mpd) != sections_meant(playlists) {
+        return Some(in_track(0, Aspect::Sections));
+    }
+    if mpd.tracks().len() != playlists.tracks().len() {
+        return Some(in_track(0, Aspect::Tracks));
+    }
+    tracks_difference(mpd.tracks().as_slice(), playlists.tracks().as_slice())
+}
+
+/// Something that differs of a track.
+fn in_track(track: usize, what: Aspect) -> Difference
+    ensures { result ≡ in_track track what }
+{
+    Difference {
+        what,
+        section: 0,
+        track,
+        segment: 0,
+    }
+}
+
+/// How many sections a presentation has in which some track has something. Where there is no track there is none.
+fn sections_meant(presentation: &Presentation) -> usize
+    ensures { result ≡ spec.sections_meant presentation.now }
+{
+    if presentation.tracks().is_empty() {
+        return 0;
+    }
+    presentation.sections().len()
+}
+
+/// The first track that is another one, of as many tracks.
+fn tracks_difference(mpd: &[Track], playlists: &[Track]) -> Option<Difference>
+    requires { length mpd.now ≡ length playlists.now }
+    ensures { result ≡ spec.tracks_difference 0 mpd.now playlists.now }
+{
+    for (track, mine) in mpd.iter().enumerate() {
+        if !is_same_track(mine, &playlists[track]) {
+            return Some(in_track(track, Aspect::Track));
+        }
+    }
+    None
+}
+
+fn is_same_track(mine: &Track, theirs: &Track) -> bool
+    ensures { result ≡ spec.is_same_track mine.now theirs.now }
+{
+    is_same_kind(mine.kind, theirs.kind) && is_same_language(language_of(mine), language_of(theirs))
+}
+
+fn is_same_kind(mine: Kind, theirs: Kind) -> bool
+    ensures { result ≡ is_same_kind mine theirs }
+{
+    matches!(
+        (mine, theirs),
+        (Kind::Video, Kind::Video) | (Kind::Audio, Kind::Audio) | (Kind::Text, Kind::Text)
+    )
+}
+
+/// The language, which a video track doesn't tell.
+fn language_of(track: &Track) -> Option<&str>
+    ensures { option_map (λ language. language.now) result ≡ language_of track.now.kind track.now.language }
+{
+    match (track.kind, &track.language) {
+        (Kind::Audio | Kind::Text, Some(language)) => Some(language.as_str()),
+        _ => None,
+    }
+}
+
+fn is_same_language(mine: Option<&str>, theirs: Option<&str>) -> bool
+    ensures { result ≡ option_eq bytes_eq (option_map (λ language. language.now) mine.entry) (option_map (λ language. language.now) theirs.entry) }
+{
+    match (mine, theirs) {
+        (Some(mine), Some(theirs)) => mine == theirs,
+        (None, None) => true,
+        _ => false,
+    }
+}

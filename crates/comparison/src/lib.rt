@@ -1,0 +1,15 @@
+//! Where a presentation of playlists first differs from that of an MPD.
+//!
+//! The listed segments of both are walked side by side, one of each at a time, up to the first difference, and none is kept.
+#![tactic(auto)]
+
+mod contents;
+mod elapsed;
+mod heads;
+mod presentations;
+mod segments;
+mod spot;
+mod stretch;
+mod walk;
+
+pub use presentations::compare;

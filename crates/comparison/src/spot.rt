@@ -1,0 +1,36 @@
+// Where something differs.
+ghost use Rattle.std.specs.Prelude.{◌≡◌};
+ghost use Rattle.meaning.specs.Differences.{in_entry};
+
+use meaning::{Aspect, Difference};
+
+/// A segment of a track in a section, each told by its place from 0.
+#[derive(Clone, Copy, Debug)]
+pub(crate) struct Spot {
+    pub(crate) section: usize,
+    pub(crate) track: usize,
+    pub(crate) segment: usize,
+}
+
+impl Spot {
+    /// The spot of another segment of the track in the section.
+    pub(crate) fn at(self, segment: usize) -> Spot
+        ensures section { result.section ≡ self.section }
+        ensures track { result.track ≡ self.track }
+        ensures segment { result.segment ≡ segment }
+    {
+        Spot { segment, ..self }
+    }
+
+    /// Something that differs here.
+    pub(crate) fn of(self, what: Aspect) -> Difference
+        ensures { result ≡ in_entry self.track self.section self.segment what }
+    {
+        Difference {
+            what,
+            section: self.section,
+            track: self.track,
+            segment: self.segment,
+        }
+    }
+}
