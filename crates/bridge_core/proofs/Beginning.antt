@@ -1,5 +1,5 @@
 -- A file that is put before others.
-use Rattle.std.proofs.Common.{◌≡◌, ◌+◌, ℕ, suc, List, ◌∷◌, take, Option, None, Some, option_map, refl, subst}
+use Rattle.std.proofs.Common.{◌≡◌, ℕ, suc, List, ◌∷◌, take, Option, None, Some, option_map, refl, subst}
 use Rattle.bridge_io.specs.Outside.{Files, put, Changes}
 use Rattle.bridge_io.specs.InOrder.{put_all, MayBegin, AreBegun}
 

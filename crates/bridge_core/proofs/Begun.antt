@@ -1,5 +1,5 @@
 -- Files that are begun.
-use Rattle.std.proofs.Common.{◌≡◌, ℕ, List, [], ◌∷◌, Option, None, Some, option_map, Result, Ok, Err, IsTrue, refl, sym, subst}
+use Rattle.std.proofs.Common.{◌≡◌, ℕ, List, [], ◌∷◌, Option, None, Some, option_map, refl, sym, subst}
 use Rattle.bridge_io.specs.Outside.{Files}
 use Rattle.bridge_io.specs.InOrder.{AreBegun, MayBegin, put_all}
 

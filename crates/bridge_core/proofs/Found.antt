@@ -8,8 +8,11 @@ use Rattle.bridge_report.specs.Outcomes.{Outcome, course_by, outcome_told}
 use Rattle.bridge_report.specs.Reading.{Named}
 use Rattle.bridge_playlists.specs.declared.place.Place.{Place}
 use Rattle.bridge_playlists.specs.Places.{place_of}
+use Rattle.bridge_core.specs.Check.{check_at, check_beside, check_by, check_outcome, check_under}
+use Rattle.bridge_core.specs.Check as check
 use Rattle.bridge_core.specs.Dash.{dash_at, dash_outcome, dash_under, outcome_of}
 use Rattle.bridge_core.specs.Show.{is_done, show_at, show_outcome, show_under, told}
+use Rattle.bridge_core.specs.declared.check.Check.{Check}
 use Rattle.bridge_core.specs.declared.dash.Dash.{Dash}
 use Rattle.bridge_core.specs.declared.show.Show.{Show}
 
@@ -49,3 +52,18 @@ told_uncounted (Err named) is = absurd (let e = is in cc)
 
 pub show_never : (job : Show) (place : Place) (files : Option Files) (outcome : Outcome) {P : Type 0} → IsFound (show_at job place) files outcome → IsTrue (course_by outcome).counts → P
 show_never job place files outcome by counts = told_uncounted (and_then (told job place by.found) is_done) (subst (λ o. IsTrue (course_by o).counts) (sym by.same) counts)
+
+-- ---- `check`
+
+pub check_placed : (job : Check) (mpd : Place) (files : Option Files) (outcome : Outcome) → Some mpd ≡ place_of job.base job.mpd → check_outcome job files ≡ Some outcome
+    → check_beside job mpd files ≡ Some outcome
+unfolding check_outcome
+check_placed job mpd files outcome at is = subst (λ found. check_under job found files ≡ Some outcome) (sym at) is
+
+pub check_found : (job : Check) (mpd master : Place) (files : Option Files) (outcome : Outcome) → Some master ≡ place_of job.base job.master → check_beside job mpd files ≡ Some outcome
+    → IsFound (check_at job mpd master) files outcome
+unfolding check_beside
+check_found job mpd master files outcome at is = over_files (check_at job mpd master) files outcome (subst (λ found. check_by job mpd found files ≡ Some outcome) (sym at) is)
+
+pub check_never : (job : Check) (mpd master : Place) (files : Option Files) (outcome : Outcome) {P : Type 0} → IsFound (check_at job mpd master) files outcome → IsTrue (course_by outcome).counts → P
+check_never job mpd master files outcome by counts = told_uncounted (check.told job mpd master by.found) (subst (λ o. IsTrue (course_by o).counts) (sym by.same) counts)

@@ -1,5 +1,6 @@
 pub mod Files
 pub mod Opened
+pub mod Static
 mod Pushing
 pub mod Found
 pub mod Begun

@@ -1,6 +1,6 @@
 -- What is written means what the MPD means.
 use Rattle.std.proofs.Common.{◌≡◌, ℕ, ◌+◌, ◌-◌, ◌^◌, ◌<◌, ◌≤◌, ◌&&◌, not, Bool, true, false, IsTrue, List, [], ◌∷◌, ◌++◌, length, take, Option, None, Some, option_map, Result, Ok, Err, IfSome, bytes_eq, refl, sym, ◌∙◌, ap, subst, arith, inl, inr, append_assoc, take_all}
-use Rattle.std.specs.Prelude.{is_some, nat_le, nat_lt, if◌then◌else◌}
+use Rattle.std.specs.Prelude.{is_some, nat_le, nat_lt}
 use Rattle.std.proofs.lemmas.Bool.{cases_Bool, and_parts}
 use Rattle.std.proofs.lemmas.List.{append-nil, take_more}
 use Rattle.std.proofs.lemmas.List.Folds.{list_all-append}
@@ -20,16 +20,12 @@ use Rattle.bridge_runs.specs.declared.status.Status.TheVariants as status
 use Rattle.bridge_runs.specs.declared.status.Verdict.TheVariants as verdict
 use Rattle.mpd_text.proofs.NameLemmas.{not_true, same_bytes}
 use Rattle.mpd_text.specs.Meaning.{reading_of}
-use Rattle.mpd_levels.specs.Segments.{Segments}
-use Rattle.mpd_rules.specs.Rules.{typed_mpd_of}
-use Rattle.mpd_rules.specs.Typed.{TypedMpd}
 use Rattle.presentation.proofs.Filling.{steps_of, ok_under}
 use Rattle.presentation.specs.MeaningLaws.{TextsAreMeant}
 use Rattle.presentation.specs.Meanings.{meaning_of}
 use Rattle.presentation.specs.Origins.{CameFromStaticMpd}
 use Rattle.presentation.specs.Presented.{Presented}
 use Rattle.presentation.specs.Told.{and_then, told_as, presented_of}
-use Rattle.presentation.specs.Verifying.{verified}
 use Rattle.url_parts.specs.Addresses.{IsAddress, absolute, folder_of, is_tail}
 use Rattle.read_back.proofs.SameFolders.{no_tail, own_with_slash}
 use Rattle.hls_writer.specs.Verified.{IsVerified}
@@ -39,7 +35,7 @@ use Rattle.read_back.specs.SameFiles.{AreWritten, FoldersHoldFiles, HoldsFiles, 
 use Rattle.read_back.specs.SameStatic.{WrittenMeansTheSame}
 use Rattle.bridge_report.specs.Bases.{ends_in_slash, file_url, own_address, if_written_so, is_folder as is_base}
 use Rattle.bridge_core.specs.Courses.{outcome_of_job, outcome_of_words}
-use Rattle.bridge_core.specs.Hls.{hls_outcome, hls_under, outcome_of, checked_presentation, presentation_of, checked, mpd_of, unless_live}
+use Rattle.bridge_core.specs.Hls.{hls_outcome, hls_under, outcome_of, checked_presentation, presentation_of}
 use Rattle.bridge_report.specs.Outcomes.{Ends, base_refused, course_by}
 use Rattle.bridge_report.specs.Reading.{manifest_limit}
 use Rattle.bridge_core.specs.Playlists.{playlists}
@@ -50,6 +46,7 @@ use Rattle.bridge_report.specs.declared.refusal.Refusal.{Refusal}
 use Rattle.bridge_report.specs.declared.refusal.Refusal.TheVariants.{Unbuilt}
 use Rattle.bridge_core.proofs.Asked.{IsBounded, bounded}
 use Rattle.bridge_core.proofs.FileNames.{are_written}
+use Rattle.bridge_core.proofs.Static.{checked_read, static_read}
 
 -- ---- an MPD of which nothing is refused
 
@@ -61,35 +58,12 @@ record IsRead (bytes url : List ℕ) (job : Hls) (p : Presented) : Type 0 where
   instant : came.now ≡ job.instant
   verified : IsVerified p job.digits
 
-static_of : (live : Bool) (mpd read : TypedMpd (Option Segments)) → (if live then Err Unbuilt else Ok mpd) ≡ Ok read → (live ≡ false) × (mpd ≡ read)
-static_of true mpd read is = absurd (cc)
-static_of false mpd read is = (refl, (let same : mpd ≡ read = cc in same))
-
 read_of : (job : Hls) (bytes url : List ℕ) (p : Presented) → checked_presentation job url bytes ≡ Ok p → IsRead bytes url job p
-unfolding checked_presentation presentation_of checked mpd_of
+unfolding checked_presentation
 read_of job bytes url p is =
-    let presented = steps_of (presentation_of url job.instant bytes) (checked (10 ^ job.digits)) p is in
-    let found = steps_of (told_as _ (verified presented.value (10 ^ job.digits))) (λ longest. Ok presented.value) p presented.then in
-    let same : presented.value ≡ p = cc in
-    let told = steps_of (mpd_of bytes) (λ mpd. told_as _ (presented_of mpd url job.instant)) presented.value presented.first in
-    let spelled = steps_of (told_as _ (reading_of bytes)) _ told.value told.first in
-    let typed = steps_of (told_as _ (typed_mpd_of spelled.value)) unless_live told.value spelled.then in
-    let static = static_of typed.value.facts.live typed.value told.value typed.then in
-    rw (← same) (record {
-      came = record {
-        tree = spelled.value;
-        mpd = told.value;
-        url = url;
-        now = job.instant;
-        typed = ok_under _ (typed_mpd_of spelled.value) typed.value typed.first ∙ ap Ok static.1;
-        static = rw (← static.1) static.0;
-        presented = ok_under _ (presented_of told.value url job.instant) presented.value told.then;
-      };
-      spelled = ok_under _ (reading_of bytes) spelled.value spelled.first;
-      at = refl;
-      instant = refl;
-      verified = record { longest = found.value; is = ok_under _ (verified presented.value (10 ^ job.digits)) found.value found.first };
-    })
+    let found = checked_read (presentation_of Unbuilt url job.instant bytes) (10 ^ job.digits) p is in
+    let read = static_read Unbuilt url job.instant bytes p found.first in
+    record { came = read.came; spelled = read.spelled; at = read.at; instant = read.instant; verified = record { longest = found.longest; is = found.all } }
 
 -- ---- where it lies
 

@@ -8,6 +8,7 @@ use Rattle.bridge_runs.specs.declared.status.Verdict.TheVariants as verdict
 use Rattle.bridge_runs.specs.Runs.{words_line}
 use Rattle.bridge_runs.specs.Courses.{Course, World}
 use Rattle.bridge_report.specs.Outcomes.{Outcome, Ends, course_by}
+use Rattle.bridge_core.specs.Check.{check_outcome}
 use Rattle.bridge_core.specs.Dash.{dash_outcome}
 use Rattle.bridge_core.specs.Hls.{hls_outcome}
 use Rattle.bridge_core.specs.Make.{make_outcome}
@@ -17,11 +18,12 @@ use Rattle.bridge_playlists.specs.Reload.{reload_outcome}
 abbrev pub no_job : Outcome
 no_job = Ends verdict.Words words_line false true
 
--- `follow` and `check` aren't built yet: they are no job of the program
+-- `follow` isn't built yet: it is no job of the program
 abbrev pub outcome_of_job : Option Job → Option Files → Option Outcome
 outcome_of_job (Some (job.Hls mpd base now out digits)) files = hls_outcome (record { mpd = mpd; base = base; instant = now; out = out; digits = digits }) files
 outcome_of_job (Some (job.Dash master base out)) files = dash_outcome (record { master = master; base = base; out = out }) files
 outcome_of_job (Some (job.Show file base now digits)) files = show_outcome (record { file = file; base = base; instant = now; digits = digits }) files
+outcome_of_job (Some (job.Check mpd master base digits)) files = check_outcome (record { mpd = mpd; master = master; base = base; digits = digits }) files
 outcome_of_job (Some (job.Reload old new base)) files = reload_outcome (record { old = old; new = new; base = base }) files
 outcome_of_job (Some (job.Make seed out digits)) files = Some (make_outcome (record { seed = seed; out = out; digits = digits }))
 outcome_of_job other files = Some no_job
@@ -39,6 +41,7 @@ abbrev pub IsUnbuilt : Job → Type 0
 IsUnbuilt (job.Hls mpd base now out digits) = ⊥
 IsUnbuilt (job.Dash master base out) = ⊥
 IsUnbuilt (job.Show file base now digits) = ⊥
+IsUnbuilt (job.Check mpd master base digits) = ⊥
 IsUnbuilt (job.Reload old new base) = ⊥
 IsUnbuilt (job.Make seed out digits) = ⊥
 IsUnbuilt other = Unit {0}

@@ -20,15 +20,15 @@ use Rattle.bridge_report.specs.Reading.{manifest_limit}
 use Rattle.bridge_core.specs.Done.{done_line}
 use Rattle.bridge_core.specs.Playlists.{playlists}
 
--- an MPD that is followed isn't built yet
-abbrev pub unless_live : TypedMpd (Option Segments) → Result (TypedMpd (Option Segments)) Refusal
-unless_live mpd = if mpd.facts.live then Err refusal.Unbuilt else Ok mpd
+-- a live MPD is refused so
+abbrev pub unless_live : (live : Refusal) → TypedMpd (Option Segments) → Result (TypedMpd (Option Segments)) Refusal
+unless_live live mpd = if mpd.facts.live then Err live else Ok mpd
 
 -- the tree that bytes spell, its values, or the first refusal
-unfoldable pub mpd_of : List ℕ → Result (TypedMpd (Option Segments)) Refusal
-mpd_of bytes =
+unfoldable pub mpd_of : (live : Refusal) → List ℕ → Result (TypedMpd (Option Segments)) Refusal
+mpd_of live bytes =
     and_then (told_as refusal.Text (reading_of bytes)) (λ root.
-    and_then (told_as refusal.Rules (typed_mpd_of root)) unless_live)
+    and_then (told_as refusal.Rules (typed_mpd_of root)) (unless_live live))
 
 -- the same of any MPD, live or not
 unfoldable pub any_mpd_of : List ℕ → Result (TypedMpd (Option Segments)) Refusal
@@ -37,16 +37,17 @@ any_mpd_of bytes = and_then (told_as refusal.Text (reading_of bytes)) (λ root. 
 unfoldable pub any_presentation_of : (url : List ℕ) (now : Option ℤ) (bytes : List ℕ) → Result Presented Refusal
 any_presentation_of url now bytes = and_then (any_mpd_of bytes) (λ mpd. told_as refusal.Presentation (presented_of mpd url now))
 
--- the presentation of an MPD at a URL, or the first refusal
-unfoldable pub presentation_of : (url : List ℕ) (now : Option ℤ) (bytes : List ℕ) → Result Presented Refusal
-presentation_of url now bytes = and_then (mpd_of bytes) (λ mpd. told_as refusal.Presentation (presented_of mpd url now))
+-- the presentation of a static MPD at a URL, or the first refusal
+unfoldable pub presentation_of : (live : Refusal) (url : List ℕ) (now : Option ℤ) (bytes : List ℕ) → Result Presented Refusal
+presentation_of live url now bytes = and_then (mpd_of live bytes) (λ mpd. told_as refusal.Presentation (presented_of mpd url now))
 
 -- each listed segment has an address
 unfoldable pub checked : (unit : ℕ) → Presented → Result Presented Refusal
 checked unit p = and_then (told_as refusal.Presentation (verified p unit)) (λ longest. Ok p)
 
+-- an MPD that is followed isn't built yet
 unfoldable pub checked_presentation : Hls → (url bytes : List ℕ) → Result Presented Refusal
-checked_presentation job url bytes = and_then (presentation_of url job.instant bytes) (checked (10 ^ job.digits))
+checked_presentation job url bytes = and_then (presentation_of refusal.Unbuilt url job.instant bytes) (checked (10 ^ job.digits))
 
 -- ---- how the command ends
 

@@ -1,3 +1,4 @@
+pub mod Check
 pub mod Courses
 pub mod Dash
 pub mod Done

@@ -10,6 +10,7 @@ use Rattle.bridge_report.specs.declared.refusal.Refusal.{Refusal}
 use Rattle.bridge_report.specs.Bases.{file_url}
 use Rattle.bridge_report.specs.Outcomes.{Outcome, Ends, Writes, base_refused}
 use Rattle.bridge_report.specs.Refusals.{refusal_line}
+use Rattle.bridge_report.specs.declared.refusal.Refusal.TheVariants.{NotStatic}
 use Rattle.bridge_core.specs.Hls.{presentation_of, checked}
 use Rattle.bridge_core.specs.Playlists.{playlists}
 use Rattle.bridge_core.specs.Source.{source_text}
@@ -50,7 +51,7 @@ outcome_of job (Err refusal) = Ends verdict.Refused (refusal_line source_name re
 
 -- the presentation of the MPD as if it were at this URL
 unfoldable pub made_presentation : Make → (url : List ℕ) → Result Presented Refusal
-made_presentation job url = and_then (presentation_of url None (source_text job.seed)) (checked (10 ^ job.digits))
+made_presentation job url = and_then (presentation_of NotStatic url None (source_text job.seed)) (checked (10 ^ job.digits))
 
 abbrev pub source_url : Option (List ℕ)
 source_url = file_url (codes "https://make.example/") source_name

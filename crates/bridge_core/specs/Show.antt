@@ -1,6 +1,6 @@
 -- What is told of the tracks and sections of an MPD or of a master.
-use Rattle.std.specs.Prelude.{ℕ, ◌^◌, ◌==◌, ◌&&◌, ◌||◌, nat_le, Bool, true, false, List, [], ◌∷◌, ◌++◌, length, codes, decimal, drop, flat_map, slice_get, slice_index, if◌then◌else◌, Option, Some, None, option_map, Result, Ok, Err}
-use Rattle.std.specs.Option.{option_and_then, option_map_or}
+use Rattle.std.specs.Prelude.{ℕ, ◌^◌, ◌==◌, ◌&&◌, ◌||◌, nat_le, Bool, false, List, [], ◌∷◌, ◌++◌, length, codes, decimal, drop, flat_map, slice_get, slice_index, if◌then◌else◌, Option, Some, None, option_map, Result, Ok}
+use Rattle.std.specs.Option.{option_map_or}
 use Rattle.bridge_io.specs.Outside.{Files}
 use Rattle.bridge_io.specs.declared.media.Kind.{Kind}
 use Rattle.bridge_io.specs.declared.media.Kind.TheVariants.{Video, Audio, Text}

@@ -71,7 +71,7 @@ fn push_segments(line: &mut String, segments: u64, left_out: u64) -> Result<(), 
 }
 
 /// How many segments are listed.
-fn count_of(presentation: &Presentation) -> u64
+pub fn count_of(presentation: &Presentation) -> u64
     requires counted { counted presentation.now ≡ Ok (count_of_all presentation.now) }
     ensures { result ≡ count_of_all presentation.now }
 {

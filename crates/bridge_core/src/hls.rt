@@ -121,7 +121,7 @@ fn ready<L: Ledger>(
     ensures ready { Gives (λ ready. ready.presentation) refused_in result (spec.checked_presentation job.now url.now bytes.now) }
     ensures digits { IfOk result (λ ready. ready.digits ≡ job.now.digits) }
 {
-    let presentation = presentation_of(alloc, bytes, url, job.instant)?;
+    let presentation = presentation_of(alloc, bytes, url, job.instant, Refusal::Unbuilt)?;
     checked(alloc, presentation, job.digits, steps)
 }
 

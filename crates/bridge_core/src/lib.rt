@@ -1,6 +1,7 @@
 //! The jobs of the manifest bridge and its top call.
 #![tactic(auto)]
 
+mod check;
 mod dash;
 mod done;
 mod hls;

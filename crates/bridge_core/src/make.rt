@@ -109,7 +109,13 @@ fn ready<L: Ledger>(
     ensures ready { Gives (λ ready. ready.presentation) refused_in result (spec.made_presentation job.now url.now) }
     ensures digits { IfOk result (λ ready. ready.digits ≡ job.now.digits) }
 {
-    let presentation = presentation_of(alloc, text.as_str().as_bytes(), url, None)?;
+    let presentation = presentation_of(
+        alloc,
+        text.as_str().as_bytes(),
+        url,
+        None,
+        Refusal::NotStatic,
+    )?;
     checked(alloc, presentation, job.digits, steps)
 }
 

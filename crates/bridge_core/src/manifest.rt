@@ -32,17 +32,18 @@ pub struct Ready {
     ghost verified: { verified presentation (10 ^ digits) ≡ Ok longest },
 }
 
-/// The presentation of the bytes of an MPD at a URL, or the first refusal.
+/// The presentation of the bytes of a static MPD at a URL, or the first refusal. A live one is refused as `live`.
 #[tactic(auto, unfolding(crate::specs::Hls::presentation_of))]
 pub fn presentation_of(
     alloc: Global,
     bytes: &[u8],
     url: &Base,
     now: Option<Instant>,
+    live: Refusal,
 ) -> Result<Presentation, Stop>
-    ensures { Gives (λ presentation. presentation) refused_in result (spec.presentation_of url.now now bytes.now) }
+    ensures { Gives (λ presentation. presentation) refused_in result (spec.presentation_of live url.now now bytes.now) }
 {
-    let mpd = mpd_of(alloc, bytes)?;
+    let mpd = mpd_of(alloc, bytes, live)?;
     match Presentation::from_mpd(alloc, &mpd, url, now) {
         Ok(presentation) => Ok(presentation),
         Err(fault) => Err(Stop::of_presentation(fault)),
@@ -87,15 +88,15 @@ pub fn checked<L: Ledger>(
     }
 }
 
-/// The values of an MPD, or the first refusal. One that is followed isn't built yet.
+/// The values of a static MPD, or the first refusal.
 #[tactic(auto, unfolding(crate::specs::Hls::mpd_of))]
-fn mpd_of(alloc: Global, bytes: &[u8]) -> Result<Mpd, Stop>
-    ensures { Gives segments_mpd refused_in result (spec.mpd_of bytes.now) }
+fn mpd_of(alloc: Global, bytes: &[u8], live: Refusal) -> Result<Mpd, Stop>
+    ensures { Gives segments_mpd refused_in result (spec.mpd_of live bytes.now) }
 {
     let tree = tree_of(alloc, bytes)?;
     let mpd = values_of(alloc, &tree)?;
     if mpd.live() {
-        return Err(Stop::Refused(Refusal::Unbuilt));
+        return Err(Stop::Refused(live));
     }
     Ok(mpd)
 }

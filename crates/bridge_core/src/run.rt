@@ -9,6 +9,7 @@ ghost use Rattle.bridge_runs.specs.Laws.{IsCalm};
 ghost use Rattle.bridge_core.specs.Courses.{IsUnbuilt, course_of, outcome_of_job, outcome_of_words, world_of};
 ghost use Rattle.bridge_report.specs.Outcomes.{IsEnding, course_by};
 
+use crate::check::{self, Check};
 use crate::dash::{self, Dash};
 use crate::hls::{self, Hls};
 use crate::make::{self, Make};
@@ -22,9 +23,10 @@ use std::alloc::Global;
 /// Runs the command that the words are, without the program's own name: it reads and writes the files of the store,
 /// and reports its end in one line. The input is left as it was.
 ///
-/// Five commands are built yet. `hls` writes the playlists of an MPD, `t0.m3u8` and so on for each track and `master.m3u8` for
+/// Six commands are built yet. `hls` writes the playlists of an MPD, `t0.m3u8` and so on for each track and `master.m3u8` for
 /// all, to a folder, the master last. `dash` writes the MPD of a master and its playlists, `manifest.mpd`. Neither writes
-/// anything before every refusal is ruled out. `show` tells the tracks and sections of an MPD or of a master. `reload` reads two
+/// anything before every refusal is ruled out. `show` tells the tracks and sections of an MPD or of a master. `check` tells whether an MPD and a master agree, or
+/// where they differ first. `reload` reads two
 /// media playlists and tells whether the second may take the first one's place, or the first rule that it breaks. `make` writes an
 /// MPD that is made from a seed, `source.mpd`, and then what `hls` writes of it, and reads nothing.
 pub fn bridge<I: Source, F: Store, P: Sink, L: Ledger>(
@@ -114,6 +116,22 @@ fn run_job<F: Store, L: Ledger>(
                 digits,
             };
             hls::translate(alloc, &job, store, steps)
+        }
+        Some(
+            Job::Check {
+                mpd,
+                master,
+                base,
+                digits,
+            },
+        ) => {
+            let job = Check {
+                mpd,
+                master,
+                base,
+                digits,
+            };
+            check::judge(alloc, &job, store, steps)
         }
         Some(Job::Dash { master, base, out }) => {
             dash::translate(alloc, &Dash { master, base, out }, store, steps)

@@ -117,6 +117,7 @@ spot_of (refusal.Master fault) = master_spot fault
 spot_of refusal.OutsideBase = None
 spot_of refusal.TooManySegments = None
 spot_of (refusal.Hls fault) = None
+spot_of refusal.NotStatic = None
 
 abbrev pub spot_text : Option Spot → List ℕ
 spot_text None = []
@@ -138,6 +139,7 @@ words_of (refusal.Master fault) = master_words fault
 words_of refusal.OutsideBase = codes "job 2 OutsideBase"
 words_of refusal.TooManySegments = codes "job 3 Limit"
 words_of (refusal.Hls fault) = hls_words fault
+words_of refusal.NotStatic = codes "job 4 NotStatic"
 
 -- the refusal of a file, or of no file where it is named `-`
 abbrev pub refused_line : (file words spot : List ℕ) → List ℕ

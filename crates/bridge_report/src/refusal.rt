@@ -42,6 +42,8 @@ pub enum Refusal {
     TooManySegments,
     /// The master's playlists give no presentation.
     Hls(HlsFault),
+    /// The MPD is live, where a static one is wanted (ISO/IEC 23009-1, 5.3.1.2).
+    NotStatic,
 }
 
 /// Why the input of a job isn't read.
@@ -136,6 +138,7 @@ fn words(refusal: Refusal) -> &'static str
         Refusal::OutsideBase => "job 2 OutsideBase",
         Refusal::TooManySegments => "job 3 Limit",
         Refusal::Hls(fault) => hls_words(fault),
+        Refusal::NotStatic => "job 4 NotStatic",
     }
 }
 
@@ -149,7 +152,8 @@ fn spot(refusal: Refusal) -> Option<Spot>
         | Refusal::Unbuilt
         | Refusal::OutsideBase
         | Refusal::TooManySegments
-        | Refusal::Hls(_) => None,
+        | Refusal::Hls(_)
+        | Refusal::NotStatic => None,
         Refusal::TooLong(place) => Some(Spot::At(place)),
         Refusal::Text(fault) => text_spot(fault),
         Refusal::Rules(fault) => rule_spot(fault),

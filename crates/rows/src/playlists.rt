@@ -20,6 +20,8 @@ struct Row<'a> {
 
 const RELOAD: &[&str] = &["reload", "o.m3u8", "n.m3u8", "--base=https://h.example/"];
 
+const CHECK: &[&str] = &["check", "m.mpd", "m.m3u8", "--base=https://h.example/"];
+
 const DASH: &[&str] = &["dash", "m.m3u8", "--base=https://h.example/"];
 
 const OLD: &str =
@@ -109,6 +111,10 @@ const MASTER: &str =
 const VIDEO: &str =
     "#EXTM3U\n#EXT-X-TARGETDURATION:9\n#EXT-X-MAP:URI=\"i.mp4\"\n#EXTINF:9.009,\ns0.m4s\n#EXTINF:9.009,\ns1.m4s\n#EXTINF:3.003,\ns2.m4s\n#EXT-X-ENDLIST\n";
 
+/// The same but for the second duration.
+const LATER: &str =
+    "#EXTM3U\n#EXT-X-TARGETDURATION:9\n#EXT-X-MAP:URI=\"i.mp4\"\n#EXTINF:9.009,\ns0.m4s\n#EXTINF:9.010,\ns1.m4s\n#EXTINF:3.003,\ns2.m4s\n#EXT-X-ENDLIST\n";
+
 const MPD: &str = r#"<?xml version="1.0" encoding="UTF-8"?>
 <MPD xmlns="urn:mpeg:dash:schema:mpd:2011" profiles="urn:mpeg:dash:profile:full:2011" type="static" minBufferTime="PT2S" mediaPresentationDuration="PT21.021S">
 <Period id="0" start="PT0S" duration="PT21.021S">
@@ -130,7 +136,7 @@ const MPD: &str = r#"<?xml version="1.0" encoding="UTF-8"?>
 </MPD>
 "#;
 
-const TRANSLATED: [Row<'static>; 7] = [
+const TRANSLATED: [Row<'static>; 9] = [
     Row {
         words: DASH,
         files: &[("m.m3u8", MASTER), ("v.m3u8", VIDEO)],
@@ -221,6 +227,21 @@ const TRANSLATED: [Row<'static>; 7] = [
         )],
         status: Status::Refused,
         report: "refused m.m3u8 master 6 Muxed at 8 line 2\n",
+        written: &[],
+    },
+    // what is written agrees with what it is written from
+    Row {
+        words: CHECK,
+        files: &[("m.mpd", MPD), ("m.m3u8", MASTER), ("v.m3u8", VIDEO)],
+        status: Status::Done,
+        report: "same tracks=1 sections=1 segments=3\n",
+        written: &[],
+    },
+    Row {
+        words: CHECK,
+        files: &[("m.mpd", MPD), ("m.m3u8", MASTER), ("v.m3u8", LATER)],
+        status: Status::Differ,
+        report: "differ time section 0 track 0 segment 1\n",
         written: &[],
     },
 ];
