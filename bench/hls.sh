@@ -5,13 +5,7 @@
 #
 # It wants `rt` and python3, and proves the program first where that isn't kept.
 set -euo pipefail
-here=$(cd "$(dirname "$0")/.." && pwd)
-work=$(mktemp -d)
-trap 'rm -rf "$work"' EXIT
-
-(cd "$here/crates/bridge" && rt run -- hls data/vod.mpd --base=https://h.example/ --out="bench-$$" > "$work/build.log" 2>&1; rm -rf "bench-$$")
-bridge=$here/crates/bridge/out/bridge
-[ -x "$bridge" ] || { tail "$work/build.log"; exit 1; }
+source "$(dirname "$0")/program.sh"
 
 cat > "$work/hls.py" <<'PY'
 import os, shutil, sys
@@ -69,4 +63,4 @@ text = "\n".join(out) + "\n"
 print(text)
 open(table, "w").write(text)
 PY
-PYTHONPATH=$here/bench python3 "$work/hls.py" "$bridge" "$work" "$here/docs/PERFORMANCE.md"
+python3 "$work/hls.py" "$bridge" "$work" "$here/docs/PERFORMANCE.md"

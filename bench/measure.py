@@ -20,16 +20,25 @@ print(os.waitstatus_to_exitcode(status), time.perf_counter() - start, usage.ru_m
 """
 
 
+def launched(command):
+    """The status, the milliseconds and the MiB of one run."""
+    told = subprocess.run([sys.executable, "-S", "-c", LAUNCH, *command], capture_output=True, text=True, check=True).stdout.split()
+    return int(told[0]), float(told[1]) * 1000, int(told[2]) / 1024
+
+
 def measure(command, status=0):
     """Milliseconds and MiB, or None where a run ends with another status."""
-    times, peaks = [], []
-    for _ in range(11):
-        told = subprocess.run([sys.executable, "-S", "-c", LAUNCH, *command], capture_output=True, text=True, check=True).stdout.split()
-        if told[0] != str(status):
-            return None
-        times.append(float(told[1]) * 1000)
-        peaks.append(int(told[2]) / 1024)
-    return min(times), max(peaks)
+    runs = [launched(command) for _ in range(11)]
+    if any(ended != status for ended, _, _ in runs):
+        return None
+    return min(ms for _, ms, _ in runs), max(mib for _, _, mib in runs)
+
+
+def answers(command):
+    """The longest time of three runs in seconds, their largest memory in MiB, and the first line of what the command tells."""
+    runs = [launched(command) for _ in range(3)]
+    told = subprocess.run(command, capture_output=True, text=True)
+    return max(ms for _, ms, _ in runs) / 1000, max(mib for _, _, mib in runs), told.stdout.partition("\n")[0]
 
 
 def main(name, file, *command):

@@ -5,13 +5,7 @@
 #
 # It wants `rt` and python3, and proves the program first where that isn't kept.
 set -euo pipefail
-here=$(cd "$(dirname "$0")/.." && pwd)
-work=$(mktemp -d)
-trap 'rm -rf "$work"' EXIT
-
-(cd "$here/crates/bridge" && rt run -- hls data/vod.mpd --base=https://h.example/ --out="bench-$$" > "$work/build.log" 2>&1; rm -rf "bench-$$")
-bridge=$here/crates/bridge/out/bridge
-[ -x "$bridge" ] || { tail "$work/build.log"; exit 1; }
+source "$(dirname "$0")/program.sh"
 
 cat > "$work/write.py" <<'PY'
 import os, sys
@@ -36,4 +30,4 @@ written, refused = run("written.mpd", 0), run("refused.mpd", 1)
 size = os.path.getsize("out/t0.m3u8")
 print(f"made {refused[0]:.0f} ms, {refused[1]:.1f} MB; made and written {written[0]:.0f} ms, {written[1]:.1f} MB; {size} bytes in {written[0] - refused[0]:.0f} ms")
 PY
-PYTHONPATH=$here/bench python3 "$work/write.py" "$bridge" "$work"
+python3 "$work/write.py" "$bridge" "$work"
