@@ -1,11 +1,12 @@
 -- Names that tell nothing.
-use Rattle.std.proofs.Common.{◌≡◌, ℕ, true, false, List, Option, Some, None, refl, ap, bytes_eq, nat_lt, length, inl, inr}
+use Rattle.std.proofs.Common.{◌≡◌, ℕ, true, false, List, Option, Some, None, refl, sym, ap, ◌∙◌, bytes_eq, nat_lt, length, inl, inr, ◌⊎◌, ◌||◌, Bool}
 use Rattle.std.specs.Prelude.{codes}
 use Rattle.std.proofs.lemmas.Bool.{cases_Bool}
+use Rattle.mpd_text.specs.Trees.{Attribute}
 use Rattle.mpd_text.proofs.NameLemmas.{same_bytes}
 use Rattle.mpd_profile.specs.declared.listed.Listed.{Listed}
 use Rattle.mpd_profile.specs.declared.listed.Listed.TheVariants as listed
-use Rattle.mpd_profile.specs.Features.{is_essential_in, is_segment_element, parent_feature}
+use Rattle.mpd_profile.specs.Features.{attribute_feature, is_entry_value, is_essential_in, is_segment_element, parent_feature}
 use Rattle.mpd_profile.specs.Heads.{is_short}
 use Rattle.mpd_profile.specs.Visits.{Parent}
 
@@ -65,3 +66,30 @@ module _ (name : List ℕ) (short : is_short name ≡ true) where
         differs_too name (codes "Preselection") short refl,
         differs_too name (codes "PatchLocation") short refl,
       ) refl
+
+-- ---- the attributes that an S mostly has
+
+module _ (a : Attribute) where
+  abbrev renamed : List ℕ → Attribute
+  renamed name = record { name = name; value = a.value; place = a.place }
+
+  by_name : (dynamic : Bool) (word : List ℕ) → bytes_eq a.name word ≡ true → None ≡ attribute_feature dynamic listed.S (renamed word)
+      → None ≡ attribute_feature dynamic listed.S a
+  by_name dynamic word same none = none ∙ ap (λ name. attribute_feature dynamic listed.S (renamed name)) (sym (same_bytes a.name word same))
+
+  one_of_three : (t d r : Bool) → (t || (d || r)) ≡ true → (t ≡ true) ⊎ ((d ≡ true) ⊎ (r ≡ true))
+  one_of_three true d r is = inl refl
+  one_of_three false true r is = inr (inl refl)
+  one_of_three false false r is = inr (inr is)
+
+  pub entry_untold : (dynamic : Bool) → is_entry_value a.name ≡ true → None ≡ attribute_feature dynamic listed.S a
+  entry_untold true is = elim (one_of_three (bytes_eq a.name (codes "t")) (bytes_eq a.name (codes "d")) (bytes_eq a.name (codes "r")) is) [
+    | inl t ↦ by_name true (codes "t") t refl
+    | inr (inl d) ↦ by_name true (codes "d") d refl
+    | inr (inr r) ↦ by_name true (codes "r") r refl
+  ]
+  entry_untold false is = elim (one_of_three (bytes_eq a.name (codes "t")) (bytes_eq a.name (codes "d")) (bytes_eq a.name (codes "r")) is) [
+    | inl t ↦ by_name false (codes "t") t refl
+    | inr (inl d) ↦ by_name false (codes "d") d refl
+    | inr (inr r) ↦ by_name false (codes "r") r refl
+  ]

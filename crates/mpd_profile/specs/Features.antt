@@ -93,6 +93,10 @@ abbrev pub is_incomplete : Attribute → Bool
 is_incomplete attribute =
     bytes_eq attribute.name (codes "availabilityTimeComplete") && bytes_eq (trimmed Space attribute.value) (codes "false")
 
+-- an S has few others (5.3.9.6)
+abbrev pub is_entry_value : List ℕ → Bool
+is_entry_value name = bytes_eq name (codes "t") || (bytes_eq name (codes "d") || bytes_eq name (codes "r"))
+
 abbrev pub attribute_feature : (dynamic : Bool) → Listed → Attribute → Option Feature
 attribute_feature dynamic listed attribute =
     if is_incomplete attribute then Some LowLatency else named_in (refused_attributes dynamic listed) attribute.name

@@ -81,13 +81,30 @@ pub(crate) fn has_foreign(media_type: Option<&str>, codecs: Option<&str>) -> boo
 }
 
 /// The feature that an attribute is.
+#[tactic(auto, using(crate::proofs::Untold::entry_untold))]
 pub(crate) fn attribute_feature(dynamic: bool, listed: Listed, attr: Attr<'_>) -> Option<Feature>
+    ensures { result ≡ spec.attribute_feature dynamic listed (attribute_shown attr.entry) }
+{
+    match listed {
+        Listed::S if is_entry_value(attr.name) => None,
+        _ => refused_feature(dynamic, listed, attr),
+    }
+}
+
+fn refused_feature(dynamic: bool, listed: Listed, attr: Attr<'_>) -> Option<Feature>
     ensures { result ≡ spec.attribute_feature dynamic listed (attribute_shown attr.entry) }
 {
     if attr.name == "availabilityTimeComplete" && trimmed(attr.value, Blank::Space) == "false" {
         return Some(Feature::LowLatency);
     }
     named_in(refused_attributes(dynamic, listed), attr.name)
+}
+
+/// Whether a name is one of those that the attributes of an S mostly have, none of which is a feature.
+fn is_entry_value(name: &str) -> bool
+    ensures { result ≡ spec.is_entry_value name.now }
+{
+    name == "t" || name == "d" || name == "r"
 }
 
 fn refused_attributes(dynamic: bool, listed: Listed) -> &'static [(&'static str, Feature)]

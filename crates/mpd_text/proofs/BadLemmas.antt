@@ -1,8 +1,8 @@
 -- The first character that no text may have, by the places where one begins.
 use Rattle.std.specs.List.{position_from}
 use Rattle.std.proofs.lemmas.Iterator.Adapters.{position_from-zero}
-use Rattle.std.proofs.lemmas.List.{drop_all}
-use Rattle.std.proofs.Common.{if◌then◌else◌, subst, ◌≢◌, ◌==◌, ◌⊎◌, cond, ◌≡◌, ℕ, zero, suc, ◌+◌, ◌<◌, ◌≤◌, Bool, true, false, List, [], ◌∷◌, length, get_or, drop, Option, Some, None, option_map, position, refl, sym, ◌∙◌, ap, arith, inl, inr, min, IfSome}
+use Rattle.std.proofs.lemmas.List.{drop_all, get_or-drop, get_or-take, length-drop, length-take}
+use Rattle.std.proofs.Common.{if◌then◌else◌, subst, ◌≢◌, ◌==◌, ◌⊎◌, cond, ◌≡◌, ℕ, zero, suc, ◌+◌, ◌-◌, ◌<◌, ◌≤◌, Bool, true, false, List, [], ◌∷◌, length, get_or, drop, take, Option, Some, None, option_map, position, refl, sym, ◌∙◌, ap, arith, inl, inr, min, IfSome}
 use Rattle.std.proofs.lemmas.List.Quantifiers.{position-Some}
 use Rattle.std.proofs.lemmas.Bool.{cases_lt}
 use Rattle.byte_scan.specs.Class.{is_low_control}
@@ -57,6 +57,37 @@ other_start [] zero e = refl
 other_start [] (suc k) e = refl
 other_start (b ∷ bs) zero e = let other : (239 == b) ≡ false = grind arith in rw other refl
 other_start (b ∷ bs) (suc k) e = other_start bs k e
+
+nothing_of_it : begins_with_noncharacter [] ≡ false
+unfolding begins_with_noncharacter
+nothing_of_it = refl
+
+-- before the first 0xEF behind a place none begins
+pub none_up_to : (bytes : List ℕ) (from n j : ℕ) → n ≤ length bytes - from
+    → ((k : ℕ) → 0 ≤ k → k < n → (get_or (take (length bytes - from) (drop from bytes)) k 0 == 239) ≡ true → ⊥)
+    → from ≤ j → j < from + n → begins_with_noncharacter (drop j bytes) ≡ false
+none_up_to bytes from n j within none low high =
+    let k = j - from in
+    let there : get_or (take (length bytes - from) (drop from bytes)) k 0 ≡ get_or bytes j 0 =
+    get_or-take (length bytes - from) (drop from bytes) k 0 (omega arith)
+    ∙ get_or-drop from bytes k 0
+    ∙ ap (λ i. get_or bytes i 0) (omega (arith, low)) in
+    other_start bytes j (λ is. none k (omega arith) (omega (arith, low, high)) (ap (λ b. b == 239) (there ∙ is)))
+
+rest_length : (bytes : List ℕ) (from : ℕ) → length (take (length bytes - from) (drop from bytes)) ≡ length bytes - from
+rest_length bytes from = length-take (length bytes - from) (drop from bytes) ∙ ap (min (length bytes - from)) (length-drop from bytes) ∙ grind arith
+
+pub lead_within : (bytes : List ℕ) (from k : ℕ) → k < length (take (length bytes - from) (drop from bytes)) → from + k < length bytes
+lead_within bytes from k h = omega (arith, h, rest_length bytes from)
+
+-- where none is left none begins
+pub none_from : (bytes : List ℕ) (from j : ℕ)
+    → ((k : ℕ) → 0 ≤ k → k < length (take (length bytes - from) (drop from bytes)) → (get_or (take (length bytes - from) (drop from bytes)) k 0 == 239) ≡ true → ⊥)
+    → from ≤ j → begins_with_noncharacter (drop j bytes) ≡ false
+none_from bytes from j none low = elim (cases_lt j (length bytes)) [
+  | inl inside ↦ none_up_to bytes from (length bytes - from) j (omega arith) (λ k l h. none k l (omega (arith, h, rest_length bytes from))) low (omega (arith, inside, low))
+  | inr behind ↦ ap begins_with_noncharacter (drop_all j bytes (omega arith)) ∙ nothing_of_it
+]
 
 tests : (b : Bool) → (b ≡ true) ⊎ (b ≡ false)
 tests true = inl refl
@@ -123,17 +154,6 @@ first_of_both bytes (Some k) (Some o) e other = elim (cases_lt k o) [
   | inr above ↦ noncharacter_first bytes o (Some k) (sym e) other (omega arith) ∙ ap Some (min_right k o above)
 ]
 
-nothing_of_it : begins_with_noncharacter [] ≡ false
-unfolding begins_with_noncharacter
-nothing_of_it = refl
-
--- nothing begins behind the end
-pub never : (bytes : List ℕ) (n : ℕ) → length bytes ≤ n → ((j : ℕ) → j < n → begins_with_noncharacter (drop j bytes) ≡ false) → (j : ℕ) → begins_with_noncharacter (drop j bytes) ≡ false
-never bytes n le below j = elim (cases_lt j n) [
-  | inl before ↦ below j before
-  | inr behind ↦ ap begins_with_noncharacter (drop_all j bytes (omega arith)) ∙ nothing_of_it
-]
-
 pub one_more : (bytes : List ℕ) (n : ℕ) → ((j : ℕ) → j < n → begins_with_noncharacter (drop j bytes) ≡ false) → begins_with_noncharacter (drop n bytes) ≡ false
     → (j : ℕ) → j < n + 1 → begins_with_noncharacter (drop j bytes) ≡ false
 one_more bytes n below here j h = elim (cases_lt j n) [
@@ -153,6 +173,3 @@ within (b ∷ bs) = within_step (begins_with_bad_character (b ∷ bs)) (first_ba
 
 pub bad_within : (bytes : List ℕ) (k : ℕ) → Some k ≡ first_bad_character bytes → k < length bytes
 bad_within bytes k e = subst (λ r. IfSome r (λ j. j < length bytes)) (sym e) (within bytes)
-
-pub differs : (a b : ℕ) → a ≢ b → (a == b) ≡ false
-differs a b e = grind arith

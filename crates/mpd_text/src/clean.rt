@@ -1,5 +1,5 @@
 // Bytes that are a text, and that have no character which no text may have.
-ghost use Rattle.std.specs.Prelude.{◌≡◌, ◌⊎◌, ◌<◌, length, drop, position, IfOk, IfErr};
+ghost use Rattle.std.specs.Prelude.{◌≡◌, ◌⊎◌, ◌<◌, ◌≤◌, ℕ, length, drop, position, false, IfOk, IfErr, MatchOption};
 ghost use Rattle.byte_scan.specs.Class.{is_low_control};
 ghost use Rattle.mpd_text.specs.Characters.{IsFirstNoncharacter, begins_with_noncharacter, first_bad_character};
 ghost use Rattle.mpd_text.specs.Faults.{HasBadCharacter, IsNotUtf8};
@@ -8,6 +8,7 @@ ghost use Rattle.mpd_text.specs.Grammar.{IsClean};
 use crate::TextFault;
 use crate::places::place_at;
 use byte_scan::{Class, first_outside};
+use memchr::memchr;
 
 /// Whether the bytes begin with U+FFFE or U+FFFF.
 #[tactic(auto, unfolding(crate::specs::Characters::begins_with_noncharacter))]
@@ -17,23 +18,31 @@ fn begins_with_noncharacter(bytes: &[u8]) -> bool
     bytes.starts_with(b"\xef\xbf\xbe") || bytes.starts_with(b"\xef\xbf\xbf")
 }
 
-/// Whether U+FFFE or U+FFFF begins there.
-#[inline(always)]
-fn is_noncharacter_at(bytes: &[u8], at: usize) -> bool
-    requires { at < length bytes.now }
-    ensures { result ≡ begins_with_noncharacter (drop at bytes.now) }
+/// The byte that U+FFFE and U+FFFF begin with.
+const LEAD: u8 = 0xef;
+
+/// Where that byte stands for the first time from there on.
+fn next_lead(bytes: &[u8], from: usize) -> Option<usize>
+    requires { from ≤ length bytes.now }
+    ensures { MatchOption result ((j : ℕ) → from ≤ j → begins_with_noncharacter (drop j bytes.now) ≡ false)
+        (λ at. (from ≤ at) × (at < length bytes.now) × ((j : ℕ) → from ≤ j → j < at → begins_with_noncharacter (drop j bytes.now) ≡ false)) }
 {
-    bytes[at] == 0xef && begins_with_noncharacter(&bytes[at..])
+    match memchr(LEAD, &bytes[from..]) {
+        Some(found) => Some(from + found),
+        None => None,
+    }
 }
 
 /// Where U+FFFE or U+FFFF stands for the first time.
 fn first_noncharacter(bytes: &[u8]) -> Option<usize>
     ensures { IsFirstNoncharacter bytes.now result }
 {
-    for at in 0..bytes.len() {
-        if is_noncharacter_at(bytes, at) {
+    let mut from = 0;
+    while let Some(at) = next_lead(bytes, from) {
+        if begins_with_noncharacter(&bytes[at..]) {
             return Some(at);
         }
+        from = at + 1;
     }
     None
 }
