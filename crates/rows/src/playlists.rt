@@ -1,5 +1,6 @@
 // Runs over playlists.
 use crate::outside::{Failing, run_files};
+use crate::table::{PLAIN_MASTER, PLAIN_MPD, PLAIN_PLAYLIST, ROUNDED_MPD, ROUNDED_PLAYLIST};
 use bridge_core::Status;
 use bridge_io::{MemStore, Name};
 use std::alloc::Global;
@@ -21,6 +22,13 @@ struct Row<'a> {
 const RELOAD: &[&str] = &["reload", "o.m3u8", "n.m3u8", "--base=https://h.example/"];
 
 const CHECK: &[&str] = &["check", "m.mpd", "m.m3u8", "--base=https://h.example/"];
+
+const CHECK_WRITTEN: &[&str] = &[
+    "check",
+    "m.mpd",
+    "out/master.m3u8",
+    "--base=https://h.example/",
+];
 
 const DASH: &[&str] = &["dash", "m.m3u8", "--base=https://h.example/"];
 
@@ -144,11 +152,22 @@ const TRANSLATED: [Row<'static>; 9] = [
         report: "done tracks=1 sections=1 segments=3 left-out=0\n",
         written: &[("out/manifest.mpd", MPD)],
     },
+    // and back, with each duration as it was
+    Row {
+        words: &["hls", "out/manifest.mpd", "--base=https://h.example/"],
+        files: &[("out/manifest.mpd", MPD)],
+        status: Status::Done,
+        report: "done tracks=1 sections=1 segments=3 left-out=0\n",
+        written: &[(
+            "out/t0.m3u8",
+            "#EXTM3U\n#EXT-X-VERSION:6\n#EXT-X-TARGETDURATION:9\n#EXT-X-MEDIA-SEQUENCE:0\n#EXT-X-PLAYLIST-TYPE:VOD\n#EXT-X-MAP:URI=\"https://h.example/i.mp4\"\n#EXTINF:9.009000,\nhttps://h.example/s0.m4s\n#EXTINF:9.009000,\nhttps://h.example/s1.m4s\n#EXTINF:3.003000,\nhttps://h.example/s2.m4s\n#EXT-X-ENDLIST\n",
+        )],
+    },
     // a duration that is no whole number of microseconds
     Row {
         words: DASH,
         files: &[
-            ("m.m3u8", "#EXTM3U\n#EXT-X-STREAM-INF:BANDWIDTH=1\nv.m3u8\n"),
+            ("m.m3u8", MASTER),
             (
                 "v.m3u8",
                 "#EXTM3U\n#EXT-X-TARGETDURATION:6\n#EXT-X-MAP:URI=\"i.mp4\"\n#EXTINF:6.0060060060,\ns0.m4s\n#EXT-X-ENDLIST\n",
@@ -162,7 +181,7 @@ const TRANSLATED: [Row<'static>; 9] = [
 <MPD xmlns="urn:mpeg:dash:schema:mpd:2011" profiles="urn:mpeg:dash:profile:full:2011" type="static" minBufferTime="PT2S" mediaPresentationDuration="PT6.006006006S">
 <Period id="0" start="PT0S" duration="PT6.006006006S">
 <AdaptationSet mimeType="video/mp4">
-<Representation id="t0" bandwidth="1">
+<Representation id="t0" bandwidth="800000" codecs="avc1.64001f" width="640" height="360" frameRate="29970/1000">
 <SegmentList timescale="1000000000">
 <Initialization sourceURL="https://h.example/i.mp4"/>
 <SegmentTimeline>
@@ -229,6 +248,54 @@ const TRANSLATED: [Row<'static>; 9] = [
         report: "refused m.m3u8 master 6 Muxed at 8 line 2\n",
         written: &[],
     },
+    // a range without a place begins where the former one ends
+    Row {
+        words: DASH,
+        files: &[
+            ("m.m3u8", PLAIN_MASTER),
+            (
+                "t0.m3u8",
+                "#EXTM3U\n#EXT-X-VERSION:6\n#EXT-X-TARGETDURATION:4\n#EXT-X-MEDIA-SEQUENCE:0\n#EXT-X-PLAYLIST-TYPE:VOD\n#EXT-X-MAP:URI=\"https://h.example/f.mp4\",BYTERANGE=\"1000@0\"\n#EXTINF:4.000000,\n#EXT-X-BYTERANGE:1000@1000\nhttps://h.example/f.mp4\n#EXTINF:4.000000,\n#EXT-X-BYTERANGE:500\nhttps://h.example/f.mp4\n#EXT-X-ENDLIST\n",
+            ),
+        ],
+        status: Status::Done,
+        report: "done tracks=1 sections=1 segments=2 left-out=0\n",
+        written: &[(
+            "out/manifest.mpd",
+            r#"<?xml version="1.0" encoding="UTF-8"?>
+<MPD xmlns="urn:mpeg:dash:schema:mpd:2011" profiles="urn:mpeg:dash:profile:full:2011" type="static" minBufferTime="PT2S" mediaPresentationDuration="PT8S">
+<Period id="0" start="PT0S" duration="PT8S">
+<AdaptationSet mimeType="video/mp4">
+<Representation id="t0" bandwidth="1000">
+<SegmentList timescale="1000000">
+<Initialization sourceURL="https://h.example/f.mp4" range="0-999"/>
+<SegmentTimeline>
+<S t="0" d="4000000" r="1"/>
+</SegmentTimeline>
+<SegmentURL media="https://h.example/f.mp4" mediaRange="1000-1999"/>
+<SegmentURL media="https://h.example/f.mp4" mediaRange="2000-2499"/>
+</SegmentList>
+</Representation>
+</AdaptationSet>
+</Period>
+</MPD>
+"#,
+        )],
+    },
+];
+
+/// The playlist of three segments with another second duration.
+const PLAIN_LATER: &str =
+    "#EXTM3U\n#EXT-X-VERSION:6\n#EXT-X-TARGETDURATION:2\n#EXT-X-MEDIA-SEQUENCE:0\n#EXT-X-PLAYLIST-TYPE:VOD\n#EXT-X-MAP:URI=\"https://h.example/i.mp4\"\n#EXTINF:2.000000,\nhttps://h.example/s1.m4s\n#EXTINF:2.000001,\nhttps://h.example/s2.m4s\n#EXTINF:2.000000,\nhttps://h.example/s3.m4s\n#EXT-X-ENDLIST\n";
+
+/// An MPD, and what `hls` writes of it with three digits.
+const ROUNDED: &[(&str, &str)] = &[
+    ("m.mpd", ROUNDED_MPD),
+    ("out/master.m3u8", PLAIN_MASTER),
+    ("out/t0.m3u8", ROUNDED_PLAYLIST),
+];
+
+const COMPARED: [Row<'static>; 7] = [
     // what is written agrees with what it is written from
     Row {
         words: CHECK,
@@ -244,6 +311,62 @@ const TRANSLATED: [Row<'static>; 9] = [
         report: "differ time section 0 track 0 segment 1\n",
         written: &[],
     },
+    // what `hls` writes agrees with the MPD
+    Row {
+        words: CHECK_WRITTEN,
+        files: &[
+            ("m.mpd", PLAIN_MPD),
+            ("out/master.m3u8", PLAIN_MASTER),
+            ("out/t0.m3u8", PLAIN_PLAYLIST),
+        ],
+        status: Status::Done,
+        report: "same tracks=1 sections=1 segments=3\n",
+        written: &[],
+    },
+    // a microsecond later
+    Row {
+        words: CHECK_WRITTEN,
+        files: &[
+            ("m.mpd", PLAIN_MPD),
+            ("out/master.m3u8", PLAIN_MASTER),
+            ("out/t0.m3u8", PLAIN_LATER),
+        ],
+        status: Status::Differ,
+        report: "differ time section 0 track 0 segment 1\n",
+        written: &[],
+    },
+    // rounded down to three digits, and not to six
+    Row {
+        words: CHECK_WRITTEN,
+        files: ROUNDED,
+        status: Status::Differ,
+        report: "differ time section 0 track 0 segment 0\n",
+        written: &[],
+    },
+    Row {
+        words: &[
+            "check",
+            "m.mpd",
+            "out/master.m3u8",
+            "--base=https://h.example/",
+            "--digits=3",
+        ],
+        files: ROUNDED,
+        status: Status::Done,
+        report: "same tracks=1 sections=1 segments=3\n",
+        written: &[],
+    },
+    // tracks and sections of playlists are told
+    Row {
+        words: &["show", "out/master.m3u8", "--base=https://h.example/"],
+        files: &[
+            ("out/master.m3u8", PLAIN_MASTER),
+            ("out/t0.m3u8", PLAIN_PLAYLIST),
+        ],
+        status: Status::Done,
+        report: "hls tracks=1 sections=1 segments=3 left-out=0\ntrack 0 video - section 0 segments=3 length=6.000000\n",
+        written: &[],
+    },
 ];
 
 fn has(alloc: Global, store: &MemStore, name: &str, text: &str) -> Result<bool, Fail> {
@@ -251,8 +374,8 @@ fn has(alloc: Global, store: &MemStore, name: &str, text: &str) -> Result<bool, 
     Ok(store.file(&name) == Some(text.as_bytes()))
 }
 
-fn agrees(alloc: Global, row: &Row<'_>) -> Result<bool, Fail> {
-    let run = run_files(alloc, row.words, row.files, Failing::NONE)?;
+fn agrees(alloc: Global, row: &Row<'_>, failing: Failing) -> Result<bool, Fail> {
+    let run = run_files(alloc, row.words, row.files, failing)?;
     let mut is = run.status == row.status && run.report.bytes() == row.report.as_bytes();
     for (name, text) in row.written {
         is = is && has(alloc, &run.store, name, text)?;
@@ -262,7 +385,7 @@ fn agrees(alloc: Global, row: &Row<'_>) -> Result<bool, Fail> {
 
 fn agree(rt: &impl Abort, alloc: Global, rows: &[Row<'_>]) -> Result<(), Fail> {
     for row in rows {
-        assert!(rt; agrees(alloc, row)?, "{}", row.report);
+        assert!(rt; agrees(alloc, row, Failing::NONE)?, "{}", row.report);
     }
     Ok(())
 }
@@ -277,7 +400,13 @@ fn translates_playlists(rt: HostRuntime) -> Result<(), Fail> {
     agree(&rt, rt.alloc(), &TRANSLATED)
 }
 
-// The MPD is made and added to once, and the two playlists are each asked for and read to their ends.
+#[test]
+fn compares_and_shows(rt: HostRuntime) -> Result<(), Fail> {
+    agree(&rt, rt.alloc(), &COMPARED)
+}
+
+// The MPD is made and added to once, and the two playlists are each asked for and read to their ends. No call is made
+// beyond these.
 #[test]
 fn ends_at_each_fault(rt: HostRuntime) -> Result<(), Fail> {
     let (alloc, row) = (rt.alloc(), &TRANSLATED[0]);
@@ -305,5 +434,11 @@ fn ends_at_each_fault(rt: HostRuntime) -> Result<(), Fail> {
             "{call}"
         );
     }
+    let more = Failing {
+        reads: &[6],
+        writes: &[2],
+        report: &[1],
+    };
+    assert!(rt; agrees(alloc, row, more)?);
     Ok(())
 }

@@ -119,11 +119,11 @@ fn leaves_fronts_at_each_write(rt: HostRuntime) -> Result<(), Fail> {
     Ok(())
 }
 
-// The file is read in one call, and the next one tells its end.
+// The file is asked for, read in one call, and the next one tells its end.
 #[test]
 fn leaves_nothing_at_each_read(rt: HostRuntime) -> Result<(), Fail> {
     let (alloc, row) = (rt.alloc(), &ELEMENTS[0]);
-    for call in 0..2 {
+    for call in 0..3 {
         let failing = Failing {
             reads: &[call],
             ..Failing::NONE
@@ -132,6 +132,21 @@ fn leaves_nothing_at_each_read(rt: HostRuntime) -> Result<(), Fail> {
         assert_eq!(rt; run.status, Status::ReadFault, "{call}");
         assert!(rt; lacks(alloc, &run.store, "out/t0.m3u8")?, "{call}");
     }
+    Ok(())
+}
+
+// One call more of any kind would fail.
+#[test]
+fn calls_no_more(rt: HostRuntime) -> Result<(), Fail> {
+    let row = Row {
+        failing: Failing {
+            reads: &[3],
+            writes: &[4],
+            report: &[1],
+        },
+        ..ELEMENTS[0]
+    };
+    assert!(rt; agrees(rt.alloc(), &row)?);
     Ok(())
 }
 

@@ -26,30 +26,56 @@ const WORDS: &[&str] = &["hls", "m.mpd", "--base=https://h.example/"];
 const HEAD: &str =
     r#"<MPD xmlns="urn:mpeg:dash:schema:mpd:2011"><Period><AdaptationSet mimeType="video/mp4"><Representation id="v" bandwidth="1000">"#;
 
-const TEMPLATE: &str =
-    r#"<SegmentTemplate initialization="i.mp4" media="s$Number$.m4s"><SegmentTimeline><S d="2"/><S d="2"/><S d="2"/></SegmentTimeline></SegmentTemplate>"#;
-
 const TAIL: &str = "</Representation></AdaptationSet></Period></MPD>";
 
-const PLAYLIST: &str =
+/// Three segments of two seconds each.
+pub const PLAIN_MPD: &str =
+    r#"<MPD xmlns="urn:mpeg:dash:schema:mpd:2011"><Period><AdaptationSet mimeType="video/mp4"><Representation id="v" bandwidth="1000"><SegmentTemplate initialization="i.mp4" media="s$Number$.m4s"><SegmentTimeline><S d="2"/><S d="2"/><S d="2"/></SegmentTimeline></SegmentTemplate></Representation></AdaptationSet></Period></MPD>"#;
+
+pub const PLAIN_MASTER: &str =
+    "#EXTM3U\n#EXT-X-VERSION:6\n#EXT-X-STREAM-INF:BANDWIDTH=1000\nt0.m3u8\n";
+
+pub const PLAIN_PLAYLIST: &str =
     "#EXTM3U\n#EXT-X-VERSION:6\n#EXT-X-TARGETDURATION:2\n#EXT-X-MEDIA-SEQUENCE:0\n#EXT-X-PLAYLIST-TYPE:VOD\n#EXT-X-MAP:URI=\"https://h.example/i.mp4\"\n#EXTINF:2.000000,\nhttps://h.example/s1.m4s\n#EXTINF:2.000000,\nhttps://h.example/s2.m4s\n#EXTINF:2.000000,\nhttps://h.example/s3.m4s\n#EXT-X-ENDLIST\n";
 
-pub const PRINTED: [Row<'static>; 4] = [
+/// Three segments whose durations are no whole number of decimals.
+pub const ROUNDED_MPD: &str =
+    r#"<MPD xmlns="urn:mpeg:dash:schema:mpd:2011"><Period><AdaptationSet mimeType="video/mp4"><Representation id="v" bandwidth="1000"><SegmentTemplate initialization="i.mp4" media="s$Number$.m4s" timescale="48000"><SegmentTimeline><S d="96256" r="2"/></SegmentTimeline></SegmentTemplate></Representation></AdaptationSet></Period></MPD>"#;
+
+/// With three digits.
+pub const ROUNDED_PLAYLIST: &str =
+    "#EXTM3U\n#EXT-X-VERSION:6\n#EXT-X-TARGETDURATION:2\n#EXT-X-MEDIA-SEQUENCE:0\n#EXT-X-PLAYLIST-TYPE:VOD\n#EXT-X-MAP:URI=\"https://h.example/i.mp4\"\n#EXTINF:2.005,\nhttps://h.example/s1.m4s\n#EXTINF:2.005,\nhttps://h.example/s2.m4s\n#EXTINF:2.006,\nhttps://h.example/s3.m4s\n#EXT-X-ENDLIST\n";
+
+pub const PRINTED: [Row<'static>; 5] = [
     // three segments, and a master of one track
     Row {
         words: WORDS,
         file: "m.mpd",
-        mpd: &[HEAD, TEMPLATE, TAIL],
+        mpd: &[PLAIN_MPD],
         pad: 0,
         failing: Failing::NONE,
         status: Status::Done,
         report: "done tracks=1 sections=1 segments=3 left-out=0\n",
         files: &[
-            (
-                "out/master.m3u8",
-                "#EXTM3U\n#EXT-X-VERSION:6\n#EXT-X-STREAM-INF:BANDWIDTH=1000\nt0.m3u8\n",
-            ),
-            ("out/t0.m3u8", PLAYLIST),
+            ("out/master.m3u8", PLAIN_MASTER),
+            ("out/t0.m3u8", PLAIN_PLAYLIST),
+        ],
+        absent: &[],
+    },
+    // a comment before each element changes nothing
+    Row {
+        words: WORDS,
+        file: "m.mpd",
+        mpd: &[
+            r#"<!-- c --><MPD xmlns="urn:mpeg:dash:schema:mpd:2011"><!-- c --><Period><!-- c --><AdaptationSet mimeType="video/mp4"><!-- c --><Representation id="v" bandwidth="1000"><!-- c --><SegmentTemplate initialization="i.mp4" media="s$Number$.m4s"><!-- c --><SegmentTimeline><!-- c --><S d="2"/><!-- c --><S d="2"/><!-- c --><S d="2"/></SegmentTimeline></SegmentTemplate></Representation></AdaptationSet></Period></MPD>"#,
+        ],
+        pad: 0,
+        failing: Failing::NONE,
+        status: Status::Done,
+        report: "done tracks=1 sections=1 segments=3 left-out=0\n",
+        files: &[
+            ("out/master.m3u8", PLAIN_MASTER),
+            ("out/t0.m3u8", PLAIN_PLAYLIST),
         ],
         absent: &[],
     },
@@ -57,11 +83,7 @@ pub const PRINTED: [Row<'static>; 4] = [
     Row {
         words: WORDS,
         file: "m.mpd",
-        mpd: &[
-            HEAD,
-            r#"<SegmentTemplate initialization="i.mp4" media="s$Number$.m4s" timescale="48000"><SegmentTimeline><S d="96256" r="2"/></SegmentTimeline></SegmentTemplate>"#,
-            TAIL,
-        ],
+        mpd: &[ROUNDED_MPD],
         pad: 0,
         failing: Failing::NONE,
         status: Status::Done,
@@ -76,30 +98,22 @@ pub const PRINTED: [Row<'static>; 4] = [
     Row {
         words: &["hls", "m.mpd", "--base=https://h.example/", "--digits=3"],
         file: "m.mpd",
-        mpd: &[
-            HEAD,
-            r#"<SegmentTemplate initialization="i.mp4" media="s$Number$.m4s" timescale="48000"><SegmentTimeline><S d="96256" r="2"/></SegmentTimeline></SegmentTemplate>"#,
-            TAIL,
-        ],
+        mpd: &[ROUNDED_MPD],
         pad: 0,
         failing: Failing::NONE,
         status: Status::Done,
         report: "done tracks=1 sections=1 segments=3 left-out=0\n",
-        files: &[(
-            "out/t0.m3u8",
-            "#EXTM3U\n#EXT-X-VERSION:6\n#EXT-X-TARGETDURATION:2\n#EXT-X-MEDIA-SEQUENCE:0\n#EXT-X-PLAYLIST-TYPE:VOD\n#EXT-X-MAP:URI=\"https://h.example/i.mp4\"\n#EXTINF:2.005,\nhttps://h.example/s1.m4s\n#EXTINF:2.005,\nhttps://h.example/s2.m4s\n#EXTINF:2.006,\nhttps://h.example/s3.m4s\n#EXT-X-ENDLIST\n",
-        )],
+        files: &[
+            ("out/master.m3u8", PLAIN_MASTER),
+            ("out/t0.m3u8", ROUNDED_PLAYLIST),
+        ],
         absent: &[],
     },
     // with nine digits
     Row {
         words: &["hls", "m.mpd", "--base=https://h.example/", "--digits=9"],
         file: "m.mpd",
-        mpd: &[
-            HEAD,
-            r#"<SegmentTemplate initialization="i.mp4" media="s$Number$.m4s" timescale="48000"><SegmentTimeline><S d="96256" r="2"/></SegmentTimeline></SegmentTemplate>"#,
-            TAIL,
-        ],
+        mpd: &[ROUNDED_MPD],
         pad: 0,
         failing: Failing::NONE,
         status: Status::Done,
@@ -112,7 +126,7 @@ pub const PRINTED: [Row<'static>; 4] = [
     },
 ];
 
-pub const NAMES: [Row<'static>; 4] = [
+pub const NAMES: [Row<'static>; 5] = [
     // a name with a padded number
     Row {
         words: WORDS,
@@ -181,6 +195,23 @@ pub const NAMES: [Row<'static>; 4] = [
         report: "refused m.mpd template 1 LoneDollar at 87 line 1\n",
         files: &[],
         absent: &["out/t0.m3u8", "out/master.m3u8"],
+    },
+    // ranges of one file
+    Row {
+        words: WORDS,
+        file: "m.mpd",
+        mpd: &[
+            r#"<MPD xmlns="urn:mpeg:dash:schema:mpd:2011"><Period duration="PT4S"><AdaptationSet mimeType="video/mp4"><Representation id="v" bandwidth="1000"><BaseURL>f.mp4</BaseURL><SegmentList duration="4"><Initialization range="0-999"/><SegmentURL mediaRange="1000-1999"/></SegmentList></Representation></AdaptationSet></Period></MPD>"#,
+        ],
+        pad: 0,
+        failing: Failing::NONE,
+        status: Status::Done,
+        report: "done tracks=1 sections=1 segments=1 left-out=0\n",
+        files: &[(
+            "out/t0.m3u8",
+            "#EXTM3U\n#EXT-X-VERSION:6\n#EXT-X-TARGETDURATION:4\n#EXT-X-MEDIA-SEQUENCE:0\n#EXT-X-PLAYLIST-TYPE:VOD\n#EXT-X-MAP:URI=\"https://h.example/f.mp4\",BYTERANGE=\"1000@0\"\n#EXTINF:4.000000,\n#EXT-X-BYTERANGE:1000@1000\nhttps://h.example/f.mp4\n#EXT-X-ENDLIST\n",
+        )],
+        absent: &[],
     },
 ];
 
@@ -321,10 +352,7 @@ pub const ELEMENTS: [Row<'static>; 4] = [
         status: Status::Done,
         report: "done tracks=1 sections=2 segments=4 left-out=0\n",
         files: &[
-            (
-                "out/master.m3u8",
-                "#EXTM3U\n#EXT-X-VERSION:6\n#EXT-X-STREAM-INF:BANDWIDTH=1000\nt0.m3u8\n",
-            ),
+            ("out/master.m3u8", PLAIN_MASTER),
             (
                 "out/t0.m3u8",
                 "#EXTM3U\n#EXT-X-VERSION:6\n#EXT-X-TARGETDURATION:2\n#EXT-X-MEDIA-SEQUENCE:0\n#EXT-X-PLAYLIST-TYPE:VOD\n#EXT-X-MAP:URI=\"https://h.example/i.mp4\"\n#EXTINF:2.000000,\nhttps://h.example/s1.m4s\n#EXTINF:2.000000,\nhttps://h.example/s2.m4s\n#EXT-X-DISCONTINUITY\n#EXT-X-MAP:URI=\"https://h.example/p2/i.mp4\"\n#EXTINF:2.000000,\nhttps://h.example/p2/s1.m4s\n#EXTINF:2.000000,\nhttps://h.example/p2/s2.m4s\n#EXT-X-ENDLIST\n",
@@ -429,7 +457,7 @@ pub const TEXTS: [Row<'static>; 6] = [
     Row {
         words: WORDS,
         file: "n.mpd",
-        mpd: &[HEAD, TEMPLATE, TAIL],
+        mpd: &[PLAIN_MPD],
         pad: 0,
         failing: Failing::NONE,
         status: Status::Refused,
@@ -453,7 +481,7 @@ pub const TEXTS: [Row<'static>; 6] = [
     },
 ];
 
-pub const LIMITS: [Row<'static>; 3] = [
+pub const LIMITS: [Row<'static>; 4] = [
     // a segment past all limits
     Row {
         words: WORDS,
@@ -486,6 +514,22 @@ pub const LIMITS: [Row<'static>; 3] = [
         files: &[],
         absent: &["out/t0.m3u8", "out/master.m3u8"],
     },
+    // as many segments as a track may have
+    Row {
+        words: WORDS,
+        file: "m.mpd",
+        mpd: &[
+            HEAD,
+            r#"<SegmentTemplate initialization="i.mp4" media="s$Number$.m4s"><SegmentTimeline><S d="1" r="99999"/></SegmentTimeline></SegmentTemplate>"#,
+            TAIL,
+        ],
+        pad: 0,
+        failing: Failing::NONE,
+        status: Status::Done,
+        report: "done tracks=1 sections=1 segments=100000 left-out=0\n",
+        files: &[],
+        absent: &[],
+    },
     // one segment too many
     Row {
         words: WORDS,
@@ -509,7 +553,7 @@ pub const FAULTS: [Row<'static>; 6] = [
     Row {
         words: WORDS,
         file: "m.mpd",
-        mpd: &[HEAD, TEMPLATE, TAIL],
+        mpd: &[PLAIN_MPD],
         pad: 0,
         failing: Failing {
             reads: &[],
@@ -525,7 +569,7 @@ pub const FAULTS: [Row<'static>; 6] = [
     Row {
         words: WORDS,
         file: "m.mpd",
-        mpd: &[HEAD, TEMPLATE, TAIL],
+        mpd: &[PLAIN_MPD],
         pad: 0,
         failing: Failing {
             reads: &[],
@@ -541,7 +585,7 @@ pub const FAULTS: [Row<'static>; 6] = [
     Row {
         words: WORDS,
         file: "m.mpd",
-        mpd: &[HEAD, TEMPLATE, TAIL],
+        mpd: &[PLAIN_MPD],
         pad: 0,
         failing: Failing {
             reads: &[],
@@ -550,14 +594,14 @@ pub const FAULTS: [Row<'static>; 6] = [
         },
         status: Status::WriteFault,
         report: "write fault\n",
-        files: &[("out/t0.m3u8", PLAYLIST)],
+        files: &[("out/t0.m3u8", PLAIN_PLAYLIST)],
         absent: &["out/master.m3u8"],
     },
     // a first read that fails
     Row {
         words: WORDS,
         file: "m.mpd",
-        mpd: &[HEAD, TEMPLATE, TAIL],
+        mpd: &[PLAIN_MPD],
         pad: 0,
         failing: Failing {
             reads: &[0],
@@ -573,7 +617,7 @@ pub const FAULTS: [Row<'static>; 6] = [
     Row {
         words: WORDS,
         file: "m.mpd",
-        mpd: &[HEAD, TEMPLATE, TAIL],
+        mpd: &[PLAIN_MPD],
         pad: 0,
         failing: Failing {
             reads: &[1],
@@ -589,7 +633,7 @@ pub const FAULTS: [Row<'static>; 6] = [
     Row {
         words: WORDS,
         file: "m.mpd",
-        mpd: &[HEAD, TEMPLATE, TAIL],
+        mpd: &[PLAIN_MPD],
         pad: 0,
         failing: Failing {
             reads: &[],
@@ -598,12 +642,12 @@ pub const FAULTS: [Row<'static>; 6] = [
         },
         status: Status::WriteFault,
         report: "",
-        files: &[("out/t0.m3u8", PLAYLIST)],
+        files: &[("out/t0.m3u8", PLAIN_PLAYLIST)],
         absent: &[],
     },
 ];
 
-pub const COMMANDS: [Row<'static>; 7] = [
+pub const COMMANDS: [Row<'static>; 8] = [
     // a packager's MPD
     Row {
         words: WORDS,
@@ -656,7 +700,19 @@ pub const COMMANDS: [Row<'static>; 7] = [
     Row {
         words: &["hls", "m.mpd"],
         file: "m.mpd",
-        mpd: &[HEAD, TEMPLATE, TAIL],
+        mpd: &[PLAIN_MPD],
+        pad: 0,
+        failing: Failing::NONE,
+        status: Status::Words,
+        report: "words\n",
+        files: &[],
+        absent: &["out/t0.m3u8", "out/master.m3u8"],
+    },
+    // too few digits
+    Row {
+        words: &["hls", "m.mpd", "--base=https://h.example/", "--digits=2"],
+        file: "m.mpd",
+        mpd: &[ROUNDED_MPD],
         pad: 0,
         failing: Failing::NONE,
         status: Status::Words,
@@ -668,7 +724,7 @@ pub const COMMANDS: [Row<'static>; 7] = [
     Row {
         words: &["hls", "m.mpd", "--base=h.example"],
         file: "m.mpd",
-        mpd: &[HEAD, TEMPLATE, TAIL],
+        mpd: &[PLAIN_MPD],
         pad: 0,
         failing: Failing::NONE,
         status: Status::Refused,
@@ -680,7 +736,7 @@ pub const COMMANDS: [Row<'static>; 7] = [
     Row {
         words: &[],
         file: "m.mpd",
-        mpd: &[HEAD, TEMPLATE, TAIL],
+        mpd: &[PLAIN_MPD],
         pad: 0,
         failing: Failing::NONE,
         status: Status::Words,
@@ -692,7 +748,7 @@ pub const COMMANDS: [Row<'static>; 7] = [
     Row {
         words: &["show", "m.mpd", "--base=https://h.example/"],
         file: "m.mpd",
-        mpd: &[HEAD, TEMPLATE, TAIL],
+        mpd: &[PLAIN_MPD],
         pad: 0,
         failing: Failing::NONE,
         status: Status::Done,
@@ -704,7 +760,7 @@ pub const COMMANDS: [Row<'static>; 7] = [
     Row {
         words: &["follow", "m.mpd", "--base=https://h.example/"],
         file: "m.mpd",
-        mpd: &[HEAD, TEMPLATE, TAIL],
+        mpd: &[PLAIN_MPD],
         pad: 0,
         failing: Failing::NONE,
         status: Status::Words,
