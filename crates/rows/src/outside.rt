@@ -76,7 +76,8 @@ pub fn run_files(
     run_over(alloc, words, store, failing)
 }
 
-fn run_over(
+/// Runs the words over a store.
+pub fn run_over(
     alloc: Global,
     words: &[&str],
     mut store: MemStore,

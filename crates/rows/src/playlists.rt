@@ -1,8 +1,8 @@
 // Runs over playlists.
-use crate::outside::{Failing, run_files};
+use crate::outside::{Failing, run_files, run_over};
 use crate::table::{PLAIN_MASTER, PLAIN_MPD, PLAIN_PLAYLIST, ROUNDED_MPD, ROUNDED_PLAYLIST};
 use bridge_core::Status;
-use bridge_io::{MemStore, Name};
+use bridge_io::{Bytes, MemStore, Name};
 use std::alloc::Global;
 use std::process::Abort;
 use std::test::Fail;
@@ -440,5 +440,26 @@ fn ends_at_each_fault(rt: HostRuntime) -> Result<(), Fail> {
         report: &[1],
     };
     assert!(rt; agrees(alloc, row, more)?);
+    Ok(())
+}
+
+const MAKE: &[&str] = &["make", "--seed=7"];
+
+const MADE: &str = "made tracks=6 segments=120000 video=40660.000000 audio=39893.333333\n";
+
+/// The last playlist.
+const LAST: &str = "out/t5.m3u8";
+
+// By `rt try --test` this takes most of the minute that a test has there, and `--seconds 120` gives it more.
+#[test]
+fn makes_the_same_twice(rt: HostRuntime) -> Result<(), Fail> {
+    let alloc = rt.alloc();
+    let first = run_files(alloc, MAKE, &[], Failing::NONE)?;
+    assert!(rt; first.status == Status::Done && first.report.bytes() == MADE.as_bytes());
+    let mut playlist = Bytes::new(alloc);
+    playlist.extend(first.store.file(&Name::read(alloc, LAST)?).unwrap_or(b""))?;
+    let second = run_over(alloc, MAKE, first.store, Failing::NONE)?;
+    assert!(rt; second.status == Status::Done && second.report.bytes() == MADE.as_bytes());
+    assert!(rt; second.store.file(&Name::read(alloc, LAST)?) == Some(playlist.as_slice()));
     Ok(())
 }
