@@ -5,13 +5,7 @@
 #
 # It wants `rt`, python3 and cc, and proves the program first where that isn't kept. glibc is taken for the C library.
 set -euo pipefail
-here=$(cd "$(dirname "$0")/.." && pwd)
-work=$(mktemp -d)
-trap 'rm -rf "$work"' EXIT
-
-(cd "$here/crates/bridge" && rt run -- hls data/vod.mpd --base=https://h.example/ --out="bench-$$" > "$work/build.log" 2>&1; rm -rf "bench-$$")
-bridge=$here/crates/bridge/out/bridge
-[ -x "$bridge" ] || { tail "$work/build.log"; exit 1; }
+source "$(dirname "$0")/program.sh"
 
 cat > "$work/refuse.c" <<'C'
 /* The call whose number from 1 on REFUSED names gets no memory, and that is told on standard error. */

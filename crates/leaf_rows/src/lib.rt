@@ -8,6 +8,8 @@ mod dates;
 #[cfg(test)]
 mod jobs;
 #[cfg(test)]
+mod listings;
+#[cfg(test)]
 mod outside;
 #[cfg(test)]
 mod templates;

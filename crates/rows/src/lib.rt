@@ -1,8 +1,6 @@
-//! Worked rows: runs of the top call over the outside in memory, and listings of segments.
+//! Worked rows: runs of the top call over the outside in memory.
 #![tactic(auto)]
 
-#[cfg(test)]
-mod listings;
 #[cfg(test)]
 mod outside;
 #[cfg(test)]

@@ -2,7 +2,7 @@ use Rattle.std.proofs.Common.{sym, subst, arith}
 use Rattle.exact_time.specs.Time.{Time, IsAtMost, difference, seconds}
 use Rattle.exact_time.specs.Tick.{time_of}
 use Rattle.exact_time.proofs.Floors.{le_units-floor}
-use Rattle.rows.proofs.listings.Printer.print.Goals as goal
+use Rattle.leaf_rows.proofs.listings.Printer.print.Goals as goal
 
 pub next-requires-clause-near : goal.next-requires-clause-near
 next-requires-clause-near g c =
