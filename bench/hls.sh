@@ -1,7 +1,7 @@
 #!/usr/bin/env bash
-# Times `bridge hls` of an MPD of 4 MB with 100,000 S, and beside it on the same file whatever is installed of xmllint, ffprobe and
-# GStreamer's gst-discoverer-1.0; then how time and memory grow with the number of S. Each command is run eleven times, the shortest
-# run counts, with its largest memory. The table goes to docs/PERFORMANCE.md.
+# Times `bridge hls` of an MPD of 4 MB with 100,000 S, and beside it on the same file whatever is installed of xmllint, ffprobe,
+# GStreamer's gst-discoverer-1.0, and the readers of yt-dlp and streamlink; then how time and memory grow with the number of S. Each command is run eleven times, the shortest
+# run counts, with its largest memory. The tables go to docs/PERFORMANCE.md, whose other sections stay.
 #
 # It wants `rt` and python3, and proves the program first where that isn't kept.
 set -euo pipefail
@@ -11,6 +11,7 @@ cat > "$work/hls.py" <<'PY'
 import os, shutil, sys
 
 from measure import measure
+from readers import installed
 
 bridge, work, table = sys.argv[1:]
 os.chdir(work)
@@ -24,7 +25,7 @@ def mpd(count):
         at += d
     name = f"{count}.mpd"
     with open(name, "w") as it:
-        it.write('<?xml version="1.0"?>\n<MPD xmlns="urn:mpeg:dash:schema:mpd:2011">\n<Period>\n<AdaptationSet mimeType="video/mp4">\n'
+        it.write('<?xml version="1.0"?>\n<MPD xmlns="urn:mpeg:dash:schema:mpd:2011" profiles="urn:mpeg:dash:profile:full:2011" minBufferTime="PT2S">\n<Period>\n<AdaptationSet mimeType="video/mp4">\n'
                  '<Representation id="v0" bandwidth="1000000" codecs="avc1.64001f">\n'
                  '<SegmentTemplate timescale="90000" initialization="v0/init.mp4" media="v0/$Number%06d$.m4s">\n<SegmentTimeline>\n'
                  + "".join(rows) + "</SegmentTimeline>\n</SegmentTemplate>\n</Representation>\n</AdaptationSet>\n</Period>\n</MPD>\n")
@@ -41,6 +42,7 @@ for label, command in [
     ("xmllint --noout", ["xmllint", "--noout", big]),
     ("ffprobe", ["ffprobe", "-v", "quiet", big]),
     ("gst-discoverer-1.0", ["gst-discoverer-1.0", "file://" + os.path.abspath(big)]),
+    *((name, [*command, big]) for name, command in installed().items()),
 ]:
     if shutil.which(command[0]):
         found = measure(command)
@@ -48,7 +50,7 @@ for label, command in [
 out = ["# Speed and memory", "",
        f"`bridge hls` of an MPD of {os.path.getsize(big) / 1e6:.1f} MB with 100,000 S, which writes a playlist of "
        f"{os.path.getsize('out/t0.m3u8') / 1e6:.1f} MB, and other readers on the same file: the shortest of eleven runs, and the largest memory. "
-       "`bench/hls.sh` measures this and writes this page.", "",
+       "`bench/hls.sh` measures this and writes these two tables.", "",
        "| command | ms | MB | our time to its | our memory to its |", "|---|---|---|---|---|"]
 for label, t, m in rows:
     if t:
@@ -61,6 +63,9 @@ for count, name in sizes.items():
     out.append(f"| {count:,} | {os.path.getsize(name) / 1e6:.2f} | {t:.1f} | {m:.1f} |")
 text = "\n".join(out) + "\n"
 print(text)
-open(table, "w").write(text)
+with open(table) as it:
+    _, mark, others = it.read().partition("\n## ")
+with open(table, "w") as it:
+    it.write(text + mark + others)
 PY
 python3 "$work/hls.py" "$bridge" "$work" "$here/docs/PERFORMANCE.md"
