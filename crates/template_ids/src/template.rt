@@ -1,5 +1,5 @@
 // Segment templates.
-ghost use Rattle.std.specs.Prelude.{◌≡◌, ℕ, List, IfOk, Ok};
+ghost use Rattle.std.specs.Prelude.{◌≡◌, ℕ, List, ◌++◌, string_bytes, IfOk, OnOk, Ok};
 ghost use Rattle.bridge_io.specs.Answer.{Gives};
 
 use crate::identifier::Quantity;
@@ -74,12 +74,27 @@ impl Template {
     pub fn name_with(&self, alloc: Global, ids: &BorrowedIds<'_>) -> Result<Text, NoMemory>
         ensures { IfOk result (λ name. name ≡ named self.now (ids_of ids.now)) }
     {
-        let text = self.text.as_str();
         let mut name = String::with_capacity(alloc, self.room(ids))?;
-        for piece in &self.pieces {
-            piece.push_to(&mut name, text, ids)?;
-        }
+        self.push_name(&mut name, ids)?;
         Ok(Text::from(name))
+    }
+
+    /// Adds the same at the end of a text (ISO/IEC 23009-1, 5.3.9.4.4). NoMemory comes where the text can't grow.
+    pub fn push_name(&self, text: &mut String, ids: &BorrowedIds<'_>) -> Result<(), NoMemory>
+        ensures { OnOk result (string_bytes text.new ≡ string_bytes text.old ++ named self.now (ids_of ids.now)) }
+    {
+        let template = self.text.as_str();
+        for piece in &self.pieces {
+            piece.push_to(text, template, ids)?;
+        }
+        Ok(())
+    }
+
+    /// How many bytes the name takes at most. It is a guess for the memory to ask for, and no contract rests on it.
+    pub fn room(&self, ids: &BorrowedIds<'_>) -> usize {
+        self.pieces
+            .iter()
+            .fold(0usize, |room, piece| room.saturating_add(piece.room(ids)))
     }
 
     /// Whether an identifier of the template is `Number`.
@@ -94,12 +109,5 @@ impl Template {
         ensures { result ≡ uses_time self.now }
     {
         piece::has(&self.pieces, Quantity::Time)
-    }
-
-    /// How many bytes the name takes at most.
-    fn room(&self, ids: &BorrowedIds<'_>) -> usize {
-        self.pieces
-            .iter()
-            .fold(0usize, |room, piece| room.saturating_add(piece.room(ids)))
     }
 }

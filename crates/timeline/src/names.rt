@@ -1,7 +1,8 @@
 // The names of segments, against which addresses are made.
-ghost use Rattle.std.specs.Prelude.{◌≡◌, IfOk};
+ghost use Rattle.std.specs.Prelude.{◌≡◌, IfOk, None};
 ghost use Rattle.std.specs.Option.{option_copied};
 ghost use Rattle.bridge_io.specs.Answer.{Gives};
+ghost use Rattle.template_ids.specs.Templates.{ids_of, named};
 ghost use Rattle.timeline.specs.Names.{list_refusal, listed_part, own_part, part_at};
 ghost use Rattle.url_parts.specs.Addresses.{resolve};
 
@@ -128,8 +129,7 @@ impl Names {
                     number,
                     time,
                 };
-                let name = media.name_with(alloc, &ids)?;
-                joined(alloc, base, name.as_str(), None)
+                named_part(alloc, media, &ids, base)
             }
             Names::List { parts, base } => listed_part(alloc, parts.get(place as usize), base),
             Names::Shared { parts, base } => {
@@ -138,6 +138,24 @@ impl Names {
             Names::Addresses { parts } => own_part(alloc, parts.get(place as usize)),
         }
     }
+}
+
+/// The address of a segment by a template, whose name is written right behind the base's folder.
+fn named_part(
+    alloc: Global,
+    media: &Template,
+    ids: &BorrowedIds<'_>,
+    base: &Base,
+) -> Result<Part, ListFault>
+    ensures { Gives (λ part. part) list_refusal result (part_at None (resolve base.now (named media.now (ids_of ids.now)))) }
+{
+    let mut text = base.begin(alloc, media.room(ids))?;
+    media.push_name(&mut text, ids)?;
+    let address = base.finish(alloc, text)?;
+    Ok(Part {
+        address,
+        range: None,
+    })
 }
 
 /// The address and range of a segment by its name.

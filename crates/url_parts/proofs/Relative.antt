@@ -7,7 +7,7 @@ use Rattle.std.specs.Option.{option_eq}
 use Rattle.std.specs.Result.{result_ok}
 use Rattle.std.proofs.lemmas.Slice.Eq.{bytes_eq-Decides, starts_is}
 use Rattle.std.proofs.lemmas.Bool.Decides.{nat_tests, Decides-eqb}
-use Rattle.std.proofs.lemmas.List.{get_or-reverse, length-reverse, get_or_past, get_or_at, get_or_append_left, get_or-append_right}
+use Rattle.std.proofs.lemmas.List.{take-append-drop, get_or-reverse, length-reverse, get_or_past, get_or_at, get_or_append_left, get_or-append_right}
 use Rattle.std.proofs.lemmas.List.Elements.{All-nil, All-cons, All-head, All-tail, All-append, All-push, All-take, All-weaker}
 use Rattle.std.proofs.lemmas.List.Sums.{suffix_len_is}
 use Rattle.std.proofs.lemmas.List.Concat.{flat_map-append}
@@ -357,15 +357,23 @@ resolve_name base name is named = subst (λ b. resolve b name ≡ unless_long (f
 pub beside_name : (base name : List ℕ) → IsBase base → is_name name ≡ true → beside base name ≡ unless_long (folder_of base ++ name)
 beside_name base name is named = subst (λ b. beside b name ≡ unless_long (folder_of b ++ name)) is.spelled (beside_child is.url name is.is named)
 
-pub name_is_address : (base name : List ℕ) → IsBase base → is_name name ≡ true → length (folder_of base) + length name ≤ 2048 → IsAddress (folder_of base ++ name)
-name_is_address base name is named short =
-    subst (λ b. length (folder_of b ++ name) ≤ 2048 → IsAddress (folder_of b ++ name)) is.spelled (child_is_address is.url name is.is named) (simp length-append (omega arith))
+pub name_is_address : (base name : List ℕ) → IsBase base → is_name name ≡ true → length (folder_of base ++ name) ≤ 2048 → IsAddress (folder_of base ++ name)
+name_is_address base name is named = subst (λ b. length (folder_of b ++ name) ≤ 2048 → IsAddress (folder_of b ++ name)) is.spelled (child_is_address is.url name is.is named)
+
+-- a name that stands behind the folder in a text
+pub whole_from_front : (front text : List ℕ) → take (length front) text ≡ front → text ≡ front ++ drop (length front) text
+whole_from_front front text begins = sym (take-append-drop (length front) text) ∙ ap (λ t. t ++ drop (length front) text) begins
+
+pub resolve_behind : (base text : List ℕ) → IsBase base → take (length (folder_of base)) text ≡ folder_of base → is_name (drop (length (folder_of base)) text) ≡ true → resolve base (drop (length (folder_of base)) text) ≡ unless_long text
+resolve_behind base text is begins named = resolve_name base _ is named ∙ ap unless_long (sym (whole_from_front _ text begins))
+
+pub behind_is_address : (base text : List ℕ) → IsBase base → take (length (folder_of base)) text ≡ folder_of base → is_name (drop (length (folder_of base)) text) ≡ true → length text ≤ 2048 → IsAddress text
+behind_is_address base text is begins named = rw (whole_from_front _ text begins) (name_is_address base _ is named)
 
 -- the address of a name is given again
 pub beside_is_address : (base name address : List ℕ) → IsBase base → is_name name ≡ true → beside base name ≡ Ok address → IsAddress address
 beside_is_address base name address is named given =
     let whole = sym (beside_name base name is named) ∙ given in
-    let len = length-append (folder_of base) name in
-    let short : length (folder_of base) + length name ≤ 2048 = grind (arith, nat_tests) in
+    let short : length (folder_of base ++ name) ≤ 2048 = grind (arith, nat_tests) in
     let same : folder_of base ++ name ≡ address = grind (arith, nat_tests) in
     subst IsAddress same (name_is_address base name is named short)

@@ -1,14 +1,14 @@
 // Bases, against which references are resolved.
-ghost use Rattle.std.specs.Prelude.{◌≡◌, ℕ, true, List, ◌++◌, IfOk, IsAscii, position, string_bytes};
+ghost use Rattle.std.specs.Prelude.{◌≡◌, ◌≤◌, ℕ, true, List, ◌++◌, length, take, drop, IfOk, IsAscii, position, string_bytes};
 ghost use Rattle.std.specs.List.{list_all};
 ghost use Rattle.url.specs.Parser.{Gives as IsParsed, Parsed};
 ghost use Rattle.url.specs.Parts.{Parts, IsValid};
 ghost use Rattle.bridge_io.specs.Answer.{Gives};
-ghost use Rattle.url_parts.specs.Addresses.{is_absolute, is_address_byte, is_web, text_of, accepted, refusal, IsBaseUrl, folder_of, is_tail, without_tail, local_name_of};
+ghost use Rattle.url_parts.specs.Addresses.{is_absolute, is_address_byte, is_web, text_of, accepted, refusal, IsAddress, IsBaseUrl, folder_of, unless_long, is_tail, without_tail, local_name_of};
 
 use crate::{Address, UrlFault};
 use bridge_io::{Name, NameFault, NoMemory, Text, is_name};
-use std::alloc::{AllocError, Global};
+use std::alloc::Global;
 use std::marker::Model;
 use std::rc::Rc;
 use url::{ParseResult, Url};
@@ -39,7 +39,7 @@ impl Model for Base {
 
 impl Base {
     ghost use Rattle.bridge_io.specs.Names.{is_name};
-    ghost use Rattle.url_parts.specs.Addresses.{absolute, resolve, beside, unless_long, IsAddress, IsBase};
+    ghost use Rattle.url_parts.specs.Addresses.{absolute, resolve, beside, IsBase};
 
     /// Reads an absolute URL as a base. Refused, Scheme and TooLong come exactly where they hold of the text, the first
     /// of them in this order.
@@ -73,6 +73,37 @@ impl Base {
             return self.child(alloc, reference);
         }
         Ok(address_of(alloc, self.resolve(alloc, reference)?)?)
+    }
+
+    /// The base's folder, to which a reference is to be added: the base's text without query and fragment, up to and
+    /// with its last `/` (RFC 3986, 5.2.3).
+    ///
+    /// The text has room for so many more bytes. NoMemory comes where there is no memory for it.
+    pub fn begin(&self, alloc: Global, room: usize) -> Result<String, NoMemory>
+        ensures text { IfOk result (λ text. string_bytes text ≡ folder_of self.now) }
+        ensures base { IsBase self.now }
+    {
+        let folder = self.folder();
+        let mut text = String::with_capacity(alloc, folder.len().saturating_add(room))?;
+        text.push_str(folder)?;
+        Ok(text)
+    }
+
+    /// The address that a reference gives against this base, where the text is the base's folder (`begin`) followed by
+    /// the reference.
+    ///
+    /// Of a name the text itself becomes the address. Refused, Scheme and TooLong come exactly where they hold of the
+    /// reference against this base, the first of them in this order.
+    #[tactic(auto, using(crate::proofs::Relative::resolve_behind, crate::proofs::Relative::behind_is_address))]
+    pub fn finish(&self, alloc: Global, text: String) -> Result<Address, UrlFault>
+        requires { take (length (folder_of self.now)) (string_bytes text) ≡ folder_of self.now }
+        ensures { Gives (λ address. address) refusal result (resolve self.now (drop (length (folder_of self.now)) (string_bytes text))) }
+    {
+        let reference = &text.as_str()[self.folder().len()..];
+        if !is_name(reference.as_bytes()) {
+            return self.join(alloc, reference);
+        }
+        unless_long(alloc, text)
     }
 
     /// The address of a name in the base's folder: the base's text without query and fragment, up to and with its
@@ -130,12 +161,9 @@ impl Base {
         ensures value { Gives (λ address. address) refusal result (unless_long (folder_of self.now ++ name.now)) }
         ensures base { IsBase self.now }
     {
-        let folder = self.folder();
-        if folder.len() + name.len() > MAX_LEN {
-            return Err(UrlFault::TooLong);
-        }
-        let text = join_texts(alloc, folder, name)?;
-        Ok(Address::of(alloc, Text::from(text))?)
+        let mut text = self.begin(alloc, name.len())?;
+        text.push_str(name)?;
+        unless_long(alloc, text)
     }
 
     /// The URL that a reference gives against this base, unless it is no address.
@@ -169,6 +197,17 @@ fn accept(parsed: ParseResult<Url>) -> Result<Url, UrlFault>
         return Err(UrlFault::TooLong);
     }
     Ok(url)
+}
+
+/// The address that a text is, unless it is too long.
+fn unless_long(alloc: Global, text: String) -> Result<Address, UrlFault>
+    requires { length (string_bytes text) ≤ 2048 → IsAddress (string_bytes text) }
+    ensures { Gives (λ address. address) refusal result (unless_long (string_bytes text)) }
+{
+    if text.len() > MAX_LEN {
+        return Err(UrlFault::TooLong);
+    }
+    Ok(Address::of(alloc, Text::from(text))?)
 }
 
 #[tactic(auto, using(crate::proofs::Bases::base_is_address))]
@@ -221,15 +260,6 @@ fn tail_start(text: &[u8]) -> Option<usize>
     ensures { result ≡ position is_tail text.now }
 {
     text.iter().position(|byte| matches!(byte, b'?' | b'#'))
-}
-
-fn join_texts(alloc: Global, front: &str, back: &str) -> Result<String, AllocError>
-    ensures { IfOk result (λ text. string_bytes text ≡ front.now ++ back.now) }
-{
-    let mut text = String::with_capacity(alloc, front.len().saturating_add(back.len()))?;
-    text.push_str(front)?;
-    text.push_str(back)?;
-    Ok(text)
 }
 
 /// The rest of an address after a folder's text, without query and fragment, where that is a name.

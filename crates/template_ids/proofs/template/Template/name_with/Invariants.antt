@@ -1,8 +1,0 @@
-use Rattle.std.proofs.Common.{◌≡◌, take, string_bytes, flat_map}
-use Rattle.template_ids.specs.Pieces.{piece_text}
-use Rattle.template_ids.specs.Templates.{ids_of}
-use Rattle.template_ids.proofs.template.Template.name_with.Given as goal
-
--- the name so far is what the pieces so far stand for
-abbrev pub invariant-loop-piece : goal.invariant-loop-piece
-invariant-loop-piece l = string_bytes l.name ≡ flat_map (piece_text l.text (ids_of l.ids)) (take l.piece-index l.piece-items)
