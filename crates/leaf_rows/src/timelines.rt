@@ -146,7 +146,7 @@ fn shares(rt: HostRuntime) -> Result<(), Fail> {
     for (t, d, r) in [(None, 4, 1), (Some(10), 6, 0), (None, 2, -1)] {
         list.push(SEntry { t, d, r })?;
     }
-    let shared = SharedTimeline::of(alloc, &list)?;
+    let shared = SharedTimeline::of(alloc, list)?;
     for (ticks, offset, count) in [(1, 0, 5u64), (2, 4, 16)] {
         let scale = Scale {
             ticks,
@@ -185,7 +185,7 @@ fn shares(rt: HostRuntime) -> Result<(), Fail> {
         d: 1_000_001,
         r: 0,
     })?;
-    let shared = SharedTimeline::of(alloc, &list)?;
+    let shared = SharedTimeline::of(alloc, list)?;
     let made = Runs::from_shared(
         alloc,
         &shared,

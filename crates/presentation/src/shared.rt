@@ -54,8 +54,8 @@ fn timeline_at(alloc: Global, tables: &Tables, key: usize) -> Result<SharedTimel
     ensures { IfOk result (λ timeline. timeline ≡ spec.entries_of (unwrap_or (slice_get (timelines_in tables.now) key) [])) }
 {
     match tables.timeline(key) {
-        Some(walk) => SharedTimeline::of(alloc, &entries_of(alloc, walk)?),
-        None => SharedTimeline::of(alloc, &SList::new(alloc)),
+        Some(walk) => SharedTimeline::of(alloc, entries_of(alloc, walk)?),
+        None => SharedTimeline::of(alloc, SList::new(alloc)),
     }
 }
 

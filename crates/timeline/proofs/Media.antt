@@ -271,7 +271,7 @@ any_drop test (suc k) (x ∷ xs) none = any_drop test k xs (neither (test x) (li
 
 module _ (t : LaidTimeline) (is : IsLaidTimeline t) (scale : Scale) (l : Limits) (are : AreLimitsOf scale l) where
   abbrev entries : List SEntry
-  entries = t.entries.items
+  entries = t.entries
 
   pub passed_fault : are_passed l t.media.longest t.media.former ≡ true → (end : End) → segment_fault (breaks_limits scale.ticks scale.offset) None (expansion_of_timeline scale end entries) ≡ Some Range
   passed_fault passed end =

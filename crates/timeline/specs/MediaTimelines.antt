@@ -67,5 +67,5 @@ pub record IsMedia (entries : List SEntry) (m : MediaRuns) : Type 0 where
       ≡ (if are_passed l m.longest m.former then Some Range else segment_fault (breaks_in l) (media_end l m) later)
 
 pub record IsLaidTimeline (t : LaidTimeline) : Type 0 where
-  pub media : IsMedia t.entries.items t.media
-  pub no_time : t.no_time ≡ list_any (λ s. s.d == 0) t.entries.items
+  pub media : IsMedia t.entries t.media
+  pub no_time : t.no_time ≡ list_any (λ s. s.d == 0) t.entries

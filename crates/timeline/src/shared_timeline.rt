@@ -15,7 +15,7 @@ use std::rc::Rc;
 /// The S elements of a timeline, and the runs of the first ones of them.
 #[derive(Debug, Drop)]
 pub struct LaidTimeline {
-    pub entries: Vec<SEntry>,
+    pub entries: SList,
     /// Those of the first S elements that have a run for every timescale.
     pub media: MediaRuns,
     /// Whether some S lasts no time.
@@ -61,7 +61,7 @@ impl Model for SharedTimeline {
 
     ghost use Rattle.timeline.specs.MediaTimelines.{IsLaidTimeline};
 
-    ghost view = { λ t. t.laid.timeline.value.entries.items };
+    ghost view = { λ t. t.laid.timeline.value.entries };
 
     ghost invariant = { λ t. IsLaidTimeline t.laid.timeline.value };
 }
@@ -72,14 +72,12 @@ impl SharedTimeline {
     ghost use Rattle.timeline.specs.Reaches.{IsSoFar, IsTheirFault};
     ghost use Rattle.timeline.specs.Timelines.{expansion_of_timeline};
 
-    /// Lays out the S elements.
-    pub fn of(alloc: Global, list: &SList) -> Result<SharedTimeline, NoMemory>
-        ensures { IfOk result (λ timeline. timeline ≡ list.now) }
+    /// Lays out the S elements, which it keeps.
+    pub fn of(alloc: Global, entries: SList) -> Result<SharedTimeline, NoMemory>
+        ensures { IfOk result (λ timeline. timeline ≡ entries) }
     {
-        let list = list.as_slice();
-        let no_time = have_no_time(list);
-        let media = MediaRuns::of(alloc, list)?;
-        let entries = Vec::from_slice(alloc, list)?;
+        let no_time = have_no_time(entries.as_slice());
+        let media = MediaRuns::of(alloc, entries.as_slice())?;
         let laid = LaidTimeline {
             entries,
             media,
@@ -121,7 +119,7 @@ impl SharedTimeline {
             return Err(TimeFault::Range);
         }
         let laid = self.laid.share()?;
-        let rest = &self.laid.timeline.entries[self.laid.runs().len()..];
+        let rest = &self.laid.timeline.entries.as_slice()[self.laid.runs().len()..];
         Ok((RunsBuilder::upon(alloc, laid, limits), rest))
     }
 }

@@ -1,5 +1,5 @@
 // The segments of a SegmentTimeline.
-ghost use Rattle.std.specs.Prelude.{◌≡◌, ◌<◌, ◌^◌, ◌==◌, ◌⊎◌, ◌&&◌, not, [], false, IsNone, MatchResult, OnOk};
+ghost use Rattle.std.specs.Prelude.{◌≡◌, ◌<◌, ◌^◌, ◌==◌, ◌⊎◌, ◌&&◌, not, [], false, IfOk, IsNone, MatchResult, OnOk};
 ghost use Rattle.std.specs.List.{list_any};
 ghost use Rattle.bridge_io.specs.Answer.{Gives};
 ghost use Rattle.timeline.specs.Faults.{ends_open, is_unbounded};
@@ -10,6 +10,7 @@ ghost use Rattle.timeline.specs.Timelines.{expansion_of_timeline, extent_from, r
 
 use crate::builder::RunsBuilder;
 use crate::{End, Names, Runs, SEntry, SList, Scale, SharedTimeline, TimeFault};
+use bridge_io::NoMemory;
 use exact_time::ceil_count;
 use std::alloc::Global;
 
@@ -44,7 +45,7 @@ impl Runs {
     ) -> Result<Runs, TimeFault>
         ensures { Gives (λ runs. runs) refusal result (timeline_of_entries list.now end live scale names) }
     {
-        let timeline = SharedTimeline::of(alloc, list)?;
+        let timeline = SharedTimeline::of(alloc, copy_of(alloc, list)?)?;
         Runs::from_shared(alloc, &timeline, end, live, scale, names)
     }
 
@@ -69,6 +70,14 @@ impl Runs {
         let builder = laid_out(alloc, timeline, &end, scale)?;
         Runs::paired(builder, scale, scale.offset, names)
     }
+}
+
+fn copy_of(alloc: Global, list: &SList) -> Result<SList, NoMemory>
+    ensures { IfOk result (λ copy. copy ≡ list.now) }
+{
+    let mut copy = SList::new(alloc);
+    copy.extend(list.as_slice())?;
+    Ok(copy)
 }
 
 /// Whether some S lasts no time.

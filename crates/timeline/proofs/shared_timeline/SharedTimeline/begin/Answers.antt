@@ -39,10 +39,10 @@ returns c = λ end.
     ∙ ap (λ (xs : List Run). map (placed_run l.ticks l.origin) c.in_ok-laid.laid.timeline.value.media.runs.items ++ map timed xs) u.none
     ∙ append-nil (map (placed_run l.ticks l.origin) c.in_ok-laid.laid.timeline.value.media.runs.items)
     ∙ ap (λ (x : LaidTimeline). map (placed_run l.ticks l.origin) x.media.runs.items) same in
-    let at = take_rest c.deref-3.result.now (length c.runs.result.now)
-    ∙ ap (drop (length c.runs.result.now)) (c.deref-3.ensures.value ∙ ap (λ (x : LaidTimeline). x.entries.items) c.deref-2.ensures)
-    ∙ ap (λ n. drop n t.entries.items) (ap length c.runs.ensures) in
-    subst (λ (entries : List SEntry). IsSoFar c.args.scale end entries b (take (length c.deref-3.result.now - (length c.runs.result.now)) (drop (length c.runs.result.now) c.deref-3.result.now))) c.self.view_is
+    let at = take_rest c.as_slice.result.now (length c.runs.result.now)
+    ∙ ap (drop (length c.runs.result.now)) (c.as_slice.ensures ∙ ap (λ (x : LaidTimeline). x.entries) c.deref-2.ensures)
+    ∙ ap (λ n. drop n t.entries) (ap length c.runs.ensures) in
+    subst (λ (entries : List SEntry). IsSoFar c.args.scale end entries b (take (length c.as_slice.result.now - (length c.runs.result.now)) (drop (length c.runs.result.now) c.as_slice.result.now))) c.self.view_is
     (begun_so_far t c.self.invariant c.args.scale l (record { ticks = c.limits-limits.ensures.ticks; origin = c.limits-limits.ensures.origin }) b _ u.limits runs
     (u.total ∙ ap (λ (x : LaidTimeline). x.media.total) same) (u.former ∙ ap (λ (x : LaidTimeline). x.media.former) same) u.closed at c.limits-limits.ensures.near
     (ap (list_any (λ s. s.d == 0)) c.self.view_is ∙ c.requires.lasting) kept end)
