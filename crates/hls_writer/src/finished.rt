@@ -184,6 +184,7 @@ struct Place<'a> {
 }
 
 /// Makes the next segment of those that all have addresses.
+#[inline(always)]
 fn next_segment<L: Ledger>(
     alloc: Global,
     segments: &mut PrintedSegments<'_>,

@@ -52,6 +52,7 @@ impl<'a> PrintedSegments<'a> {
 
     /// Makes the next segment, counts it, and tells its printed duration in units of the last decimal. There is none
     /// exactly at the end. After a refusal the same segment is the next one, and nothing is counted.
+    #[inline(always)]
     pub fn next<L: Ledger>(
         &mut self,
         alloc: Global,

@@ -217,6 +217,7 @@ impl RunsBuilder {
 }
 
 /// A media time, counted from the Period's start.
+#[inline(always)]
 pub fn placed(media: u128, limits: Limits) -> Tick
     requires { media < 2 ^ 64 }
     ensures { time_of result ≡ placed_in limits media }

@@ -92,6 +92,7 @@ impl<'a> Listing<'a> {
 
     /// Makes the next segment, and counts it. There is none exactly at the end. After a refusal the listing stands
     /// before the same segment, and nothing is counted.
+    #[inline(always)]
     pub fn next<L: Ledger>(
         &mut self,
         alloc: Global,
@@ -113,6 +114,7 @@ impl<'a> Listing<'a> {
 }
 
 /// The address and range of a segment.
+#[inline(always)]
 fn part_of(runs: &Runs, alloc: Global, span: &Span) -> Result<Part, ListFault>
     requires { CanBeNamed runs.now (timing_of span.now) }
     ensures { Gives (λ part. part) list_refusal result (part_of_timing runs.now (timing_of span.now)) }

@@ -24,6 +24,7 @@ impl MediaRun {
     ghost use Rattle.timeline.specs.RunSegments.{placed_run, timed};
 
     /// The run with its times from the Period's start.
+    #[inline(always)]
     pub fn at(&self, limits: Limits) -> Run
         ensures { timed result ≡ placed_run limits.ticks limits.origin self.now }
     {

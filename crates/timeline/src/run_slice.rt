@@ -50,6 +50,7 @@ impl<'a> RunSlice<'a> {
     }
 
     /// How many runs there are.
+    #[inline(always)]
     pub fn len(&self) -> usize
         ensures { result ≡ length (slice_runs self.now) }
     {
@@ -57,6 +58,7 @@ impl<'a> RunSlice<'a> {
     }
 
     /// The run at a place.
+    #[inline(always)]
     pub fn get(&self, place: usize) -> Run
         requires { place < length (slice_runs self.now) }
         ensures { (other : TimedRun) → timed result ≡ get_or (slice_runs self.now) place other }
@@ -68,6 +70,7 @@ impl<'a> RunSlice<'a> {
     }
 
     /// The runs behind the first ones.
+    #[inline(always)]
     pub fn skip(&self, count: usize) -> RunSlice<'a>
         requires { count ≤ length (slice_runs self.now) }
         ensures { slice_runs result ≡ drop count (slice_runs self.now) }
@@ -87,6 +90,7 @@ impl<'a> RunSlice<'a> {
     }
 
     /// The first run, and those behind it.
+    #[inline(always)]
     pub fn split_first(&self) -> Option<(Run, RunSlice<'a>)>
         ensures { MatchOption result (slice_runs self.now ≡ []) (λ parts. slice_runs self.now ≡ timed parts.0 ∷ slice_runs parts.1) }
     {

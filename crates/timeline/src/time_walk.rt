@@ -85,6 +85,7 @@ impl<'a> TimeWalk<'a> {
     }
 
     /// The next segment, before which the walk stays.
+    #[inline(always)]
     pub(crate) fn peek(&self) -> Option<Span>
         ensures { MatchOption result (self.entry.now ≡ []) (λ span. slice_get self.entry.now 0 ≡ Some (timing_of span)) }
     {
@@ -109,7 +110,7 @@ impl<'a> TimeWalk<'a> {
         self.left = self.left.saturating_sub(1);
         match current.behind_first() {
             Some(rest) => self.now = Some(rest),
-            None => (self.now, self.later, self.tail) = split(self.later, self.tail),
+            None => go_on(&mut self.now, &mut self.later, &mut self.tail),
         }
     }
 }
@@ -121,6 +122,20 @@ fn split(runs: RunSlice<'_>, tail: Option<Run>) -> (Option<Run>, RunSlice<'_>, O
     match runs.split_first() {
         Some((first, later)) => (Some(first), later, tail),
         None => (tail, runs, None),
+    }
+}
+
+/// Goes to the first of the runs behind, and at their end to the tail.
+#[inline(always)]
+fn go_on(now: &mut Option<Run>, later: &mut RunSlice<'_>, tail: &mut Option<Run>)
+    ensures { IsSplit (slice_runs later.old) (option_map timed tail.old) (option_map timed now.new) (slice_runs later.new) (option_map timed tail.new) }
+{
+    match later.split_first() {
+        Some((first, others)) => {
+            *now = Some(first);
+            *later = others;
+        }
+        None => *now = tail.take(),
     }
 }
 

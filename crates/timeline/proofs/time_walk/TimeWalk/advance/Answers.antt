@@ -22,8 +22,8 @@ returns-in-None c =
     let walk = c.self.inside in
     let s = timed c.in-Some.current in
     let stands = stands_in walk s (ap (option_map timed) c.in-Some.is) c.self.invariant in
-    ap (λ (n : ℕ). numbered (walk.first_number + place_of (option_map timed c.split.result.0)) (take n (extents_of_some (option_map timed c.split.result.0) ++ (all_extents (slice_runs c.split.result.1) ++ extents_of_some (option_map timed c.split.result.2))))) c.saturating_sub-self-inside.ensures
-    ∙ goes_on_behind walk.first_number walk.left s (slice_runs walk.later) (slice_runs c.split.result.1) (option_map timed walk.tail) (option_map timed c.split.result.0) (option_map timed c.split.result.2) stands.0 c.in-None.ensures stands.2 c.split.ensures
+    ap (λ (n : ℕ). numbered (walk.first_number + place_of (option_map timed c.go_on.new.now)) (take n (extents_of_some (option_map timed c.go_on.new.now) ++ (all_extents (slice_runs c.go_on.new.later) ++ extents_of_some (option_map timed c.go_on.new.tail))))) c.saturating_sub-self-inside.ensures
+    ∙ goes_on_behind walk.first_number walk.left s (slice_runs walk.later) (slice_runs c.go_on.new.later) (option_map timed walk.tail) (option_map timed c.go_on.new.now) (option_map timed c.go_on.new.tail) stands.0 c.in-None.ensures stands.2 c.go_on.ensures
     ∙ ap (drop 1) (sym (left_in walk s (ap (option_map timed) c.in-Some.is)) ∙ c.self.view_is)
 
 pub invariant_of-self-in-None : goal.invariant_of-self-in-None
@@ -32,11 +32,11 @@ invariant_of-self-in-None c =
     let s = timed c.in-Some.current in
     let stands = stands_in walk s (ap (option_map timed) c.in-Some.is) c.self.invariant in
     record {
-      stands = stands_behind (record { now = c.split.result.0; later = c.split.result.1; tail = c.split.result.2; left = c.saturating_sub-self-inside.result; first_number = walk.first_number })
-          (option_map timed c.split.result.0) walk.left s (slice_runs walk.later) (option_map timed walk.tail) stands.0 c.in-None.ensures stands.2 c.split.ensures c.saturating_sub-self-inside.ensures;
+      stands = stands_behind (record { now = c.go_on.new.now; later = c.go_on.new.later; tail = c.go_on.new.tail; left = c.saturating_sub-self-inside.result; first_number = walk.first_number })
+          (option_map timed c.go_on.new.now) walk.left s (slice_runs walk.later) (option_map timed walk.tail) stands.0 c.in-None.ensures stands.2 c.go_on.ensures c.saturating_sub-self-inside.ensures;
       countable = λ some.
           let sub = c.saturating_sub-self-inside.ensures in
-          let at = next_place walk.first_number walk.left s (slice_runs walk.later) (slice_runs c.split.result.1) (option_map timed walk.tail) (option_map timed c.split.result.0) (option_map timed c.split.result.2) stands.0 c.in-None.ensures stands.2 c.split.ensures (omega (arith, some, sub)) in
+          let at = next_place walk.first_number walk.left s (slice_runs walk.later) (slice_runs c.go_on.new.later) (option_map timed walk.tail) (option_map timed c.go_on.new.now) (option_map timed c.go_on.new.tail) stands.0 c.in-None.ensures stands.2 c.go_on.ensures (omega (arith, some, sub)) in
           let before = c.self.invariant.countable (omega (arith, some, sub)) in
           omega (arith, sub, at, before, ap (λ (o : Option Run). place_of (option_map timed o)) c.in-Some.is);
     }
