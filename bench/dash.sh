@@ -1,8 +1,8 @@
 #!/usr/bin/env bash
 # Times `bridge dash` of a master with a media playlist of 100,000 segments, of equal durations and of durations that differ, and beside it
 # `bridge reload` of that playlist with itself, which reads it twice and writes nothing: what `dash` takes more than half of that is the
-# presentation and the written MPD. `bridge check` reads the MPD that was written and the playlist, and compares them. Each command is run
-# eleven times, the shortest run counts, with its largest memory. Where GStreamer's hlsdemux2 is installed, it plays the same playlists from
+# presentation and the written MPD. `bridge check` reads the MPD that was written and the playlist, and compares them; `bridge show` reads
+# either. Each command is run eleven times, the shortest run counts, with its largest memory. Where GStreamer's hlsdemux2 is installed, it plays the same playlists from
 # a server on this machine, and the shortest of five runs counts up to its first request for media.
 #
 # It wants `rt` and python3, and proves the program first where that isn't kept.
@@ -73,7 +73,9 @@ for name, duration in [("equal", lambda k: "4.004"), ("differing", lambda k: f"4
     twice = told(f"reload of that playlist with itself", ["reload", f"{name}.m3u8", f"{name}.m3u8"])
     written = os.path.getsize("out/manifest.mpd")
     print(f"so the presentation and {written / 1e6:.1f} MB of MPD: {whole - twice / 2:.0f} ms")
-    told("check of that MPD with the playlists", ["check", "out/manifest.mpd", master])
+    compared = told("check of that MPD with the playlists", ["check", "out/manifest.mpd", master])
+    read = sum(told(f"show of {file}", ["show", file]) for file in ("out/manifest.mpd", master))
+    print(f"so check takes {compared / read:.2f} of what reading both files takes")
     if has_player():
         first_request(master)
         print(f"hlsdemux2 up to its first request for media: {min(first_request(master) or 60_000 for _ in range(5)):.0f} ms")
