@@ -173,3 +173,6 @@ within (b ∷ bs) = within_step (begins_with_bad_character (b ∷ bs)) (first_ba
 
 pub bad_within : (bytes : List ℕ) (k : ℕ) → Some k ≡ first_bad_character bytes → k < length bytes
 bad_within bytes k e = subst (λ r. IfSome r (λ j. j < length bytes)) (sym e) (within bytes)
+
+pub differs : (a b : ℕ) → a ≢ b → (a == b) ≡ false
+differs a b e = grind arith
