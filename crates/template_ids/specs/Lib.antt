@@ -1,3 +1,4 @@
 pub mod Identifiers
 pub mod Templates
 pub mod Pieces
+pub mod FileNames

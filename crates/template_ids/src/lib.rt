@@ -4,6 +4,7 @@
 mod fault;
 mod identifier;
 mod ids;
+pub mod laws;
 mod piece;
 mod template;
 

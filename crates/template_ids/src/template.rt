@@ -35,6 +35,7 @@ impl Model for Template {
 
 impl Template {
     ghost use Rattle.template_ids.specs.Templates.{ids_of, named, template_of, refusal, uses_number, uses_time};
+    ghost use Rattle.template_ids.specs.FileNames.{names_files};
 
     /// Reads a text as a template.
     ///
@@ -95,6 +96,21 @@ impl Template {
         self.pieces
             .iter()
             .fold(0usize, |room, piece| room.saturating_add(piece.room(ids)))
+    }
+
+    /// Whether the greatest number and time give the name of a file ([`bridge_io::is_name`]); then each number and each
+    /// time do (`laws::files_are_named`).
+    pub fn names_files(&self, alloc: Global, id: &str, bandwidth: u64) -> Result<bool, NoMemory>
+        ensures { IfOk result (λ names. names ≡ names_files self.now (record { id = id.now; bandwidth = bandwidth; number = 0; time = 0 })) }
+    {
+        let ids = BorrowedIds {
+            id,
+            bandwidth,
+            number: u64::MAX,
+            time: u64::MAX,
+        };
+        let name = self.name_with(alloc, &ids)?;
+        Ok(bridge_io::is_name(name.as_str().as_bytes()))
     }
 
     /// Whether an identifier of the template is `Number`.
