@@ -1,13 +1,14 @@
 -- The floor of a time: there is one, and it is the quotient.
-use Rattle.std.proofs.Common.{◌≡◌, ℕ, zero, suc, ◌+◌, ◌-◌, ◌*◌, ◌/◌, ◌<◌, ◌≤◌, Bool, true, false, cond, ℤ, pos, negsuc, ◌≤ℤ◌, refl, ◌∙◌, ap, subst, inl, inr, arith}
+use Rattle.std.proofs.Common.{◌≡◌, ℕ, zero, suc, ◌+◌, ◌-◌, ◌*◌, ◌/◌, ◌<◌, ◌≤◌, Bool, true, false, cond, ℤ, pos, negsuc, ◌+ℤ◌, ◌≤ℤ◌, refl, ◌∙◌, ap, subst, inl, inr, arith}
 use Rattle.std.proofs.lemmas.Int.{ints, by_lt_z}
-use Rattle.std.proofs.Math.Nat.{div-mul-le_self, le_antisymm, mul-le-mul_left, zero-mul}
+use Rattle.std.proofs.Math.Nat.{div-mul-le_self, le_of_mul-le-mul_left, le_antisymm, mul-le-mul_left, zero-mul}
 use Rattle.std.proofs.lemmas.Nat.{le-div}
 use Rattle.std.proofs.lemmas.Bool.{leb-true, le-leb, cases_lt}
+use borrow.Author.Differences.{up, down}
 use Rattle.exact_time.specs.Time.{Time, IsTime, IsNotNegative, IsAtMost, IsBefore, IsSame, cross, difference, in_units}
 use Rattle.exact_time.specs.Floor.{IsFloorIn, floor_in, fits_in, greatest_of}
-use Rattle.exact_time.proofs.TimeOrder.{IsAtMost-trans, same_is_at_most, same_is_at_least}
-use Rattle.exact_time.proofs.Times.{IsTime-difference, IsNotNegative-difference, units_le-before, units_le-after, difference-le}
+use Rattle.exact_time.proofs.TimeOrder.{share, IsAtMost-trans, same_is_at_most, same_is_at_least}
+use Rattle.exact_time.proofs.Times.{IsTime-difference, IsNotNegative-difference, units_le_in, units_le_out, units_le-before, units_le-after, difference-le}
 
 -- a floor is the only one
 pub IsFloorIn-unique : {u : ℕ} {x : Time} {m k : ℕ} → IsFloorIn u x m → IsFloorIn u x k → m ≡ k
@@ -19,6 +20,18 @@ IsFloorIn-div u n d positive = record {
   at_most = omega (arith, ints, div-mul-le_self (n * u) d);
   greatest = λ other fits. le-div other (n * u) d positive (omega (arith, ints));
 }
+
+-- of ticks of one scale
+pub IsFloorIn-ticks : (u s t : ℕ) (n m : ℤ) → 0 < s → n ≡ m +ℤ pos t → IsFloorIn u (difference (record { ticks = n; scale = s }) (record { ticks = m; scale = s })) (t * u / s)
+IsFloorIn-ticks u s t n m positive later =
+    let x : Time = record { ticks = n; scale = s } in
+    let y : Time = record { ticks = m; scale = s } in
+    let linear : up n + down m ≡ up m + down n + t = omega (arith, ints, later) in
+    let apart : share x y * u ≡ (share y x + t * s) * u = ap (λ k. k * u) (omega (arith, ap (λ k. k * s) linear)) in
+    record {
+      at_most = units_le_in u (t * u / s) x y (omega (arith, apart, mul-le-mul_left s (div-mul-le_self (t * u) s)));
+      greatest = λ other fits. le-div other (t * u) s positive (le_of_mul-le-mul_left {k = s} (omega (arith, apart, units_le_out u other x y fits)) positive);
+    }
 
 greatest_of-passes : (test : ℕ → Bool) (limit : ℕ) → test zero ≡ true → test (greatest_of test limit) ≡ true
 unfolding greatest_of
@@ -59,6 +72,9 @@ IsFloorIn-floor_in u x = floor_of_ticks u x.ticks x.scale
 -- the floor of a later time less an earlier one
 pub IsFloorIn-difference : (u : ℕ) (x y : Time) → IsTime x → IsTime y → IsAtMost y x → IsFloorIn u (difference x y) (floor_in u (difference x y))
 IsFloorIn-difference u x y p q h = IsFloorIn-floor_in u (difference x y) (IsTime-difference x y p q) (IsNotNegative-difference x y h)
+
+pub floor_of-difference : {u n : ℕ} (x y : Time) → IsTime x → IsTime y → IsAtMost y x → IsFloorIn u (difference x y) n → n ≡ floor_in u (difference x y)
+floor_of-difference {u} x y p q h is = IsFloorIn-unique is (IsFloorIn-difference u x y p q h)
 
 -- an earlier time has no greater floor
 pub floor-mono : {u m k : ℕ} (x y : Time) → IsTime x → IsAtMost x y → IsFloorIn u x m → IsFloorIn u y k → m ≤ k
