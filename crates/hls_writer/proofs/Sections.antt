@@ -1,11 +1,11 @@
 -- The segments of a section one after another.
-use Rattle.std.proofs.Common.{◌≡◌, ℕ, List, [], ◌∷◌, ◌++◌, All, Option, None, Some, IfSome, option_map, refl, sym, ap, ◌∙◌, append_assoc}
+use Rattle.std.proofs.Common.{◌≡◌, ℕ, List, [], ◌∷◌, ◌++◌, All, Option, None, Some, Ok, IfSome, option_map, refl, sym, ap, ◌∙◌, append_assoc}
 use Rattle.std.proofs.lemmas.List.Concat.{flat_map-append}
-use Rattle.std.proofs.lemmas.List.Elements.{All-tail}
+use Rattle.std.proofs.lemmas.List.Elements.{All-head, All-tail}
 use Rattle.url_parts.specs.declared.address.Part.{Part}
-use Rattle.timeline.specs.Listed.{Made}
+use Rattle.timeline.specs.Listed.{part_of_timing}
 use Rattle.presentation.specs.Laws.{HasAddress}
-use Rattle.presentation.specs.Printing.{IsAtEnd, IsNext, PrintedRest, PrintedTiming, printed_timings, rest_of}
+use Rattle.presentation.specs.Printing.{IsAtEnd, IsPassed, PrintedRest, PrintedTiming, printed_timings, rest_of}
 use Rattle.std.specs.Option.{option_map_or}
 use Rattle.timeline.specs.Expansions.{Timing}
 use Rattle.presentation.specs.declared.parts.Content.{Content}
@@ -39,12 +39,16 @@ module _ (map : Part) (section : ℕ) (old new : PrintedRest) where
   abbrev pub left : PrintedRest → List Item
   left rest = items_at rest.timeline map section rest.left
 
-  pub next_item : (made : Made) (duration : ℕ) → IsNext old made duration new → left old ≡ item_of made.part map section duration ∷ left new
-  next_item made duration next = rw (next.next, next.part, next.timeline) refl
+  pub next_item : (times : Timing) (duration : ℕ) (part : Part) → IsPassed old times duration new → part_of_timing old.timeline times ≡ Ok part → left old ≡ item_of part map section duration ∷ left new
+  next_item times duration part next has = rw (next.next, has, next.timeline) refl
 
-  pub still_addressed : (made : Made) (duration : ℕ) → IsNext old made duration new → All (λ x. HasAddress old.timeline x.times) old.left → All (λ x. HasAddress new.timeline x.times) new.left
-  still_addressed made duration next all = rw next.timeline
-      (All-tail (λ (x : PrintedTiming). HasAddress old.timeline x.times) (record { times = made.times; duration = duration }) new.left (rw next.next at all))
+  pub first_addressed : (times : Timing) (duration : ℕ) → IsPassed old times duration new → All (λ x. HasAddress old.timeline x.times) old.left → HasAddress old.timeline times
+  first_addressed times duration next all =
+      All-head (λ (x : PrintedTiming). HasAddress old.timeline x.times) (record { times = times; duration = duration }) new.left (rw next.next at all)
+
+  pub still_addressed : (times : Timing) (duration : ℕ) → IsPassed old times duration new → All (λ x. HasAddress old.timeline x.times) old.left → All (λ x. HasAddress new.timeline x.times) new.left
+  still_addressed times duration next all = rw next.timeline
+      (All-tail (λ (x : PrintedTiming). HasAddress old.timeline x.times) (record { times = times; duration = duration }) new.left (rw next.next at all))
 
   pub no_more : IsAtEnd old new → left old ≡ []
   no_more end = rw end.none refl

@@ -41,6 +41,18 @@ own_lines digits former item = present (
     ∷ []
     )
 
+-- the first of them, of what begins with the segment
+abbrev pub front_lines : (former : Option ℕ) → Item → List WrittenLine
+front_lines former item = present (
+    (if begins_section former item.section then Some (initialization item.map) else None)
+    ∷ option_map program_date_time item.date
+    ∷ []
+    )
+
+-- and the others, of the segment alone
+abbrev pub last_lines : (digits : ℕ) → Item → List WrittenLine
+last_lines digits item = duration digits item.duration ∷ option_to_list (option_map byte_range item.part.range) ++ uri item.part.address ∷ []
+
 -- the lines of a segment behind one of a section
 abbrev pub item_lines : (digits : ℕ) (former : Option ℕ) → Item → List WrittenLine
 item_lines digits former item = replicate (rise former item.section) discontinuity ++ own_lines digits former item

@@ -1,7 +1,7 @@
 -- Lines and segments as they are written.
 use Rattle.std.specs.Prelude.{⊤, List, map, Option, option_map, IfSome}
 use Rattle.iso_time.specs.Instant.{IsWritable}
-use Rattle.hls_writer.specs.Lines.{WrittenLine, header, version, target_duration, media_sequence, discontinuity_sequence, on_demand, discontinuity, initialization, program_date_time, duration, byte_range, uri, end_list}
+use Rattle.hls_writer.specs.Lines.{WrittenLine, header, version, target_duration, media_sequence, discontinuity_sequence, on_demand, discontinuity, initialization, program_date_time, byte_range, end_list}
 use Rattle.hls_writer.specs.Playlists.{Item, present}
 use Rattle.hls_writer.specs.declared.line.Line.{Line}
 use Rattle.hls_writer.specs.declared.line.Line.TheVariants as line
@@ -18,9 +18,7 @@ written line.OnDemand = on_demand
 written line.Discontinuity = discontinuity
 written (line.Map part) = initialization part.now
 written (line.ProgramDateTime instant) = program_date_time instant
-written (line.Duration digits units) = duration digits units
 written (line.ByteRange range) = byte_range range
-written (line.Uri address) = uri address.now
 written line.EndList = end_list
 
 -- what those say that are there

@@ -1,22 +1,22 @@
 // Segments as playlists list them.
-ghost use Rattle.std.specs.Prelude.{◌≡◌, All, replicate, option_map, IfSome};
+ghost use Rattle.std.specs.Prelude.{◌≡◌, All, replicate, option_map, option_to_list, IfSome};
 ghost use Rattle.iso_time.specs.Instant.{IsWritable};
 ghost use Rattle.file_pieces.specs.Adding.{Adds, shown};
 ghost use Rattle.hls_writer.specs.Lines.{lines_text, discontinuity, program_date_time, byte_range};
-ghost use Rattle.hls_writer.specs.Playlists.{rise, begins_section, own_lines, item_lines};
+ghost use Rattle.hls_writer.specs.Playlists.{rise, begins_section, front_lines, last_lines, item_lines};
 ghost use Rattle.hls_writer.specs.Rows.{written, all_written, entry_item, CanBeThere};
 
-use crate::line::{Line, push_lines};
+use crate::line::{Line, push_duration, push_lines, push_uri};
 use bridge_io::{Fail, FileWriter, Store};
 use exact_time::Digits;
 use iso_time::Instant;
-use url_parts::{Address, Part, Range};
+use url_parts::{Part, Range};
 
 /// A segment as a playlist lists it.
 #[derive(Clone, Copy)]
 pub struct Entry<'a> {
     /// Where it lies.
-    pub address: &'a Address,
+    pub address: &'a str,
     /// Which bytes of the file it is; all of them where there is none.
     pub range: Option<Range>,
     /// What initializes it.
@@ -43,24 +43,35 @@ impl Entry<'_> {
             Adds (lines_text (item_lines digits former (entry_item self.now))) writer.old writer.new (shows store.old) (shows store.new) result }
     {
         push_discontinuities(writer, store, rise(former, self.section))?;
-        push_lines(writer, store, &self.lines(digits, former))
+        self.push_front(writer, store, former)?;
+        self.push_last(writer, store, digits)
     }
 
-    /// The lines behind those of the discontinuities.
-    fn lines(&self, digits: Digits, former: Option<u64>) -> [Option<Line<'_>>; 5]
+    /// Adds the lines of what begins with the segment.
+    fn push_front<F: Store>(
+        &self,
+        writer: &mut FileWriter<'_>,
+        store: &mut F,
+        former: Option<u64>,
+    ) -> Result<(), Fail>
         requires { IfSome self.now.date IsWritable }
-        ensures written { all_written result ≡ own_lines digits former (entry_item self.now) }
+        ensures { let shows = shown F.files F.read_faults F.write_faults in
+            Adds (lines_text (front_lines former (entry_item self.now))) writer.old writer.new (shows store.old) (shows store.new) result }
+    {
+        if self.date.is_none() && !begins_section(former, self.section) {
+            return Ok(());
+        }
+        push_lines(writer, store, &self.front(former))
+    }
+
+    fn front(&self, former: Option<u64>) -> [Option<Line<'_>>; 2]
+        requires { IfSome self.now.date IsWritable }
+        ensures written { all_written result ≡ front_lines former (entry_item self.now) }
         ensures can { All CanBeThere result }
     {
         [
             begins_section(former, self.section).then_some(Line::Map(self.map)),
             self.date_line(),
-            Some(Line::Duration {
-                digits,
-                units: self.duration,
-            }),
-            self.range_line(),
-            Some(Line::Uri(self.address)),
         ]
     }
 
@@ -72,11 +83,29 @@ impl Entry<'_> {
         Some(Line::ProgramDateTime(self.date?))
     }
 
-    fn range_line(&self) -> Option<Line<'_>>
-        ensures written { option_map written result ≡ option_map byte_range self.now.range }
-        ensures can { CanBeThere result }
+    /// Adds the lines of the segment alone.
+    fn push_last<F: Store>(
+        &self,
+        writer: &mut FileWriter<'_>,
+        store: &mut F,
+        digits: Digits,
+    ) -> Result<(), Fail>
+        ensures { let shows = shown F.files F.read_faults F.write_faults in
+            Adds (lines_text (last_lines digits (entry_item self.now))) writer.old writer.new (shows store.old) (shows store.new) result }
     {
-        Some(Line::ByteRange(self.range?))
+        push_duration(writer, store, digits, self.duration)?;
+        self.push_range(writer, store)?;
+        push_uri(writer, store, self.address)
+    }
+
+    fn push_range<F: Store>(&self, writer: &mut FileWriter<'_>, store: &mut F) -> Result<(), Fail>
+        ensures { let shows = shown F.files F.read_faults F.write_faults in
+            Adds (lines_text (option_to_list (option_map byte_range self.now.range))) writer.old writer.new (shows store.old) (shows store.new) result }
+    {
+        match self.range {
+            None => Ok(()),
+            Some(range) => Line::ByteRange(range).push_to(writer, store),
+        }
     }
 }
 

@@ -1,11 +1,10 @@
 // The playlists of the tracks of a finished presentation.
-ghost use Rattle.std.specs.Prelude.{◌≡◌, ◌⊎◌, ◌^◌, ◌<◌, ◌≤◌, ◌/◌, length, All, IfOk, IfSome, None, Ok, OnOk, OnErr, MatchOption, MatchResult};
+ghost use Rattle.std.specs.Prelude.{◌≡◌, ◌⊎◌, ◌^◌, ◌<◌, ◌≤◌, ◌/◌, length, All, IfOk, IfSome, None, Ok, OnOk, OnErr, MatchResult};
 ghost use Rattle.bridge_io.specs.Fault.{HasCause};
 ghost use Rattle.bridge_io.specs.Outside.{put, Changes};
 ghost use Rattle.bridge_io.specs.Written.{HasFront};
 ghost use Rattle.bridge_io.specs.declared.outside.Fail.TheVariants.{Memory};
 ghost use Rattle.presentation.specs.Laws.{HasAddress};
-ghost use Rattle.presentation.specs.Printing.{IsAtEnd, IsNext};
 ghost use Rattle.presentation.specs.Verifying.{verified};
 ghost use Rattle.hls_writer.specs.Verified.{IsVerified};
 ghost use Rattle.file_pieces.specs.Adding.{Adds, shown};
@@ -13,6 +12,8 @@ ghost use Rattle.hls_writer.specs.Finished as spec;
 ghost use Rattle.hls_writer.specs.Lines.{lines_text, on_demand};
 ghost use Rattle.hls_writer.specs.Playlists.{head_lines, items_lines, item_lines, last_section};
 ghost use Rattle.hls_writer.specs.Rows.{all_written, CanBeThere};
+ghost use Rattle.timeline.specs.Listed.{CanBeNamed, part_of_timing, timing_of};
+ghost use Rattle.timeline.specs.Written.{part_with};
 ghost use Rattle.file_pieces.specs.declared.fault.OutFault.TheVariants.{WriteFault};
 
 use crate::OutFault;
@@ -22,8 +23,8 @@ use bridge_io::{Fail, FileWriter, Ledger, Name, Steps, Store};
 use exact_time::Digits;
 use presentation::{Longest, Presentation, PrintedSegments};
 use std::alloc::Global;
-use timeline::{ListFault, Segment};
-use url_parts::Part;
+use timeline::{AddressWriter, ListFault, Span};
+use url_parts::{Part, Range};
 
 /// Writes the playlist of a track of a finished presentation: each listed segment with its address and its printed duration,
 /// an EXT-X-DISCONTINUITY for each step by which the section rises, and an EXT-X-MAP for the first segment and for the first
@@ -183,20 +184,22 @@ struct Place<'a> {
     digits: Digits,
 }
 
-/// Makes the next segment of those that all have addresses.
+/// Writes the address of a segment that has one, and tells its range.
 #[inline(always)]
-fn next_segment<L: Ledger>(
+fn write_address(
     alloc: Global,
-    segments: &mut PrintedSegments<'_>,
-    steps: &mut Steps<L>,
-) -> Result<Option<(Segment, u64)>, Fail>
-    requires { All (λ x. HasAddress segments.old.timeline x.times) segments.old.left }
-    ensures { MatchResult result
-        (λ next. MatchOption next (IsAtEnd segments.old segments.new) (λ made. IsNext segments.old made.0 made.1 segments.new))
+    addresses: &mut AddressWriter<'_>,
+    span: &Span,
+) -> Result<Option<Range>, Fail>
+    requires named { CanBeNamed addresses.old.timeline (timing_of span.now) }
+    requires has { HasAddress addresses.old.timeline (timing_of span.now) }
+    ensures part { MatchResult result
+        (λ range. part_of_timing addresses.old.timeline (timing_of span.now) ≡ Ok (part_with addresses.new.address range))
         (λ fail. fail ≡ Memory) }
+    ensures timeline { addresses.new.timeline ≡ addresses.old.timeline }
 {
-    match segments.next(alloc, steps) {
-        Ok(next) => Ok(next),
+    match addresses.write(alloc, span) {
+        Ok(range) => Ok(range),
         Err(ListFault::Memory) => Err(Fail::Memory),
         Err(ListFault::Url(_)) => unreachable!(),
     }
@@ -241,17 +244,20 @@ fn push_segments<F: Store, L: Ledger>(
     ensures last { let items = spec.items_at segments.entry.timeline place.now.map.now place.now.section segments.entry.left in
         IfOk result (λ last. last ≡ last_section former items) }
 {
+    let mut addresses = segments.addresses(alloc)?;
     let mut former = former;
-    while let Some((segment, duration)) = next_segment(alloc, &mut segments, steps)? {
-        push_segment(&segment, duration, place, former, writer, store)?;
+    while let Some((span, duration)) = segments.pass(steps) {
+        let range = write_address(alloc, &mut addresses, &span)?;
+        push_segment(&addresses, range, duration, place, former, writer, store)?;
         former = Some(place.section);
     }
     Ok(former)
 }
 
-/// Adds the lines of a segment.
+/// Adds the lines of the segment whose address was written last.
 fn push_segment<F: Store>(
-    segment: &Segment,
+    addresses: &AddressWriter<'_>,
+    range: Option<Range>,
     duration: u64,
     place: &Place<'_>,
     former: Option<u64>,
@@ -259,12 +265,12 @@ fn push_segment<F: Store>(
     store: &mut F,
 ) -> Result<(), Fail>
     ensures { let shows = shown F.files F.read_faults F.write_faults in
-        let item = spec.item_of segment.now.part place.now.map.now place.now.section duration in
+        let item = spec.item_of (part_with addresses.now.address range) place.now.map.now place.now.section duration in
         Adds (lines_text (item_lines place.now.digits former item)) writer.old writer.new (shows store.old) (shows store.new) result }
 {
     let entry = Entry {
-        address: segment.address(),
-        range: segment.range(),
+        address: addresses.as_str(),
+        range,
         map: place.map,
         duration,
         section: place.section,

@@ -75,7 +75,7 @@ impl MediaItem {
         ensures { entry_item result ≡ item_of self.now }
     {
         Entry {
-            address: &self.address,
+            address: self.address.as_str(),
             range: self.range,
             map: &self.map,
             duration: self.duration,

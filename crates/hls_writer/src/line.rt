@@ -2,14 +2,14 @@
 ghost use Rattle.std.specs.Prelude.{◌≡◌, ◌+◌, ◌/◌, ◌%◌, ◌<◌, ◌++◌, ◌∷◌, [], All, decimal};
 ghost use Rattle.iso_time.specs.Digits.{padded_digits};
 ghost use Rattle.file_pieces.specs.Adding.{Adds, shown};
-ghost use Rattle.hls_writer.specs.Lines.{line_text, lines_text, initialization, duration};
+ghost use Rattle.hls_writer.specs.Lines.{line_text, lines_text, initialization, duration, uri};
 ghost use Rattle.hls_writer.specs.Rows.{written, all_written, CanBeWritten, CanBeThere};
 
 use bridge_io::{Fail, FileWriter, Store};
 use exact_time::Digits;
 use file_pieces::{Piece, push_pieces};
 use iso_time::{Instant, write_instant_ms};
-use url_parts::{Address, Part, Range};
+use url_parts::{Part, Range};
 
 /// A line of a playlist (RFC 8216, 4.3).
 #[derive(Clone, Copy)]
@@ -32,17 +32,8 @@ pub enum Line<'a> {
     Map(&'a Part),
     /// EXT-X-PROGRAM-DATE-TIME (4.3.2.6).
     ProgramDateTime(Instant),
-    /// EXTINF (4.3.2.1).
-    Duration {
-        /// How many decimals are printed.
-        digits: Digits,
-        /// How long, in units of the last decimal.
-        units: u64,
-    },
     /// EXT-X-BYTERANGE (4.3.2.2).
     ByteRange(Range),
-    /// The address of a segment.
-    Uri(&'a Address),
     /// EXT-X-ENDLIST (4.3.3.4).
     EndList,
 }
@@ -83,7 +74,6 @@ impl Line<'_> {
                     Piece::Text(b"\n"),
                 ],
             ),
-            Line::Duration { digits, units } => push_duration(writer, store, digits, units),
             Line::ByteRange(range) => push_pieces(
                 writer,
                 store,
@@ -94,11 +84,6 @@ impl Line<'_> {
                     Piece::Number(range.first),
                     Piece::Text(b"\n"),
                 ],
-            ),
-            Line::Uri(address) => push_pieces(
-                writer,
-                store,
-                &[Piece::Text(address.as_str().as_bytes()), Piece::Text(b"\n")],
             ),
             Line::EndList => push_pieces(writer, store, &[Piece::Text(b"#EXT-X-ENDLIST\n")]),
         }
@@ -148,9 +133,26 @@ fn push_map<F: Store>(writer: &mut FileWriter<'_>, store: &mut F, part: &Part) -
     }
 }
 
-/// Adds the line of a printed duration.
+/// Adds the line of an address.
 #[tactic(auto, unfolding(crate::specs::Lines::line_bytes))]
-fn push_duration<F: Store>(
+pub fn push_uri<F: Store>(
+    writer: &mut FileWriter<'_>,
+    store: &mut F,
+    address: &str,
+) -> Result<(), Fail>
+    ensures { let shows = shown F.files F.read_faults F.write_faults in
+        Adds (line_text (uri address.now)) writer.old writer.new (shows store.old) (shows store.new) result }
+{
+    push_pieces(
+        writer,
+        store,
+        &[Piece::Text(address.as_bytes()), Piece::Text(b"\n")],
+    )
+}
+
+/// Adds the line of a printed duration (EXTINF of RFC 8216, 4.3.2.1), in units of the last of so many decimals.
+#[tactic(auto, unfolding(crate::specs::Lines::line_bytes))]
+pub fn push_duration<F: Store>(
     writer: &mut FileWriter<'_>,
     store: &mut F,
     digits: Digits,

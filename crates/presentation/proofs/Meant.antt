@@ -1,5 +1,5 @@
 -- What is made of names and of an MPD's values is what they mean.
-use Rattle.std.proofs.Common.{◌≡◌, ℕ, max, Bool, true, false, List, [], ◌∷◌, slice_get, Option, None, Some, Result, Ok, Err, unwrap_or, refl, sym, ◌∙◌, ap}
+use Rattle.std.proofs.Common.{◌≡◌, ℕ, Bool, true, false, List, [], ◌∷◌, slice_get, Option, None, Some, Result, Ok, Err, unwrap_or, refl, sym, ◌∙◌, ap}
 use Rattle.std.specs.Prelude.{if◌then◌else◌, length, nat_lt, not}
 use Rattle.std.specs.List.{list_all}
 use Rattle.url_parts.specs.declared.fault.UrlFault.TheVariants.{Refused, Scheme, TooLong}
@@ -17,8 +17,7 @@ use Rattle.timeline.specs.declared.fault.TimeFault.{TimeFault}
 use Rattle.timeline.specs.declared.names.Names.{Names}
 use Rattle.timeline.specs.declared.names.Names.TheVariants as names
 use Rattle.timeline.specs.declared.names.RefPart.{RefPart}
-use Rattle.timeline.specs.Expansions.{SegmentTimeline, Timing}
-use Rattle.timeline.specs.Listed.{media_time, part_of_timing}
+use Rattle.timeline.specs.Expansions.{SegmentTimeline}
 use Rattle.timeline.specs.Names.{part_at, part_of, referred}
 use Rattle.timeline.specs.Names as told_names
 use Rattle.timeline.specs.SegmentTimelines.{unless_fault}

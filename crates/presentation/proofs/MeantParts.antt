@@ -1,10 +1,9 @@
 -- The listed segments of a verified presentation are made as they are meant.
-use Rattle.std.proofs.Common.{◌≡◌, ℕ, ◌<◌, List, [], ◌∷◌, length, All, Option, None, Some, Ok, IfSome, refl, sym, ◌∙◌, ap, subst}
-use Rattle.std.proofs.lemmas.List.Elements.{All-cons, All-head, All-nil, All-rest}
+use Rattle.std.proofs.Common.{◌≡◌, List, All, Option, None, Some, Ok, IfSome, ◌∙◌, ap}
 use Rattle.timeline.specs.Expansions.{SegmentTimeline, Timing}
 use Rattle.timeline.specs.Listed.{part_of_timing}
 use Rattle.presentation.specs.declared.parts.Content.{Content}
-use Rattle.presentation.specs.Presented.{Presented, content_at, listed_at}
+use Rattle.presentation.specs.Presented.{content_at, listed_at}
 use Rattle.presentation.specs.Laws.{HasAddress}
 use Rattle.presentation.specs.Meanings.{part_meant}
 use Rattle.presentation.specs.MeaningLaws.{VerifiedAreMeant}

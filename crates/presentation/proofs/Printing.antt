@@ -11,10 +11,10 @@ use Rattle.timeline.specs.Names.{list_refusal}
 use Rattle.exact_time.specs.Rounding.{rounding_from}
 use Rattle.exact_time.proofs.Floors.{floor_in-difference_self}
 use Rattle.timeline.specs.Expansions.{SegmentTimeline, Timing}
-use Rattle.timeline.specs.Listed.{listed, is_listed, Rest, Made, IsDone, IsMade, IsHeld as IsHeldBefore}
+use Rattle.timeline.specs.Listed.{listed, is_listed, Rest, Made, IsDone, IsMade, IsHeld as IsHeldBefore, IsPassed as IsPassedBefore}
 use Rattle.presentation.specs.declared.parts.Content.{Content}
 use Rattle.presentation.specs.Presented.{Presented, content_at, window_of, listed_in}
-use Rattle.presentation.specs.Printing.{PrintedRest, IsPrintedOf, with_durations, ends_of, begin_of, rest_of, IsAtEnd, IsNext, IsHeld}
+use Rattle.presentation.specs.Printing.{PrintedRest, IsPrintedOf, with_durations, ends_of, begin_of, rest_of, IsAtEnd, IsNext, IsHeld, IsPassed}
 use Rattle.presentation.specs.Kept.{durations_behind, printed_rest, IsPaced}
 
 pub at_end : (old new : Rest) (r : Rounding) → IsDone old new → IsAtEnd (printed_rest old r) (printed_rest new r)
@@ -55,9 +55,17 @@ next old new made r n made_is called = record {
   timeline = made_is.timeline;
 }
 
+pub passed : (old new : Rest) (times : Timing) (r : Rounding) (n : ℕ) → IsPassedBefore old times new → total r + n ≡ total (record r { former = times.end })
+    → IsPassed (printed_rest old r) times n (printed_rest new (record r { former = times.end }))
+passed old new times r n passed_is called = record { next = next_left r old.left new.left times n passed_is.next called; can = passed_is.can; countable = passed_is.countable; timeline = passed_is.timeline }
+
 -- its end may be given to the rounder, and then those of the others
 pub paced_next : (old new : Rest) (made : Made) (r : Rounding) → IsMade old made new → IsPaced old r → IsPaced new (record r { former = made.times.end })
 paced_next old new made r made_is paced = let rising = rw made_is.next at paced.rising in let near = rw made_is.next at paced.near in
+    record { rising = rising.2; near = near.1 }
+
+pub paced_passed : (old new : Rest) (times : Timing) (r : Rounding) → IsPassedBefore old times new → IsPaced old r → IsPaced new (record r { former = times.end })
+paced_passed old new times r passed_is paced = let rising = rw passed_is.next at paced.rising in let near = rw passed_is.next at paced.near in
     record { rising = rising.2; near = near.1 }
 
 floors_of : (unit : ℕ) (begin : Time) (xs : List Timing) → map (λ x. floor_in unit (difference x.end begin)) xs ≡ map (λ end. floor_in unit (difference end begin)) (ends_of xs)

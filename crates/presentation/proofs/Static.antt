@@ -2,8 +2,8 @@
 use Rattle.std.proofs.Common.{◌≡◌, Bool, true, false, Some, None, Ok, refl, sym, ◌∙◌, ap}
 use Rattle.std.specs.Prelude.{if◌then◌else◌, is_none, is_some}
 use Rattle.presentation.specs.Counting.{unless_any}
-use Rattle.presentation.specs.Origins.{CameFromStaticMpd, StaticAreFinished}
-use Rattle.presentation.specs.Presented.{Following, Presented, is_finished}
+use Rattle.presentation.specs.Origins.{StaticAreFinished}
+use Rattle.presentation.specs.Presented.{Following, is_finished}
 use Rattle.presentation.specs.Told.{all_told, presented_if_told, presented_of, presented_with, told_before}
 use Rattle.presentation.proofs.Filling.{steps_of}
 

@@ -1,7 +1,7 @@
 -- A finished presentation of which the segments are counted has something of each track in each section.
-use Rattle.std.proofs.Common.{◌≡◌, ℕ, zero, suc, ◌+◌, ◌<◌, ◌==◌, ◌&&◌, ◌||◌, Bool, true, false, List, [], ◌∷◌, length, map, flat_map, slice_get, get_or, All, Option, None, Some, Result, Ok, Err, if◌then◌else◌, refl, sym, ◌∙◌, ap, subst, arith, zero-add}
-use Rattle.std.specs.Prelude.{is_some, option_and_then, IfSome}
-use Rattle.std.specs.List.{list_any, range_with_len}
+use Rattle.std.proofs.Common.{◌≡◌, ℕ, zero, suc, ◌+◌, ◌<◌, true, List, [], ◌∷◌, length, map, flat_map, All, Option, None, Some, Result, Ok, Err, refl, sym, ◌∙◌, ap, subst, arith, zero-add}
+use Rattle.std.specs.Prelude.{is_some, option_and_then}
+use Rattle.std.specs.List.{range_with_len}
 use Rattle.std.specs.Option.{option_map_or}
 use Rattle.std.proofs.lemmas.List.Elements.{All-cons, All-nil}
 use Rattle.meaning.specs.Meanings.{Entry}
@@ -11,7 +11,7 @@ use Rattle.timeline.specs.declared.fault.TimeFault.{TimeFault}
 use Rattle.timeline.specs.Expansions.{SegmentTimeline, Timing}
 use Rattle.presentation.specs.declared.parts.Content.{Content}
 use Rattle.presentation.specs.Presented.{Presented, is_finished, content_at, listed_at, listed_in, window_of}
-use Rattle.presentation.specs.Counting.{count_at, count_faults, count_of_all, counted, faults_of_count, is_over, limit_faults, listed_count, number_in, place_at, section_faults, sections_of, track_faults, tracks_of, whole_track_faults}
+use Rattle.presentation.specs.Counting.{count_at, count_faults, count_of_all, faults_of_count, is_over, limit_faults, number_in, place_at, section_faults, sections_of, track_faults, tracks_of, whole_track_faults}
 use Rattle.presentation.specs.Meanings.{entry_at, entry_of, entry_with, head_of, is_kept, meaning_of, meaning_over, row_at, rows_of}
 use Rattle.presentation.specs.MeaningLaws.{FinishedAreWhole}
 use Rattle.presentation.proofs.Firsts.{none_before}

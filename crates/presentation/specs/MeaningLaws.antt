@@ -1,5 +1,5 @@
 -- What presentations say of meanings.
-use Rattle.std.specs.Prelude.{◌≡◌, ℕ, ◌<◌, ℤ, true, false, List, length, map, All, Option, Some, None, Ok, IfSome}
+use Rattle.std.specs.Prelude.{◌≡◌, ℕ, ◌<◌, ℤ, true, List, length, map, All, Option, Some, Ok, IfSome}
 use Rattle.url_parts.specs.declared.address.Part.{Part}
 use Rattle.timeline.specs.Expansions.{SegmentTimeline, Timing}
 use Rattle.timeline.specs.Listed.{part_of_timing}

@@ -10,7 +10,6 @@ use Rattle.bridge_io.specs.declared.media.Kind.{Kind}
 use Rattle.bridge_io.specs.declared.media.Kind.TheVariants.{Video, Audio, Text}
 use Rattle.url_parts.specs.Addresses.{is_absolute, text_of, url_of}
 use Rattle.url_parts.specs.declared.address.Part.{Part}
-use Rattle.url_parts.specs.declared.range.Range.{Range}
 use Rattle.template_ids.specs.Templates.{named}
 use Rattle.timeline.specs.declared.entry.End.{End}
 use Rattle.timeline.specs.declared.names.Names.{Names}

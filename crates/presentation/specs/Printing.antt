@@ -1,11 +1,13 @@
 -- Segments with the durations that are printed of them.
-use Rattle.std.specs.Prelude.{◌≡◌, ℕ, List, [], ◌∷◌, map, Option, Some, None, Result, Ok, Err, IsSome, IfSome, slice_get}
+use Rattle.std.specs.Prelude.{◌≡◌, ℕ, ◌<◌, ◌^◌, List, [], ◌∷◌, map, Option, Some, None, Result, Ok, Err, IsSome, IfSome, slice_get}
 use Rattle.exact_time.specs.Time.{Time, seconds}
 use Rattle.exact_time.specs.Rounding.{printed}
 use Rattle.timeline.specs.declared.fault.ListFault.{ListFault}
 use Rattle.timeline.specs.Names.{list_refusal}
 use Rattle.timeline.specs.Expansions.{SegmentTimeline, Timing}
-use Rattle.timeline.specs.Listed.{Made, part_of_timing, IsReached}
+use Rattle.timeline.specs.Listed.{CanBeNamed, Made, part_of_timing, IsReached}
+use Rattle.timeline.specs.declared.span.Span.{Span}
+use Rattle.url_parts.specs.declared.address.Part.{Part}
 use Rattle.presentation.specs.Presented.{Presented, content_at, window_of, listed_at}
 
 -- a segment's times and number, and its duration in units
@@ -67,6 +69,31 @@ pub record IsHeld (old : PrintedRest) (fault : ListFault) (new : PrintedRest) : 
   pub same : new ≡ old
   pub some : IsSome (slice_get old.left 0)
   pub refused : IfSome (list_refusal fault) (λ f. IfSome (slice_get old.left 0) (λ x. part_of_timing old.timeline x.times ≡ Err f))
+
+-- the next segment was passed, with its duration
+pub record IsPassed (old : PrintedRest) (times : Timing) (duration : ℕ) (new : PrintedRest) : Type 0 where
+  pub next : old.left ≡ record { times = times; duration = duration } ∷ new.left
+  pub can : CanBeNamed old.timeline times
+  pub countable : times.number < 2 ^ 64
+  pub timeline : new.timeline ≡ old.timeline
+
+-- the next segment, which has an address, was passed or made
+pub record IsStep (old : PrintedRest) (duration : ℕ) (new : PrintedRest) : Type 0 where
+  pub times : Timing
+  pub part : Part
+  pub next : old.left ≡ record { times = times; duration = duration } ∷ new.left
+  pub has : part_of_timing old.timeline times ≡ Ok part
+  pub timeline : new.timeline ≡ old.timeline
+
+-- how many segments a call passed
+abbrev pub passed_count : Option (Span × ℕ) → ℕ
+passed_count (Some passed) = 1
+passed_count None = 0
+
+abbrev pub step_count : Result (Option ℕ) ListFault → ℕ
+step_count (Ok (Some duration)) = 1
+step_count (Ok None) = 0
+step_count (Err fault) = 0
 
 -- how many segments a call made
 abbrev pub made_count : Result (Option (Made × ℕ)) ListFault → ℕ

@@ -1,16 +1,17 @@
 // Segments one by one, with their printed durations.
-ghost use Rattle.std.specs.Prelude.{◌≡◌, ◌+◌, ◌^◌, ◌<◌, length, MatchOption, MatchResult};
+ghost use Rattle.std.specs.Prelude.{◌≡◌, ◌+◌, ◌^◌, ◌<◌, length, true, IfOk, MatchOption, MatchResult};
 ghost use Rattle.presentation.specs.Presented.{listed_in};
-ghost use Rattle.timeline.specs.Listed.{IsWindowOf, IsReached, listed_from};
+ghost use Rattle.timeline.specs.FileNames.{AreInFolder};
+ghost use Rattle.timeline.specs.Listed.{IsWindowOf, IsReached, listed_from, timing_of};
 ghost use Rattle.exact_time.specs.Tick.{time_of};
 ghost use Rattle.presentation.specs.Printing as spec;
 
 use crate::Presentation;
-use bridge_io::{Ledger, Steps};
+use bridge_io::{Ledger, NoMemory, Steps};
 use exact_time::{Digits, Rounder, Tick};
 use std::alloc::Global;
 use std::marker::Model;
-use timeline::{Cursor, ListFault, Listing, Runs, Segment, Window};
+use timeline::{AddressWriter, Cursor, ListFault, Listing, Runs, Segment, Span, Window};
 
 /// The listed segments of a track in a section, each made when it is asked for, with the duration that is printed of it.
 /// Printed durations never drift: up to each segment they sum to the exact time from the first one's start to that
@@ -70,6 +71,55 @@ impl<'a> PrintedSegments<'a> {
                 let duration = self.rounder.next(segment.span().end);
                 Ok(Some((segment, duration)))
             }
+        }
+    }
+
+    /// Goes behind the next segment without its address, counts it, and tells its times and its printed duration in units of
+    /// the last decimal. There is none exactly at the end.
+    #[inline(always)]
+    pub fn pass<L: Ledger>(&mut self, steps: &mut Steps<L>) -> Option<(Span, u64)>
+        ensures segment { MatchOption result (spec.IsAtEnd self.old self.new) (λ passed. spec.IsPassed self.old (timing_of passed.0) passed.1 self.new) }
+        ensures counted { steps.new ≡ steps.old + spec.passed_count result }
+    {
+        let span = self.listing.pass(steps)?;
+        let duration = self.rounder.next(span.end);
+        Some((span, duration))
+    }
+
+    /// What writes the addresses of the segments.
+    pub fn addresses(&self, alloc: Global) -> Result<AddressWriter<'a>, NoMemory>
+        ensures { IfOk result (λ addresses. addresses.timeline ≡ self.now.timeline) }
+    {
+        self.listing.addresses(alloc)
+    }
+
+    /// Whether each segment's name is that of a file in one folder, so that no address is refused.
+    pub(crate) fn are_files(&self, alloc: Global) -> Result<bool, NoMemory>
+        ensures { IfOk result (λ files. files ≡ true → AreInFolder self.now.timeline.names) }
+    {
+        self.listing.are_files(alloc)
+    }
+
+    /// Goes behind the next segment, counts it, and tells its printed duration. Its address is made where it may be refused.
+    #[inline(always)]
+    pub(crate) fn step<L: Ledger>(
+        &mut self,
+        alloc: Global,
+        files: bool,
+        steps: &mut Steps<L>,
+    ) -> Result<Option<u64>, ListFault>
+        requires { files ≡ true → AreInFolder self.old.timeline.names }
+        ensures segment { MatchResult result
+            (λ next. MatchOption next (spec.IsAtEnd self.old self.new) (λ duration. spec.IsStep self.old duration self.new))
+            (λ fault. spec.IsHeld self.old fault self.new) }
+        ensures counted { steps.new ≡ steps.old + spec.step_count result }
+    {
+        if !files {
+            return Ok(self.next(alloc, steps)?.map(|(_, duration)| duration));
+        }
+        match self.pass(steps) {
+            None => Ok(None),
+            Some((_, duration)) => Ok(Some(duration)),
         }
     }
 }

@@ -1,6 +1,7 @@
 // Whether each listed segment has an address.
-ghost use Rattle.std.specs.Prelude.{◌≡◌, ◌+◌, ◌^◌, ◌<◌, length, IfOk, OnOk};
+ghost use Rattle.std.specs.Prelude.{◌≡◌, ◌+◌, ◌^◌, ◌<◌, length, true, IfOk, OnOk};
 ghost use Rattle.bridge_io.specs.Answer.{Gives};
+ghost use Rattle.timeline.specs.FileNames.{AreInFolder};
 ghost use Rattle.presentation.specs.Counting.{refusal, count_of_all, count_of_track};
 ghost use Rattle.presentation.specs.Presented.{listed_at};
 ghost use Rattle.presentation.specs.Printing.{IsCounted};
@@ -13,7 +14,7 @@ use std::alloc::Global;
 use timeline::ListFault;
 
 impl Presentation {
-    /// Makes each listed segment once, and tells the longest printed duration of each track. A fault of `count` comes
+    /// Goes over each listed segment once, and tells the longest printed duration of each track. A fault of `count` comes
     /// first; then the address that is refused of the first segment, track by track and section by section.
     pub fn verify<L: Ledger>(
         &self,
@@ -83,28 +84,32 @@ impl Presentation {
             .count(&window)
             .unwrap_or(0);
         let mut segments = self.segments(section, track, digits);
-        segments.longest(alloc, listed, section, track, steps)
+        let files = segments.are_files(alloc)?;
+        segments.longest(alloc, files, listed, section, track, steps)
     }
 }
 
 impl PrintedSegments<'_> {
-    /// Makes all segments, of which there are so many, and tells the longest printed duration.
+    /// Goes behind all segments, of which there are so many, and tells the longest printed duration. The address of each is
+    /// made where their names may be refused.
     fn longest<L: Ledger>(
         &mut self,
         alloc: Global,
+        files: bool,
         listed: u64,
         section: usize,
         track: usize,
         steps: &mut Steps<L>,
     ) -> Result<u64, PresentationFault>
-        requires { listed ≡ length self.old.left }
+        requires listed { listed ≡ length self.old.left }
+        requires files { files ≡ true → AreInFolder self.old.timeline.names }
         ensures longest { Gives (λ n. n) refusal result (spec.verified_rest self.old section track) }
         ensures made { OnOk result (steps.new ≡ steps.old + length self.old.left) }
     {
         let mut longest = 0;
         for segment in 0..listed {
-            match self.next(alloc, steps) {
-                Ok(Some((_, duration))) => longest = longest.max(duration),
+            match self.step(alloc, files, steps) {
+                Ok(Some(duration)) => longest = longest.max(duration),
                 Ok(None) => return Ok(longest),
                 Err(fault) => return Err(fault_at(fault, section, track, segment)),
             }

@@ -3,6 +3,7 @@ pub mod BoundLemmas
 pub mod Counted
 pub mod SegmentTimelineLemmas
 pub mod ExpansionsRise
+pub mod FileNames
 pub mod Judged
 pub mod KeptLemmas
 pub mod Laid

@@ -3,6 +3,7 @@ pub mod SegmentTimelines
 pub mod Durations
 pub mod Expansions
 pub mod Faults
+pub mod FileNames
 pub mod Kept
 pub mod Laws
 pub mod Building
@@ -22,3 +23,4 @@ pub mod RunSegments
 pub mod RunTables
 pub mod Timelines
 pub mod Walks
+pub mod Written

@@ -126,5 +126,17 @@ pub record CanBeNamed (timeline : SegmentTimeline) (x : Timing) : Type 0 where
   pub numbered : timeline.first_number ≤ x.number
   pub timed : media_time timeline x < 2 ^ 64
 
+-- the walk went behind the next segment
+pub record IsPassed (old : Rest) (times : Timing) (new : Rest) : Type 0 where
+  pub next : old.left ≡ times ∷ new.left
+  pub can : CanBeNamed old.timeline times
+  pub countable : times.number < 2 ^ 64
+  pub timeline : new.timeline ≡ old.timeline
+
+-- how many segments a call went behind
+abbrev pub passed_count : Option Span → ℕ
+passed_count (Some span) = 1
+passed_count None = 0
+
 abbrev pub IsWithin : SegmentTimeline → List Timing → Type 0
 IsWithin timeline left = All (CanBeNamed timeline) left

@@ -4,6 +4,7 @@
 //! place among them is found by dividing, and a walk goes on from a place by adding.
 #![tactic(auto)]
 
+mod address_writer;
 mod bound;
 mod builder;
 mod cursor;
@@ -28,6 +29,7 @@ mod time_walk;
 mod timelines;
 mod window;
 
+pub use address_writer::AddressWriter;
 use bridge_io::Sequence;
 pub use cursor::Cursor;
 pub use entry::{End, SEntry, Scale};

@@ -4,8 +4,8 @@ ghost use Rattle.bridge_io.specs.Answer.{Gives};
 ghost use Rattle.timeline.specs.Listed.{CanBeNamed, part_of_timing, timing_of};
 ghost use Rattle.timeline.specs.Names.{list_refusal};
 
-use crate::{ListFault, Runs, Span, TimeWalk};
-use bridge_io::{Ledger, Steps};
+use crate::{AddressWriter, ListFault, Runs, Span, TimeWalk};
+use bridge_io::{Ledger, NoMemory, Steps};
 use std::alloc::Global;
 use std::marker::Model;
 use url_parts::{Address, Part, Range};
@@ -80,7 +80,9 @@ impl<'a> Model for Listing<'a> {
 }
 
 impl<'a> Listing<'a> {
-    ghost use Rattle.timeline.specs.Listed.{IsDone, IsHeld, IsMade, IsWithin, made_count};
+    ghost use Rattle.std.specs.Prelude.{IfOk, true};
+    ghost use Rattle.timeline.specs.FileNames.{AreInFolder, are_files};
+    ghost use Rattle.timeline.specs.Listed.{IsDone, IsHeld, IsMade, IsPassed, IsWithin, made_count, passed_count};
 
     pub(crate) fn over(runs: &'a Runs, walk: TimeWalk<'a>) -> Listing<'a>
         requires { IsWithin runs.now walk }
@@ -111,11 +113,39 @@ impl<'a> Listing<'a> {
         steps.tick();
         Ok(Some(Segment { part, span }))
     }
+
+    /// Goes behind the next segment without its address, and counts it. There is none exactly at the end.
+    #[inline(always)]
+    pub fn pass<L: Ledger>(&mut self, steps: &mut Steps<L>) -> Option<Span>
+        ensures segment { MatchOption result (IsDone self.old self.new) (λ span. IsPassed self.old (timing_of span) self.new) }
+        ensures counted { steps.new ≡ steps.old + passed_count result }
+    {
+        let span = self.walk.peek()?;
+        self.walk.advance();
+        steps.tick();
+        Some(span)
+    }
+
+    /// Whether each segment's name is that of a file in one folder, so that no address is refused.
+    pub fn are_files(&self, alloc: Global) -> Result<bool, NoMemory>
+        ensures told { IfOk result (λ files. files ≡ are_files self.now.timeline.names) }
+        ensures named { IfOk result (λ files. files ≡ true → AreInFolder self.now.timeline.names) }
+    {
+        let runs = self.runs;
+        runs.names.are_files(alloc)
+    }
+
+    /// What writes the addresses of the segments.
+    pub fn addresses(&self, alloc: Global) -> Result<AddressWriter<'a>, NoMemory>
+        ensures { IfOk result (λ addresses. addresses.timeline ≡ self.now.timeline) }
+    {
+        AddressWriter::over(alloc, self.runs)
+    }
 }
 
 /// The address and range of a segment.
 #[inline(always)]
-fn part_of(runs: &Runs, alloc: Global, span: &Span) -> Result<Part, ListFault>
+pub(crate) fn part_of(runs: &Runs, alloc: Global, span: &Span) -> Result<Part, ListFault>
     requires { CanBeNamed runs.now (timing_of span.now) }
     ensures { Gives (λ part. part) list_refusal result (part_of_timing runs.now (timing_of span.now)) }
 {

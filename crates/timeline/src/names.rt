@@ -1,16 +1,21 @@
 // The names of segments, against which addresses are made.
-ghost use Rattle.std.specs.Prelude.{◌≡◌, IfOk, None};
+ghost use Rattle.std.specs.Prelude.{◌≡◌, ◌++◌, IfOk, IfSome, OnOk, None, true, string_bytes};
 ghost use Rattle.std.specs.Option.{option_copied};
 ghost use Rattle.bridge_io.specs.Answer.{Gives};
 ghost use Rattle.template_ids.specs.Templates.{ids_of, named};
+ghost use Rattle.timeline.specs.FileNames.{AreInFolder, IsFolder, are_files, file_name};
 ghost use Rattle.timeline.specs.Names.{list_refusal, listed_part, own_part, part_at};
 ghost use Rattle.url_parts.specs.Addresses.{resolve};
 
 use crate::{ListFault, PartList, RefList, SharedNames};
-use bridge_io::Text;
+use bridge_io::{NoMemory, Text};
 use std::alloc::Global;
 use template_ids::{BorrowedIds, Template};
 use url_parts::{Base, Part, Range, UrlFault};
+
+/// The most bytes that a base has of which each file in its folder has an address: the longest name of a file has 255, and
+/// the longest address 2,048.
+const MAX_BASE_LEN: usize = 1793;
 
 /// A SegmentURL of a SegmentList (ISO/IEC 23009-1, 5.3.9.3).
 #[derive(Debug, Drop)]
@@ -103,6 +108,66 @@ impl Names {
         match self {
             Names::Template { media, .. } => media.uses_time(),
             Names::List { .. } | Names::Shared { .. } | Names::Addresses { .. } => false,
+        }
+    }
+
+    /// Whether the name is that of a file in the base's folder for each number and time, so that no address is refused.
+    pub(crate) fn are_files(&self, alloc: Global) -> Result<bool, NoMemory>
+        ensures told { IfOk result (λ files. files ≡ are_files self.now) }
+        ensures named { IfOk result (λ files. files ≡ true → AreInFolder self.now) }
+    {
+        match self {
+            Names::Template {
+                media,
+                id,
+                bandwidth,
+                base,
+            } => {
+                let files = media.names_files(alloc, id.as_str(), *bandwidth)?;
+                Ok(base.as_str().len() <= MAX_BASE_LEN && files)
+            }
+            Names::List { .. } | Names::Shared { .. } | Names::Addresses { .. } => Ok(false),
+        }
+    }
+
+    /// The folder in which all names lie, where each is that of a file.
+    pub(crate) fn folder(&self, alloc: Global) -> Result<Option<String>, NoMemory>
+        ensures { IfOk result (λ folder. IfSome folder (λ folder. IsFolder self.now (string_bytes folder))) }
+    {
+        if !self.are_files(alloc)? {
+            return Ok(None);
+        }
+        match self {
+            Names::Template { base, .. } => Ok(Some(base.begin(alloc, 0)?)),
+            Names::List { .. } | Names::Shared { .. } | Names::Addresses { .. } => Ok(None),
+        }
+    }
+
+    /// Adds the name of a file at the end of a text.
+    pub(crate) fn push_file_name(
+        &self,
+        text: &mut String,
+        number: u64,
+        time: u64,
+    ) -> Result<(), NoMemory>
+        ensures { OnOk result (string_bytes text.new ≡ string_bytes text.old ++ file_name self.now number time) }
+    {
+        match self {
+            Names::Template {
+                media,
+                id,
+                bandwidth,
+                ..
+            } => {
+                let ids = BorrowedIds {
+                    id: id.as_str(),
+                    bandwidth: *bandwidth,
+                    number,
+                    time,
+                };
+                media.push_name(text, &ids)
+            }
+            Names::List { .. } | Names::Shared { .. } | Names::Addresses { .. } => Ok(()),
         }
     }
 

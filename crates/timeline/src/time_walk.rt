@@ -38,7 +38,7 @@ impl<'a> Model for TimeWalk<'a> {
 }
 
 impl<'a> TimeWalk<'a> {
-    ghost use Rattle.std.specs.Prelude.{[], Some, slice_get, MatchOption, take, drop};
+    ghost use Rattle.std.specs.Prelude.{[], Some, slice_get, IfSome, MatchOption, take, drop};
     ghost use Rattle.timeline.specs.Expansions.{numbered};
     ghost use Rattle.timeline.specs.Listed.{timing_of};
     ghost use Rattle.timeline.specs.RunSegments.{extents_of_some, AreLaidWith, all_extents};
@@ -87,7 +87,8 @@ impl<'a> TimeWalk<'a> {
     /// The next segment, before which the walk stays.
     #[inline(always)]
     pub(crate) fn peek(&self) -> Option<Span>
-        ensures { MatchOption result (self.entry.now ≡ []) (λ span. slice_get self.entry.now 0 ≡ Some (timing_of span)) }
+        ensures next { MatchOption result (self.entry.now ≡ []) (λ span. slice_get self.entry.now 0 ≡ Some (timing_of span)) }
+        ensures countable { IfSome result (λ span. span.number < 2 ^ 64) }
     {
         if self.left == 0 {
             return None;

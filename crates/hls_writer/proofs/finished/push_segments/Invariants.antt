@@ -7,12 +7,13 @@ use Rattle.hls_writer.specs.Playlists.{items_lines, last_section}
 use Rattle.hls_writer.proofs.finished.push_segments.Given as goal
 
 -- what is added so far goes on to the text of all segments
-abbrev pub invariant-loop-segment : goal.invariant-loop-segment
-invariant-loop-segment g l =
+abbrev pub invariant-loop-span : goal.invariant-loop-span
+invariant-loop-span g l =
     let shows = shown g.F.Store.files g.F.Store.read_faults g.F.Store.write_faults in
     let all = items_at l.initial.segments.timeline l.place.map.now l.place.section l.initial.segments.left in
     let left = items_at l.segments.timeline l.place.map.now l.place.section l.segments.left in
     record {
+      timeline : l.addresses.timeline ≡ l.segments.timeline;
       addressed : All (λ x. HasAddress l.segments.timeline x.times) l.segments.left;
       done : (done : List ℕ)
           × (done ++ lines_text (items_lines l.place.digits l.former left) ≡ lines_text (items_lines l.place.digits l.initial.former all))
@@ -20,5 +21,5 @@ invariant-loop-segment g l =
       last : last_section l.former left ≡ last_section l.initial.former all;
     }
 
-abbrev pub decreases-loop-segment : goal.decreases-loop-segment
-decreases-loop-segment g l = length l.segments.left
+abbrev pub decreases-loop-span : goal.decreases-loop-span
+decreases-loop-span g l = length l.segments.left

@@ -6,8 +6,8 @@ use Rattle.presentation.proofs.Extents.{count_of}
 use Rattle.presentation.proofs.Verified.{left_as_many, verified_as}
 use Rattle.presentation.proofs.presentation.Presentation.verify_section.Goals as goal
 
-pub longest-requires : goal.longest-requires
-longest-requires g c = let p = c.args.self.now in let s = c.args.section in let t = c.args.track in
+pub longest-requires-clause-listed : goal.longest-requires-clause-listed
+longest-requires-clause-listed g c = let p = c.args.self.now in let s = c.args.section in let t = c.args.track in
     let counted = rw c.window-window.ensures at c.count.ensures in
     let content = c.content.ensures.content in
     c.unwrap_or-listed.ensures ∙ ap (λ r. result_unwrap_or r 0) (counted ∙ count_of p s t c.content.result.now content c.requires.counted)

@@ -6,8 +6,8 @@ use Rattle.timeline.specs.RunSegments.{all_extents, extents_of_some, timed}
 use Rattle.timeline.proofs.WalkLemmas.{left_in, stands_in, first_timing}
 use Rattle.timeline.proofs.time_walk.TimeWalk.peek.Goals as goal
 
-pub returns : goal.returns
-returns c =
+pub returns-clause-next : goal.returns-clause-next
+returns-clause-next c =
     let walk = c.self.inside in
     let s = timed c.in_ok-current.current in
     let stands = stands_in walk s (ap (option_map timed) c.in_ok-current.was) c.self.invariant in

@@ -1,0 +1,38 @@
+-- Names of files in one folder, for all numbers and times.
+use Rattle.std.specs.Prelude.{◌≡◌, ℕ, ◌<◌, ◌^◌, ◌&&◌, ◌++◌, nat_le, Bool, false, List, [], length, None, Ok}
+use Rattle.template_ids.specs.Templates.{named}
+use Rattle.template_ids.specs.FileNames.{names_files}
+use Rattle.url_parts.specs.Addresses.{folder_of}
+use Rattle.timeline.specs.declared.names.Names.{Names}
+use Rattle.timeline.specs.declared.names.Names.TheVariants.{Template, List as Listed, Shared, Addresses}
+use Rattle.timeline.specs.Names.{part_of}
+
+-- whether a template names files, for which the base's text leaves room in an address
+abbrev pub are_files : Names → Bool
+are_files (Template media id bandwidth base) = nat_le (length base) 1793 && names_files media (record { id = id; bandwidth = bandwidth; number = 0; time = 0 })
+are_files (Listed parts base) = false
+are_files (Shared parts base) = false
+are_files (Addresses parts) = false
+
+-- the folder of a template's base
+abbrev pub folder_of_names : Names → List ℕ
+folder_of_names (Template media id bandwidth base) = folder_of base
+folder_of_names (Listed parts base) = []
+folder_of_names (Shared parts base) = []
+folder_of_names (Addresses parts) = []
+
+-- what a template names
+abbrev pub file_name : Names → (number time : ℕ) → List ℕ
+file_name (Template media id bandwidth base) number time = named media (record { id = id; bandwidth = bandwidth; number = number; time = time })
+file_name (Listed parts base) number time = []
+file_name (Shared parts base) number time = []
+file_name (Addresses parts) number time = []
+
+-- each name has an address, which is the folder's text and the name
+abbrev pub AreInFolder : Names → Type 0
+AreInFolder names = (place number time : ℕ) → number < 2 ^ 64 → time < 2 ^ 64 →
+    part_of names place number time ≡ Ok (record { address = folder_of_names names ++ file_name names number time; range = None })
+
+-- a text is the folder in which all names lie
+abbrev pub IsFolder : Names → List ℕ → Type 0
+IsFolder names text = (text ≡ folder_of_names names) × AreInFolder names

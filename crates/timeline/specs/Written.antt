@@ -1,0 +1,22 @@
+-- The address that is written last.
+use Rattle.std.specs.Prelude.{ℕ, List, Option, IfSome, string_bytes}
+use Rattle.url_parts.specs.declared.address.Part.{Part}
+use Rattle.url_parts.specs.declared.range.Range.{Range}
+use Rattle.timeline.specs.Expansions.{SegmentTimeline}
+use Rattle.timeline.specs.FileNames.{IsFolder}
+use Rattle.timeline.specs.declared.address_writer.AddressWriter.TheInside.{Inside}
+
+pub record Written : Type 0 where
+  pub timeline : SegmentTimeline
+  pub address : List ℕ
+
+abbrev pub written : Inside → Written
+written w = record { timeline = w.runs.now; address = string_bytes w.text }
+
+-- a folder is that of all names
+abbrev pub IsWriter : Inside → Type 0
+IsWriter w = IfSome w.folder (λ folder. IsFolder w.runs.now.names (string_bytes folder))
+
+-- a file with a range
+abbrev pub part_with : List ℕ → Option Range → Part
+part_with address range = record { address = address; range = range }

@@ -1,0 +1,85 @@
+// Addresses of segments in one text after another.
+ghost use Rattle.std.specs.Prelude.{◌≡◌, IfOk, OnOk, string_bytes};
+ghost use Rattle.bridge_io.specs.Answer.{Gives};
+ghost use Rattle.timeline.specs.Listed.{CanBeNamed, part_of_timing, timing_of};
+ghost use Rattle.timeline.specs.Names.{list_refusal};
+ghost use Rattle.timeline.specs.Written.{part_with};
+
+use crate::listing::part_of;
+use crate::{ListFault, Runs, Span};
+use bridge_io::NoMemory;
+use std::alloc::Global;
+use std::marker::Model;
+use url_parts::Range;
+
+/// Writes the addresses of a Representation's segments, each in the place of the one before.
+///
+/// In a contract it is the segments with their names, and the address that was written last.
+#[derive(Debug, Drop)]
+pub struct AddressWriter<'a> {
+    runs: &'a Runs,
+    /// The folder of all names, where each is that of a file.
+    folder: Option<String>,
+    text: String,
+}
+
+impl<'a> Model for AddressWriter<'a> {
+    ghost use Rattle.timeline.specs.Written.{Written, written, IsWriter};
+
+    ghost Value = { Written };
+
+    ghost view = { written };
+
+    ghost invariant = { IsWriter };
+}
+
+impl<'a> AddressWriter<'a> {
+    pub(crate) fn over(alloc: Global, runs: &'a Runs) -> Result<AddressWriter<'a>, NoMemory>
+        ensures { IfOk result (λ addresses. addresses.timeline ≡ runs.now) }
+    {
+        Ok(AddressWriter {
+            runs,
+            folder: runs.names.folder(alloc)?,
+            text: String::new(alloc),
+        })
+    }
+
+    /// Writes the address of a segment in the place of the last one, and tells its range. After a refusal the text may be any.
+    pub fn write(&mut self, alloc: Global, span: &Span) -> Result<Option<Range>, ListFault>
+        requires { CanBeNamed self.old.timeline (timing_of span.now) }
+        ensures part { Gives (part_with self.new.address) list_refusal result (part_of_timing self.old.timeline (timing_of span.now)) }
+        ensures timeline { self.new.timeline ≡ self.old.timeline }
+    {
+        let runs = self.runs;
+        match &self.folder {
+            Some(folder) => {
+                write_text(&mut self.text, folder.as_str())?;
+                let time = runs.media_time(span.start);
+                runs.names
+                    .push_file_name(&mut self.text, span.number, time)?;
+                Ok(None)
+            }
+            None => {
+                let part = part_of(runs, alloc, span)?;
+                write_text(&mut self.text, part.address.as_str())?;
+                Ok(part.range)
+            }
+        }
+    }
+
+    /// The address that was written last.
+    pub fn as_str(&self) -> &str
+        ensures { result.now ≡ self.now.address }
+    {
+        self.text.as_str()
+    }
+}
+
+/// Puts a text in the place of another one.
+fn write_text(text: &mut String, new: &str) -> Result<(), NoMemory>
+    ensures { OnOk result (string_bytes text.new ≡ new.now) }
+{
+    text.clear();
+    text.push_str(new)?;
+    Ok(())
+}
