@@ -1,0 +1,13 @@
+//! Calls that no run of the tables makes, each once with ample memory, and the outside over the operating system.
+#![tactic(auto)]
+
+#[cfg(test)]
+mod followed;
+#[cfg(test)]
+mod indexed;
+#[cfg(test)]
+mod outside;
+#[cfg(test)]
+mod places;
+#[cfg(test)]
+mod words;
