@@ -16,6 +16,7 @@ use Rattle.bridge_jobs.specs.Verbs.{values_of}
 abbrev pub IsBounded : Job → Type 0
 IsBounded (job.Hls mpd base now out digits) = IsTrue (is_folder out) × (digits ≤ 9)
 IsBounded (job.Dash master base out) = IsTrue (is_name master)
+IsBounded (job.Check mpd master base digits) = IsTrue (is_name master)
 IsBounded other = Unit {0}
 
 -- ---- what holds of the end of some steps
@@ -92,13 +93,25 @@ dash_bounded : (rows : List Row) → IfSome (dash_of rows) IsBounded
 unfolding dash_of file_of
 dash_bounded rows = dash_in (file_of (codes "master") rows) (base_of rows) (out_of rows) (named_in (first_of (codes "master") rows))
 
+check_in : (mpd master base : Option (List ℕ)) (digits : Option ℕ) → ((m : List ℕ) → master ≡ Some m → IsTrue (is_name m))
+    → IfSome (mpd >>= (λ f. master >>= (λ m. base >>= (λ b. digits >>= (λ d. Some (job.Check f m b d)))))) IsBounded
+check_in None master base digits is = tt
+check_in (Some f) None base digits is = tt
+check_in (Some f) (Some m) None digits is = tt
+check_in (Some f) (Some m) (Some b) None is = tt
+check_in (Some f) (Some m) (Some b) (Some d) is = is m refl
+
+check_bounded : (rows : List Row) → IfSome (check_of rows) IsBounded
+unfolding check_of file_of
+check_bounded rows = check_in (file_of (codes "mpd") rows) (file_of (codes "master") rows) (base_of rows) (digits_of rows) (named_in (first_of (codes "master") rows))
+
 bounded_by : (v : Verb) (rows : List Row) → IfSome (job_by v rows) IsBounded
-unfolding follow_of show_of check_of reload_of make_of
+unfolding follow_of show_of reload_of make_of
 bounded_by verb.Hls rows = hls_bounded rows
 bounded_by verb.Dash rows = dash_bounded rows
 bounded_by verb.Follow rows = four IsBounded (file_of (codes "name") rows) (base_of rows) (out_of rows) (digits_of rows) job.Follow (λ _ _ _ _. tt)
 bounded_by verb.Show rows = four IsBounded (file_of (codes "file") rows) (base_of rows) (now_of rows) (digits_of rows) job.Show (λ _ _ _ _. tt)
-bounded_by verb.Check rows = four IsBounded (file_of (codes "mpd") rows) (file_of (codes "master") rows) (base_of rows) (digits_of rows) job.Check (λ _ _ _ _. tt)
+bounded_by verb.Check rows = check_bounded rows
 bounded_by verb.Reload rows = three IsBounded (file_of (codes "old") rows) (file_of (codes "new") rows) (base_of rows) job.Reload (λ _ _ _. tt)
 bounded_by verb.Make rows = three IsBounded (seed_of rows) (out_of rows) (digits_of rows) job.Make (λ _ _ _. tt)
 

@@ -11,3 +11,4 @@ pub mod Asked
 pub mod FileNames
 pub mod Promises
 pub mod MpdPromises
+pub mod CheckPromises

@@ -9,6 +9,7 @@ use Rattle.bridge_io.specs.InOrder.{put_all}
 use Rattle.bridge_io.specs.Names.{is_name}
 use Rattle.bridge_io.specs.Outside.{Files}
 use Rattle.bridge_io.specs.Slurped.{whole_file}
+use Rattle.exact_time.specs.Time.{IsSame}
 use Rattle.url_parts.specs.Addresses.{absolute, local_name_of}
 use Rattle.hls_media.specs.Laws.{IsBounded as IsBoundedMedia, ReadIsBounded}
 use Rattle.hls_media.specs.Media.{media_of}
@@ -21,6 +22,8 @@ use Rattle.hls_master.specs.Tracks.{TrackValue}
 use Rattle.hls_presentation.specs.Presenting.{hls_presented_of}
 use Rattle.hls_meaning.specs.Meanings.{file_at}
 use Rattle.hls_read.specs.Files.{ArePlaylists, IsMaster, IsPlaylist, PresentedMeanTheirFiles}
+use Rattle.meaning.specs.Same.{IsSameTime}
+use Rattle.meaning.proofs.SameLemmas.{Same-wider}
 use Rattle.presentation.specs.Presented.{Presented}
 use Rattle.presentation.specs.Scales.{rate_of}
 use Rattle.presentation.specs.Told.{and_then, told_as}
@@ -54,7 +57,7 @@ use Rattle.bridge_core.proofs.Promises.{at_of, not_refused, there_of, written_so
 
 -- ---- the files that are read
 
-content_read : (file : List ℕ) (files : Files) (bytes : List ℕ) → content_of file files ≡ Ok bytes → files file ≡ Some bytes
+pub content_read : (file : List ℕ) (files : Files) (bytes : List ℕ) → content_of file files ≡ Ok bytes → files file ≡ Some bytes
 content_read file files bytes is =
     there_of manifest_limit (files file) bytes
     (ok_under refusal_of_file (whole_file manifest_limit file files) bytes (ok_under _ (told_as refusal_of_file (whole_file manifest_limit file files)) bytes is))
@@ -137,12 +140,12 @@ all_seen_again (track ∷ seen) all =
 
 -- ---- the presentation that is read
 
-record IsReadFrom (place : Place) (files : Files) (p : Presented) : Type 0 where
-  tracks : List MasterTrack
-  medias : List Media
-  master : IsMaster files place.folder place.url tracks
-  playlists : ArePlaylists files place.folder tracks medias
-  presented : hls_presented_of tracks medias ≡ Ok p
+pub record IsReadFrom (place : Place) (files : Files) (p : Presented) : Type 0 where
+  pub tracks : List MasterTrack
+  pub medias : List Media
+  pub master : IsMaster files place.folder place.url tracks
+  pub playlists : ArePlaylists files place.folder tracks medias
+  pub presented : hls_presented_of tracks medias ≡ Ok p
 
 module _ (rates : ReadHaveRates) where
   master_read : (place : Place) (bytes : List ℕ) (tracks : List MasterTrack) → master_in place bytes ≡ Ok tracks → master_of bytes place.url ≡ Ok (map track_seen tracks)
@@ -153,7 +156,7 @@ module _ (rates : ReadHaveRates) where
       let kept : map track_kept step.value ≡ tracks = (let e = step.then in cc) in
       step.first ∙ ap Ok (sym (all_seen_again step.value (rates bytes place.url step.value step.first)) ∙ ap (map track_seen) kept)
 
-  presentation_read : (place : Place) (files : Files) (p : Presented) → IsTrue (is_name place.file) → place.url ≡ place.folder ++ place.file → presented_at place files ≡ Ok p
+  pub presentation_read : (place : Place) (files : Files) (p : Presented) → IsTrue (is_name place.file) → place.url ≡ place.folder ++ place.file → presented_at place files ≡ Ok p
       → IsReadFrom place files p
   unfolding presented_at presented_with presented_by
   presentation_read place files p named lies is =
@@ -174,11 +177,14 @@ module _ (rates : ReadHaveRates) where
 
 -- ---- where it lies
 
-record Lies (base name : List ℕ) (place : Place) : Type 0 where
-  folder : place.folder ≡ base
-  file : place.file ≡ name
-  url : place.url ≡ base ++ name
-  own : absolute place.url ≡ Ok place.url
+pub record Lies (base name : List ℕ) (place : Place) : Type 0 where
+  pub folder : place.folder ≡ base
+  pub file : place.file ≡ name
+  pub url : place.url ≡ base ++ name
+  pub own : absolute place.url ≡ Ok place.url
+
+pub in_folder_is : (base name : List ℕ) (place : Place) → Lies base name place → place.url ≡ place.folder ++ place.file
+in_folder_is base name place lies = lies.url ∙ ap (λ folder. folder ++ name) (sym lies.folder) ∙ ap (λ file. place.folder ++ file) (sym lies.file)
 
 folder_written : (base folder : List ℕ) → folder_url base ≡ Some folder → folder ≡ base
 unfolding folder_url
@@ -202,7 +208,7 @@ lies_with base file (Some folder) (Some url) place at there is =
     let same : place_with file folder url ≡ place = cc in
     subst (Lies base file) same (record { folder = folder_written base folder at; file = refl; url = url_written base file url there; own = (at_of base file url there).own })
 
-lies_of : (base file : List ℕ) (place : Place) → place_of base file ≡ Some place → Lies base file place
+pub lies_of : (base file : List ℕ) (place : Place) → place_of base file ≡ Some place → Lies base file place
 unfolding place_of
 lies_of base file place is = lies_with base file (folder_url base) (file_url base file) place refl refl is
 
@@ -267,8 +273,7 @@ module _ (done : DoneIsWhole) (keeps : VerdictKeepsSteps) (own : OwnTextsAreAddr
       → IsDoneAt job first course → IsRun course status.Done before after → MpdMeansTheSame job first last
   promised job course before after first last named was is by run =
       let lies = lies_of job.base job.master by.place by.at in
-      let url : by.place.url ≡ by.place.folder ++ by.place.file =
-      lies.url ∙ ap (λ folder. folder ++ job.master) (sym lies.folder) ∙ ap (λ file. by.place.folder ++ file) (sym lies.file) in
+      let url = in_folder_is job.base job.master by.place lies in
       let read = presentation_read rates by.place first by.p (subst (λ name. IsTrue (is_name name)) (sym lies.file) named) url by.is in
       let meaning = meant first by.place.folder by.place.url read.tracks read.medias by.p read.master read.playlists read.presented in
       let of_bytes = all_of_bytes read.tracks (lie read.master.bytes by.place.url (map track_seen read.tracks) (own by.place.url lies.own) read.master.read) in
@@ -288,7 +293,7 @@ module _ (done : DoneIsWhole) (keeps : VerdictKeepsSteps) (own : OwnTextsAreAddr
         told = λ url now. same read.master.bytes by.place.url read.tracks read.medias by.p url now read.master.read
             (each_bounded bounded first by.place.folder read.tracks read.medias read.playlists)
             (each_addressed addresses first by.place.folder read.tracks read.medias of_bytes read.playlists) read.presented;
-        same = meaning.1.1;
+        same = Same-wider IsSameTime IsSame (λ x y same. same.1.1) meaning.0 (meaning_of by.p) meaning.1.1;
       }
 
   pub written_mpd_means : WrittenMpdMeansThePlaylists

@@ -1,12 +1,14 @@
 -- What is written means what the MPD means.
-use Rattle.std.proofs.Common.{◌≡◌, ℕ, ◌+◌, ◌-◌, ◌^◌, ◌<◌, ◌≤◌, ◌&&◌, not, Bool, true, false, IsTrue, List, [], ◌∷◌, ◌++◌, length, take, Option, None, Some, option_map, Result, Ok, Err, IfSome, bytes_eq, refl, sym, ◌∙◌, ap, subst, arith, inl, inr, append_assoc, take_all}
+use Rattle.std.proofs.Common.{◌≡◌, ℕ, ◌+◌, ◌-◌, ◌^◌, ◌<◌, ◌≤◌, ◌&&◌, not, Bool, true, false, IsTrue, List, [], ◌∷◌, ◌++◌, length, take, if◌then◌else◌, Option, None, Some, option_map, Result, Ok, Err, IfSome, bytes_eq, refl, sym, ◌∙◌, ap, subst, arith, inl, inr, append_assoc, take_all}
 use Rattle.std.specs.Prelude.{is_some, nat_le, nat_lt}
 use Rattle.std.proofs.lemmas.Bool.{cases_Bool, and_parts}
 use Rattle.std.proofs.lemmas.List.{append-nil, take_more}
 use Rattle.std.proofs.lemmas.List.Folds.{list_all-append}
 use Rattle.std.specs.Prelude.{◌==◌, slice_index}
 use Rattle.std.specs.List.{list_all, list_any}
+use Rattle.std.specs.Str.{is_utf8}
 use Rattle.std.proofs.lemmas.Bool.{ltb-true, eqb-true}
+use Rattle.std.proofs.lemmas.Str.{IsUtf8-from_is_utf8}
 use Rattle.bridge_io.specs.InOrder.{put_all}
 use Rattle.bridge_io.specs.Names.{is_name}
 use Rattle.bridge_io.specs.Outside.{Files}
@@ -20,6 +22,9 @@ use Rattle.bridge_runs.specs.declared.status.Status.TheVariants as status
 use Rattle.bridge_runs.specs.declared.status.Verdict.TheVariants as verdict
 use Rattle.mpd_text.proofs.NameLemmas.{not_true, same_bytes}
 use Rattle.mpd_text.specs.Meaning.{reading_of}
+use Rattle.mpd_text.specs.Trees.{Element}
+use Rattle.mpd_text.specs.declared.fault.TextFault.{TextFault}
+use Rattle.mpd_from_playlists.proofs.Bytes.{all_bytes, utf8_bytes}
 use Rattle.presentation.proofs.Filling.{steps_of, ok_under}
 use Rattle.presentation.specs.MeaningLaws.{TextsAreMeant}
 use Rattle.presentation.specs.Meanings.{meaning_of}
@@ -30,7 +35,7 @@ use Rattle.url_parts.specs.Addresses.{IsAddress, absolute, folder_of, is_tail}
 use Rattle.read_back.proofs.SameFolders.{no_tail, own_with_slash}
 use Rattle.hls_writer.specs.Verified.{IsVerified}
 use Rattle.hls_meaning.specs.Meanings.{hls_meaning}
-use Rattle.read_back.specs.Origins.{IsFound, ReadingsAreOfBytes, OwnTextsAreAddresses, StaticHaveFewTracks}
+use Rattle.read_back.specs.Origins.{IsFound, IsOfBytes, ReadingsAreOfBytes, OwnTextsAreAddresses, StaticHaveFewTracks}
 use Rattle.read_back.specs.SameFiles.{AreWritten, FoldersHoldFiles, HoldsFiles, master_name}
 use Rattle.read_back.specs.SameStatic.{WrittenMeansTheSame}
 use Rattle.bridge_report.specs.Bases.{ends_in_slash, file_url, own_address, if_written_so, is_folder as is_base}
@@ -39,7 +44,7 @@ use Rattle.bridge_core.specs.Hls.{hls_outcome, hls_under, outcome_of, checked_pr
 use Rattle.bridge_report.specs.Outcomes.{Ends, base_refused, course_by}
 use Rattle.bridge_report.specs.Reading.{manifest_limit}
 use Rattle.bridge_core.specs.Playlists.{playlists}
-use Rattle.bridge_core.specs.Promises.{AreOfBytes, job_asked, MeansTheSame, WrittenMeansTheMpd}
+use Rattle.bridge_core.specs.Promises.{job_asked, MeansTheSame, WrittenMeansTheMpd}
 use Rattle.bridge_report.specs.Refusals.{refusal_of_file}
 use Rattle.bridge_core.specs.declared.hls.Hls.{Hls}
 use Rattle.bridge_report.specs.declared.refusal.Refusal.{Refusal}
@@ -64,6 +69,16 @@ read_of job bytes url p is =
     let found = checked_read (presentation_of Unbuilt url job.instant bytes) (10 ^ job.digits) p is in
     let read = static_read Unbuilt url job.instant bytes p found.first in
     record { came = read.came; spelled = read.spelled; at = read.at; instant = read.instant; verified = record { longest = found.longest; is = found.all } }
+
+-- bytes that spell a tree are UTF-8, and so bytes
+utf8_of : (b : Bool) (bytes : List ℕ) (read : Result Element TextFault) (fault : TextFault) (tree : Element) → is_utf8 bytes ≡ b
+    → (if b then read else Err fault) ≡ Ok tree → IsOfBytes bytes
+utf8_of true bytes read fault tree utf8 is = all_bytes bytes (utf8_bytes bytes (IsUtf8-from_is_utf8 bytes utf8))
+utf8_of false bytes read fault tree utf8 is = absurd (cc)
+
+spelled_bytes : (bytes : List ℕ) (tree : Element) → reading_of bytes ≡ Ok tree → IsOfBytes bytes
+unfolding reading_of
+spelled_bytes bytes tree is = utf8_of (is_utf8 bytes) bytes _ _ tree refl is
 
 -- ---- where it lies
 
@@ -156,8 +171,8 @@ holds names hold out tracks room few = let files = names out room in
 module _ (done : DoneIsWhole) (keeps : VerdictKeepsSteps) (names : FoldersHoldTheirFiles) (hold : FoldersHoldFiles) (meant : TextsAreMeant) (same : WrittenMeansTheSame)
     (reads : ReadingsAreOfBytes) (own : OwnTextsAreAddresses) (fewer : StaticHaveFewTracks) where
   promised : (job : Hls) (course : Course) (before after : World) (first last : Files) → IsBounded (job_asked job) → before.files ≡ Some first → after.files ≡ Some last
-      → AreOfBytes first → IsDoneBy job first course → IsRun course status.Done before after → MeansTheSame job first last
-  promised job course before after first last few_digits was is of_bytes by run =
+      → IsDoneBy job first course → IsRun course status.Done before after → MeansTheSame job first last
+  promised job course before after first last few_digits was is by run =
       let read = steps_of (told_as refusal_of_file (whole_file manifest_limit job.mpd first)) (checked_presentation job by.url) by.p by.is in
       let there = there_of manifest_limit (first job.mpd) read.value (ok_under refusal_of_file (whole_file manifest_limit job.mpd first) read.value read.first) in
       let mpd = read_of job read.value by.url by.p read.then in
@@ -169,7 +184,7 @@ module _ (done : DoneIsWhole) (keeps : VerdictKeepsSteps) (names : FoldersHoldTh
       sym is ∙ (done course before after run).files ∙ ap (λ fs. option_map (put_all fs) before.files) files ∙ ap (option_map (put_all pieces)) was in
       let last_is : last ≡ put_all pieces first = cc in
       let found : IsFound mpd.came.tree mpd.came.url = record {
-        tree = reads read.value mpd.came.tree (of_bytes job.mpd read.value there) mpd.spelled;
+        tree = reads read.value mpd.came.tree (spelled_bytes read.value mpd.came.tree mpd.spelled) mpd.spelled;
         url = subst IsAddress (sym mpd.at) (own by.url lies.own);
       } in
       let written : AreWritten last (job.out ++ 47 ∷ []) by.p job.digits = rw last_is (are_written job.out job.digits by.p first few) in
@@ -189,7 +204,7 @@ module _ (done : DoneIsWhole) (keeps : VerdictKeepsSteps) (names : FoldersHoldTh
 
   pub written_means : WrittenMeansTheMpd
   unfolding outcome_of_words hls_outcome
-  written_means words job course before after first last asks was is of_bytes goes run =
+  written_means words job course before after first last asks was is goes run =
       let asked : IfSome (Some (job_asked job)) IsBounded = subst (λ asked. IfSome asked IsBounded) asks (bounded words) in
       let by = by_url keeps before after job first course (file_url job.base job.mpd) refl (subst (λ asked. option_map course_by (outcome_of_job asked (Some first)) ≡ Some course) asks goes) run in
-      promised job course before after first last asked was is of_bytes by run
+      promised job course before after first last asked was is by run

@@ -1,5 +1,5 @@
--- What `hls` and `dash` promise of the files that they write.
-use Rattle.std.specs.Prelude.{◌≡◌, ℕ, ℤ, ◌^◌, List, ◌++◌, codes, Option, Some}
+-- What `hls` and `dash` promise of the files that they write, and `check` of those that it reads.
+use Rattle.std.specs.Prelude.{◌≡◌, ℕ, ℤ, ◌^◌, List, ◌++◌, codes, Option, Some, None}
 use Rattle.bridge_io.specs.Outside.{Files}
 use Rattle.bridge_jobs.specs.Jobs.{job_of}
 use Rattle.bridge_jobs.specs.Laws.{in_folder}
@@ -10,19 +10,18 @@ use Rattle.bridge_runs.specs.Runs.{IsRun}
 use Rattle.bridge_runs.specs.declared.status.Status.TheVariants as status
 use Rattle.hls_meaning.specs.Meanings.{hls_meaning}
 use Rattle.meaning.specs.Meanings.{Meaning}
-use Rattle.meaning.specs.Same.{SameExact, SameFloor}
+use Rattle.meaning.specs.Differences.{first_difference}
+use Rattle.meaning.specs.Same.{Agrees, SameExact, SameFloor}
+use Rattle.meaning.specs.declared.difference.Difference.{Difference}
 use Rattle.presentation.specs.Meanings.{dash_meaning}
-use Rattle.read_back.specs.Origins.{IsOfBytes}
 use Rattle.bridge_playlists.specs.declared.place.Place.{Place}
 use Rattle.bridge_playlists.specs.Places.{place_of}
+use Rattle.bridge_core.specs.Check.{differ_line}
+use Rattle.bridge_core.specs.declared.check.Check.{Check}
 use Rattle.bridge_core.specs.declared.dash.Dash.{Dash}
 use Rattle.bridge_core.specs.declared.hls.Hls.{Hls}
 use Rattle.bridge_report.specs.Bases.{file_url}
 use Rattle.bridge_core.specs.Courses.{course_of}
-
--- whatever a store tells of a file is bytes
-abbrev pub AreOfBytes : Files → Type 0
-AreOfBytes files = (name bytes : List ℕ) → files name ≡ Some bytes → IsOfBytes bytes
 
 -- where the master lies
 abbrev pub master_url : Hls → List ℕ
@@ -51,7 +50,7 @@ AsksFor words job = job_of words ≡ Some (job_asked job)
 -- Where such a run is done, what it wrote means what the MPD means.
 abbrev pub WrittenMeansTheMpd : Type 0
 WrittenMeansTheMpd = (words : List (List ℕ)) (job : Hls) (course : Course) (before after : World) (first last : Files)
-    → AsksFor words job → before.files ≡ Some first → after.files ≡ Some last → AreOfBytes first
+    → AsksFor words job → before.files ≡ Some first → after.files ≡ Some last
     → course_of words (Some first) ≡ Some course → IsRun course status.Done before after → MeansTheSame job first last
 
 -- ---- `dash`
@@ -81,3 +80,50 @@ abbrev pub WrittenMpdMeansThePlaylists : Type 0
 WrittenMpdMeansThePlaylists = (words : List (List ℕ)) (job : Dash) (course : Course) (before after : World) (first last : Files)
     → AsksForMpd words job → before.files ≡ Some first → after.files ≡ Some last
     → course_of words (Some first) ≡ Some course → IsRun course status.Done before after → MpdMeansTheSame job first last
+
+-- ---- `check`
+
+-- A job's MPD means something at its URL (ISO/IEC 23009-1, 5.3), and its master and playlists mean something (RFC 8216, 4.3).
+pub record AreMeant (job : Check) (files : Files) (mpd playlists : Meaning) : Type 0 where
+  pub source : Place
+  pub source_at : place_of job.base job.mpd ≡ Some source
+  pub bytes : List ℕ
+  pub there : files job.mpd ≡ Some bytes
+  pub means : dash_meaning bytes source.url None ≡ Some mpd
+  pub master : Place
+  pub master_at : place_of job.base job.master ≡ Some master
+  pub told : hls_meaning files master.folder master.url ≡ Some playlists
+
+-- and these agree
+pub record AreAgreed (job : Check) (files : Files) : Type 0 where
+  pub mpd : Meaning
+  pub playlists : Meaning
+  pub meant : AreMeant job files mpd playlists
+  pub agree : Agrees (10 ^ job.digits) mpd playlists
+
+-- or they don't, and the line is that of their first difference
+pub record AreApart (job : Check) (files : Files) (line : List ℕ) : Type 0 where
+  pub mpd : Meaning
+  pub playlists : Meaning
+  pub meant : AreMeant job files mpd playlists
+  pub apart : Agrees (10 ^ job.digits) mpd playlists → ⊥
+  pub first : Difference
+  pub found : first_difference (10 ^ job.digits) mpd playlists ≡ Some first
+  pub told : line ≡ differ_line first
+
+-- the words ask whether an MPD and playlists agree
+abbrev pub check_asked : Check → Job
+check_asked job = jobs.Check job.mpd job.master job.base job.digits
+
+abbrev pub AsksToCheck : (words : List (List ℕ)) → Check → Type 0
+AsksToCheck words job = job_of words ≡ Some (check_asked job)
+
+-- Where such a run is done, the MPD and the playlists agree.
+abbrev pub DoneIsAgreed : Type 0
+DoneIsAgreed = (words : List (List ℕ)) (job : Check) (course : Course) (before after : World) (files : Files) → AsksToCheck words job → before.files ≡ Some files
+    → course_of words (Some files) ≡ Some course → IsRun course status.Done before after → AreAgreed job files
+
+-- Where it ends as Differ, they don't, and its line, of which the report may have a front, tells where they differ first.
+abbrev pub DifferIsApart : Type 0
+DifferIsApart = (words : List (List ℕ)) (job : Check) (course : Course) (before after : World) (files : Files) → AsksToCheck words job → before.files ≡ Some files
+    → course_of words (Some files) ≡ Some course → IsRun course status.Differ before after → AreApart job files course.end.lines

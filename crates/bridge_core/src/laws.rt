@@ -1,10 +1,11 @@
 //! Laws of the program's runs. The functions do nothing: what they ensure is the law.
-ghost use Rattle.bridge_core.specs.Promises.{WrittenMeansTheMpd, WrittenMpdMeansThePlaylists};
+ghost use Rattle.bridge_core.specs.Promises.{DifferIsApart, DoneIsAgreed, WrittenMeansTheMpd, WrittenMpdMeansThePlaylists};
 
 use bridge_jobs::laws::folders_hold_their_files;
 use bridge_runs::{a_verdict_keeps_the_steps, done_is_whole};
 use hls_media::what_is_read_is_bounded;
 use hls_read::presented_mean_their_files;
+use meaning::agreeing_has_no_difference;
 use mpd_from_playlists::{
     read_tracks_can_be_written, what_is_read_has_addresses,
     written_playlists_mean_the_same as written_mpds_mean_the_same,
@@ -17,7 +18,7 @@ use read_back::{
 
 /// Where a run of `hls` is done, the master and the playlists that it wrote mean what the MPD means: the same tracks,
 /// addresses and ranges in order, and each time rounded down to the unit of the printed durations (ISO/IEC 23009-1, 5.3;
-/// RFC 8216, 4.3). The store's files are bytes.
+/// RFC 8216, 4.3).
 pub fn what_is_written_means_the_mpd()
     ensures { WrittenMeansTheMpd }
 {
@@ -44,4 +45,18 @@ pub fn what_is_written_means_the_playlists()
     read_tracks_can_be_written();
     what_is_read_has_addresses();
     written_mpds_mean_the_same();
+}
+
+/// Where a run of `check` is done, the MPD means what the master and its playlists mean, but that each time may be rounded
+/// down to the unit of the printed durations. Where it ends as Differ, it does not, and the run's line tells where the two
+/// meanings differ first (ISO/IEC 23009-1, 5.3; RFC 8216, 4.3).
+pub fn what_is_checked_agrees()
+    ensures done { DoneIsAgreed }
+    ensures differ { DifferIsApart }
+{
+    a_verdict_keeps_the_steps();
+    presentations_mean_what_they_list();
+    read_tracks_can_be_written();
+    presented_mean_their_files();
+    agreeing_has_no_difference();
 }

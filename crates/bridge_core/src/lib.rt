@@ -16,5 +16,7 @@ mod show;
 mod source;
 
 pub use bridge_runs::Status;
-pub use laws::{what_is_written_means_the_mpd, what_is_written_means_the_playlists};
+pub use laws::{
+    what_is_checked_agrees, what_is_written_means_the_mpd, what_is_written_means_the_playlists,
+};
 pub use run::bridge;

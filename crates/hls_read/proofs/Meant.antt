@@ -10,7 +10,6 @@ use Rattle.std.proofs.lemmas.List.FromFn.{get_or-range_with_len, length-range_wi
 use Rattle.std.proofs.lemmas.Option.{unwrap_or-slice_get}
 use Rattle.bridge_io.specs.declared.media.Kind.{Kind}
 use Rattle.bridge_io.specs.declared.media.Kind.TheVariants.{Video, Audio, Text}
-use Rattle.exact_time.specs.Time.{IsSame}
 use Rattle.hls_master.specs.declared.track.MasterTrack.{MasterTrack}
 use Rattle.hls_media.specs.Laws.{IsBounded}
 use Rattle.hls_media.specs.declared.media.Media.{Media}
@@ -21,7 +20,7 @@ use Rattle.hls_meaning.specs.Sections.{is_in}
 use Rattle.hls_meaning.specs.Sections.{entry_in as entry_told, entry_of as entry_of_told}
 use Rattle.hls_meaning.proofs.Numbers.{numbers_are_told, numbers_rise}
 use Rattle.meaning.specs.Meanings.{Entry}
-use Rattle.meaning.specs.Same.{Pairwise, Same, SameEntries, SameTrack}
+use Rattle.meaning.specs.Same.{IsSameTime, Pairwise, Same, SameEntries, SameTrack}
 use Rattle.presentation.specs.Counting.{sections_of}
 use Rattle.presentation.specs.declared.parts.Content.{Content}
 use Rattle.presentation.specs.Meanings.{entry_at, entry_in, entry_of, head_of, is_kept, language_of, meaning_of, meaning_over, rows_of as rows_meant, row_at as row_meant, tracks_from}
@@ -105,7 +104,7 @@ kept_told (s ∷ all) =
 
 -- ---- the same entries
 
-entries_same : (nanos : ℕ) → IsUnit nanos → (groups : List (List MediaSegment)) → All (AreWhole nanos) groups → Pairwise (SameEntries IsSame) (map entry_of_told groups) (map (entry_by nanos) groups)
+entries_same : (nanos : ℕ) → IsUnit nanos → (groups : List (List MediaSegment)) → All (AreWhole nanos) groups → Pairwise (SameEntries IsSameTime) (map entry_of_told groups) (map (entry_by nanos) groups)
 entries_same nanos unit [] all = tt
 entries_same nanos unit ([] ∷ groups) all = (tt, entries_same nanos unit groups (All-tail (AreWhole nanos) [] groups all))
 entries_same nanos unit ((s ∷ rest) ∷ groups) all = (
@@ -261,7 +260,7 @@ module _ (ours : List Source) (others : ℕ) (contents : List Content) (gives : 
 
   record IsPlaced (t : ℕ) (s : Source) : Type 0 where
     quiet : IsSilentTrack s.track
-    entries : Pairwise (SameEntries IsSame) (map (entry_told s.media.segments) numbers) (map (entry_in t) (rows_meant made))
+    entries : Pairwise (SameEntries IsSameTime) (map (entry_told s.media.segments) numbers) (map (entry_in t) (rows_meant made))
 
   placed : (t : ℕ) (d : Source) → t < length ours → IsPlaced t (get_or ours t d)
   placed t d here =
@@ -276,12 +275,12 @@ module _ (ours : List Source) (others : ℕ) (contents : List Content) (gives : 
       let other : map (entry_in t) (rows_meant made) ≡ map (entry_by nanos) (groups_in s) = entries_meant t there ∙ ap (map (entry_by nanos)) track in
       record {
         quiet = silent t d here;
-        entries = subst (λ xs. Pairwise (SameEntries IsSame) xs (map (entry_in t) (rows_meant made))) (sym one)
-            (subst (λ ys. Pairwise (SameEntries IsSame) (map entry_of_told (groups_in s)) ys) (sym other) (entries_same nanos (unit_by (list_all are_micros ours)) (groups_in s) whole));
+        entries = subst (λ xs. Pairwise (SameEntries IsSameTime) xs (map (entry_in t) (rows_meant made))) (sym one)
+            (subst (λ ys. Pairwise (SameEntries IsSameTime) (map entry_of_told (groups_in s)) ys) (sym other) (entries_same nanos (unit_by (list_all are_micros ours)) (groups_in s) whole));
       }
 
   pairs : (k : ℕ) (ss : List Source) → ((j : ℕ) (d : Source) → j < length ss → IsPlaced (k + j) (get_or ss j d))
-      → Pairwise (SameTrack IsSame) (map (track_over numbers) (map told_by ss)) (tracks_from k (rows_meant made) (map head_of (map track_of ss)))
+      → Pairwise (SameTrack IsSameTime) (map (track_over numbers) (map told_by ss)) (tracks_from k (rows_meant made) (map head_of (map track_of ss)))
   pairs k [] all = tt
   pairs k (s ∷ ss) all =
       let plain : k + 0 ≡ k = omega arith in
@@ -295,10 +294,10 @@ module _ (ours : List Source) (others : ℕ) (contents : List Content) (gives : 
       ap length numbers_are ∙ length_heads 0 first first_apart ∙ all_long groups alike 0 [] (some_tracks groups some)
       ∙ sym (length-map (sections_of made) (row_meant made) ∙ length-range_with_len 0 (length made.sections) ∙ many_sections)
 
-  pub made_means : Same IsSame (meaning_over_told numbers (map told_by ours)) (meaning_of made)
+  pub made_means : Same IsSameTime (meaning_over_told numbers (map told_by ours)) (meaning_of made)
   unfolding meaning_of
   made_means =
-      subst (λ rows. Same IsSame (meaning_over_told numbers (map told_by ours)) (meaning_over (map head_of made.tracks) rows)) (sym rows_stay)
+      subst (λ rows. Same IsSameTime (meaning_over_told numbers (map told_by ours)) (meaning_over (map head_of made.tracks) rows)) (sym rows_stay)
       (record { sections = same_count; tracks = pairs 0 ours (λ j d here. (let plain : j ≡ 0 + j = omega arith in subst (λ n. IsPlaced n (get_or ours j d)) plain (placed j d here))) })
 
 -- ---- the whole
@@ -329,6 +328,6 @@ presented_mean_what_is_told tracks medias p bounded silent is =
     let same : of_parts (parts_with ours (left_out all) (rows_of groups) s.value) ≡ p = (let h = s.then in cc) in
     let our_bounds = All-filter is_source_kept (λ (s : Source). IsBounded s.media) all (media_bounded tracks medias bounded) in
     let our_silence = All-filter is_source_kept (λ (s : Source). IsSilentTrack s.track) all (silent_sources tracks medias silent) in
-    subst (λ (p : Presented). Same IsSame (meaning_of_sources (map told_by all)) (meaning_of p)) same
-    (subst (λ kept. Same IsSame (meaning_of_kept kept) (meaning_of (of_parts (parts_with ours (left_out all) (rows_of groups) s.value)))) (sym (kept_told all))
+    subst (λ (p : Presented). Same IsSameTime (meaning_of_sources (map told_by all)) (meaning_of p)) same
+    (subst (λ kept. Same IsSameTime (meaning_of_kept kept) (meaning_of (of_parts (parts_with ours (left_out all) (rows_of groups) s.value)))) (sym (kept_told all))
     (made_means ours (left_out all) s.value s.first alike some our_bounds our_silence))

@@ -7,7 +7,7 @@ use Rattle.std.proofs.lemmas.Bool.{or_parts}
 use Rattle.std.proofs.lemmas.Bool.Decides.{nat_tests}
 use Rattle.std.proofs.lemmas.Int.{ints}
 use Rattle.std.proofs.lemmas.List.Elements.{All-head, All-tail}
-use Rattle.exact_time.specs.Time.{IsSame, difference, in_units}
+use Rattle.exact_time.specs.Time.{difference, in_units}
 use Rattle.timeline.specs.declared.fault.TimeFault.{TimeFault}
 use Rattle.timeline.specs.declared.fault.TimeFault.TheVariants.{ZeroDuration}
 use Rattle.timeline.specs.declared.names.Names.TheVariants.{Addresses}
@@ -20,7 +20,7 @@ use Rattle.url_parts.specs.declared.address.Part.{Part}
 use Rattle.hls_media.specs.declared.media.MediaSegment.{MediaSegment}
 use Rattle.hls_meaning.specs.Sections.{nanoseconds, no_part, part_of, timed}
 use Rattle.meaning.specs.Meanings.{Entry, Segment}
-use Rattle.meaning.specs.Same.{Pairwise, SameSegment}
+use Rattle.meaning.specs.Same.{IsSameTime, Pairwise, SameSegment}
 use Rattle.presentation.specs.declared.parts.Content.{Content}
 use Rattle.presentation.specs.Meanings.{entry_of, entry_with, own_part, part_by, part_meant, segment_of}
 use Rattle.presentation.specs.Presented.{listed_in, whole_window}
@@ -129,20 +129,20 @@ content_entry nanos (s ∷ rest) content is =
 -- ---- the same times
 
 time_by : (nanos : ℕ) → IsUnit nanos → (end : ℕ) → (nanos ≡ 1000 → end % 1000 ≡ 0)
-    → IsSame (difference (nanoseconds end) (nanoseconds 0)) (difference (in_units (ticks_by_second nanos) (end / nanos)) (in_units (ticks_by_second nanos) (0 / nanos)))
+    → IsSameTime (difference (nanoseconds end) (nanoseconds 0)) (difference (in_units (ticks_by_second nanos) (end / nanos)) (in_units (ticks_by_second nanos) (0 / nanos)))
 time_by nanos (inl is) end whole =
-    subst (λ n. IsSame (difference (nanoseconds end) (nanoseconds 0)) (difference (in_units (ticks_by_second n) (end / n)) (in_units (ticks_by_second n) (0 / n)))) (sym is)
-    (let one = div-one end in omega (arith, ints, one))
+    subst (λ n. IsSameTime (difference (nanoseconds end) (nanoseconds 0)) (difference (in_units (ticks_by_second n) (end / n)) (in_units (ticks_by_second n) (0 / n)))) (sym is)
+    (omega arith, (omega arith, (let one = div-one end in omega (arith, ints, one))))
 time_by nanos (inr is) end whole =
-    subst (λ n. IsSame (difference (nanoseconds end) (nanoseconds 0)) (difference (in_units (ticks_by_second n) (end / n)) (in_units (ticks_by_second n) (0 / n)))) (sym is)
-    (let none = whole is in omega (arith, ints, none))
+    subst (λ n. IsSameTime (difference (nanoseconds end) (nanoseconds 0)) (difference (in_units (ticks_by_second n) (end / n)) (in_units (ticks_by_second n) (0 / n)))) (sym is)
+    (omega arith, (omega arith, (let none = whole is in omega (arith, ints, none))))
 
 -- in microseconds each duration is a whole number of them
 abbrev pub AreWhole : ℕ → List MediaSegment → Type 0
 AreWhole nanos group = All (λ (s : MediaSegment). nanos ≡ 1000 → s.duration % 1000 ≡ 0) group
 
 pub timed_same : (nanos : ℕ) → IsUnit nanos → (start : ℕ) (group : List MediaSegment) → (nanos ≡ 1000 → start % 1000 ≡ 0) → AreWhole nanos group
-    → Pairwise (SameSegment IsSame (nanoseconds 0) (in_units (ticks_by_second nanos) (0 / nanos))) (timed start group) (ticked nanos start group)
+    → Pairwise (SameSegment IsSameTime (nanoseconds 0) (in_units (ticks_by_second nanos) (0 / nanos))) (timed start group) (ticked nanos start group)
 timed_same nanos unit start [] whole all = tt
 timed_same nanos unit start (s ∷ rest) whole all =
     let next : nanos ≡ 1000 → (start + s.duration) % 1000 ≡ 0 = λ is.

@@ -9,9 +9,9 @@ use Rattle.hls_media.specs.declared.media.Media.{Media}
 use Rattle.hls_meaning.specs.Meanings.{file_at, hls_meaning}
 use Rattle.hls_presentation.specs.Presenting.{hls_presented_of}
 use Rattle.meaning.specs.Meanings.{Meaning}
-use Rattle.meaning.specs.Same.{SameExact}
 use Rattle.presentation.specs.Meanings.{meaning_of}
 use Rattle.presentation.specs.Presented.{Presented}
+use Rattle.meaning.specs.Same.{SameTimed}
 
 -- the file at a URL under a folder is a master of these tracks
 pub record IsMaster (files : Files) (folder url : List ℕ) (tracks : List MasterTrack) : Type 0 where
@@ -32,9 +32,9 @@ ArePlaylists files folder [] (media ∷ medias) = ⊥
 ArePlaylists files folder (track ∷ tracks) [] = ⊥
 ArePlaylists files folder (track ∷ tracks) (media ∷ medias) = IsPlaylist files folder track.address media × ArePlaylists files folder tracks medias
 
--- the files mean what the presentation means, with equal times
+-- the files mean what the presentation means, with equal times that are times
 abbrev pub MeanTheSame : Files → (folder url : List ℕ) → Presented → Type 0
-MeanTheSame files folder url p = (m : Meaning) × ((hls_meaning files folder url ≡ Some m) × SameExact m (meaning_of p))
+MeanTheSame files folder url p = (m : Meaning) × ((hls_meaning files folder url ≡ Some m) × SameTimed m (meaning_of p))
 
 -- what is presented of a master and its media playlists means what these files mean
 abbrev pub PresentedMeanTheirFiles : Type 0

@@ -1,2 +1,3 @@
 pub mod SameLemmas
 pub mod DifferenceLemmas
+pub mod AlikeLemmas

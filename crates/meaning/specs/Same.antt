@@ -1,6 +1,6 @@
 -- When two manifests mean the same.
 use Rattle.std.specs.Prelude.{◌≡◌, ◌⊎◌, ℕ, List, [], ◌∷◌, Option, Some, None}
-use Rattle.exact_time.specs.Time.{Time, IsSame, difference, in_units, seconds}
+use Rattle.exact_time.specs.Time.{Time, IsTime, IsSame, difference, in_units, seconds}
 use Rattle.exact_time.specs.Floor.{floor_in}
 use Rattle.meaning.specs.Meanings.{Segment, Entry, Track, Meaning}
 
@@ -50,9 +50,17 @@ IsRounded unit x y = IsSame (rounded_down unit x) y
 abbrev pub IsSameOrRounded : ℕ → Time → Time → Type 0
 IsSameOrRounded unit x y = IsSame x y ⊎ IsRounded unit x y
 
+-- equal times, and each is one: what has a scale of 0 is none
+abbrev pub IsSameTime : Time → Time → Type 0
+IsSameTime x y = IsTime x × (IsTime y × IsSame x y)
+
 -- with equal times
 abbrev pub SameExact : Meaning → Meaning → Type 0
 SameExact a b = Same IsSame a b
+
+-- with equal times, from where the entries begin, that are times
+abbrev pub SameTimed : Meaning → Meaning → Type 0
+SameTimed a b = Same IsSameTime a b
 
 -- each time of the second is that of the first rounded down
 abbrev pub SameFloor : ℕ → Meaning → Meaning → Type 0

@@ -1,7 +1,7 @@
 //! Laws of what manifests mean. The functions do nothing: what they ensure is the law.
 ghost use Rattle.std.specs.Prelude.{◌≡◌, ◌↔◌, ℕ, None};
 ghost use Rattle.meaning.specs.Meanings.{Meaning};
-ghost use Rattle.meaning.specs.Same.{SameExact, SameFloor, Agrees};
+ghost use Rattle.meaning.specs.Same.{SameExact, SameTimed, SameFloor, Agrees};
 ghost use Rattle.meaning.specs.Differences.{first_difference};
 
 /// Each presentation means the same as itself.
@@ -18,4 +18,10 @@ pub fn the_same_agrees()
 /// Two presentations agree exactly where no first difference is found.
 pub fn agreeing_has_no_difference()
     ensures { (unit : ℕ) (a b : Meaning) → Agrees unit a b ↔ (first_difference unit a b ≡ None) }
+{}
+
+/// What means the same as another, with equal times that are times, differs first from a third one where the other does.
+pub fn the_same_differ_alike()
+    ensures exact { (a b : Meaning) → SameTimed a b → SameExact a b }
+    ensures alike { (unit : ℕ) (a b c : Meaning) → SameTimed b c → first_difference unit a b ≡ first_difference unit a c }
 {}

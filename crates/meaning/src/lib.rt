@@ -9,4 +9,7 @@ mod difference;
 mod laws;
 
 pub use difference::{Aspect, Difference};
-pub use laws::{a_meaning_is_the_same_as_itself, agreeing_has_no_difference, the_same_agrees};
+pub use laws::{
+    a_meaning_is_the_same_as_itself, agreeing_has_no_difference, the_same_agrees,
+    the_same_differ_alike,
+};
