@@ -3,3 +3,4 @@ pub mod Times
 pub mod Floors
 pub mod Roundings
 pub mod Printed
+pub mod EqualSteps

@@ -46,7 +46,8 @@ sum-take_cons : (n : ℕ) (ns : List ℕ) (k : ℕ) → sum (take (suc k) (n ∷
 sum-take_cons n ns k = sum_by-cons (λ m. m) n (take k ns)
 
 -- the floor of a later end is not less
-floor_not_less : (u : ℕ) (s former end : Time) → IsTime s → IsTime former → IsTime end → IsAtMost s former → IsAtMost former end → floor_in u (difference former s) ≤ floor_in u (difference end s)
+pub floor_not_less : (u : ℕ) (s former end : Time) → IsTime s → IsTime former → IsTime end → IsAtMost s former → IsAtMost former end →
+    floor_in u (difference former s) ≤ floor_in u (difference end s)
 floor_not_less u s former end is_s is_former is_end begun later =
     omega (
       arith,

@@ -1,16 +1,16 @@
 -- One call of a `Rounder`.
-use Rattle.std.proofs.Common.{◌≡◌, ℕ, ◌+◌, ◌-◌, ◌*◌, ◌<◌, ◌≤◌, ◌^◌, sym, ap, subst, arith}
-use Rattle.std.proofs.Math.Nat.{mul-le-mul_left}
+use Rattle.std.proofs.Common.{◌≡◌, ℕ, ◌+◌, ◌-◌, ◌*◌, ◌≤◌, sym, ap, subst, arith}
 use Rattle.exact_time.specs.Time.{Time, IsTime, IsAtMost, difference, seconds}
 use Rattle.exact_time.specs.Floor.{IsFloorIn, floor_in}
 use Rattle.exact_time.specs.Tick.{time_of}
-use Rattle.exact_time.specs.Rounding.{Rounding, Call, total}
+use Rattle.exact_time.specs.Rounding.{Rounding, total}
 use Rattle.exact_time.specs.Rounder.{rounding_of, IsKept}
 use Rattle.exact_time.specs.declared.tick.Tick.{Tick}
 use Rattle.exact_time.specs.declared.rounder.Rounder.TheInside.{Inside}
 use Rattle.exact_time.proofs.TimeOrder.{IsAtMost-trans}
 use Rattle.exact_time.proofs.Times.{none_le-difference, le_seconds}
 use Rattle.exact_time.proofs.Floors.{IsFloorIn-difference, floor-before, floor-after}
+use Rattle.exact_time.proofs.Printed.{floor_not_less}
 
 -- the floor does not fall from one end to the next, nor does it rise by more than the seconds between
 pub floor_rises : (u c : ℕ) (first former end : Time) → IsTime first → IsTime former → IsTime end → IsAtMost first former → IsAtMost former end → IsAtMost (difference end former) (seconds c) →
@@ -20,38 +20,37 @@ floor_rises u c first former end is_first is_former is_end begun not_before near
     let is_n : IsFloorIn u (difference end first) (floor_in u (difference end first)) = IsFloorIn-difference u end first is_end is_first (IsAtMost-trans first former end is_former begun not_before) in
     (omega (arith, floor-after u _ _ 0 end former first is_former (none_le-difference u end former not_before) is_m is_n), floor-before u _ _ (c * u) end former first is_end (le_seconds u c (difference end former) near) is_m is_n)
 
--- a call of `next` at a `Rounder` of these fields, which is seen as `now`
+-- the times of a `Rounder`
+pub record IsBegun (r : Rounding) : Type 0 where
+  pub first_is : IsTime r.first
+  pub former_is : IsTime r.former
+  pub begun : IsAtMost r.first r.former
+
+pub begun_of : (r : Inside) (now : Rounding) → IsKept r → rounding_of r ≡ now → IsBegun now
+begun_of r now kept seen = subst IsBegun seen (record { first_is = r.first.positive; former_is = r.former.positive; begun = kept.begun })
+
+-- a call of `pass` at a `Rounder` of these fields, which is seen as `now`
 module _ (r : Inside) (kept : IsKept r) (now : Rounding) (seen : rounding_of r ≡ now) (end : Tick) (not_before : IsAtMost now.former (time_of end)) where
   pub first_not_after : IsAtMost (time_of r.first) (time_of end)
   first_not_after = IsAtMost-trans (time_of r.first) (time_of r.former) (time_of end) r.former.positive kept.begun
       (subst (λ (s : Rounding). IsAtMost s.former (time_of end)) (sym seen) not_before)
 
-  module _ (near : IsAtMost (difference (time_of end) now.former) (seconds 2000000)) (floor : ℕ) (is : floor ≡ floor_in r.unit (difference (time_of end) (time_of r.first))) where
-    rises : (r.floor ≤ floor) × (floor ≤ r.floor + 2000000 * r.unit)
-    rises = rw (kept.floor_is, is) (floor_rises r.unit 2000000 (time_of r.first) (time_of r.former) (time_of end) r.first.positive r.former.positive end.positive kept.begun
-        (subst (λ (s : Rounding). IsAtMost s.former (time_of end)) (sym seen) not_before)
-        (subst (λ (s : Rounding). IsAtMost (difference (time_of end) s.former) (seconds 2000000)) (sym seen) near))
-
+  module _ (floor : ℕ) (is : floor ≡ floor_in r.unit (difference (time_of end) (time_of r.first))) where
     pub not_less : r.floor ≤ floor
-    not_less = rises.0
-
-    pub printed_fits : floor - r.floor < 2 ^ 64
-    printed_fits = omega (arith, rises.1, mul-le-mul_left 2000000 kept.high)
-
-    pub printed_bounded : floor - r.floor ≤ 2000000 * now.unit
-    printed_bounded = omega (arith, rises.1, ap (λ (s : Rounding). s.unit) seen)
+    not_less = rw (kept.floor_is, is)
+        (floor_not_less r.unit (time_of r.first) (time_of r.former) (time_of end) r.first.positive r.former.positive end.positive kept.begun
+        (subst (λ (s : Rounding). IsAtMost s.former (time_of end)) (sym seen) not_before))
 
     pub kept_after : IsKept (record { first = r.first; unit = r.unit; former = end; floor = floor })
     kept_after = record { low = kept.low; high = kept.high; begun = first_not_after; floor_is = is }
 
     pub printed_is : total now + (floor - r.floor) ≡ floor_in r.unit (difference (time_of end) (time_of r.first))
-    printed_is = omega (arith, rises.0, kept.floor_is, ap total seen, is)
+    printed_is = omega (arith, not_less, kept.floor_is, ap total seen, is)
 
-    pub call_is : Call now (time_of end) (floor - r.floor) (rounding_of (record { first = r.first; unit = r.unit; former = end; floor = floor }))
-    call_is = record {
-      is_time = end.positive;
-      not_before = not_before;
-      near = near;
-      printed_next = printed_is;
-      kept = ap (λ (s : Rounding). record s { former = time_of end }) seen;
-    }
+    pub printed_bounded : (c : ℕ) → IsAtMost (difference (time_of end) now.former) (seconds c) → floor - r.floor ≤ c * now.unit
+    printed_bounded c near =
+        let rises = floor_rises r.unit c (time_of r.first) (time_of r.former) (time_of end) r.first.positive r.former.positive
+        end.positive kept.begun
+        (subst (λ (s : Rounding). IsAtMost s.former (time_of end)) (sym seen) not_before)
+        (subst (λ (s : Rounding). IsAtMost (difference (time_of end) s.former) (seconds c)) (sym seen) near) in
+        omega (arith, rises.1, kept.floor_is, is, ap (λ (s : Rounding). c * s.unit) seen)

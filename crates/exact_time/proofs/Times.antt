@@ -1,10 +1,19 @@
 -- Differences of times, over the natural numbers.
-use Rattle.std.proofs.Common.{◌≡◌, ℕ, ◌+◌, ◌*◌, ◌<◌, ◌≤◌, ap, arith}
+use Rattle.std.proofs.Common.{◌≡◌, ℕ, ◌+◌, ◌*◌, ◌<◌, ◌≤◌, ◌≤ℤ◌, ap, subst, arith}
 use Rattle.std.proofs.lemmas.Int.{ints}
 use Rattle.std.proofs.Math.Nat.{mul-le-mul_left, le_of_mul-le-mul_left, one-le-mul}
 use borrow.Author.Differences.{up, down}
 use Rattle.exact_time.specs.Time.{Time, IsTime, IsNotNegative, IsAtMost, difference, in_units, seconds}
 use Rattle.exact_time.proofs.TimeOrder.{share, share_le_out, share_le_in}
+
+-- of times of one scale the ticks are in order
+pub ticks_at_most : (x y : Time) → IsTime x → y.scale ≡ x.scale → IsAtMost x y → x.ticks ≤ℤ y.ticks
+ticks_at_most x y positive same h =
+    let one : IsAtMost x (record y { scale = x.scale }) = subst (λ (n : ℕ). IsAtMost x (record y { scale = n })) same h in
+    let shares : x.scale * (up x.ticks + down y.ticks) ≤ x.scale * (up y.ticks + down x.ticks) =
+    omega (arith, share_le_out x (record y { scale = x.scale }) one) in
+    let apart = le_of_mul-le-mul_left {k = x.scale} shares positive in
+    omega (arith, ints, apart)
 
 pub IsTime-difference : (x y : Time) → IsTime x → IsTime y → IsTime (difference x y)
 IsTime-difference x y p q = one-le-mul p q

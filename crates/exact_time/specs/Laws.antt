@@ -1,7 +1,8 @@
 -- What holds of times, floors and printed durations.
-use Rattle.std.specs.Prelude.{◌≡◌, ◌↔◌, ◌⊎◌, ℕ, ◌+◌, ◌<◌, true, List, [], ◌∷◌, ◌++◌, Some, slice_get, sum, take}
+use Rattle.std.specs.Prelude.{◌≡◌, ◌↔◌, ◌⊎◌, ℕ, ◌+◌, ◌*◌, ◌<◌, true, List, [], ◌∷◌, ◌++◌, Some, slice_get, sum, take}
 use Rattle.exact_time.specs.Time.{Time, IsTime, IsNotNegative, IsSame, AreSame, IsBefore, IsAtMost, before, at_most, difference, in_units, seconds}
 use Rattle.exact_time.specs.Floor.{IsFloorIn, floor_in}
+use Rattle.exact_time.specs.Equal.{ends_after, ticks_after}
 use Rattle.exact_time.specs.Rounding.{Rounding, rounding_behind, rounding_from, printed, total, IsRising, AreNear, AreWholeUnits, Calls}
 
 -- the order of times is one: it is transitive, any two times stand in it, and those that stand in it
@@ -56,6 +57,19 @@ abbrev pub CallsAreAllowed : Type 0
 CallsAreAllowed =
     (former end : Time) (ends : List Time) → IsRising former (end ∷ ends) → AreNear former (end ∷ ends) →
     IsAtMost former end × IsAtMost (difference end former) (seconds 2000000) × IsRising end ends × AreNear end ends
+
+-- calls and those that go on behind them are calls in turn
+abbrev pub CallsJoin : Type 0
+CallsJoin =
+    (old between new : Rounding) (ends later : List Time) (numbers others : List ℕ) →
+    Calls old ends numbers between → Calls between later others new → Calls old (ends ++ later) (numbers ++ others) new
+
+-- The ends of equal segments that others follow may be given at once, and behind them the others in turn.
+abbrev pub EqualEndsGoOn : Type 0
+EqualEndsGoOn =
+    (former : Time) (step count : ℕ) (later : List Time) → let ends = ends_after former step count in let last =
+    ticks_after former (count * step) in
+    IsRising former (ends ++ later) → AreNear former (ends ++ later) → AreNear former ends × IsRising last later × AreNear last later
 
 -- the printed durations up to the segment that ends at `end` sum to the floor of the time up to it
 abbrev pub SumsAreFloors : Type 0

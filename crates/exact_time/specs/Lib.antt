@@ -4,4 +4,5 @@ pub mod Tick
 pub mod TickOrder
 pub mod Rounding
 pub mod Rounder
+pub mod Equal
 pub mod Laws

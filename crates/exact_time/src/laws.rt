@@ -1,7 +1,7 @@
 //! Laws of the definitions that the contracts of this crate cite. The functions do nothing: what
 //! they ensure is the law.
 
-ghost use Rattle.exact_time.specs.Laws.{IsTransitive, IsTotal, IsExclusive, IsAntisymmetric, TestsTell, HasOneFloor, CallsArePrinted, CallsSum, CallsRise, CallsGoOn, CallsAreAllowed, SumsAreFloors, SumsStayNear, WholeUnitsStay, SamePrintAlike};
+ghost use Rattle.exact_time.specs.Laws.{IsTransitive, IsTotal, IsExclusive, IsAntisymmetric, TestsTell, HasOneFloor, CallsArePrinted, CallsSum, CallsRise, CallsGoOn, CallsJoin, CallsAreAllowed, EqualEndsGoOn, SumsAreFloors, SumsStayNear, WholeUnitsStay, SamePrintAlike};
 
 /// Times are in one order, and two that are not apart in it are the same time. The tests tell the order.
 pub fn times_are_ordered()
@@ -28,10 +28,13 @@ pub fn calls_are_printed()
 {}
 
 /// The numbers that a `Rounder` gives which goes on behind some segments are the printed durations behind theirs. It
-/// may be given all ends of a list in turn that doesn't fall and whose ends lie at most 2,000,000 s apart.
+/// may be given all ends of a list in turn that doesn't fall and whose ends lie at most 2,000,000 s apart, also by calls that
+/// take the ends of equal segments at once.
 pub fn calls_go_on()
     ensures numbers { CallsGoOn }
     ensures allowed { CallsAreAllowed }
+    ensures joined { CallsJoin }
+    ensures equal { EqualEndsGoOn }
 {}
 
 /// The first `k + 1` printed durations sum to the time from the first segment's start to the end of

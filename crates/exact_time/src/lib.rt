@@ -14,12 +14,12 @@ mod rounder;
 mod tick;
 
 pub use digits::Digits;
-pub use floor::{ceil_count, floor_unit};
+pub use floor::{ceil_count, floor_ticks, floor_unit};
 pub use laws::{
     calls_are_printed, calls_go_on, each_time_has_one_floor, same_times_print_alike,
     sums_are_floors, times_are_ordered, whole_units_stay,
 };
 pub use nanos::Nanos;
 pub use order::compare;
-pub use rounder::Rounder;
+pub use rounder::{Equal, Rounder};
 pub use tick::Tick;

@@ -1,6 +1,7 @@
-ghost use Rattle.std.specs.Prelude.{◌≡◌, ◌+◌, ◌*◌, ◌≤◌, ◌^◌};
+ghost use Rattle.std.specs.Prelude.{◌≡◌, ℕ, ◌+◌, ◌*◌, ◌<◌, ◌≤◌, ◌^◌, pos, ◌+ℤ◌, ◌/◌, ◌<ℤ◌, All};
 ghost use Rattle.exact_time.specs.Time.{IsAtMost, difference, seconds};
-ghost use Rattle.exact_time.specs.Rounding.{Call, rounding_behind, rounding_from, total};
+ghost use Rattle.exact_time.specs.Equal.{ends_after, equal_durations, longest_by, summed_up, ticks_after};
+ghost use Rattle.exact_time.specs.Rounding.{AreNear, Call, Calls, rounding_behind, rounding_from, total};
 ghost use Rattle.exact_time.specs.Tick.{time_of};
 
 use crate::floor::floor_unit;
@@ -32,6 +33,15 @@ impl Model for Rounder {
     ghost view = { rounding_of };
 
     ghost invariant = { IsKept };
+}
+
+/// The printed durations of some segments in turn, in units.
+#[derive(Clone, Copy, PartialEq, Eq, Debug)]
+pub struct Equal {
+    /// Their sum.
+    pub total: u128,
+    /// The longest one, and 0 where there is no segment.
+    pub longest: u64,
 }
 
 impl Rounder {
@@ -80,10 +90,76 @@ impl Rounder {
         ensures bounded { result ≤ 2000000 * self.old.unit }
         ensures call { Call self.old (time_of end) result self.new }
     {
+        self.pass(end) as u64
+    }
+
+    /// The durations to print of the next `count` segments, where each is `step` ticks long, of which the scale of the former
+    /// end makes a second, and begins where the one before it ends: their sum and the longest one. It divides twice,
+    /// however many they are. They, and what it is afterwards, are those of as many calls of `next`.
+    ///
+    /// Requires that each is at most 2,000,000 s long, and that the last one ends before 2^64 ticks.
+    pub fn next_equal(&mut self, step: u64, count: u64) -> Equal
+        requires near { AreNear self.old.former (ends_after self.old.former step count) }
+        requires room { (self.old.former.ticks +ℤ pos (count * step)) <ℤ pos (2 ^ 64) }
+        ensures durations { result ≡ summed_up (equal_durations self.old step count) }
+        ensures calls { Calls self.old (ends_after self.old.former step count) (equal_durations self.old step count) self.new }
+        ensures kept { self.new ≡ record self.old { former = ticks_after self.old.former (count * step) } }
+        ensures even { All (λ duration. result.longest ≤ duration + 1) (equal_durations self.old step count) }
+    {
+        let end = later(self.former, u128::from(count) * u128::from(step));
+        let least = self.whole_units(step);
+        let total = self.pass(end);
+        Equal {
+            total,
+            longest: longest_of(total, least, count),
+        }
+    }
+
+    /// Goes on to a later end, and tells how many units are printed up to it.
+    #[inline(always)]
+    fn pass(&mut self, end: Tick) -> u128
+        requires { IsAtMost self.old.former (time_of end) }
+        ensures printed { total self.old + result ≡ total self.new }
+        ensures kept { self.new ≡ record self.old { former = time_of end } }
+        ensures bounded { (c : ℕ) → IsAtMost (difference (time_of end) self.old.former) (seconds c) → result ≤ c * self.old.unit }
+        ensures unit { self.old.unit ≤ 10 ^ 9 }
+    {
         let floor = floor_unit(end, self.first, self.unit);
         let printed = floor - self.floor;
         self.former = end;
         self.floor = floor;
-        printed as u64
+        printed
+    }
+
+    /// How many whole units there are in so many ticks of the former end's scale.
+    fn whole_units(&self, step: u64) -> u128
+        ensures { result ≡ step * self.now.unit / self.now.former.scale }
+    {
+        u128::from(step) * u128::from(self.unit) / u128::from(self.former.scale)
+    }
+}
+
+/// The longest one of so many durations with this sum, of which each one is `least` or one more.
+fn longest_of(total: u128, least: u128, count: u64) -> u64
+    requires { 0 < count → least < 2 ^ 63 }
+    ensures { result ≡ longest_by total least count }
+{
+    if count == 0 {
+        0
+    } else if total == least * u128::from(count) {
+        least as u64
+    } else {
+        (least + 1) as u64
+    }
+}
+
+/// So many ticks after a time.
+fn later(time: Tick, ticks: u128) -> Tick
+    requires { (time.n +ℤ pos ticks) <ℤ pos (2 ^ 64) }
+    ensures { time_of result ≡ ticks_after (time_of time) ticks }
+{
+    Tick {
+        n: time.n + ticks as i128,
+        scale: time.scale,
     }
 }

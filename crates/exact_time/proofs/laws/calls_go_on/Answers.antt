@@ -1,7 +1,10 @@
-use Rattle.std.proofs.Common.{◌≡◌, ℕ, ◌-◌, List, [], ◌∷◌, ◌++◌, ap, ◌∙◌, sym, refl}
+use Rattle.std.proofs.Common.{◌≡◌, ℕ, zero, suc, ◌-◌, List, [], ◌∷◌, ◌++◌, ap, subst, ◌∙◌, sym, refl}
 use Rattle.exact_time.specs.Time.{Time, difference}
+use Rattle.exact_time.specs.Laws.{CallsJoin, EqualEndsGoOn}
 use Rattle.exact_time.specs.Floor.{floor_in}
-use Rattle.exact_time.specs.Rounding.{differences, rounding_behind}
+use Rattle.exact_time.specs.Rounding.{AreNear, Calls, IsRising, Rounding, differences, rounding_behind}
+use Rattle.exact_time.specs.Equal.{ends_after, ticks_after}
+use Rattle.exact_time.proofs.EqualSteps.{ticks_after-none, ticks_further}
 use Rattle.exact_time.proofs.Printed.{calls_print, floors}
 use Rattle.exact_time.proofs.laws.calls_go_on.Goals as goal
 
@@ -18,3 +21,24 @@ returns-clause-numbers c first former unit earlier ends numbers last calls =
 
 pub returns-clause-allowed : goal.returns-clause-allowed
 returns-clause-allowed c former end ends (is_time, later, rising) (near, nearer) = (later, near, rising, nearer)
+
+joined : CallsJoin
+joined old between new [] later [] others same calls = subst (λ (r : Rounding). Calls r later others new) same calls
+joined old between new [] later (n ∷ numbers) others none calls = absurd none
+joined old between new (end ∷ ends) later [] others none calls = absurd none
+joined old between new (end ∷ ends) later (n ∷ numbers) others (next, call, rest) calls =
+    (next, call, joined next between new ends later numbers others rest calls)
+
+pub returns-clause-joined : goal.returns-clause-joined
+returns-clause-joined c = joined
+
+go_on : EqualEndsGoOn
+unfolding ends_after
+go_on former step zero later rising near = rw (ticks_after-none former step) (tt, rising, near)
+go_on former step (suc count) later (is_time, after, rising) (here, near) =
+    let rest = go_on (ticks_after former step) step count later rising near in
+    let behind = subst (λ (t : Time). IsRising t later × AreNear t later) (ticks_further former step count) (rest.1, rest.2) in
+    ((here, rest.0), behind.0, behind.1)
+
+pub returns-clause-equal : goal.returns-clause-equal
+returns-clause-equal c = go_on

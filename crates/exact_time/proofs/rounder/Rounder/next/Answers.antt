@@ -1,38 +1,19 @@
-use Rattle.exact_time.proofs.Roundings as calls
+use Rattle.std.proofs.Common.{arith}
+use Rattle.std.proofs.Math.Nat.{mul-le-mul_left}
 use Rattle.exact_time.proofs.rounder.Rounder.next.Goals as goal
 
-pub floor_unit-floor-requires-clause-not_before : goal.floor_unit-floor-requires-clause-not_before
-floor_unit-floor-requires-clause-not_before c =
-    calls.first_not_after c.self.inside c.self.invariant c.args.self.now c.self.view_is c.args.end c.requires.not_before
-
-pub overflow_sub-printed : goal.overflow_sub-printed
-overflow_sub-printed c =
-    calls.not_less c.self.inside c.self.invariant c.args.self.now c.self.view_is c.args.end c.requires.not_before c.requires.near
-    c.floor_unit-floor.result c.floor_unit-floor.ensures.value
-
 pub overflow_cast-result : goal.overflow_cast-result
-overflow_cast-result c = record {
-  fits =
-      calls.printed_fits c.self.inside c.self.invariant c.args.self.now c.self.view_is c.args.end c.requires.not_before c.requires.near
-      c.floor_unit-floor.result c.floor_unit-floor.ensures.value;
-}
-
-pub invariant_of-self : goal.invariant_of-self
-invariant_of-self c =
-    calls.kept_after c.self.inside c.self.invariant c.args.self.now c.self.view_is c.args.end c.requires.not_before c.requires.near
-    c.floor_unit-floor.result c.floor_unit-floor.ensures.value
-
-pub returns-clause-printed : goal.returns-clause-printed
-returns-clause-printed c =
-    calls.printed_is c.self.inside c.self.invariant c.args.self.now c.self.view_is c.args.end c.requires.not_before c.requires.near
-    c.floor_unit-floor.result c.floor_unit-floor.ensures.value
+overflow_cast-result c =
+    record { fits = omega (arith, c.pass.ensures.bounded 2000000 c.requires.near, mul-le-mul_left 2000000 c.pass.ensures.unit) }
 
 pub returns-clause-bounded : goal.returns-clause-bounded
-returns-clause-bounded c =
-    calls.printed_bounded c.self.inside c.self.invariant c.args.self.now c.self.view_is c.args.end c.requires.not_before c.requires.near
-    c.floor_unit-floor.result c.floor_unit-floor.ensures.value
+returns-clause-bounded c = c.pass.ensures.bounded 2000000 c.requires.near
 
 pub returns-clause-call : goal.returns-clause-call
-returns-clause-call c =
-    calls.call_is c.self.inside c.self.invariant c.args.self.now c.self.view_is c.args.end c.requires.not_before c.requires.near
-    c.floor_unit-floor.result c.floor_unit-floor.ensures.value
+returns-clause-call c = record {
+  is_time = c.args.end.positive;
+  not_before = c.requires.not_before;
+  near = c.requires.near;
+  printed_next = c.pass.ensures.printed;
+  kept = c.pass.ensures.kept;
+}
