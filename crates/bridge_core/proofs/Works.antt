@@ -13,15 +13,8 @@ use Rattle.bridge_runs.specs.declared.ending.Ending.{Ending}
 use Rattle.bridge_runs.specs.declared.ending.Ending.TheVariants as ending
 use Rattle.bridge_runs.specs.Runs.{Works, Finishes, NeverFalls, Tells, TellsAs, IsRun, status_of, status_untold, words_line}
 use Rattle.bridge_runs.specs.Courses.{Course, World, Whole, Step, Reaches, last_step}
+use Rattle.bridge_runs.proofs.Stepping.{none_put, none_told}
 use Rattle.bridge_report.specs.Outcomes.{Outcome, Ends, Writes, course_by, IsSaid, IsEnding}
-
-none_put : (before after : Option Files) → after ≡ before → Changes (put_all []) before after
-none_put None after same = same
-none_put (Some files) after same = same
-
-none_told : (before after : Option (List ℕ)) → after ≡ before → Appends [] before after
-none_told None after same = same
-none_told (Some bytes) after same = same ∙ ap Some (sym (append-nil bytes))
 
 -- as many segments are made as there were
 none_made : (counts : Bool) (before after : ℕ) → (IsTrue counts → after ≡ before) → IsTrue counts → (before + 0 ≤ after) × (after ≤ before + 0)
@@ -100,8 +93,7 @@ works (Ends v l reads counts) ending.Memory before after (inl same) read write r
   mid = before;
   step = first_step (Ends v l reads counts);
   reaches = reached (Ends v l reads counts) before;
-  files = inl same;
-  made = none_made counts before.made after.made made;
+  left = inl (same, none_made counts before.made after.made made);
   report = report;
 }
 works (Ends v l reads counts) ending.Memory before after (inr begun) read write report made = absurd begun
@@ -109,16 +101,14 @@ works (Writes files l reads) ending.Memory before after (inl same) read write re
   mid = before;
   step = first_step (Writes files l reads);
   reaches = reached (Writes files l reads) before;
-  files = inl same;
-  made = none_made false before.made after.made made;
+  left = inl (same, none_made false before.made after.made made);
   report = report;
 }
 works (Writes files l reads) ending.Memory before after (inr begun) read write report made = record {
   mid = before;
   step = first_step (Writes files l reads);
   reaches = reached (Writes files l reads) before;
-  files = inr (inl begun);
-  made = none_made false before.made after.made made;
+  left = inr (inl begun, none_made false before.made after.made made);
   report = report;
 }
 works outcome (ending.Cut fail) before after is read write report made = absurd is

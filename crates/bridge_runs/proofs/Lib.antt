@@ -1,3 +1,5 @@
 pub mod Statuses
 pub mod Others
 pub mod RunLaws
+pub mod Stepping
+pub mod StepLaws

@@ -84,10 +84,10 @@ module _ (name : List ℕ) (course : Course) (others : IsElsewhere name course) 
   Keeps-on before mid after step reaches later = Keeps-then name before.files mid.files after.files (Keeps-reaches before mid step reaches) later
 
   Keeps-wanting : (before after : World) → WantsMemory course before after → Keeps name before.files after.files
-  Keeps-wanting before after works = Keeps-on before works.mid after works.step works.reaches (elim works.files [
-    | inl same ↦ Keeps_same name works.mid.files after.files same
-    | inr (inl begun) ↦ Keeps-begun works.step.files works.mid.files after.files (step_others before works.mid works.step works.reaches) begun
-    | inr (inr changes) ↦ Keeps-put_all name works.step.files works.mid.files after.files (step_others before works.mid works.step works.reaches) changes
+  Keeps-wanting before after works = Keeps-on before works.mid after works.step works.reaches (elim works.left [
+    | inl (same, made) ↦ Keeps_same name works.mid.files after.files same
+    | inr (inl begun, made) ↦ Keeps-begun works.step.files works.mid.files after.files (step_others before works.mid works.step works.reaches) begun
+    | inr (inr changes, made) ↦ Keeps-put_all name works.step.files works.mid.files after.files (step_others before works.mid works.step works.reaches) changes
   ])
 
   Keeps-telling : (before after : World) → FailsTelling course before after → Keeps name before.files after.files

@@ -1,5 +1,5 @@
 -- The laws of runs.
-use Rattle.std.proofs.Common.{◌≡◌, ◌⊎◌, ℕ, List, ◌++◌, length, take, flat_map, Option, None, Some, option_map, inl, inr, refl, ◌∙◌, ap, append_assoc}
+use Rattle.std.proofs.Common.{◌≡◌, ◌⊎◌, length, take, flat_map, option_map, inl, inr, refl, ◌∙◌, ap}
 use Rattle.std.proofs.Math.Seq.{take-length}
 use Rattle.bridge_io.specs.Outside.{Changes, Appends}
 use Rattle.bridge_io.specs.declared.outside.Fail.TheVariants as fail
@@ -10,10 +10,11 @@ use Rattle.bridge_runs.specs.declared.status.Verdict.TheVariants as verdict
 use Rattle.bridge_runs.specs.declared.ending.Ending.{Ending}
 use Rattle.bridge_runs.specs.declared.ending.Ending.TheVariants as ending
 use Rattle.bridge_io.specs.InOrder.{put_all}
-use Rattle.bridge_runs.specs.Courses.{Course, World, files_of, files_to}
+use Rattle.bridge_runs.specs.Courses.{Course, World, files_of, files_to, report_of}
 use Rattle.bridge_runs.specs.Runs.{status_by, status_of, line_of, Works, Finishes, FailsReading, IsRun, Tells}
 use Rattle.bridge_runs.specs.Laws.{DoneIsWhole, VerdictKeepsSteps, ReadFaultKeepsFiles, ReadFaultRose, WriteFaultRose, IsCalm, IsComplete, OthersStay}
 use Rattle.bridge_runs.proofs.Statuses.{told_as, finished, fails_reading, rose_in_writing, rose_first, rose_later, told_whole, no_fault}
+use Rattle.bridge_runs.proofs.Stepping.{appends_both}
 use Rattle.bridge_runs.proofs.Others.{Keeps_same, Keeps-then, Keeps_read, Keeps-works}
 
 -- the first of as many steps as there are
@@ -21,12 +22,8 @@ all_files : (course : Course) → files_to (length course.steps) course ≡ file
 all_files course = ap (λ steps. flat_map (λ step. step.files) steps) (take-length course.steps)
 
 -- what the end tells changes no file
-files_told : (told : Ending) (end : Status) (before after : World) → Tells told end before after → after.files ≡ before.files
+pub files_told : (told : Ending) (end : Status) (before after : World) → Tells told end before after → after.files ≡ before.files
 files_told told end before after tells = ap (λ world. world.files) tells.same
-
-appends_both : (one two : List ℕ) (r r' r'' : Option (List ℕ)) → Appends one r r' → Appends two r' r'' → Appends (one ++ two) r r''
-appends_both one two None r' r'' a b = b ∙ ap (option_map (λ xs. xs ++ two)) a
-appends_both one two (Some r) r' r'' a b = b ∙ ap (option_map (λ xs. xs ++ two)) a ∙ ap Some (append_assoc r one two)
 
 -- how a run ends whose status is a verdict's
 verdict_finishes : (course : Course) (v : Verdict) (before after : World) (run : IsRun course (status_by v) before after) → Finishes course v (line_of run.how) before run.mid
@@ -42,17 +39,21 @@ files_of_whole course v before after run = files_told run.how (status_by v) run.
 pub verdict_keeps_steps : VerdictKeepsSteps
 verdict_keeps_steps course v before after run = ((verdict_finishes course v before after run).verdict, files_of_whole course v before after run)
 
-pub done_is_whole : DoneIsWhole
-done_is_whole course before after run =
-    let finishes = verdict_finishes course verdict.Done before after run in
+-- all lines were told, where those of the end were
+pub report_of_whole : (course : Course) (v : Verdict) (before after : World) (run : IsRun course (status_by v) before after)
+    → Appends (line_of run.how) run.mid.report after.report → Appends (report_of course) before.report after.report
+report_of_whole course v before after run told =
+    let finishes = verdict_finishes course v before after run in
     let lines : flat_map (λ step. step.lines) (take (length course.steps) course.steps) ≡ flat_map (λ step. step.lines) course.steps = ap (flat_map (λ step. step.lines)) (take-length course.steps) in
-    record {
-      files = files_of_whole course verdict.Done before after run;
-      report = rw (lines, finishes.lines) at (appends_both _ _ before.report run.mid.report after.report finishes.whole.report
-          (told_whole run.how run.mid.report_faults after.report_faults run.mid.report after.report run.tells.told_as));
-    }
+    rw (lines, finishes.lines) at (appends_both _ _ before.report run.mid.report after.report finishes.whole.report told)
 
-reading : (course : Course) (before after : World) (run : IsRun course status.ReadFault before after) → FailsReading course before run.mid
+pub done_is_whole : DoneIsWhole
+done_is_whole course before after run = record {
+  files = files_of_whole course verdict.Done before after run;
+  report = report_of_whole course verdict.Done before after run (told_whole run.how run.mid.report_faults after.report_faults run.mid.report after.report run.tells.told_as);
+}
+
+pub reading : (course : Course) (before after : World) (run : IsRun course status.ReadFault before after) → FailsReading course before run.mid
 reading course before after run = elim (told_as run.how status.ReadFault run.mid.report_faults after.report_faults run.mid.report after.report run.tells.told_as) [
   | inl same ↦ fails_reading course run.how before run.mid same run.works
   | inr (inl fault) ↦ absurd (let e = fault.0 in cc)

@@ -38,16 +38,17 @@ pub record FailsWriting (course : Course) (before after : World) : Type 0 where
   pub reaches : Reaches course before mid step
   pub rose : Rose before.write_faults after.write_faults
   pub files : AreBegun step.files mid.files after.files
-  pub made : Makes course 0 step.most mid after
+  pub made : Makes course step.least step.most mid after
   pub report : after.report ≡ mid.report
 
--- Memory is wanting in a step or before the end: the step's files are as they were, or begun, or all put.
+-- Memory is wanting in a step or before the end: before its files, when some of its segments may be made, or when they all
+-- are made and its files are begun, or all put.
 pub record WantsMemory (course : Course) (before after : World) : Type 0 where
   pub mid : World
   pub step : Step
   pub reaches : Reaches course before mid step
-  pub files : (after.files ≡ mid.files) ⊎ (AreBegun step.files mid.files after.files ⊎ Changes (put_all step.files) mid.files after.files)
-  pub made : Makes course 0 step.most mid after
+  pub left : ((after.files ≡ mid.files) × Makes course 0 step.most mid after)
+      ⊎ ((AreBegun step.files mid.files after.files ⊎ Changes (put_all step.files) mid.files after.files) × Makes course step.least step.most mid after)
   pub report : after.report ≡ mid.report
 
 -- The sink failed at the lines of a step, whose files are put. A front of the lines is told.

@@ -1,5 +1,5 @@
 //! Laws of runs. The functions do nothing: what they ensure is the law.
-ghost use Rattle.bridge_runs.specs.Laws.{DoneIsWhole, VerdictKeepsSteps, ReadFaultKeepsFiles, ReadFaultRose, WriteFaultRose, IsComplete, OthersStay};
+ghost use Rattle.bridge_runs.specs.Laws.{DoneIsWhole, VerdictKeepsSteps, ReadFaultKeepsFiles, ReadFaultRose, WriteFaultRose, IsComplete, OthersStay, RunLeavesSteps, ReadFaultLeavesSteps, RunMakesSteps, VerdictTellsSteps, ReadFaultTellsSteps, WriteFaultTellsSteps, RunTellsFronts};
 
 /// A job that is done left the files of its course, and told its whole report.
 pub fn done_is_whole()
@@ -31,4 +31,25 @@ pub fn a_calm_run_is_complete()
 /// However a run ends, each file that its course doesn't name is as before.
 pub fn other_files_stay()
     ensures { OthersStay }
+{}
+
+/// However a run ends, it left the files of some first steps, and of the next one none, or some with one begun, or all; at
+/// a read fault none of the next one.
+pub fn a_run_leaves_its_steps()
+    ensures steps { RunLeavesSteps }
+    ensures read_fault { ReadFaultLeavesSteps }
+{}
+
+/// However a run of a course that counts ends, it made the segments of some first steps, and some of the next one.
+pub fn a_run_makes_the_segments_of_its_steps()
+    ensures { RunMakesSteps }
+{}
+
+/// Where the sink doesn't fail, a run tells the whole report of its course, or the lines of some first steps and then its
+/// fault. However it ends, it told a front of the report, and then a front of a line.
+pub fn a_run_tells_its_steps()
+    ensures verdict { VerdictTellsSteps }
+    ensures read_fault { ReadFaultTellsSteps }
+    ensures write_fault { WriteFaultTellsSteps }
+    ensures fronts { RunTellsFronts }
 {}

@@ -9,6 +9,7 @@ mod status;
 pub use ending::{Ending, tell};
 pub use laws::{
     a_calm_run_is_complete, a_fault_has_a_cause, a_read_fault_keeps_the_files,
+    a_run_leaves_its_steps, a_run_makes_the_segments_of_its_steps, a_run_tells_its_steps,
     a_verdict_keeps_the_steps, done_is_whole, other_files_stay,
 };
 pub use status::{Status, Verdict};
