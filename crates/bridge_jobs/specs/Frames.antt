@@ -1,5 +1,5 @@
 -- Streams of frames.
-use Rattle.std.specs.Prelude.{◌≡◌, ℕ, ◌+◌, ◌-◌, ◌*◌, ◌^◌, ◌<◌, ◌≤◌, ◌==◌, zero, suc, nat_le, List, [], ◌∷◌, length, take, drop, count_by, bytes_eq, if◌then◌else◌, Option, Some, None, IsNone, IfSome, Result, Ok, Err, MatchResult}
+use Rattle.std.specs.Prelude.{◌≡◌, ℕ, ℤ, ◌+◌, ◌-◌, ◌*◌, ◌^◌, ◌<◌, ◌≤◌, ◌==◌, zero, suc, nat_le, List, [], ◌∷◌, length, take, drop, count_by, bytes_eq, if◌then◌else◌, Option, Some, None, IsNone, IfSome, Result, Ok, Err, MatchResult}
 use Rattle.bridge_io.specs.declared.place.Place.{Place}
 use Rattle.bridge_jobs.specs.Headers.{header_of, body_length}
 use Rattle.bridge_jobs.specs.declared.header.Header.{Header}
@@ -62,6 +62,12 @@ abbrev pub with_body : Header → List ℕ → Frame
 with_body (header.Mpd now length) body = frame.Mpd now body
 with_body (header.Reset now length) body = frame.Reset now body
 with_body (header.Tick now) body = frame.Tick now
+
+-- the instant of a frame
+abbrev pub now_of : Frame → ℤ
+now_of (frame.Mpd now body) = now
+now_of (frame.Reset now body) = now
+now_of (frame.Tick now) = now
 
 -- the frame of a header, the place behind it, and the bytes from there on, where the body begins at a place; a stream
 -- that ends inside the body is refused at its end

@@ -50,3 +50,9 @@ abbrev pub body_length : Header → ℕ
 body_length (Mpd now length) = length
 body_length (Reset now length) = length
 body_length (Tick now) = 0
+
+-- the instant of a header
+abbrev pub instant_at : Header → ℤ
+instant_at (Mpd now length) = now
+instant_at (Reset now length) = now
+instant_at (Tick now) = now

@@ -2,7 +2,7 @@
 use Rattle.std.specs.Prelude.{ℕ, ℤ, ◌-◌, ◌&&◌, nat_le, Bool, codes, List, [], ◌∷◌, length, if◌then◌else◌, Option, Some, None, option_and_then, option_map, unwrap_or, IfSome, IsTrue}
 use Rattle.std.specs.Result.{result_ok}
 use Rattle.clap.specs.Words.{Row, Text, first_of}
-use Rattle.iso_time.specs.Instant.{instant_of}
+use Rattle.iso_time.specs.Instant.{instant_of, IsReadable}
 use Rattle.bridge_io.specs.Names.{is_name}
 use Rattle.bridge_jobs.specs.declared.verb.Verb.{Verb}
 use Rattle.bridge_jobs.specs.declared.verb.Verb.TheVariants as verb
@@ -160,3 +160,13 @@ folder_of (job.Make seed out digits) = Some out
 -- and it leaves room for their names
 abbrev pub HasFolder : Job → Type 0
 HasFolder job = IfSome (folder_of job) (λ folder. IsTrue (is_folder folder))
+
+-- the instant at which a job reads a live MPD
+abbrev pub now_of_job : Job → Option ℤ
+now_of_job (job.Hls mpd base now out digits) = now
+now_of_job (job.Show file base now digits) = now
+now_of_job other = None
+
+-- and it is one that can be read and written
+abbrev pub HasReadableNow : Job → Type 0
+HasReadableNow job = IfSome (now_of_job job) IsReadable

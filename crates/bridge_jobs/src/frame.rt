@@ -1,10 +1,11 @@
 // Frames of a stream.
-ghost use Rattle.std.specs.Prelude.{◌≡◌, ◌≤◌, ◌<◌, ◌^◌, length, IfOk, IsErrOf};
+ghost use Rattle.std.specs.Prelude.{◌≡◌, ◌≤◌, ◌<◌, ◌^◌, ◌+◌, length, IfOk, IfSome, IsErrOf};
 ghost use Rattle.std.specs.Option.{option_map};
 ghost use Rattle.bridge_io.specs.Fault.{HasCause};
 ghost use Rattle.bridge_jobs.specs.declared.frame.FrameFault.TheVariants.{Fault};
-ghost use Rattle.bridge_jobs.specs.Frames.{IsFramePos, IsNoFrame, IsNear, IsBehind, ReadsFrom, framed_as, next_frame, frame_by_line, body_of, header_at, behind, with_body, most_frames, most_header};
-ghost use Rattle.bridge_jobs.specs.Headers.{body_length};
+ghost use Rattle.bridge_jobs.specs.Frames.{IsFramePos, IsNoFrame, IsNear, IsBehind, ReadsFrom, framed_as, next_frame, frame_by_line, body_of, header_at, behind, now_of, with_body, most_frames, most_header};
+ghost use Rattle.bridge_jobs.specs.Headers.{body_length, instant_at};
+ghost use Rattle.iso_time.specs.Instant.{IsReadable};
 
 use crate::header::Header;
 use crate::input::{read_line, read_up_to};
@@ -117,6 +118,8 @@ pub fn read_frame<I: Source>(
     ensures frame { ReadsFrom (λ frame rest. option_map (λ f. framed_as f at.new rest) frame) result (I.remaining input.old) (I.remaining input.new) (next_frame at.old) }
     ensures stays { IsNoFrame result → at.new ≡ at.old }
     ensures kept { IsFramePos at.new }
+    ensures counts { IfOk result (λ frame. IfSome frame (λ f. at.new.frames ≡ at.old.frames + 1)) }
+    ensures readable { IfOk result (λ frame. IfSome frame (λ f. IsReadable (now_of f))) }
     ensures cause { HasCause Fault (I.faults input.old) (I.faults input.new) result }
 {
     let line = read_line(alloc, input, MAX_HEADER)?;
@@ -143,6 +146,8 @@ fn read_framed<I: Source>(
     requires line { length line.now ≤ most_header }
     ensures frame { ReadsFrom (λ x rest. framed_as x.0 x.1 rest) result (I.remaining input.old) (I.remaining input.new) (frame_by_line at line.now) }
     ensures kept { IfOk result (λ x. IsFramePos x.1) }
+    ensures counts { IfOk result (λ x. x.1.frames ≡ at.frames + 1) }
+    ensures readable { IfOk result (λ x. IsReadable (now_of x.0)) }
     ensures cause { HasCause Fault (I.faults input.old) (I.faults input.new) result }
 {
     let header = header_at(at.place, line)?;
@@ -158,6 +163,7 @@ fn header_at(place: Place, line: &[u8]) -> Result<Header, FrameFault>
     ensures header { result ≡ header_at place line.now }
     ensures told { IsErrOf result Fault → ⊥ }
     ensures small { IfOk result (λ header. body_length header ≤ 8388608) }
+    ensures readable { IfOk result (λ header. IsReadable (instant_at header)) }
 {
     match line.strip_suffix(b"\n".as_slice()) {
         Some(text) => Header::of(text).ok_or(FrameFault::Header(place)),
@@ -178,6 +184,7 @@ fn read_body<I: Source>(
     requires small { body_length header.now ≤ 8388608 }
     ensures frame { ReadsFrom (λ x rest. (x.0, x.1, rest)) result (I.remaining input.old) (I.remaining input.new) (body_of place header.now) }
     ensures place { IfOk result (λ x. IsBehind (body_length header.now) place x.1) }
+    ensures now { IfOk result (λ x. now_of x.0 ≡ instant_at header.now) }
     ensures cause { HasCause Fault (I.faults input.old) (I.faults input.new) result }
 {
     let length = header.length();
@@ -202,7 +209,8 @@ fn behind(place: Place, bytes: &[u8]) -> Place
 }
 
 fn framed(header: &Header, body: Bytes) -> Frame
-    ensures { result ≡ with_body header.now body }
+    ensures frame { result ≡ with_body header.now body }
+    ensures now { now_of result ≡ instant_at header.now }
 {
     match header {
         Header::Mpd { now, .. } => Frame::Mpd { now: *now, body },

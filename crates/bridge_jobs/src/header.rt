@@ -1,6 +1,7 @@
 // Headers of frames.
 ghost use Rattle.std.specs.Prelude.{◌≡◌, ◌≤◌, ◌<◌, ◌==◌, IfSome, length, option_map, position};
-ghost use Rattle.bridge_jobs.specs.Headers.{cut_at_space, header_of, length_of, manifest_of, body_length};
+ghost use Rattle.bridge_jobs.specs.Headers.{cut_at_space, header_of, length_of, manifest_of, body_length, instant_at};
+ghost use Rattle.iso_time.specs.Instant.{IsReadable};
 ghost use Rattle.bridge_jobs.specs.Jobs.{instant_in};
 
 use crate::decimal::{decimal, text_of};
@@ -26,6 +27,7 @@ impl Header {
     pub fn of(line: &[u8]) -> Option<Header>
         ensures header { result ≡ header_of line.now }
         ensures small { IfSome result (λ header. body_length header ≤ 8388608) }
+        ensures readable { IfSome result (λ header. IsReadable (instant_at header)) }
     {
         let (word, rest) = cut_at_space(line)?;
         if word == b"mpd".as_slice() {
@@ -59,6 +61,7 @@ impl Header {
 fn manifest(text: &[u8]) -> Option<(Instant, u32)>
     ensures parts { result ≡ manifest_of text.now }
     ensures small { IfSome result (λ p. p.1 ≤ 8388608) }
+    ensures readable { IfSome result (λ p. IsReadable p.0) }
 {
     let (now, length) = cut_at_space(text)?;
     let now = instant(now)?;
@@ -82,7 +85,8 @@ fn first_space(text: &[u8]) -> Option<usize>
 }
 
 fn instant(text: &[u8]) -> Option<Instant>
-    ensures { result ≡ instant_in text.now }
+    ensures instant { result ≡ instant_in text.now }
+    ensures readable { IfSome result IsReadable }
 {
     let text = text_of(text)?;
     read_instant(text).ok()

@@ -2,6 +2,7 @@
 ghost use Rattle.std.specs.Prelude.{◌≡◌, ℕ, List, map, option_map, IfOk, IfSome, IsTrue};
 ghost use Rattle.bridge_jobs.specs.Jobs.{base_of, digits_in, digits_of, file_of, folder_in, is_folder, name_in, now_of, out_of, seed_of};
 ghost use Rattle.bridge_jobs.specs.Verbs.{values_of};
+ghost use Rattle.iso_time.specs.Instant.{IsReadable};
 
 use crate::decimal::decimal;
 use crate::verb::Verb;
@@ -83,7 +84,8 @@ impl<'a> Values<'a> {
     /// The instant of the job, where it is written.
     #[tactic(auto, unfolding(crate::specs::Jobs::now_of))]
     pub fn now(&self) -> Option<Option<Instant>>
-        ensures { result ≡ now_of self.now }
+        ensures now { result ≡ now_of self.now }
+        ensures readable { IfSome result (λ now. IfSome now IsReadable) }
     {
         match self.text("now") {
             Some(text) => Some(Some(read_instant(text).ok()?)),

@@ -1,6 +1,6 @@
 // The job that words are.
 ghost use Rattle.std.specs.Prelude.{◌≡◌, IfOk, IfSome, map};
-ghost use Rattle.bridge_jobs.specs.Jobs.{HasFolder, first_verb, job_by, job_of, hls_of, dash_of, follow_of, show_of, check_of, reload_of, make_of};
+ghost use Rattle.bridge_jobs.specs.Jobs.{HasFolder, HasReadableNow, first_verb, job_by, job_of, hls_of, dash_of, follow_of, show_of, check_of, reload_of, make_of};
 
 use crate::Job;
 use crate::values::Values;
@@ -12,6 +12,7 @@ use std::alloc::{AllocError, Global};
 pub fn job(alloc: Global, words: &[Text]) -> Result<Option<Job>, NoMemory>
     ensures job { IfOk result (λ job. job ≡ job_of words.now) }
     ensures folder { IfOk result (λ job. IfSome job HasFolder) }
+    ensures readable { IfOk result (λ job. IfSome job HasReadableNow) }
 {
     let words = texts(alloc, words)?;
     job_in(alloc, words.as_slice())
@@ -31,6 +32,7 @@ fn texts<'a>(alloc: Global, words: &'a [Text]) -> Result<Vec<&'a str>, AllocErro
 fn job_in(alloc: Global, words: &[&str]) -> Result<Option<Job>, NoMemory>
     ensures job { IfOk result (λ job. job ≡ job_of (map (λ word. word.now) words.now)) }
     ensures folder { IfOk result (λ job. IfSome job HasFolder) }
+    ensures readable { IfOk result (λ job. IfSome job HasReadableNow) }
 {
     let Some(verb) = first_verb(words) else {
         return Ok(None);
@@ -54,6 +56,7 @@ fn first_verb(words: &[&str]) -> Option<Verb>
 fn job_by(alloc: Global, verb: Verb, values: &Values) -> Result<Option<Job>, NoMemory>
     ensures job { IfOk result (λ job. job ≡ job_by verb values.now) }
     ensures folder { IfOk result (λ job. IfSome job HasFolder) }
+    ensures readable { IfOk result (λ job. IfSome job HasReadableNow) }
 {
     match verb {
         Verb::Hls => hls(alloc, values),
@@ -70,6 +73,7 @@ fn job_by(alloc: Global, verb: Verb, values: &Values) -> Result<Option<Job>, NoM
 fn hls(alloc: Global, values: &Values) -> Result<Option<Job>, NoMemory>
     ensures job { IfOk result (λ job. job ≡ hls_of values.now) }
     ensures folder { IfOk result (λ job. IfSome job HasFolder) }
+    ensures readable { IfOk result (λ job. IfSome job HasReadableNow) }
 {
     let Some(mpd) = values.file(alloc, "mpd")? else {
         return Ok(None);
@@ -99,6 +103,7 @@ fn hls(alloc: Global, values: &Values) -> Result<Option<Job>, NoMemory>
 fn dash(alloc: Global, values: &Values) -> Result<Option<Job>, NoMemory>
     ensures job { IfOk result (λ job. job ≡ dash_of values.now) }
     ensures folder { IfOk result (λ job. IfSome job HasFolder) }
+    ensures readable { IfOk result (λ job. IfSome job HasReadableNow) }
 {
     let Some(master) = values.file(alloc, "master")? else {
         return Ok(None);
@@ -116,6 +121,7 @@ fn dash(alloc: Global, values: &Values) -> Result<Option<Job>, NoMemory>
 fn follow(alloc: Global, values: &Values) -> Result<Option<Job>, NoMemory>
     ensures job { IfOk result (λ job. job ≡ follow_of values.now) }
     ensures folder { IfOk result (λ job. IfSome job HasFolder) }
+    ensures readable { IfOk result (λ job. IfSome job HasReadableNow) }
 {
     let Some(name) = values.file(alloc, "name")? else {
         return Ok(None);
@@ -141,6 +147,7 @@ fn follow(alloc: Global, values: &Values) -> Result<Option<Job>, NoMemory>
 fn show(alloc: Global, values: &Values) -> Result<Option<Job>, NoMemory>
     ensures job { IfOk result (λ job. job ≡ show_of values.now) }
     ensures folder { IfOk result (λ job. IfSome job HasFolder) }
+    ensures readable { IfOk result (λ job. IfSome job HasReadableNow) }
 {
     let Some(file) = values.file(alloc, "file")? else {
         return Ok(None);
@@ -166,6 +173,7 @@ fn show(alloc: Global, values: &Values) -> Result<Option<Job>, NoMemory>
 fn check(alloc: Global, values: &Values) -> Result<Option<Job>, NoMemory>
     ensures job { IfOk result (λ job. job ≡ check_of values.now) }
     ensures folder { IfOk result (λ job. IfSome job HasFolder) }
+    ensures readable { IfOk result (λ job. IfSome job HasReadableNow) }
 {
     let Some(mpd) = values.file(alloc, "mpd")? else {
         return Ok(None);
@@ -191,6 +199,7 @@ fn check(alloc: Global, values: &Values) -> Result<Option<Job>, NoMemory>
 fn reload(alloc: Global, values: &Values) -> Result<Option<Job>, NoMemory>
     ensures job { IfOk result (λ job. job ≡ reload_of values.now) }
     ensures folder { IfOk result (λ job. IfSome job HasFolder) }
+    ensures readable { IfOk result (λ job. IfSome job HasReadableNow) }
 {
     let Some(old) = values.file(alloc, "old")? else {
         return Ok(None);
@@ -208,6 +217,7 @@ fn reload(alloc: Global, values: &Values) -> Result<Option<Job>, NoMemory>
 fn make(alloc: Global, values: &Values) -> Result<Option<Job>, NoMemory>
     ensures job { IfOk result (λ job. job ≡ make_of values.now) }
     ensures folder { IfOk result (λ job. IfSome job HasFolder) }
+    ensures readable { IfOk result (λ job. IfSome job HasReadableNow) }
 {
     let Some(seed) = values.seed() else {
         return Ok(None);
