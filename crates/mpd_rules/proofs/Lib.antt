@@ -1,6 +1,9 @@
 pub mod Bounding
 pub mod Building
 pub mod Fitting
+pub mod Ids
 pub mod Meaning
+pub mod Ranges
+pub mod Readable
 pub mod Refusing
 pub mod Walking

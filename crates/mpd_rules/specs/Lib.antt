@@ -1,8 +1,11 @@
 pub mod Built
 pub mod Fits
 pub mod Held
+pub mod Indexes
 pub mod Kept
+pub mod Laws
 pub mod Periods
+pub mod Ranges
 pub mod Readings
 pub mod Rules
 pub mod Typed

@@ -50,7 +50,8 @@ impl Building {
         common: &Common,
         above: &Level,
     ) -> Result<TrackRow<X>, RuleFault>
-        requires { FitsTrack (element_of node) }
+        requires fits { FitsTrack (element_of node) }
+        requires said { (levels : List Element) × Says self.now.tables above.now levels }
         ensures grows { Grows self.old.tables self.new.tables }
         ensures left_out { self.new.left_out ≡ self.old.left_out }
         ensures refused { (levels : List Element) → Says self.old.tables above.now levels
@@ -76,7 +77,8 @@ impl Building {
         common: &Common,
         above: &Level,
     ) -> Result<(), RuleFault>
-        requires { All FitsTrack (map element_of representations.now) }
+        requires fits { All FitsTrack (map element_of representations.now) }
+        requires said { (levels : List Element) × Says self.now.tables above.now levels }
         ensures grows { Grows self.old.tables self.new.tables }
         ensures left_out { self.new.left_out ≡ self.old.left_out }
         ensures refused { (levels : List Element) → Says self.old.tables above.now levels
@@ -100,7 +102,8 @@ impl Building {
         place: usize,
         above: &Above,
     ) -> Result<(), RuleFault>
-        requires { FitsSet (element_of set) }
+        requires fits { FitsSet (element_of set) }
+        requires said { (levels : List Element) × Says self.now.tables above.now.level levels }
         ensures grows { Grows self.old.tables self.new.tables }
         ensures left_out { OnOk result (length self.new.left_out ≡ length self.old.left_out + left_in_set (element_of set.entry)) }
         ensures refused { (levels : List Element) → Says self.old.tables above.now.level levels
@@ -128,7 +131,8 @@ impl Building {
         sets: &[Node<'_>],
         above: &Above,
     ) -> Result<Sequence<TrackRow<X>>, RuleFault>
-        requires { All FitsSet (map element_of sets.now) }
+        requires fits { All FitsSet (map element_of sets.now) }
+        requires said { (levels : List Element) × Says self.now.tables above.now.level levels }
         ensures grows { Grows self.old.tables self.new.tables }
         ensures left_out { OnOk result (length self.new.left_out ≡ length self.old.left_out + sum_by left_in_set (map element_of sets.now)) }
         ensures refused { (levels : List Element) → Says self.old.tables above.now.level levels

@@ -1,5 +1,6 @@
 // Files with an index inside.
-ghost use Rattle.std.specs.Prelude.{◌≡◌, None, Some, if◌then◌else◌, option_map};
+ghost use Rattle.std.specs.Prelude.{◌≡◌, IfSome, None, Some, if◌then◌else◌, option_map};
+ghost use Rattle.mpd_rules.specs.Ranges.{IsSomeBytes};
 
 use mpd_levels::{IndexRow, InitView};
 use url_parts::Range;
@@ -10,6 +11,7 @@ pub struct FileIndex {
     range: Range,
     row: IndexRow,
     ghost told: { row.range ≡ Some range },
+    ghost bytes: { IsSomeBytes range },
 }
 
 impl FileIndex {
@@ -18,6 +20,7 @@ impl FileIndex {
 
     /// There is none exactly where something lacks.
     pub(crate) fn of(row: IndexRow) -> Option<FileIndex>
+        requires { IfSome row.range IsSomeBytes }
         ensures { option_map (λ index. index.row) result ≡ (if lacks_index row then None else Some row) }
     {
         let range = row.range()?;
@@ -29,7 +32,8 @@ impl FileIndex {
 
     /// The bytes of the index.
     pub(crate) fn range(&self) -> Range
-        ensures { self.now.row.range ≡ Some result }
+        ensures told { self.now.row.range ≡ Some result }
+        ensures bytes { IsSomeBytes result }
     {
         self.range
     }

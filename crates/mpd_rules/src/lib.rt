@@ -7,6 +7,7 @@ mod common;
 mod facts;
 mod file_index;
 mod frame_rate;
+pub mod laws;
 mod passes;
 mod periods;
 mod readings;
@@ -36,6 +37,12 @@ pub type IndexedMpd = TypedMpd<FileIndex>;
 
 /// A Period of it.
 pub type IndexedPeriod<'a> = TypedPeriod<'a, FileIndex>;
+
+/// The Periods of it, in order.
+pub type IndexedPeriodWalk<'a> = PeriodWalk<'a, FileIndex>;
+
+/// The Representations of a Period that are kept, in document order.
+pub type IndexedWalk<'a> = RepWalk<'a, FileIndex>;
 
 /// A Representation of it.
 pub type IndexedRep<'a> = TrackView<'a, FileIndex>;

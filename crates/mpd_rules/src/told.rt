@@ -32,6 +32,7 @@ pub(crate) trait Told: Drop {
 
     /// The row of a Representation that stands at a place, or why it is refused.
     fn told(level: &Level, place: Place) -> Result<Self, RuleFault>
+        requires { (tables : Tables) × (levels : List Element) × Says tables level.now levels }
         ensures refused { (tables : Tables) (levels : List Element) → Says tables level.now levels → Gives (λ _. tt) refusal result (first_of (refused place (of levels))) }
         ensures row { (tables : Tables) (levels : List Element) → Says tables level.now levels → IfOk result (λ row. of levels ≡ Some (shown tables row)) };
 }

@@ -21,16 +21,20 @@ pub struct TypedMpd<X> {
 }
 
 impl<X> Model for TypedMpd<X> {
-    ghost use Rattle.std.specs.Prelude.{length};
+    ghost use Rattle.std.specs.Prelude.{IfSome, length};
+    ghost use Rattle.iso_time.specs.Instant.{IsReadable};
     ghost use Rattle.mpd_rules.specs.Held.{Held, held_of};
 
     ghost Value = { Held X };
 
     ghost view = { λ m. held_of m.tables m.facts (length m.left_out) m.periods };
+
+    ghost invariant = { λ m. IfSome m.facts.availability_start IsReadable };
 }
 
 impl<X> TypedMpd<X> {
-    ghost use Rattle.std.specs.Prelude.{length};
+    ghost use Rattle.std.specs.Prelude.{IfSome, length};
+    ghost use Rattle.iso_time.specs.Instant.{IsReadable};
     ghost use Rattle.mpd_rules.specs.Held.{held_of};
     ghost use Rattle.mpd_rules.specs.Views.{periods_left, tables_under};
 
@@ -40,6 +44,7 @@ impl<X> TypedMpd<X> {
         tables: Tables,
         periods: Sequence<PeriodRow<X>>,
     ) -> TypedMpd<X>
+        requires { IfSome facts.availability_start IsReadable }
         ensures { result ≡ held_of tables facts (length left_out) periods }
     {
         TypedMpd {
@@ -59,7 +64,8 @@ impl<X> TypedMpd<X> {
 
     /// When the presentation begins to be available (ISO/IEC 23009-1, 5.3.1.2).
     pub fn availability_start(&self) -> Option<Instant>
-        ensures { result ≡ self.now.values.facts.availability_start }
+        ensures value { result ≡ self.now.values.facts.availability_start }
+        ensures readable { IfSome result IsReadable }
     {
         self.facts.availability_start
     }

@@ -1,5 +1,5 @@
 // Periods and Representations as they are shown.
-ghost use Rattle.std.specs.Prelude.{◌≡◌, Some, option_map};
+ghost use Rattle.std.specs.Prelude.{◌≡◌, ◌+◌, ◌<◌, ◌≤◌, ◌^◌, Some, option_map};
 
 use crate::file_index::FileIndex;
 use crate::rows::{PeriodRow, TrackRow};
@@ -242,7 +242,9 @@ impl<'a> TrackView<'a, FileIndex> {
 
     /// The bytes of its file's index (ISO/IEC 23009-1, 5.3.9.2).
     pub fn index_range(&self) -> Range
-        ensures { (index_in (track_in self.now).segments).range ≡ Some result }
+        ensures told { (index_in (track_in self.now).segments).range ≡ Some result }
+        ensures some { 0 < result.count }
+        ensures bounded { result.first + result.count ≤ 2 ^ 63 }
     {
         self.row.segments.range()
     }

@@ -1,4 +1,5 @@
 use Rattle.std.proofs.Common.{◌≡◌, Ok, Some, map, length, ap, sym, ◌∙◌, arith}
+use Rattle.std.specs.Prelude.{codes}
 use Rattle.std.proofs.lemmas.List.{length-map}
 use Rattle.std.proofs.lemmas.Result.{err_from_is_err_and}
 use Rattle.mpd_text.specs.Nodes.{element_of}
@@ -8,6 +9,7 @@ use Rattle.mpd_rules.specs.Periods.{bounds_of, first_start, period_bounds, perio
 use Rattle.mpd_rules.specs.Rules.{paths_told, refusals_behind, refused_at, silence_in, static_told}
 use Rattle.mpd_rules.specs.Typed.{values_with}
 use Rattle.mpd_rules.proofs.Meaning.{all_passed, bounds_count, fourth_first, mpd_is, no_period_left, periods_are, periods_told, silence_same, third_first}
+use Rattle.mpd_rules.proofs.Readable.{named_readable}
 use Rattle.mpd_rules.proofs.Refusing.{none_first, none_told, one_first, unless_first}
 use Rattle.mpd_rules.proofs.passes.values.Goals as goal
 
@@ -46,6 +48,9 @@ returns-in_err-check_silence g c =
     rw (p.1, p.2) (unless_first c.in_err-check_silence.field-0.0 (refusals_behind c.args.many g.X.Told.refused g.X.Told.of e) (values_with g.X.Told.of e)
     (fourth_first c.in_err-check_silence.field-0.0 (period_refusals e) (static_told c.args.many e) (paths_told c.args.many (refused_at g.X.Told.refused g.X.Told.of) e 0 (periods_of e)) (silence_in e.head.place (values_with g.X.Told.of e).periods) _
     bounds.0 static told silence (rw (c.place.ensures, c.as_slice-2.ensures) at first)))
+
+pub of-requires : goal.of-requires
+of-requires g c = rw c.facts_of.ensures (named_readable (codes "availabilityStartTime") (element_of c.args.mpd).head)
 
 pub returns : goal.returns
 returns g c =

@@ -9,9 +9,14 @@ use Rattle.mpd_rules.proofs.Refusing.{first_of_more, none_first}
 use Rattle.mpd_rules.proofs.Walking.{all_here, one_left}
 use Rattle.mpd_rules.proofs.build.Building.add_tracks.Goals as goal
 
-pub track-requires : goal.track-requires
-track-requires g c =
-    all_here element_of FitsTrack c.args.representations.now c.loop-representation.representation-index c.representation-item.result c.requires c.loop-representation-test.true c.representation-item.is
+pub track-requires-clause-fits : goal.track-requires-clause-fits
+track-requires-clause-fits g c =
+    let i = c.loop-representation.representation-index in
+    all_here element_of FitsTrack c.args.representations.now i c.representation-item.result c.requires.fits c.loop-representation-test.true
+    c.representation-item.is
+
+pub track-requires-clause-said : goal.track-requires-clause-said
+track-requires-clause-said g c = let said = c.requires.said in (said.0, Says-grows c.loop-representation.invariant.grows said.1)
 
 pub returns-in_err-track-clause-refused : goal.returns-in_err-track-clause-refused
 returns-in_err-track-clause-refused g c = λ levels says.

@@ -5,8 +5,12 @@ use Rattle.mpd_levels.proofs.Showing.{Grows-then}
 use Rattle.mpd_rules.specs.Fits.{FitsSet}
 use Rattle.mpd_rules.proofs.build.Building.period.Goals as goal
 
-pub tracks-requires : goal.tracks-requires
-tracks-requires g c = subst (All FitsSet) (sym (ap (map element_of) c.deref.ensures.value ∙ c.in_ok-sets.ensures.kept)) c.requires.sets
+pub tracks-requires-clause-fits : goal.tracks-requires-clause-fits
+tracks-requires-clause-fits g c = subst (All FitsSet) (sym (ap (map element_of) c.deref.ensures.value
+    ∙ c.in_ok-sets.ensures.kept)) c.requires.sets
+
+pub tracks-requires-clause-said : goal.tracks-requires-clause-said
+tracks-requires-clause-said g c = (element_of c.args.period ∷ [], c.in_ok-level.ensures.says [] (c.top.ensures c.args.self.now.tables))
 
 pub returns-in_err-tracks-clause-grows : goal.returns-in_err-tracks-clause-grows
 returns-in_err-tracks-clause-grows g c = Grows-then c.below.ensures.grows c.tracks.ensures.grows

@@ -4,6 +4,13 @@ use Rattle.mpd_text.specs.Nodes.{element_of}
 use Rattle.mpd_rules.proofs.Building.{Says-grows}
 use Rattle.mpd_rules.proofs.build.Building.track.Goals as goal
 
+pub told-requires : goal.told-requires
+told-requires g c = let said = c.requires.said in (
+  c.below.new.tables,
+  element_of c.args.node ∷ said.0,
+  c.in_ok-level.ensures.says said.0 said.1,
+)
+
 pub returns-in_err-segments-clause-refused : goal.returns-in_err-segments-clause-refused
 returns-in_err-segments-clause-refused g c = λ levels says.
     let p = err_from_is_err_and c.from_residual-in_err-segments.result c.from_residual-in_err-segments.ensures.1 in

@@ -12,8 +12,13 @@ use Rattle.mpd_rules.proofs.Refusing.{first_of_more, none_first}
 use Rattle.mpd_rules.proofs.Walking.{all_here, one_left}
 use Rattle.mpd_rules.proofs.build.Building.tracks.Goals as goal
 
-pub add_set-requires : goal.add_set-requires
-add_set-requires g c = all_here element_of FitsSet c.args.sets.now c.loop-place.place c.index-sets-place.result c.requires c.loop-place-test.true c.index-sets-place.is
+pub add_set-requires-clause-fits : goal.add_set-requires-clause-fits
+add_set-requires-clause-fits g c =
+    all_here element_of FitsSet c.args.sets.now c.loop-place.place c.index-sets-place.result c.requires.fits c.loop-place-test.true
+    c.index-sets-place.is
+
+pub add_set-requires-clause-said : goal.add_set-requires-clause-said
+add_set-requires-clause-said g c = let said = c.requires.said in (said.0, Says-grows c.loop-place.invariant.grows said.1)
 
 pub returns-in_err-add_set-clause-grows : goal.returns-in_err-add_set-clause-grows
 returns-in_err-add_set-clause-grows g c = Grows-then c.loop-place.invariant.grows c.add_set.ensures.grows

@@ -1,7 +1,8 @@
-use Rattle.std.proofs.Common.{◌≡◌, refl, ap, sym, ◌∙◌, Bool, true, false, Some, None}
+use Rattle.std.proofs.Common.{◌≡◌, refl, ap, sym, ◌∙◌, subst, Bool, true, false, IfSome, Option, Some, None}
 use Rattle.std.specs.Prelude.{if◌then◌else◌}
 use Rattle.mpd_levels.specs.Indexed.{lacks_index}
 use Rattle.mpd_levels.specs.declared.indexed.IndexRow.{IndexRow}
+use Rattle.mpd_rules.proofs.Ranges.{HasBytes, index_bytes}
 use Rattle.mpd_rules.proofs.told.FileIndexTold.told.Goals as goal
 
 lacking : (b : Bool) (row : IndexRow) → None ≡ (if b then None else Some row) → b ≡ true
@@ -11,6 +12,10 @@ lacking false row is = absurd (cc)
 whole : (b : Bool) (row kept : IndexRow) → Some kept ≡ (if b then None else Some row) → (b ≡ false) × (row ≡ kept)
 whole true row kept is = absurd (cc)
 whole false row kept is = (refl, cc)
+
+pub of-requires : goal.of-requires
+of-requires c = let says = c.requires in
+    subst (λ (o : Option IndexRow). IfSome o HasBytes) (sym (c.in_ok-row.ensures says.0 says.1 says.2) ∙ c.in-Some.is) (index_bytes says.1)
 
 pub returns-in_default-clause-refused : goal.returns-in_default-clause-refused
 returns-in_default-clause-refused c = λ tables levels says. rw (sym (c.in_ok-row.ensures tables levels says), c.in_default.is) refl

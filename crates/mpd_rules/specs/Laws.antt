@@ -1,0 +1,34 @@
+-- Laws of the values of MPDs.
+use Rattle.std.specs.Prelude.{◌≡◌, ℕ, ◌&&◌, not, Bool, true, List, [], ◌∷◌, map, bytes_eq, is_some, All, IfSome, Option, Ok, unwrap_or}
+use Rattle.std.specs.List.{list_any}
+use Rattle.iso_time.specs.Instant.{IsReadable}
+use Rattle.mpd_text.specs.Trees.{Element}
+use Rattle.mpd_levels.specs.Segments.{Segments}
+use Rattle.mpd_rules.specs.declared.rows.PeriodRow.{PeriodRow}
+use Rattle.mpd_rules.specs.Rules.{typed_mpd_of}
+use Rattle.mpd_rules.specs.Typed.{TypedMpd}
+
+-- ---- the ids of Periods (ISO/IEC 23009-1, 5.3.2.2)
+
+-- none of some ids stands twice
+abbrev pub are_once : List (List ℕ) → Bool
+are_once [] = true
+are_once (id ∷ ids) = not (list_any (bytes_eq id) ids) && are_once ids
+
+abbrev pub ids_of : {X : Type 0} → List (PeriodRow X) → List (List ℕ)
+ids_of periods = map (λ (period : PeriodRow _). unwrap_or period.id []) periods
+
+-- each Period has an id, and no other one has it
+pub record HaveOwnIds {X : Type 0} (periods : List (PeriodRow X)) : Type 0 where
+  pub there : All (λ (period : PeriodRow X). is_some period.id ≡ true) periods
+  pub once : are_once (ids_of periods) ≡ true
+
+abbrev pub PeriodIdsDiffer : Type 0
+PeriodIdsDiffer = (tree : Element) (mpd : TypedMpd (Option Segments)) → typed_mpd_of tree ≡ Ok mpd → mpd.facts.live ≡ true
+    → HaveOwnIds mpd.periods
+
+-- ---- when an MPD's presentation begins to be available (ISO/IEC 23009-1, 5.3.1.2)
+
+abbrev pub StartsAreReadable : Type 0
+StartsAreReadable = (tree : Element) (mpd : TypedMpd (Option Segments)) → typed_mpd_of tree ≡ Ok mpd
+    → IfSome mpd.facts.availability_start IsReadable
