@@ -4,7 +4,7 @@ use Rattle.std.specs.Prelude.{codes, bytes_eq, length}
 use Rattle.std.specs.List.{list_all, position_or_len, suffix_len}
 use Rattle.std.proofs.lemmas.List.{append_assoc, take-append-drop}
 use Rattle.std.specs.Result.{result_ok}
-use Rattle.std.proofs.lemmas.Bool.{cases_Bool}
+use Rattle.std.proofs.lemmas.Bool.{cases_Bool, cond-true}
 use Rattle.std.proofs.lemmas.Slice.Eq.{bytes_eq-Decides}
 use Rattle.url.specs.declared.scheme.SchemeType.TheVariants.{SpecialNotFile}
 use Rattle.url.specs.Scheme.{scheme_type, default_port, is_special}
@@ -12,7 +12,7 @@ use Rattle.url.specs.Parser.{parse_url}
 use Rattle.url.specs.Parts.{Parts, kind_of, IsValid}
 use Rattle.url.proofs.ValidLemmas.{special_has_authority}
 use Rattle.url.proofs.Theorems.{parse_url-serialize_special}
-use Rattle.url_parts.specs.Addresses.{is_address_byte, is_web, text_of, accepted_url, absolute, is_absolute, url_of, is_tail, without_tail, folder_of, IsAddress, IsBaseUrl}
+use Rattle.url_parts.specs.Addresses.{is_address_byte, is_web, text_of, accepted_url, accepted, absolute, is_absolute, url_of, resolve, is_tail, without_tail, folder_of, IsAddress, IsBase, IsBaseUrl}
 
 -- what holds of both schemes holds of each web scheme
 pub at_web : (P : List ℕ → Type 0) (scheme : List ℕ) → is_web scheme ≡ true → P (codes "http") → P (codes "https") → P scheme
@@ -50,18 +50,26 @@ own_url url is = ap result_ok (parse_own_text url None is)
 begins_web : (scheme rest : List ℕ) → is_web scheme ≡ true → is_absolute (scheme ++ (codes "://" ++ rest)) ≡ true
 begins_web scheme rest web = at_web (λ s. is_absolute (s ++ (codes "://" ++ rest)) ≡ true) scheme web refl refl
 
-own_text_is_absolute : (url : Parts) → IsBaseUrl url → is_absolute (text_of url) ≡ true
+own_text_is_absolute : (url : Parts) → IsValid url → is_web url.scheme ≡ true → is_absolute (text_of url) ≡ true
 unfolding text_of
-own_text_is_absolute url is =
-    let authority = special_has_authority url is.valid.head (ap is_special (base_kind url is)) in
-    rw authority (begins_web url.scheme _ (web_from_accepted url _ is.accepted))
+own_text_is_absolute url valid web =
+    let authority = special_has_authority url valid.head (ap is_special (kind_of_web url.scheme web)) in
+    rw authority (begins_web url.scheme _ web)
+
+-- the text of a web URL is resolved to itself, unless it is no address
+pub resolve_web_text : (url : Parts) (base : List ℕ) → IsValid url → is_web url.scheme ≡ true → resolve base (text_of url) ≡ accepted_url url
+unfolding resolve absolute
+resolve_web_text url base valid web = cond-true _ _ _ (own_text_is_absolute url valid web) ∙ ap accepted (parse_web_text url None valid web)
 
 pub base_is_address : (url : Parts) → IsBaseUrl url → IsAddress (text_of url)
 unfolding absolute
 base_is_address url is = record {
-  web = own_text_is_absolute url is;
+  web = own_text_is_absolute url is.valid (web_from_accepted url _ is.accepted);
   normal = rw (parse_own_text url None is) is.accepted;
 }
+
+pub IsBase-address : (text : List ℕ) → IsBase text → IsAddress text
+IsBase-address text base = subst IsAddress base.spelled (base_is_address base.url base.is)
 
 -- a folder's text is the front of the text
 pub folder_front : (text : List ℕ) → (rest : List ℕ) × (text ≡ folder_of text ++ rest)

@@ -3,5 +3,6 @@ pub mod Relative
 pub mod Absolute
 pub mod Hosts
 pub mod LocalNames
+pub mod Neighbours
 pub mod Parsed
 pub mod Chains

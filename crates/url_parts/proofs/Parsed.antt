@@ -2,10 +2,11 @@
 use Rattle.std.proofs.Common.{◌≡◌, ℕ, ◌+◌, ◌-◌, ◌<◌, Bool, true, false, cond, not, ◌&&◌, ◌==◌, List, [], ◌∷◌, ◌++◌, length, get_or, take, drop, Option, Some, None, Result, Ok, Err, All, sym, refl, inl, ap, ◌∙◌, subst, ⊎_elim, arith, lit<}
 use Rattle.std.specs.Prelude.{codes, bytes_eq, unwrap_or, nat_lt, IfOk, IfSome, if◌then◌else◌}
 use Rattle.std.specs.Result.{result_ok}
-use Rattle.std.specs.List.{prefix_len, suffix_len}
+use Rattle.std.specs.List.{list_all, prefix_len, suffix_len}
 use Rattle.std.proofs.lemmas.Bool.{cond_both, cond-true, or_from, cases_Bool, and_parts, true≢false}
+use Rattle.std.proofs.lemmas.Bool.Decides.{nat_tests}
 use Rattle.std.proofs.lemmas.Slice.Eq.{bytes_eq-Decides}
-use Rattle.std.proofs.lemmas.List.Elements.{All-nil, All-cons, All-head, All-tail, All-push, All-take, All-drop, All-filter}
+use Rattle.std.proofs.lemmas.List.Elements.{All-nil, All-cons, All-head, All-tail, All-push, All-take, All-drop, All-filter, All-weaker}
 use Rattle.url.specs.declared.scheme.SchemeType.TheVariants.{File, SpecialNotFile, NotSpecial}
 use Rattle.url.specs.Input.{is_empty, is_c0_control_or_space, is_tab_or_new_line, trim_start, trim_c0_control_and_space, strip_tabs_and_new_lines, lowercase, split_once, rsplit_once}
 use Rattle.url.specs.Scheme.{IsScheme, scheme_type, scheme_len, is_special, is_file, is_slash}
@@ -13,6 +14,7 @@ use Rattle.url.specs.Host.{parse_host, parse_file_host, IsHostOf}
 use Rattle.url.specs.Path.{escape_end, is_windows_drive_letter, segment_len, push_segment, parse_segments, parse_path, parse_path_start, shorten_path, IsSegmentList}
 use Rattle.url.specs.Parts.{Parts, kind_of, cannot_be_a_base, IsHierarchicalPath, IsPortOf, IsValidHead, IsValidPath, IsValid}
 use Rattle.url.specs.Parser.{Parsed, and_then, after_slashes, after_file_double_slash, file_start, inherit_file, parse_not_file, is_fragment_only, split_port, lacks_host, with_path, parse_port, parse_authority, leading_slashes, after_double_slash, parse_non_special, parse_relative, inherit, parse_file, parse_body, parse_all, parse_parts, before_tail, split_scheme, base_for_scheme, parse_by_scheme, parse_url}
+use Rattle.url.proofs.InputLemmas.{Passes, All_from_list_all}
 use Rattle.url.proofs.SchemeLemmas.{file_from_scheme_type, file_from_is_file}
 use Rattle.url.proofs.PathLemmas.{IsNoSlash, no_segments, push_segment_valid, push_last_nonempty, shorten_valid}
 use Rattle.url.proofs.LayoutLemmas.{IsValidHead_same}
@@ -21,8 +23,8 @@ use Rattle.url.proofs.ValidLemmas.{IsValid-with_tail, special_has_authority, bas
 use Rattle.url.proofs.ParsedCanonical.{before_special}
 use Rattle.url_parts.specs.declared.fault.UrlFault.{UrlFault}
 use Rattle.url_parts.specs.Laws.{IsGivenAgain}
-use Rattle.url_parts.specs.Addresses.{is_web, accepted, accepted_url, absolute, is_absolute, url_of, text_of, resolve, IsAddress}
-use Rattle.url_parts.proofs.Bases.{at_web, kind_of_web, web_from_accepted, base_is_address}
+use Rattle.url_parts.specs.Addresses.{is_web, accepted, accepted_url, absolute, is_absolute, url_of, text_of, resolve, is_address_byte, IsAddress, IsBase}
+use Rattle.url_parts.proofs.Bases.{at_web, kind_of_web, web_from_accepted, bytes_from_accepted, IsBase-address}
 use Rattle.url_parts.proofs.Hosts.{IsHost, host_valid, port_valid}
 
 -- ---- steps
@@ -281,11 +283,25 @@ url_on_web base input valid all =
 accepted_text : (url : Parts) (text : List ℕ) → accepted_url url ≡ Ok text → text_of url ≡ text
 accepted_text url text is = grind arith
 
-accepted_is_address : (parsed : Parsed Parts) (text : List ℕ) → IfOk parsed IsValidOnWeb → accepted parsed ≡ Ok text → IsAddress text
-accepted_is_address (Err e) text valid is = cc
-accepted_is_address (Ok url) text valid is =
+accepted_is_base : (parsed : Parsed Parts) (text : List ℕ) → IfOk parsed IsValidOnWeb → accepted parsed ≡ Ok text → IsBase text
+accepted_is_base (Err e) text valid is = cc
+accepted_is_base (Ok url) text valid is =
     let spelled = accepted_text url text is in
-    subst IsAddress spelled (base_is_address url (record { valid = valid (web_from_accepted url text is); accepted = is ∙ ap Ok (sym spelled) }))
+    record { url = url; spelled = spelled; is = record { valid = valid (web_from_accepted url text is); accepted = is ∙ ap Ok (sym spelled) } }
+
+accepted_is_address : (parsed : Parsed Parts) (text : List ℕ) → IfOk parsed IsValidOnWeb → accepted parsed ≡ Ok text → IsAddress text
+accepted_is_address parsed text valid is = IsBase-address text (accepted_is_base parsed text valid is)
+
+accepted_bytes : (parsed : Parsed Parts) (text : List ℕ) → accepted parsed ≡ Ok text → All IsByte text
+accepted_bytes (Err e) text is = cc
+accepted_bytes (Ok url) text is =
+    let bytes = subst (λ t. list_all is_address_byte t ≡ true) (accepted_text url text is) (bytes_from_accepted url text is) in
+    All-weaker (Passes is_address_byte) IsByte (λ b passes. grind (arith, nat_tests)) text (All_from_list_all is_address_byte text bytes)
+
+-- an address is a base
+pub address_is_base : (text : List ℕ) → IsAddress text → IsBase text
+unfolding absolute
+address_is_base text is = accepted_is_base (parse_url None text) text (url_on_web None text tt (accepted_bytes (parse_url None text) text is.normal)) is.normal
 
 some_if_ok : (parsed : Parsed Parts) → IfOk parsed IsValidOnWeb → IfSome (result_ok parsed) IsValidOnWeb
 some_if_ok (Ok url) is = is

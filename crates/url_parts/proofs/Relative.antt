@@ -190,7 +190,7 @@ base_path base valid =
     let authority = special_has_authority base valid.valid.head (ap is_special (base_kind base valid)) in
     subst (λ k. IsHierarchicalPath k base.path) (base_kind base valid) (hierarchical base valid.valid.path (base_from_authority base authority))
 
-child_valid : (base : Parts) (name : List ℕ) → IsBaseUrl base → is_name name ≡ true → IsValid (child base name)
+pub child_valid : (base : Parts) (name : List ℕ) → IsBaseUrl base → is_name name ≡ true → IsValid (child base name)
 child_valid base name valid is = record {
   head = IsValidHead_same base (child base name) refl valid.valid.head;
   path = inl (subst (λ k. IsHierarchicalPath k (without_last_segment base.path ++ 47 ∷ name)) (sym (base_kind base valid))
@@ -290,7 +290,7 @@ folder_text base valid =
 -- ---- what a name gives
 
 -- a name stands behind the folder of the base
-child_spelled : (base : Parts) (name : List ℕ) → IsBaseUrl base → text_of (child base name) ≡ folder_of (text_of base) ++ name
+pub child_spelled : (base : Parts) (name : List ℕ) → IsBaseUrl base → text_of (child base name) ≡ folder_of (text_of base) ++ name
 child_spelled base name valid =
     let front = without_last_segment base.path in
     rw (folder_text base valid) (child_text base name valid ∙ sym (append_assoc (head_text base) (front ++ 47 ∷ []) name ∙ ap (λ t. head_text base ++ t) (append_assoc front (47 ∷ []) name)))
@@ -305,7 +305,7 @@ child_bytes base name valid is =
     let named = All-weaker (Passes is_name_byte) (Passes is_address_byte) (λ b passes. grind (arith, nat_tests)) name (name_bytes name is) in
     list_all_from_All is_address_byte _ (All-append (Passes is_address_byte) (folder_of (text_of base)) name folder named)
 
-accepted_child : (base : Parts) (name : List ℕ) → IsBaseUrl base → is_name name ≡ true → accepted_url (child base name) ≡ unless_long (folder_of (text_of base) ++ name)
+pub accepted_child : (base : Parts) (name : List ℕ) → IsBaseUrl base → is_name name ≡ true → accepted_url (child base name) ≡ unless_long (folder_of (text_of base) ++ name)
 accepted_child base name valid is =
     rw (child_spelled base name valid, child_bytes base name valid is, web_from_accepted base _ valid.accepted)
 

@@ -84,6 +84,16 @@ through_last_slash text = take (length text - suffix_len (λ b. not (b == 47)) t
 unfoldable pub folder_of : List ℕ → List ℕ
 folder_of text = through_last_slash (without_tail text)
 
+-- a text that goes on with a name behind a folder's text
+abbrev pub is_name_in : List ℕ → List ℕ → Bool
+is_name_in folder text = starts_with nat_eq text folder && is_name (drop (length folder) text)
+
+-- the folder of an address
+pub record IsFolder (folder : List ℕ) : Type 0 where
+  pub address : List ℕ
+  pub is : IsAddress address
+  pub folder_is : folder_of address ≡ folder
+
 -- a base's URL, with the length of its folder's text
 pub record IsBaseWith (url : Parts) (folder : ℕ) : Type 0 where
   pub is : IsBaseUrl url

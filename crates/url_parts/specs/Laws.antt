@@ -2,7 +2,7 @@
 use Rattle.std.specs.Prelude.{◌≡◌, ℕ, true, List, [], ◌∷◌, ◌++◌, Some, None, Ok}
 use Rattle.url.specs.Parser.{parse_url}
 use Rattle.url.specs.Parts.{Parts}
-use Rattle.url_parts.specs.Addresses.{is_absolute, resolve, resolve_more, chain}
+use Rattle.url_parts.specs.Addresses.{is_absolute, resolve, resolve_more, chain, unless_long, folder_of, is_name_in}
 
 -- a reference that begins with `http://` or `https://` is read alike with any base and without one
 abbrev pub NeedsNoBase : List ℕ → Type 0
@@ -11,6 +11,10 @@ NeedsNoBase reference = is_absolute reference ≡ true → (base : Parts) → pa
 -- an address that each base gives again
 abbrev pub IsGivenAgain : List ℕ → Type 0
 IsGivenAgain address = (base : List ℕ) → resolve base address ≡ Ok address
+
+-- a text that goes on with a name behind the folder of an address is given by each base, unless it is too long
+abbrev pub IsGivenInFolder : List ℕ → List ℕ → Type 0
+IsGivenInFolder address text = is_name_in (folder_of address) text ≡ true → (base : List ℕ) → resolve base text ≡ unless_long text
 
 -- one more reference is resolved against what those before it gave
 abbrev pub GoesOn : List ℕ → Type 0

@@ -200,7 +200,7 @@ fn accept(parsed: ParseResult<Url>) -> Result<Url, UrlFault>
 }
 
 /// The address that a text is, unless it is too long.
-fn unless_long(alloc: Global, text: String) -> Result<Address, UrlFault>
+pub(crate) fn unless_long(alloc: Global, text: String) -> Result<Address, UrlFault>
     requires { length (string_bytes text) ≤ 2048 → IsAddress (string_bytes text) }
     ensures { Gives (λ address. address) refusal result (unless_long (string_bytes text)) }
 {
@@ -235,7 +235,7 @@ fn text_of(url: &Url) -> &str
 }
 
 /// A text without query and fragment, up to and with its last `/`.
-fn folder_of(text: &str) -> &str
+pub(crate) fn folder_of(text: &str) -> &str
     ensures { result.now ≡ folder_of text.now }
 {
     let path = without_tail(text);
@@ -280,7 +280,7 @@ pub fn local_name(alloc: Global, folder: &Base, address: &Address) -> Result<Opt
     }
 }
 
-fn is_absolute(reference: &str) -> bool
+pub(crate) fn is_absolute(reference: &str) -> bool
     ensures { result ≡ is_absolute reference.now }
 {
     reference.starts_with("http://") || reference.starts_with("https://")

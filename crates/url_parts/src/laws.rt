@@ -1,7 +1,7 @@
 //! Laws of addresses.
 ghost use Rattle.std.specs.Prelude.{◌≡◌, ℕ, List, ◌++◌, Ok, Some};
 ghost use Rattle.url_parts.specs.Addresses.{resolve, beside, folder_of, unless_long, without_tail, local_name_of};
-ghost use Rattle.url_parts.specs.Laws.{NeedsNoBase, IsGivenAgain, GoesOn};
+ghost use Rattle.url_parts.specs.Laws.{NeedsNoBase, IsGivenAgain, IsGivenInFolder, GoesOn};
 
 use crate::{Address, Base};
 use bridge_io::Name;
@@ -38,6 +38,16 @@ pub fn name_beside(base: &Base, name: &Name)
 {
     let _ = base.as_str();
     let _ = name.as_str();
+}
+
+/// A text that begins with the folder of an address, and goes on with a name, is given by each base, and is refused for
+/// its length alone.
+#[tactic(auto, using(crate::proofs::Neighbours::given_in))]
+pub fn name_in_folder(address: &Address, text: &str)
+    ensures { IsGivenInFolder address.now text.now }
+{
+    let _ = address.as_str();
+    let _ = text;
 }
 
 /// A name that is found under a base whose text is its own folder gives the address without query and fragment.

@@ -7,9 +7,11 @@ mod code;
 mod fault;
 pub mod laws;
 mod range;
+mod resolver;
 
 pub use address::{Address, Part};
 pub use base::{Base, local_name};
 pub use code::{CodeClass, code_class};
 pub use fault::UrlFault;
 pub use range::{Range, read_range};
+pub use resolver::Resolver;
