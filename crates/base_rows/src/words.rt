@@ -98,6 +98,39 @@ fn shown(alloc: Global, job: &Job) -> Result<String, AllocError> {
             let digits = digits.count();
             format!(in alloc; "make {seed} {} {digits}", out.as_str())
         }
+        Job::HlsIndex {
+            mpd,
+            base,
+            out,
+            digits,
+        } => {
+            let digits = digits.count();
+            format!(in alloc;
+                "hls-index {} {} {} {digits}",
+                mpd.as_str(),
+                base.as_str(),
+                out.as_str()
+            )
+        }
+        Job::DashTimes { master, base, out } => {
+            format!(in alloc;
+                "dash-times {} {} {}",
+                master.as_str(),
+                base.as_str(),
+                out.as_str()
+            )
+        }
+        Job::Agree { mpd, base } => {
+            format!(in alloc; "agree {} {}", mpd.as_str(), base.as_str())
+        }
+        Job::FollowHls { master, base, out } => {
+            format!(in alloc;
+                "follow-hls {} {} {}",
+                master.as_str(),
+                base.as_str(),
+                out.as_str()
+            )
+        }
     }
 }
 
@@ -115,6 +148,11 @@ fn words_are_read(rt: HostRuntime) -> Result<(), Fail> {
         ("check m.mpd --base=b -", "check m.mpd - b 6"),
         ("reload o n --base=b", "reload o n b"),
         ("make --seed=4294967295 --out -", "make 4294967295 - 6"),
+        ("hls-index m.mpd --base=b", "hls-index m.mpd b out 6"),
+        ("dash-times m --base=b --out=a", "dash-times m b a"),
+        ("agree m.mpd --base=b", "agree m.mpd b"),
+        ("follow-hls m --base=b", "follow-hls m b out"),
+        ("agree m.mpd --base=b --out=a", "none"),
         ("hls m.mpd --base -b", "none"),
         ("hls m.mpd --base=b --digits=10", "none"),
         ("--base=b hls m.mpd", "none"),

@@ -9,7 +9,7 @@ use Rattle.bridge_jobs.specs.declared.verb.Verb.{Verb}
 use Rattle.bridge_jobs.specs.declared.verb.Verb.TheVariants as verb
 use Rattle.clap.specs.Words.{Row, first_of}
 use Rattle.bridge_io.specs.Names.{is_name}
-use Rattle.bridge_jobs.specs.Jobs.{◌>>=◌, name_in, job_of, job_by, hls_of, dash_of, follow_of, show_of, check_of, reload_of, make_of, is_folder, folder_in, digits_in, digits_of, digits_or_six, file_of, base_of, now_of, out_of, seed_of, first_verb}
+use Rattle.bridge_jobs.specs.Jobs.{◌>>=◌, name_in, job_of, job_by, hls_of, dash_of, follow_of, show_of, check_of, reload_of, make_of, hls_index_of, dash_times_of, agree_of, follow_hls_of, is_folder, folder_in, digits_in, digits_of, digits_or_six, file_of, base_of, now_of, out_of, seed_of, first_verb}
 use Rattle.bridge_jobs.specs.Verbs.{values_of}
 
 -- a job's folder leaves room for the names of its files, its digits are few, and a master's file has a name
@@ -25,12 +25,16 @@ behind : {A B : Type 0} (P : B → Type 0) (a : Option A) (next : A → Option B
 behind P None next each = tt
 behind P (Some x) next each = each x
 
+two : {A B C : Type 0} (P : C → Type 0) (a : Option A) (b : Option B) (end : A → B → C) → ((x : A) (y : B) → P (end x y))
+    → IfSome (a >>= (λ x. b >>= (λ y. Some (end x y)))) P
+two P None b end each = tt
+two P (Some x) None end each = tt
+two P (Some x) (Some y) end each = each x y
+
 three : {A B C D : Type 0} (P : D → Type 0) (a : Option A) (b : Option B) (c : Option C) (end : A → B → C → D) → ((x : A) (y : B) (z : C) → P (end x y z))
     → IfSome (a >>= (λ x. b >>= (λ y. c >>= (λ z. Some (end x y z))))) P
 three P None b c end each = tt
-three P (Some x) None c end each = tt
-three P (Some x) (Some y) None end each = tt
-three P (Some x) (Some y) (Some z) end each = each x y z
+three P (Some x) b c end each = two P b c (end x) (each x)
 
 four : {A B C D E : Type 0} (P : E → Type 0) (a : Option A) (b : Option B) (c : Option C) (d : Option D) (end : A → B → C → D → E) → ((x : A) (y : B) (z : C) (w : D) → P (end x y z w))
     → IfSome (a >>= (λ x. b >>= (λ y. c >>= (λ z. d >>= (λ w. Some (end x y z w)))))) P
@@ -106,7 +110,7 @@ unfolding check_of file_of
 check_bounded rows = check_in (file_of (codes "mpd") rows) (file_of (codes "master") rows) (base_of rows) (digits_of rows) (named_in (first_of (codes "master") rows))
 
 bounded_by : (v : Verb) (rows : List Row) → IfSome (job_by v rows) IsBounded
-unfolding follow_of show_of reload_of make_of
+unfolding follow_of show_of reload_of make_of hls_index_of dash_times_of agree_of follow_hls_of
 bounded_by verb.Hls rows = hls_bounded rows
 bounded_by verb.Dash rows = dash_bounded rows
 bounded_by verb.Follow rows = four IsBounded (file_of (codes "name") rows) (base_of rows) (out_of rows) (digits_of rows) job.Follow (λ _ _ _ _. tt)
@@ -114,6 +118,10 @@ bounded_by verb.Show rows = four IsBounded (file_of (codes "file") rows) (base_o
 bounded_by verb.Check rows = check_bounded rows
 bounded_by verb.Reload rows = three IsBounded (file_of (codes "old") rows) (file_of (codes "new") rows) (base_of rows) job.Reload (λ _ _ _. tt)
 bounded_by verb.Make rows = three IsBounded (seed_of rows) (out_of rows) (digits_of rows) job.Make (λ _ _ _. tt)
+bounded_by verb.HlsIndex rows = four IsBounded (file_of (codes "mpd") rows) (base_of rows) (out_of rows) (digits_of rows) job.HlsIndex (λ _ _ _ _. tt)
+bounded_by verb.DashTimes rows = three IsBounded (file_of (codes "master") rows) (base_of rows) (out_of rows) job.DashTimes (λ _ _ _. tt)
+bounded_by verb.Agree rows = two IsBounded (file_of (codes "mpd") rows) (base_of rows) job.Agree (λ _ _. tt)
+bounded_by verb.FollowHls rows = three IsBounded (file_of (codes "master") rows) (base_of rows) (out_of rows) job.FollowHls (λ _ _ _. tt)
 
 pub bounded : (words : List (List ℕ)) → IfSome (job_of words) IsBounded
 unfolding job_of

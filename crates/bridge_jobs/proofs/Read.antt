@@ -26,7 +26,7 @@ use Rattle.bridge_jobs.specs.Jobs.{◌>>=◌, job_by, job_of}
 use Rattle.bridge_jobs.specs.Verbs.{app_of_verb, unless_at_fault, values_of, verb_of, word_of}
 use Rattle.bridge_jobs.specs.CommandLines.{Choice, CommandLinesAreRead, Look, Reading, Syntax, Value, as_value, at_place, by_look, by_name, given_by, given_of, has_repeat, hyphens, is_given, is_option, is_whole, letters, look_of, read_job, value_of, named, plain, read_by, read_from, row_of, syntax_of}
 use Rattle.bridge_jobs.specs.declared.verb.Verb.{Verb}
-use Rattle.bridge_jobs.specs.declared.verb.Verb.TheVariants.{Hls, Dash, Follow, Show, Check, Reload, Make}
+use Rattle.bridge_jobs.specs.declared.verb.Verb.TheVariants.{Hls, Dash, Follow, Show, Check, Reload, Make, HlsIndex, DashTimes, Agree, FollowHls}
 
 -- ---- the arguments of a command that is built
 
@@ -66,6 +66,10 @@ is_built Show = refl
 is_built Check = refl
 is_built Reload = refl
 is_built Make = refl
+is_built HlsIndex = refl
+is_built DashTimes = refl
+is_built Agree = refl
+is_built FollowHls = refl
 
 -- ---- which argument a word is of
 
@@ -885,6 +889,10 @@ few_places Show = omega arith
 few_places Check = omega arith
 few_places Reload = omega arith
 few_places Make = omega arith
+few_places HlsIndex = omega arith
+few_places DashTimes = omega arith
+few_places Agree = omega arith
+few_places FollowHls = omega arith
 
 behind_first : (verb : Verb) (first : Text) (words : List Text) → argument_words (app_of_verb verb) (first ∷ words) ≡ words
 behind_first Hls first words = refl
@@ -894,6 +902,10 @@ behind_first Show first words = refl
 behind_first Check first words = refl
 behind_first Reload first words = refl
 behind_first Make first words = refl
+behind_first HlsIndex first words = refl
+behind_first DashTimes first words = refl
+behind_first Agree first words = refl
+behind_first FollowHls first words = refl
 
 none_entered : (word : Text) (s : Syntax) (stop : Option (Text × List Text)) → entered (app_with word s) stop ≡ None
 none_entered word s None = refl

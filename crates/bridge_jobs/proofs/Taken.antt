@@ -5,7 +5,7 @@ use Rattle.clap.specs.declared.error.kind.ErrorKind.{ErrorKind}
 use Rattle.clap.specs.declared.error.kind.ErrorKind.TheVariants.{OutOfMemory}
 use Rattle.bridge_jobs.specs.Verbs.{app_of_verb, unless_at_fault, values_of}
 use Rattle.bridge_jobs.specs.declared.verb.Verb.{Verb}
-use Rattle.bridge_jobs.specs.declared.verb.Verb.TheVariants.{Hls, Dash, Follow, Show, Check, Reload, Make}
+use Rattle.bridge_jobs.specs.declared.verb.Verb.TheVariants.{Hls, Dash, Follow, Show, Check, Reload, Make, HlsIndex, DashTimes, Agree, FollowHls}
 
 simple : (verb : Verb) → is_simple (app_of_verb verb) ≡ true
 simple Hls = refl
@@ -15,6 +15,10 @@ simple Show = refl
 simple Check = refl
 simple Reload = refl
 simple Make = refl
+simple HlsIndex = refl
+simple DashTimes = refl
+simple Agree = refl
+simple FollowHls = refl
 
 free : (verb : Verb) → is_simple_and_free (app_of_verb verb) ≡ true
 free Hls = refl
@@ -24,6 +28,10 @@ free Show = refl
 free Check = refl
 free Reload = refl
 free Make = refl
+free HlsIndex = refl
+free DashTimes = refl
+free Agree = refl
+free FollowHls = refl
 
 pub taken : (app : App) (verb : Verb) (words : List Text) (rows : List Row) → app ≡ app_of_verb verb
     → (is_simple_and_free app ≡ true → fault_of app words ≡ []) → (is_simple app ≡ true → rows ≡ matches_of app words) → Some rows ≡ values_of verb words

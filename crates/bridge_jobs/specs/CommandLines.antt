@@ -8,7 +8,7 @@ use Rattle.clap.specs.declared.parser.matches.ValueSource.TheVariants.{CommandLi
 use Rattle.bridge_jobs.specs.Jobs.{◌>>=◌, first_verb, job_by, job_of}
 use Rattle.bridge_jobs.specs.declared.jobs.Job.{Job}
 use Rattle.bridge_jobs.specs.declared.verb.Verb.{Verb}
-use Rattle.bridge_jobs.specs.declared.verb.Verb.TheVariants.{Hls, Dash, Follow, Show, Check, Reload, Make}
+use Rattle.bridge_jobs.specs.declared.verb.Verb.TheVariants.{Hls, Dash, Follow, Show, Check, Reload, Make, HlsIndex, DashTimes, Agree, FollowHls}
 
 -- ---- what a command takes
 
@@ -39,6 +39,10 @@ syntax_of Show = takes (codes "file" ∷ []) (required (codes "base") ∷ option
 syntax_of Check = takes (codes "mpd" ∷ codes "master" ∷ []) (required (codes "base") ∷ optional (codes "digits") ∷ [])
 syntax_of Reload = takes (codes "old" ∷ codes "new" ∷ []) (required (codes "base") ∷ [])
 syntax_of Make = takes [] (required (codes "seed") ∷ optional (codes "out") ∷ optional (codes "digits") ∷ [])
+syntax_of HlsIndex = takes (codes "mpd" ∷ []) (required (codes "base") ∷ optional (codes "out") ∷ optional (codes "digits") ∷ [])
+syntax_of DashTimes = takes (codes "master" ∷ []) (required (codes "base") ∷ optional (codes "out") ∷ [])
+syntax_of Agree = takes (codes "mpd" ∷ []) (required (codes "base") ∷ [])
+syntax_of FollowHls = takes (codes "master" ∷ []) (required (codes "base") ∷ optional (codes "out") ∷ [])
 
 abbrev pub is_option : List Choice → Text → Bool
 is_option options name = list_any (λ o. bytes_eq o.name name) options

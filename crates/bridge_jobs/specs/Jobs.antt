@@ -126,6 +126,34 @@ make_of rows = do
   digits ← digits_of rows
   Some (job.Make seed out digits)
 
+unfoldable pub hls_index_of : List Row → Option Job
+hls_index_of rows = do
+  mpd ← file_of (codes "mpd") rows
+  base ← base_of rows
+  out ← out_of rows
+  digits ← digits_of rows
+  Some (job.HlsIndex mpd base out digits)
+
+unfoldable pub dash_times_of : List Row → Option Job
+dash_times_of rows = do
+  master ← file_of (codes "master") rows
+  base ← base_of rows
+  out ← out_of rows
+  Some (job.DashTimes master base out)
+
+unfoldable pub agree_of : List Row → Option Job
+agree_of rows = do
+  mpd ← file_of (codes "mpd") rows
+  base ← base_of rows
+  Some (job.Agree mpd base)
+
+unfoldable pub follow_hls_of : List Row → Option Job
+follow_hls_of rows = do
+  master ← file_of (codes "master") rows
+  base ← base_of rows
+  out ← out_of rows
+  Some (job.FollowHls master base out)
+
 abbrev pub job_by : Verb → List Row → Option Job
 job_by verb.Hls rows = hls_of rows
 job_by verb.Dash rows = dash_of rows
@@ -134,6 +162,10 @@ job_by verb.Show rows = show_of rows
 job_by verb.Check rows = check_of rows
 job_by verb.Reload rows = reload_of rows
 job_by verb.Make rows = make_of rows
+job_by verb.HlsIndex rows = hls_index_of rows
+job_by verb.DashTimes rows = dash_times_of rows
+job_by verb.Agree rows = agree_of rows
+job_by verb.FollowHls rows = follow_hls_of rows
 
 -- the command of the first word
 abbrev pub first_verb : List Text → Option Verb
@@ -156,6 +188,10 @@ folder_of (job.Show file base now digits) = None
 folder_of (job.Check mpd master base digits) = None
 folder_of (job.Reload old new base) = None
 folder_of (job.Make seed out digits) = Some out
+folder_of (job.HlsIndex mpd base out digits) = Some out
+folder_of (job.DashTimes master base out) = Some out
+folder_of (job.Agree mpd base) = None
+folder_of (job.FollowHls master base out) = Some out
 
 -- and it leaves room for their names
 abbrev pub HasFolder : Job → Type 0

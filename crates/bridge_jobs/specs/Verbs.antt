@@ -2,7 +2,7 @@
 use Rattle.std.specs.Prelude.{true, codes, bytes_eq, List, [], ◌∷◌, fold, if◌then◌else◌, Option, Some, None}
 use Rattle.clap.specs.Words.{App, Kinds, Row, Rule, Text, fault_of, matches_of, new_app, new_rule, with_rule}
 use Rattle.bridge_jobs.specs.declared.verb.Verb.{Verb}
-use Rattle.bridge_jobs.specs.declared.verb.Verb.TheVariants.{Hls, Dash, Follow, Show, Check, Reload, Make}
+use Rattle.bridge_jobs.specs.declared.verb.Verb.TheVariants.{Hls, Dash, Follow, Show, Check, Reload, Make, HlsIndex, DashTimes, Agree, FollowHls}
 
 -- a word by its place, which is required
 abbrev pub positional : Text → Rule
@@ -24,6 +24,10 @@ parameters_of Show = positional (codes "file") ∷ required_option (codes "base"
 parameters_of Check = positional (codes "mpd") ∷ positional (codes "master") ∷ required_option (codes "base") ∷ option (codes "digits") ∷ []
 parameters_of Reload = positional (codes "old") ∷ positional (codes "new") ∷ required_option (codes "base") ∷ []
 parameters_of Make = required_option (codes "seed") ∷ option (codes "out") ∷ option (codes "digits") ∷ []
+parameters_of HlsIndex = positional (codes "mpd") ∷ required_option (codes "base") ∷ option (codes "out") ∷ option (codes "digits") ∷ []
+parameters_of DashTimes = positional (codes "master") ∷ required_option (codes "base") ∷ option (codes "out") ∷ []
+parameters_of Agree = positional (codes "mpd") ∷ required_option (codes "base") ∷ []
+parameters_of FollowHls = positional (codes "master") ∷ required_option (codes "base") ∷ option (codes "out") ∷ []
 
 -- the command's word
 abbrev pub word_of : Verb → Text
@@ -34,6 +38,10 @@ word_of Show = codes "show"
 word_of Check = codes "check"
 word_of Reload = codes "reload"
 word_of Make = codes "make"
+word_of HlsIndex = codes "hls-index"
+word_of DashTimes = codes "dash-times"
+word_of Agree = codes "agree"
+word_of FollowHls = codes "follow-hls"
 
 -- the command that a word is
 abbrev pub verb_of : Text → Option Verb
@@ -45,6 +53,10 @@ verb_of word =
     else if bytes_eq word (codes "check") then Some Check
     else if bytes_eq word (codes "reload") then Some Reload
     else if bytes_eq word (codes "make") then Some Make
+    else if bytes_eq word (codes "hls-index") then Some HlsIndex
+    else if bytes_eq word (codes "dash-times") then Some DashTimes
+    else if bytes_eq word (codes "agree") then Some Agree
+    else if bytes_eq word (codes "follow-hls") then Some FollowHls
     else None
 
 -- the simple command of `clap` with these parameters

@@ -83,4 +83,40 @@ pub enum Job {
         /// The decimals of printed durations.
         digits: Digits,
     },
+    /// An MPD whose files have an index (SegmentBase; ISO/IEC 23009-1, 5.3.9.2) to playlists.
+    HlsIndex {
+        /// The MPD's file.
+        mpd: Name,
+        /// The URL of the store's root.
+        base: Text,
+        /// The folder of the playlists.
+        out: Name,
+        /// The decimals of printed durations.
+        digits: Digits,
+    },
+    /// A master playlist and its media playlists to an MPD, with the decode times of the files.
+    DashTimes {
+        /// The master playlist's file.
+        master: Name,
+        /// The URL of the store's root.
+        base: Text,
+        /// The folder of the MPD.
+        out: Name,
+    },
+    /// Whether the times of an MPD are the decode times of its files.
+    Agree {
+        /// The MPD's file.
+        mpd: Name,
+        /// The URL of the store's root.
+        base: Text,
+    },
+    /// Rounds of live media playlists to an MPD.
+    FollowHls {
+        /// The master playlist's file.
+        master: Name,
+        /// The URL of the store's root.
+        base: Text,
+        /// The folder of the MPD.
+        out: Name,
+    },
 }

@@ -22,6 +22,14 @@ pub enum Verb {
     Reload,
     /// An MPD of many segments, to playlists.
     Make,
+    /// An MPD whose files have an index, to playlists.
+    HlsIndex,
+    /// Playlists to an MPD, with the times of their files.
+    DashTimes,
+    /// Whether an MPD's times are those of its files.
+    Agree,
+    /// Rounds of live playlists to an MPD.
+    FollowHls,
 }
 
 /// A word or two behind a command's own word, by its name.
@@ -70,6 +78,15 @@ static CHECK: [Parameter; 4] = [
 
 static RELOAD: [Parameter; 3] = [Positional("old"), Positional("new"), Required("base")];
 
+static HLS_INDEX: [Parameter; 4] = [
+    Positional("mpd"),
+    Required("base"),
+    Optional("out"),
+    Optional("digits"),
+];
+
+static AGREE: [Parameter; 2] = [Positional("mpd"), Required("base")];
+
 static MAKE: [Parameter; 3] = [Required("seed"), Optional("out"), Optional("digits")];
 
 impl Parameter {
@@ -104,6 +121,10 @@ impl Verb {
             "check" => Some(Verb::Check),
             "reload" => Some(Verb::Reload),
             "make" => Some(Verb::Make),
+            "hls-index" => Some(Verb::HlsIndex),
+            "dash-times" => Some(Verb::DashTimes),
+            "agree" => Some(Verb::Agree),
+            "follow-hls" => Some(Verb::FollowHls),
             _ => None,
         }
     }
@@ -119,6 +140,10 @@ impl Verb {
             Verb::Check => "check",
             Verb::Reload => "reload",
             Verb::Make => "make",
+            Verb::HlsIndex => "hls-index",
+            Verb::DashTimes => "dash-times",
+            Verb::Agree => "agree",
+            Verb::FollowHls => "follow-hls",
         }
     }
 
@@ -127,12 +152,14 @@ impl Verb {
     {
         match self {
             Verb::Hls => &HLS,
-            Verb::Dash => &DASH,
+            Verb::Dash | Verb::DashTimes | Verb::FollowHls => &DASH,
             Verb::Follow => &FOLLOW,
             Verb::Show => &SHOW,
             Verb::Check => &CHECK,
             Verb::Reload => &RELOAD,
             Verb::Make => &MAKE,
+            Verb::HlsIndex => &HLS_INDEX,
+            Verb::Agree => &AGREE,
         }
     }
 

@@ -1,6 +1,6 @@
 // The job that words are.
 ghost use Rattle.std.specs.Prelude.{◌≡◌, IfOk, IfSome, map};
-ghost use Rattle.bridge_jobs.specs.Jobs.{HasFolder, HasReadableNow, first_verb, job_by, job_of, hls_of, dash_of, follow_of, show_of, check_of, reload_of, make_of};
+ghost use Rattle.bridge_jobs.specs.Jobs.{HasFolder, HasReadableNow, first_verb, job_by, job_of, hls_of, dash_of, follow_of, show_of, check_of, reload_of, make_of, hls_index_of, dash_times_of, agree_of, follow_hls_of};
 
 use crate::Job;
 use crate::values::Values;
@@ -66,6 +66,10 @@ fn job_by(alloc: Global, verb: Verb, values: &Values) -> Result<Option<Job>, NoM
         Verb::Check => check(alloc, values),
         Verb::Reload => reload(alloc, values),
         Verb::Make => make(alloc, values),
+        Verb::HlsIndex => hls_index(alloc, values),
+        Verb::DashTimes => dash_times(alloc, values),
+        Verb::Agree => agree(alloc, values),
+        Verb::FollowHls => follow_hls(alloc, values),
     }
 }
 
@@ -229,4 +233,81 @@ fn make(alloc: Global, values: &Values) -> Result<Option<Job>, NoMemory>
         return Ok(None);
     };
     Ok(Some(Job::Make { seed, out, digits }))
+}
+
+#[tactic(auto, unfolding(crate::specs::Jobs::hls_index_of))]
+fn hls_index(alloc: Global, values: &Values) -> Result<Option<Job>, NoMemory>
+    ensures job { IfOk result (λ job. job ≡ hls_index_of values.now) }
+    ensures folder { IfOk result (λ job. IfSome job HasFolder) }
+    ensures readable { IfOk result (λ job. IfSome job HasReadableNow) }
+{
+    let Some(mpd) = values.file(alloc, "mpd")? else {
+        return Ok(None);
+    };
+    let Some(base) = values.base(alloc)? else {
+        return Ok(None);
+    };
+    let Some(out) = values.out(alloc)? else {
+        return Ok(None);
+    };
+    let Some(digits) = values.digits() else {
+        return Ok(None);
+    };
+    Ok(Some(Job::HlsIndex {
+        mpd,
+        base,
+        out,
+        digits,
+    }))
+}
+
+#[tactic(auto, unfolding(crate::specs::Jobs::dash_times_of))]
+fn dash_times(alloc: Global, values: &Values) -> Result<Option<Job>, NoMemory>
+    ensures job { IfOk result (λ job. job ≡ dash_times_of values.now) }
+    ensures folder { IfOk result (λ job. IfSome job HasFolder) }
+    ensures readable { IfOk result (λ job. IfSome job HasReadableNow) }
+{
+    let Some(master) = values.file(alloc, "master")? else {
+        return Ok(None);
+    };
+    let Some(base) = values.base(alloc)? else {
+        return Ok(None);
+    };
+    let Some(out) = values.out(alloc)? else {
+        return Ok(None);
+    };
+    Ok(Some(Job::DashTimes { master, base, out }))
+}
+
+#[tactic(auto, unfolding(crate::specs::Jobs::agree_of))]
+fn agree(alloc: Global, values: &Values) -> Result<Option<Job>, NoMemory>
+    ensures job { IfOk result (λ job. job ≡ agree_of values.now) }
+    ensures folder { IfOk result (λ job. IfSome job HasFolder) }
+    ensures readable { IfOk result (λ job. IfSome job HasReadableNow) }
+{
+    let Some(mpd) = values.file(alloc, "mpd")? else {
+        return Ok(None);
+    };
+    let Some(base) = values.base(alloc)? else {
+        return Ok(None);
+    };
+    Ok(Some(Job::Agree { mpd, base }))
+}
+
+#[tactic(auto, unfolding(crate::specs::Jobs::follow_hls_of))]
+fn follow_hls(alloc: Global, values: &Values) -> Result<Option<Job>, NoMemory>
+    ensures job { IfOk result (λ job. job ≡ follow_hls_of values.now) }
+    ensures folder { IfOk result (λ job. IfSome job HasFolder) }
+    ensures readable { IfOk result (λ job. IfSome job HasReadableNow) }
+{
+    let Some(master) = values.file(alloc, "master")? else {
+        return Ok(None);
+    };
+    let Some(base) = values.base(alloc)? else {
+        return Ok(None);
+    };
+    let Some(out) = values.out(alloc)? else {
+        return Ok(None);
+    };
+    Ok(Some(Job::FollowHls { master, base, out }))
 }
