@@ -1,7 +1,8 @@
 #!/usr/bin/env bash
 # Times the reading of a media playlist of 5.3 MB with 100,000 segments: hls_media's `read_media`, and ffprobe and python3-m3u8
 # where they are installed. Each is a program of its own that reads the file; the shortest of eleven runs counts, with its
-# largest memory. Then the same playlist with a map's address of 1,900 bytes.
+# largest memory. Then the same playlist with a map's address of 1,900 bytes, and one whose segments have absolute addresses in one
+# folder.
 #
 # It wants `rt` and python3.
 set -euo pipefail
@@ -11,13 +12,14 @@ trap 'rm -rf "$work"' EXIT
 
 python3 - "$work" <<'PY'
 import os, sys
-def playlist(name, map_uri):
-    rows = "".join("#EXTINF:4.096000,\nsegments/video-%012d.m4s\n" % k for k in range(100_000))
+def playlist(name, map_uri, uri="segments/video-%012d.m4s"):
+    rows = "".join("#EXTINF:4.096000,\n" + uri % k + "\n" for k in range(100_000))
     head = '#EXTM3U\n#EXT-X-VERSION:6\n#EXT-X-TARGETDURATION:4\n#EXT-X-MAP:URI="%s"\n' % map_uri
     os.makedirs(os.path.join(sys.argv[1], name))
     open(os.path.join(sys.argv[1], name, "v.m3u8"), "w").write(head + rows + "#EXT-X-ENDLIST\n")
 playlist("plain", "init.mp4")
 playlist("long", "i" * 1900 + ".mp4")
+playlist("absolute", "init.mp4", "https://h.example/a/b/s%d.m4s")
 PY
 
 # Ours: a program beside copies of the libraries.
@@ -63,6 +65,7 @@ ours=$work/ours/crates/reads/out/reads
 
 python3 "$here/bench/measure.py" read_media "$work/plain/v.m3u8" "$ours"
 python3 "$here/bench/measure.py" "read_media, long map" "$work/long/v.m3u8" "$ours"
+python3 "$here/bench/measure.py" "read_media, absolute addresses" "$work/absolute/v.m3u8" "$ours"
 if command -v ffprobe > /dev/null; then
     python3 "$here/bench/measure.py" ffprobe "$work/plain/v.m3u8" ffprobe -v quiet -allowed_extensions ALL v.m3u8
 fi

@@ -15,7 +15,7 @@ use bridge_io::Place;
 use exact_time::Nanos;
 use hls_lines::{Attributes, Line, LineFault, Lines, read_attributes};
 use std::alloc::Global;
-use url_parts::{Address, Base, Part, Range, UrlFault};
+use url_parts::{Address, Base, Part, Range, Resolver, UrlFault};
 
 /// The most segments of a playlist.
 const MOST_SEGMENTS: usize = 100_000;
@@ -48,6 +48,7 @@ impl<'a> Reader<'a> {
             range: None,
             map: None,
             segments,
+            resolver: Resolver::new(),
         })
     }
 
@@ -116,7 +117,7 @@ impl<'a> Reader<'a> {
             Tag::Duration => self.duration = Some(self.length_of(rest, place, uri_follows)?),
             Tag::ByteRange => self.range = Some(written_range_of(rest, place, uri_follows)?),
             Tag::Discontinuity => self.discontinuities += 1,
-            Tag::Map => self.map = Some(map_of(alloc, base, rest, place)?),
+            Tag::Map => self.map = Some(map_of(alloc, &mut self.resolver, base, rest, place)?),
             Tag::EndList => self.ended = true,
             Tag::Key => check_key(alloc, rest, place)?,
             Tag::SessionKey => return Err(MediaFault::Encryption(place)),
@@ -154,20 +155,21 @@ impl<'a> Reader<'a> {
     /// The segment that a URI ends.
     #[tactic(auto, unfolding(crate::specs::Media::segment_of))]
     fn segment_of(
-        &self,
+        &mut self,
         alloc: Global,
         base: &Base,
         text: &str,
         place: Place,
     ) -> Result<MediaSegment, MediaFault>
-        requires { self.now.discontinuities < 2 ^ 63 }
-        ensures { Gives (λ segment. segment) refusal result (segment_of base.now (state_of self.now) text.now place) }
+        requires { self.old.discontinuities < 2 ^ 63 }
+        ensures segment { Gives (λ segment. segment) refusal result (segment_of base.now (state_of self.old) text.now place) }
+        ensures state { state_of self.new ≡ state_of self.old }
     {
         let duration = self.duration.ok_or(MediaFault::Misplaced(place))?;
         if self.segments.len() == MOST_SEGMENTS {
             return Err(MediaFault::Limit(place));
         }
-        let address = join(alloc, base, text, place)?;
+        let address = join(alloc, &mut self.resolver, base, text, place)?;
         let range = self.segment_range(&address)?;
         let map = copy_of(alloc, &self.map)?;
         let section = self.first_section.unwrap_or(0) + self.discontinuities;
@@ -226,10 +228,16 @@ fn written_range_of(
     Ok(WrittenRange { text: rest, place })
 }
 
-fn join(alloc: Global, base: &Base, reference: &str, place: Place) -> Result<Address, MediaFault>
+fn join(
+    alloc: Global,
+    resolver: &mut Resolver,
+    base: &Base,
+    reference: &str,
+    place: Place,
+) -> Result<Address, MediaFault>
     ensures { Gives (λ address. address) refusal result (address_or_fault place (resolve base.now reference.now)) }
 {
-    match base.join(alloc, reference) {
+    match resolver.join(alloc, base, reference) {
         Ok(address) => Ok(address),
         Err(UrlFault::Memory) => Err(MediaFault::Memory),
         Err(fault) => Err(MediaFault::Url(fault, place)),
@@ -252,13 +260,19 @@ fn attributes_of<'a>(
 
 /// What an EXT-X-MAP names.
 #[tactic(auto, unfolding(crate::specs::Media::map_of))]
-fn map_of(alloc: Global, base: &Base, rest: &str, place: Place) -> Result<Part, MediaFault>
+fn map_of(
+    alloc: Global,
+    resolver: &mut Resolver,
+    base: &Base,
+    rest: &str,
+    place: Place,
+) -> Result<Part, MediaFault>
     ensures { Gives (λ part. part) refusal result (map_of base.now rest.now place) }
 {
     let attributes = attributes_of(alloc, rest, place)?;
     let reference = attributes.get("URI").ok_or(MediaFault::Value(place))?;
     let range = map_range_of(attributes.get("BYTERANGE"), place)?;
-    let address = join(alloc, base, reference, place)?;
+    let address = join(alloc, resolver, base, reference, place)?;
     Ok(Part { address, range })
 }
 

@@ -5,7 +5,7 @@ ghost use Rattle.std.specs.Option.{ForSome};
 use crate::MediaSegment;
 use bridge_io::Place;
 use exact_time::Nanos;
-use url_parts::Part;
+use url_parts::{Part, Resolver};
 
 /// A range as an EXT-X-BYTERANGE writes it.
 #[derive(Clone, Copy)]
@@ -28,5 +28,7 @@ pub(crate) struct Reader<'a> {
     pub(crate) range: Option<WrittenRange<'a>>,
     pub(crate) map: Option<Part>,
     pub(crate) segments: Vec<MediaSegment>,
+    /// Resolves the URIs. It tells nothing.
+    pub(crate) resolver: Resolver,
     ghost small: { ForSome first_section (λ number. number < 2 ^ 63) },
 }
