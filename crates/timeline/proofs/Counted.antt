@@ -18,13 +18,14 @@ use Rattle.timeline.specs.Ratios.{earlier, steps_to_cover}
 use Rattle.timeline.specs.Expansions.{Extent, Member, Closed, Endless, lasting, repeated, repeat_of}
 use Rattle.timeline.specs.Durations.{cut_at, extent_at, extents_by, expansion_of_names}
 use Rattle.timeline.specs.Faults.{begins_late, extents_break, fault_if, is_apart, is_too_many, members_by, or_fault, refusal, segment_fault}
-use Rattle.timeline.specs.Steady.{AreLasting, IsSteady}
+use Rattle.timeline.specs.Steady.{AreLasting, EndInTime, IsSteady}
 use Rattle.timeline.specs.Building.{AreAdded, IsFaultOf, IsInTime, breaks_in, extent_in, former_end, members_so_far, placed_in}
 use Rattle.timeline.specs.Limits.{breaks_limits}
 use Rattle.timeline.specs.Rows.{AreCounted, IsCountedFault, IsFresh, IsLast, IsRange, IsRow, count_until, counted_fault, cut_fault, last_extent, row_of}
 use Rattle.timeline.proofs.Ratios.{steps_to_cover-is, ceiling-is}
 use Rattle.exact_time.proofs.TimeOrder.{before-is, at_most-from, not_at_most-from}
 use Rattle.timeline.proofs.Judged.{not_long, former_end-none, former_end-some, head_breaks, head_passes, repeat-extent_in, touching}
+use Rattle.timeline.proofs.Limited.{in_time_by_extents, not_late}
 use Rattle.timeline.proofs.Reached.{IfSome-map}
 use Rattle.timeline.proofs.ExpansionsRise.{IsOneRow, durations_row, row_lasting, row_steady, last_covers}
 
@@ -390,6 +391,11 @@ module _ (ticks d : ℕ) (end : End) (names : Option ℕ) (l : RunsBuilder) (pos
   pub duration_steady : IsSteady (members_so_far l)
   duration_steady = row_steady (breaks_limits ticks 0) (not_long ticks 0) (members_so_far l) one_row
       (ap (extents_break (breaks_limits ticks 0)) are.members_are ∙ first_none (extents_break (breaks_limits ticks 0) (members_by ticks end d names)) (is_too_many ticks end d names) are.judged)
+
+  pub duration_in_time : EndInTime (members_so_far l)
+  duration_in_time = in_time_by_extents (breaks_limits ticks 0) (not_late ticks 0) (members_so_far l)
+      (ap (extents_break (breaks_limits ticks 0)) are.members_are ∙ first_none
+      (extents_break (breaks_limits ticks 0) (members_by ticks end d names)) (is_too_many ticks end d names) are.judged)
 
 -- ---- the parts of the code
 

@@ -28,3 +28,6 @@ pub mod Splits
 pub mod RunLemmas
 pub mod WalkLemmas
 pub mod WindowLemmas
+pub mod Limited
+pub mod Starts
+pub mod SpanRunLemmas

@@ -26,7 +26,7 @@ use Rattle.timeline.specs.Expansions.{Extent, Member, Closed, Short, Endless as 
 use Rattle.timeline.specs.Timelines.{UpTo, placed, extent_from, count_up_to, members_of, reach_of, reach_of_next, reach_of_end, members_from, expansion_of_timeline}
 use Rattle.timeline.specs.declared.names.Names.{Names}
 use Rattle.timeline.specs.SegmentTimelines.{timeline_of_entries, timeline_if_paired}
-use Rattle.timeline.specs.Steady.{AreLasting, IsSteady}
+use Rattle.timeline.specs.Steady.{AreLasting, EndInTime, IsSteady}
 use Rattle.timeline.specs.Limits.{breaks_limits, too_long}
 use Rattle.timeline.specs.Faults.{ends_open, is_apart, is_unbounded, refusal, segment_fault}
 use Rattle.timeline.specs.Building.{AreAdded, IsLaidOut, IsFaultOf, breaks_in, extent_in, fault_of, former_end, members_so_far}
@@ -36,6 +36,7 @@ use Rattle.exact_time.proofs.TimeOrder.{at_most-from, not_at_most-from}
 use Rattle.timeline.proofs.Laid.{refusal_some}
 use Rattle.timeline.proofs.Rises.{steady_from}
 use Rattle.timeline.proofs.Judged.{not_long}
+use Rattle.timeline.proofs.Limited.{in_time, not_late}
 use Rattle.timeline.proofs.ExpansionsRise.{entries_last, neither}
 
 positive_from : (count length step : ℕ) → IsCeiling length step count → 0 < length → 0 < count
@@ -218,6 +219,11 @@ module _ (scale : Scale) (end : End) (entries : List SEntry) (l : RunsBuilder) (
   pub timeline_steady : IsSteady (members_so_far l)
   timeline_steady = subst (λ (ms : List Member). IsSteady ms) (sym are.members_are)
       (steady_from (breaks_in l.limits) too_long (λ x kept. not_long l.limits.ticks l.limits.origin x kept) None (expansion_of_timeline scale end entries) are.judged)
+
+  pub timeline_in_time : EndInTime (members_so_far l)
+  timeline_in_time = subst (λ (ms : List Member). EndInTime ms) (sym are.members_are)
+      (in_time (breaks_in l.limits) (λ x kept. not_late l.limits.ticks l.limits.origin x kept) None
+      (expansion_of_timeline scale end entries) are.judged)
 
 pub timeline_built : (entries : List SEntry) (end : End) (live : Bool) (scale : Scale) (names : Names) (l : RunsBuilder) → list_any (λ s. s.d == 0) entries ≡ false → (not live && is_unbounded end && ends_open entries) ≡ false →
     AreLaidOut scale (expansion_of_timeline scale end entries) l → timeline_of_entries entries end live scale names ≡ timeline_if_paired scale scale.offset names (members_so_far l)

@@ -7,7 +7,7 @@ use Rattle.std.proofs.lemmas.List.Elements.{filter_agree, All-filter, All-weaker
 use Rattle.exact_time.specs.Time.{Time, at_most, before}
 use Rattle.timeline.specs.Bounds.{StandsFor, time_of_bound, low_of}
 use Rattle.timeline.specs.Expansions.{SegmentTimeline, Extent, Member, Timing, extents, numbered}
-use Rattle.timeline.specs.Steady.{AreLasting, ArePaced, IsSteady}
+use Rattle.timeline.specs.Steady.{AreLasting, ArePaced, EndInTime, IsSteady, IsWithinLimits}
 use Rattle.timeline.specs.Listed.{expansion, is_until, is_listed, listed, listed_from, instant_of, IsWindowOf, IsReached, IsFirstListed, IsPlaceAfter, IsWithin, CanBeNamed}
 use Rattle.timeline.specs.Places.{reached_count, count_until, closed_total, open_extents}
 use Rattle.timeline.specs.RunSegments.{AreLaid, AreLaidFrom, IsTail, count_ended, all_extents, extents_of_some, TimedRun}
@@ -19,6 +19,7 @@ use Rattle.exact_time.proofs.TimeOrder.{before-is}
 use Rattle.timeline.proofs.Splits.{SplitsAt, IsPlaceOf, between, splits_before, splits_after, filter-before, first-between, take-place, drop-place, left-place}
 use Rattle.timeline.proofs.SegmentTimelineLemmas.{open_at, extents-parts}
 use Rattle.timeline.proofs.Paced.{listed_paced}
+use Rattle.timeline.proofs.Limited.{listed_within}
 use Rattle.timeline.proofs.KeptLemmas.{length-laid, all_append, StartsTimed}
 use Rattle.timeline.proofs.NumberedLemmas.{length-numbered, drop-numbered, take-numbered, splits-numbered}
 use Rattle.timeline.proofs.WindowLemmas.{expansion_is, long_all, splits_low, splits_high, splits_at, until_within, listed_is, listed_between, place_is, reached_is}
@@ -133,7 +134,7 @@ module _ (r : Inside) (kept : IsKept r) (timeline : SegmentTimeline) (view : tim
             (All-weaker (λ (x : Timing). at_most x.end t ≡ false) (λ x. before t x.end ≡ true) (λ x late. before-is t x.end ∙ ap not late) (drop (count_ended t all) whole) (splits_after ends (count_ended t all) whole splits));
       })
 
-  -- ---- `walk`
+  -- ---- `walk` and `count_from`
 
   from_place : (p from : ℕ) → IsPlaceOf p first whole → take (finish - max from p) (drop (max from p) whole) ≡ take (finish - max from first) (drop (max from first) whole)
   from_place p from is = elim is [
@@ -154,6 +155,20 @@ module _ (r : Inside) (kept : IsKept r) (timeline : SegmentTimeline) (view : tim
       ∙ ap (λ (n : ℕ). take (finish - n) (drop n whole)) begin_is
       ∙ from_place (place bound) from (placed bound (low_of window) stands)
       ∙ sym (listed_whole from)
+
+  pub count_from_is : (bound : Bound) → StandsFor bound (low_of window) → (from begin left : ℕ) → begin ≡ max from (place bound) →
+      left ≡ finish - begin →
+      left ≡ length (listed_from from timeline window)
+  count_from_is bound stands from begin left begin_is left_is = omega (
+    arith,
+    finish_within,
+    left_is,
+    length-numbered timeline.first_number all,
+    sym (ap length (walk_is bound stands from begin left begin_is left_is)),
+    length-numbered (timeline.first_number + begin) (take left (drop begin all)),
+    length-take left (drop begin all),
+    length-drop begin all,
+  )
 
   pub finish_there : finish ≤ length (all_extents (runs_of r)) + length (open_at (instant_of window) r.endless)
   finish_there = omega (arith, finish_within, length-numbered timeline.first_number all, length-append (all_extents (runs_of r)) (open_at (instant_of window) r.endless))
@@ -183,6 +198,13 @@ module _ (r : Inside) (kept : IsKept r) (timeline : SegmentTimeline) (view : tim
       listed_paced timeline window all number left begin
       (ap (extents (instant_of window)) (members_are r kept timeline view window is_window) ∙ extents-parts (instant_of window) (all_extents (runs_of r)) r.endless)
       (subst (λ (ms : List Member). AreLasting ms) same kept.lasting) (subst (λ (ms : List Member). IsSteady ms) same kept.steady) is_reached
+
+  pub limits_are : (from : ℕ) → All IsWithinLimits (listed_from from timeline window)
+  limits_are from =
+      let same = ap (λ (c : SegmentTimeline). c.members) view in
+      listed_within timeline window from (subst (λ (ms : List Member). AreLasting ms) same kept.lasting)
+      (subst (λ (ms : List Member). EndInTime ms) same kept.in_time)
+      (subst (λ (ms : List Member). IsSteady ms) same kept.steady) is_reached
 
   -- ---- `resume`
 

@@ -13,7 +13,7 @@ use Rattle.timeline.specs.declared.limits.Limits.{Limits}
 use Rattle.timeline.specs.declared.span.Span.{Span}
 use Rattle.timeline.specs.Expansions.{Member, Closed, lasting}
 use Rattle.timeline.specs.Durations.{extent_of, expansion_of_list}
-use Rattle.timeline.specs.Steady.{AreLasting, IsSteady}
+use Rattle.timeline.specs.Steady.{AreLasting, EndInTime, IsSteady}
 use Rattle.timeline.specs.Building.{IsLaidOut, members_so_far}
 use Rattle.timeline.specs.Reaches.{IsTheirFault}
 use Rattle.timeline.specs.Spans.{AreInRow, IsRowSoFar, fault_of_span, have_no_time}
@@ -21,8 +21,9 @@ use Rattle.timeline.specs.RunSegments.{one_extent}
 use Rattle.timeline.specs.Faults.{is_apart, lasts_no_time, segment_fault}
 use Rattle.timeline.specs.Limits.{span_breaks_limits, too_long}
 use Rattle.timeline.proofs.LimitLemmas.{int_le-cancel}
-use Rattle.timeline.proofs.Judged.{second_of_none, not_long, ltb-mul, fault_of_two, none_of_two, head_passes}
+use Rattle.timeline.proofs.Judged.{not_long, ltb-mul, fault_of_two, none_of_two, head_passes}
 use Rattle.timeline.proofs.Laid.{refusal_some}
+use Rattle.timeline.proofs.Limited.{in_time, not_late}
 use Rattle.timeline.proofs.Rises.{steady_from}
 use Rattle.timeline.proofs.ExpansionsRise.{spans_last, neither}
 use Rattle.timeline.proofs.Ratios.{not_int_le-from}
@@ -50,8 +51,8 @@ module _ (start end : Tick) (lasts : ℕ) (is_lasting : (lasting (one_extent sta
       ap (λ (b : Bool). b || before (seconds 1000000) (lasting (one_extent start end)) || before (seconds 100000000000) (time_of end)) ends_in_ticks
       ∙ ap (λ (b : Bool). int_le (pos (2 ^ 63)) end.n || b || before (seconds 100000000000) (time_of end)) lasts_long
 
-  pub kept_lasts : span_breaks_limits (one_extent start end) ≡ false → lasts ≤ 1000000 * (s * e)
-  kept_lasts kept = ltb-false (1000000 * (s * e)) lasts (second_of_none (int_le (pos (2 ^ 63)) end.n) (ltb (1000000 * (s * e)) lasts) (before (seconds 100000000000) (time_of end)) (sym breaks_span ∙ kept))
+  pub short_lasts : too_long (one_extent start end) ≡ false → lasts ≤ 1000000 * (s * e)
+  short_lasts short = ltb-false (1000000 * (s * e)) lasts (sym lasts_long ∙ short)
 
   -- ---- the distance from a time
 
@@ -112,3 +113,7 @@ module _ (ticks : ℕ) (spans : List Span) (l : RunsBuilder) (lasting : have_no_
   pub list_steady : IsSteady (members_so_far l)
   list_steady = subst (λ (ms : List Member). IsSteady ms) (sym are.members_are)
       (steady_from span_breaks_limits too_long (λ x kept. not_long x.end.scale 0 x kept) None (expansion_of_list spans) are.judged)
+
+  pub list_in_time : EndInTime (members_so_far l)
+  list_in_time = subst (λ (ms : List Member). EndInTime ms) (sym are.members_are)
+      (in_time span_breaks_limits (λ x kept. not_late x.end.scale 0 x kept) None (expansion_of_list spans) are.judged)

@@ -303,10 +303,13 @@ drop_last s few = drop_all 1 (extents_of s) (omega (arith, length-extents s))
 taken_none : (n : ℕ) (xs : List Extent) → n ≡ 0 → take n xs ≡ []
 taken_none n xs none = ap (λ (k : ℕ). take k xs) none
 
-pub next_place : (first left : ℕ) (s : TimedRun) (runs later : List TimedRun) (tail now rest : Option TimedRun) → 0 < s.count → s.count ≤ 1 → AreLaidFrom (s.before + s.count) runs tail (s.before + left) →
-    IsSplit runs tail now later rest → 0 < left - 1 → place_of now ≡ s.before + 1
-next_place first left s runs later tail None rest some few laid is wanted = absurd (omega (arith, split_none (s.before + s.count) runs tail later rest (s.before + left) is laid))
-next_place first left s runs later tail (Some t) rest some few laid is wanted = omega (arith, (split_stands (s.before + s.count) runs tail t later rest (s.before + left) is laid).placed)
+pub next_place : (first left : ℕ) (s : TimedRun) (runs later : List TimedRun) (tail now rest : Option TimedRun) → 0 < s.count →
+    AreLaidFrom (s.before + s.count) runs tail (s.before + left) →
+    IsSplit runs tail now later rest → 0 < left - s.count → place_of now ≡ s.before + s.count
+next_place first left s runs later tail None rest some laid is wanted =
+    absurd (omega (arith, split_none (s.before + s.count) runs tail later rest (s.before + left) is laid))
+next_place first left s runs later tail (Some t) rest some laid is wanted =
+    omega (arith, (split_stands (s.before + s.count) runs tail t later rest (s.before + left) is laid).placed)
 
 pub goes_on_behind : (first left : ℕ) (s : TimedRun) (runs later : List TimedRun) (tail now rest : Option TimedRun) → 0 < s.count → s.count ≤ 1 → AreLaidFrom (s.before + s.count) runs tail (s.before + left) →
     IsSplit runs tail now later rest →
@@ -320,7 +323,7 @@ goes_on_behind first left s runs later tail now rest some few laid is =
     let extents = split_extents runs tail now later rest is in
     elim (cases_lt 0 (left - 1)) [
       | inl wanted ↦
-          let at = next_place first left s runs later tail now rest some few laid is wanted in
+          let at = next_place first left s runs later tail now rest some laid is (omega arith) in
           numbered-same (first + place_of now) (first + s.before + 1) (take (left - 1) (extents_of_some now ++ (all_extents later ++ extents_of_some rest))) (omega (arith, at))
           ∙ ap (λ (xs : List Extent). numbered (first + s.before + 1) (take (left - 1) xs)) extents ∙ sym right
       | inr none ↦
@@ -330,16 +333,18 @@ goes_on_behind first left s runs later tail now rest some few laid is =
     ]
 
 -- where the walk stands behind the run
-pub stands_behind : (walk : Inside) (o : Option TimedRun) (left : ℕ) (s : TimedRun) (runs : List TimedRun) (tail : Option TimedRun) → 0 < s.count → s.count ≤ 1 →
-    AreLaidFrom (s.before + s.count) runs tail (s.before + left) → IsSplit runs tail o (slice_runs walk.later) (option_map timed walk.tail) → walk.left ≡ left - 1 → StandsIn o walk
-stands_behind walk None left s runs tail some few laid is at =
+pub stands_behind : (walk : Inside) (o : Option TimedRun) (left : ℕ) (s : TimedRun) (runs : List TimedRun) (tail : Option TimedRun) →
+    0 < s.count →
+    AreLaidFrom (s.before + s.count) runs tail (s.before + left) →
+    IsSplit runs tail o (slice_runs walk.later) (option_map timed walk.tail) → walk.left ≡ left - s.count → StandsIn o walk
+stands_behind walk None left s runs tail some laid is at =
     omega (arith, split_none (s.before + s.count) runs tail (slice_runs walk.later) (option_map timed walk.tail) (s.before + left) is laid)
-stands_behind walk (Some t) left s runs tail some few laid is at =
+stands_behind walk (Some t) left s runs tail some laid is at =
     let stands : StandsAt (s.before + s.count) t (slice_runs walk.later) (option_map timed walk.tail) (s.before + left) = split_stands (s.before + s.count) runs tail t (slice_runs walk.later) (option_map timed walk.tail) (s.before + left) is laid in (
       stands.some,
       stands.is,
       laid_less (t.before + t.count) (s.before + left) (t.before + walk.left) (slice_runs walk.later) (option_map timed walk.tail) stands.laid
-          (elim (cases_lt 0 left) [ inl one ↦ inl (omega (arith, stands.placed)) | inr none ↦ inr (omega arith) ]),
+          (elim (cases_lt left s.count) [ inl fewer ↦ inr (omega arith) | inr others ↦ inl (omega (arith, stands.placed)) ]),
     )
 
 -- ---- the fields of a walk

@@ -2,7 +2,7 @@
 use Rattle.std.specs.Prelude.{◌≡◌, ℕ, ◌+◌, ◌*◌, ◌<◌, ◌≤◌, ◌^◌, pos, ◌+ℤ◌, ◌≤ℤ◌, List, [], ◌∷◌, ◌++◌, map, All, Option, Some, None}
 use Rattle.timeline.specs.Expansions.{SegmentTimeline, Member, Closed, Endless as GoesOn}
 use Rattle.timeline.specs.RunSegments.{TimedRun, AreLaid, IsEndless, all_extents, first_of}
-use Rattle.timeline.specs.Steady.{AreLasting, IsSteady}
+use Rattle.timeline.specs.Steady.{AreLasting, EndInTime, IsSteady}
 use Rattle.timeline.specs.Ratios.{natural}
 use Rattle.timeline.specs.RunTables.{runs_at}
 use Rattle.timeline.specs.declared.run.Endless.{Endless}
@@ -45,4 +45,5 @@ pub record IsKept (r : Inside) : Type 0 where
   pub countable : r.total ≤ 2 ^ 63
   pub lasting : AreLasting (timeline_of r).members
   pub steady : IsSteady (timeline_of r).members
+  pub in_time : EndInTime (timeline_of r).members
   pub timed : All (λ x. natural (x.start.ticks +ℤ pos r.origin) < 2 ^ 64) (all_extents (runs_of r))

@@ -24,3 +24,5 @@ pub mod RunTables
 pub mod Timelines
 pub mod Walks
 pub mod Written
+pub mod Starts
+pub mod SpanRuns

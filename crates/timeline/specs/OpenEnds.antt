@@ -9,7 +9,7 @@ use Rattle.timeline.specs.declared.span.Span.{Span}
 use Rattle.timeline.specs.declared.window.Window.{Window}
 use Rattle.timeline.specs.Expansions.{Extent, SegmentTimeline, ended_by, is_open, repeated}
 use Rattle.timeline.specs.Faults.{is_unbounded}
-use Rattle.timeline.specs.Listed.{IsReached, IsWindowOf}
+use Rattle.timeline.specs.Listed.{IsReached, IsWindowOf, expansion}
 use Rattle.timeline.specs.Names.{count_of}
 use Rattle.timeline.specs.SegmentTimelines.{timeline_of_entries, timeline_of_duration, timeline_of_spans}
 use Rattle.timeline.specs.Steady.{LastsTicks}
@@ -32,6 +32,12 @@ ListsEnd = (spans : List Span) (scale : Scale) (names : Names) (timeline : Segme
 -- what has an end needs no `until`, and `count` never answers Range
 abbrev pub EndedIsReached : Type 0
 EndedIsReached = (timeline : SegmentTimeline) (window : Window) → is_open timeline.members ≡ false → IsWindowOf timeline window × IsReached timeline window
+
+-- of a window `until` alone tells whether it is one, whether `count` answers Range, and how far an open end goes
+abbrev pub UntilTells : Type 0
+UntilTells = (timeline : SegmentTimeline) (window other : Window) → window.until ≡ other.until →
+    (IsWindowOf timeline window ↔ IsWindowOf timeline other) × (IsReached timeline window ↔ IsReached timeline other) ×
+    (expansion timeline window ≡ expansion timeline other)
 
 -- Of segments that follow one another, the first `ended_by` are those that end by the instant: it is the greatest number
 -- of steps of which the last one ends by then.

@@ -1,6 +1,6 @@
 -- Segments that last some time, no more than 1,000,000 s, and lie near one another.
 use Rattle.std.specs.Prelude.{◌≡◌, ◌<ℤ◌, List, [], ◌∷◌, map, None}
-use Rattle.exact_time.specs.Time.{IsTime, IsBefore}
+use Rattle.exact_time.specs.Time.{IsTime, IsBefore, IsAtMost, difference, seconds}
 use Rattle.exact_time.specs.Rounding.{IsRising, AreNear}
 use Rattle.timeline.specs.Expansions.{Extent, Timing, Member, Closed, Short, Endless}
 use Rattle.timeline.specs.Faults.{segment_fault}
@@ -24,6 +24,21 @@ AreLasting [] = Unit {0}
 AreLasting (Closed x ∷ later) = Lasts x × AreLasting later
 AreLasting (Short x ∷ later) = AreLasting later
 AreLasting (Endless x ∷ later) = LastsTicks x × (later ≡ [])
+
+-- each ends at most 10^11 s after the Period's start, but for those that go on to an open end
+abbrev pub EndInTime : List Member → Type 0
+EndInTime [] = Unit {0}
+EndInTime (Closed x ∷ later) = IsAtMost x.end (seconds 100000000000) × EndInTime later
+EndInTime (Short x ∷ later) = EndInTime later
+EndInTime (Endless x ∷ later) = EndInTime later
+
+-- a listed segment begins before it ends, lasts at most 1,000,000 s, and ends at most 10^11 s after the Period's start
+pub record IsWithinLimits (x : Timing) : Type 0 where
+  pub start_is : IsTime x.start
+  pub end_is : IsTime x.end
+  pub begins : IsBefore x.start x.end
+  pub lasts : IsAtMost (difference x.end x.start) (seconds 1000000)
+  pub near : IsAtMost x.end (seconds 100000000000)
 
 -- none is too long or apart from the one before it
 abbrev pub IsSteady : List Member → Type 0

@@ -2,7 +2,8 @@
 
 ghost use Rattle.timeline.specs.Laws.{TimelinesRise, DurationsRise, ListsRise};
 ghost use Rattle.timeline.specs.OwnParts.{AreGivenAgain, AreNumbered, DurationsHaveParts, ListsHaveParts, OnlyMemoryHolds, PartsAreMade, TimelinesHaveParts};
-ghost use Rattle.timeline.specs.OpenEnds.{TimelinesEnd, DurationsEnd, ListsEnd, EndedIsReached, StepsAreGreatest};
+ghost use Rattle.timeline.specs.OpenEnds.{TimelinesEnd, DurationsEnd, ListsEnd, EndedIsReached, StepsAreGreatest, UntilTells};
+ghost use Rattle.timeline.specs.Starts.{TimelinesInTicks, DurationsInTicks, ListsInTicks};
 
 /// Each segment of an expansion ends after the one before it, where no segment lasts no time, none is apart from the
 /// one before it, and none begins at or after a time that it is cut at.
@@ -13,12 +14,21 @@ pub fn ends_rise()
 {}
 
 /// What a constructor of `Runs` gives for a static MPD, for a Period whose end is known, or for listed names isn't open.
-/// What isn't open meets the conditions of every window.
+/// What isn't open meets the conditions of every window. Whether a window meets them its `until` alone tells.
 pub fn closed_ends()
     ensures timelines { TimelinesEnd }
     ensures durations { DurationsEnd }
     ensures lists { ListsEnd }
     ensures reached { EndedIsReached }
+    ensures until { UntilTells }
+{}
+
+/// Each listed segment begins at a whole tick of its timeline, as `Runs::offset` does; only the end of a last segment that is
+/// cut at the Period's end may have another scale. Of given times this is so where they are in the timeline's ticks.
+pub fn starts_in_ticks()
+    ensures timelines { TimelinesInTicks }
+    ensures durations { DurationsInTicks }
+    ensures lists { ListsInTicks }
 {}
 
 /// Of the segments that go on to an open end, as many are there by an instant as end by it.

@@ -34,13 +34,15 @@ use bridge_io::Sequence;
 pub use cursor::Cursor;
 pub use entry::{End, SEntry, Scale};
 pub use fault::{ListFault, TimeFault};
-pub use laws::{closed_ends, ends_rise, open_ends, own_addresses, own_addresses_made};
+pub use laws::{
+    closed_ends, ends_rise, open_ends, own_addresses, own_addresses_made, starts_in_ticks,
+};
 pub use listing::{Listing, Segment};
 pub use names::{Names, RefPart};
 pub use runs::Runs;
 pub use shared_names::SharedNames;
 pub use shared_timeline::SharedTimeline;
-pub use span::Span;
+pub use span::{Span, SpanRun};
 pub use time_walk::TimeWalk;
 use url_parts::Part;
 pub use window::Window;

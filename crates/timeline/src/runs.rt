@@ -1,5 +1,5 @@
 // The segments of a Representation in one Period.
-ghost use Rattle.std.specs.Prelude.{◌≡◌, ◌-◌, ◌<◌, ◌^◌, ◌+ℤ◌, pos, min, MatchOption, option_map};
+ghost use Rattle.std.specs.Prelude.{◌≡◌, ◌-◌, ◌<◌, ◌^◌, ◌+ℤ◌, pos, min, MatchOption, option_map, length, All};
 
 use crate::bound::Bound;
 use crate::builder::RunsBuilder;
@@ -43,7 +43,7 @@ impl Runs {
     ghost use Rattle.bridge_io.specs.Answer.{Gives};
     ghost use Rattle.timeline.specs.SegmentTimelines.{timeline_from, timeline_if_paired};
     ghost use Rattle.timeline.specs.Faults.{refusal};
-    ghost use Rattle.timeline.specs.Steady.{AreLasting, ArePaced, IsSteady};
+    ghost use Rattle.timeline.specs.Steady.{AreLasting, ArePaced, EndInTime, IsSteady, IsWithinLimits};
     ghost use Rattle.timeline.specs.Building.{IsLaidOut, members_so_far};
     ghost use Rattle.timeline.specs.Listed.{IsWindowOf, IsReached, IsFirstListed, IsPlaceAfter, answered_count, is_out_of_range, expansion, listed_from, offset_of};
     ghost use Rattle.timeline.specs.declared.window.Window.{Window};
@@ -115,6 +115,19 @@ impl Runs {
         Cursor::at(self.place(Bound::tick(end)))
     }
 
+    /// How many segments are listed from a place on. It divides, however many they are, and takes no memory.
+    ///
+    /// Requires that `until` is given where the Period's end is open, and that `count` doesn't answer Range.
+    pub fn count_from(&self, from: &Cursor, window: &Window) -> u64
+        requires window { IsWindowOf self.now window.now }
+        requires reached { IsReached self.now window.now }
+        ensures { result ≡ length (listed_from from.now self.now window.now) }
+    {
+        let _ = &self.table; // opens the value, for what it keeps
+        let begin = from.place().max(self.place(window.low()));
+        self.finish(window).saturating_sub(begin)
+    }
+
     /// The times and numbers of the listed segments from a place on. Their ends may be given to a `Rounder` that begins
     /// at the first one's start. It takes no memory.
     ///
@@ -124,6 +137,7 @@ impl Runs {
         requires reached { IsReached self.now window.now }
         ensures listed { result ≡ listed_from from.now self.now window.now }
         ensures paced { ArePaced result }
+        ensures limits { All IsWithinLimits result }
     {
         let begin = from.place().max(self.place(window.low()));
         let left = self.finish(window).saturating_sub(begin);
@@ -145,6 +159,7 @@ impl Runs {
         requires reached { IsReached self.now window.now }
         ensures segments { result.left ≡ listed_from from.now self.now window.now }
         ensures paced { ArePaced result.left }
+        ensures limits { All IsWithinLimits result.left }
         ensures timeline { result.timeline ≡ self.now }
     {
         let _ = &self.table; // opens the value, for what it keeps
@@ -157,6 +172,7 @@ impl Runs {
         requires origin { builder.limits.origin ≡ origin }
         requires lasting { AreLasting (members_so_far builder) }
         requires steady { IsSteady (members_so_far builder) }
+        requires in_time { EndInTime (members_so_far builder) }
         ensures { result ≡ timeline_from scale origin names (members_so_far builder) }
     {
         Runs {
@@ -181,6 +197,7 @@ impl Runs {
         requires origin { builder.limits.origin ≡ origin }
         requires lasting { AreLasting (members_so_far builder) }
         requires steady { IsSteady (members_so_far builder) }
+        requires in_time { EndInTime (members_so_far builder) }
         ensures { Gives (λ runs. runs) refusal result (timeline_if_paired scale origin names (members_so_far builder)) }
     {
         if !builder.is_paired(names.len()) {

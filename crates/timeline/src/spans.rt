@@ -6,7 +6,7 @@ ghost use Rattle.exact_time.specs.Time.{difference, seconds, before};
 ghost use Rattle.timeline.specs.Durations.{expansion_of_list, extent_of};
 ghost use Rattle.timeline.specs.Expansions.{lasting};
 ghost use Rattle.timeline.specs.Faults.{is_apart, lasts_no_time};
-ghost use Rattle.timeline.specs.Limits.{span_breaks_limits};
+ghost use Rattle.timeline.specs.Limits.{span_breaks_limits, too_long};
 ghost use Rattle.timeline.specs.Reaches.{IsTheirFault};
 ghost use Rattle.timeline.specs.RunSegments.{one_extent};
 ghost use Rattle.timeline.specs.Spans.{AreInRow, fault_of_span, have_no_time};
@@ -116,9 +116,9 @@ fn ends_late(end: Tick) -> bool
 
 /// Whether a segment begins more than half its duration before or after a time. It doesn't last longer than
 /// 1,000,000 s, so a time that is farther from its start needs no more arithmetic.
-fn is_apart(start: Tick, end: Tick, former: Tick) -> bool
+pub(crate) fn is_apart(start: Tick, end: Tick, former: Tick) -> bool
     requires lasting { lasts_no_time (one_extent start end) ≡ false }
-    requires kept { span_breaks_limits (one_extent start end) ≡ false }
+    requires short { too_long (one_extent start end) ≡ false }
     ensures { result ≡ is_apart (Some (time_of former)) (one_extent start end) }
 {
     let lasts = lasting(start, end);

@@ -3,10 +3,10 @@ ghost use Rattle.std.specs.Prelude.{◌≡◌, ◌+◌, ◌<◌, ◌^◌, ◌++�
 ghost use Rattle.timeline.specs.RunSegments.{IsSplit, timed};
 ghost use Rattle.timeline.specs.RunTables.{slice_runs};
 
-use crate::Span;
 use crate::limits::Limits;
 use crate::run::Run;
 use crate::run_slice::{RunSlice, Test};
+use crate::{Span, SpanRun};
 use std::marker::Model;
 
 /// The times and numbers of segments in order. The next ones take a few additions each, and no division.
@@ -41,6 +41,7 @@ impl<'a> TimeWalk<'a> {
     ghost use Rattle.std.specs.Prelude.{[], Some, slice_get, IfSome, MatchOption, take, drop};
     ghost use Rattle.timeline.specs.Expansions.{numbered};
     ghost use Rattle.timeline.specs.Listed.{timing_of};
+    ghost use Rattle.timeline.specs.SpanRuns.{IsNextRun};
     ghost use Rattle.timeline.specs.RunSegments.{extents_of_some, AreLaidWith, all_extents};
 
     /// So many segments from a place on.
@@ -99,6 +100,32 @@ impl<'a> TimeWalk<'a> {
             end: current.end,
             number: self.first_number + current.before,
         })
+    }
+
+    /// Goes behind the next segments that are equally long, and tells them at once, in a few additions, however many they
+    /// are. An S element or a given time takes at most one call, a duration two. There are none exactly at the end.
+    pub fn next_run(&mut self) -> Option<SpanRun>
+        ensures { MatchOption result ((self.old ≡ []) × (self.new ≡ [])) (λ run. IsNextRun self.old run self.new) }
+    {
+        let current = self.now?;
+        if self.left == 0 {
+            return None;
+        }
+        let run = SpanRun {
+            first: Span {
+                start: current.start,
+                end: current.end,
+                number: self.first_number + current.before,
+            },
+            step: current.step,
+            count: current.count.min(self.left),
+        };
+        self.left -= run.count;
+        if self.left == 0 {
+            return Some(run);
+        }
+        go_on(&mut self.now, &mut self.later, &mut self.tail);
+        Some(run)
     }
 
     /// Goes behind the next segment.

@@ -1,7 +1,7 @@
 use Rattle.std.proofs.Common.{◌≡◌, ℕ, ◌*◌, ◌<◌, ◌≤◌, ◌^◌, ◌∙◌, ℤ, sym, ap, rules, arith, mul-le-mul}
 use Rattle.std.specs.Prelude.{unsigned_abs}
 use Rattle.std.proofs.lemmas.Int.{to_z-of_z}
-use Rattle.timeline.proofs.Spanned.{is_apart_span, far_apart, kept_lasts}
+use Rattle.timeline.proofs.Spanned.{is_apart_span, far_apart, short_lasts}
 use Rattle.timeline.proofs.spans.is_apart.Goals as goal
 use mir.Val.{Fits, SFits, to_z, of_z}
 use mir.Syntax.{w32, w128}
@@ -28,7 +28,7 @@ overflow_mul-result c =
     let s_fits : Fits w32 c.args.start.scale = search rules in
     let e_fits : Fits w32 c.args.end.scale = search rules in
     let f_fits : Fits w32 c.args.former.scale = search rules in
-    let short = kept_lasts c.args.start c.args.end c.lasting-lasts.result c.lasting-lasts.ensures.value c.requires.kept in
+    let short = short_lasts c.args.start c.args.end c.lasting-lasts.result c.lasting-lasts.ensures.value c.requires.short in
     record { fits = omega (arith, c.from-2.ensures, (small c.lasting-lasts.result 0 c.args.start.scale c.args.end.scale c.args.former.scale short (omega arith) s_fits.fits e_fits.fits f_fits.fits).0, ap (λ (n : ℕ). c.lasting-lasts.result * n) c.from-2.ensures) }
 
 pub overflow_mul-result-3 : goal.overflow_mul-result-3
@@ -36,7 +36,7 @@ overflow_mul-result-3 c =
     let s_fits : Fits w32 c.args.start.scale = search rules in
     let e_fits : Fits w32 c.args.end.scale = search rules in
     let f_fits : Fits w32 c.args.former.scale = search rules in
-    let short = kept_lasts c.args.start c.args.end c.lasting-lasts.result c.lasting-lasts.ensures.value c.requires.kept in
+    let short = short_lasts c.args.start c.args.end c.lasting-lasts.result c.lasting-lasts.ensures.value c.requires.short in
     let near : c.unsigned_abs-gap.result ≤ 1000000 * (c.args.former.scale * c.args.start.scale) = omega (arith, c.if-from-scales.false, ap (λ (n : ℕ). n * c.scales.result) c.from.ensures, c.scales.ensures.value) in
     record { fits = omega (arith, (small c.lasting-lasts.result c.unsigned_abs-gap.result c.args.start.scale c.args.end.scale c.args.former.scale short near s_fits.fits e_fits.fits f_fits.fits).1, ap (λ (n : ℕ). 2 * c.unsigned_abs-gap.result * n) c.from-3.ensures) }
 
@@ -53,4 +53,5 @@ returns-then-from-scales c =
     let far : 1000000 * (c.args.former.scale * c.args.start.scale) < c.unsigned_abs-gap.result =
     omega (arith, c.if-from-scales.true, ap (λ (n : ℕ). n * c.scales.result) c.from.ensures, c.scales.ensures.value) in
     sym (is_apart_span c.args.start c.args.end c.lasting-lasts.result c.lasting-lasts.ensures.value c.args.former c.unsigned_abs-gap.result is
-    ∙ far_apart c.args.start c.args.end c.lasting-lasts.result c.lasting-lasts.ensures.value c.args.former c.unsigned_abs-gap.result (kept_lasts c.args.start c.args.end c.lasting-lasts.result c.lasting-lasts.ensures.value c.requires.kept) far)
+    ∙ far_apart c.args.start c.args.end c.lasting-lasts.result c.lasting-lasts.ensures.value c.args.former c.unsigned_abs-gap.result
+    (short_lasts c.args.start c.args.end c.lasting-lasts.result c.lasting-lasts.ensures.value c.requires.short) far)

@@ -1,13 +1,13 @@
 use Rattle.std.proofs.Common.{◌≡◌, ℕ, ◌+◌, ◌-◌, ◌<◌, ◌^◌, List, ◌++◌, max, take, drop, sym, ap, subst, ◌∙◌, arith}
 use Rattle.timeline.specs.Expansions.{SegmentTimeline, Extent, Timing, numbered}
 use Rattle.timeline.specs.RunSegments.{AreLaidFrom, TimedRun, all_extents, extents_of_some, timed}
-use Rattle.std.specs.Prelude.{option_map}
+use Rattle.std.specs.Prelude.{All, option_map}
 use Rattle.timeline.specs.Kept.{runs_of}
 use Rattle.timeline.specs.RunTables.{runs_at, slice_runs}
 use Rattle.timeline.specs.Listed.{instant_of}
 use Rattle.timeline.proofs.SegmentTimelineLemmas.{open_at}
-use Rattle.timeline.proofs.SeekLemmas.{walk_laid, walk_all, walk_countable, walk_is, walk_paced}
-use Rattle.timeline.specs.Steady.{ArePaced}
+use Rattle.timeline.proofs.SeekLemmas.{walk_laid, walk_all, walk_countable, walk_is, walk_paced, limits_are}
+use Rattle.timeline.specs.Steady.{ArePaced, IsWithinLimits}
 use Rattle.timeline.proofs.runs.Runs.walk.Goals as goal
 
 pub from-requires-clause-laid : goal.from-requires-clause-laid
@@ -55,3 +55,9 @@ returns-clause-paced c =
     ∙ ap (λ (xs : List Extent). numbered (c.self.inside.scale.start_number + begin) (take left (drop begin xs))) all in
     subst (λ (xs : List Timing). ArePaced xs) (sym walk)
     (walk_paced c.self.inside c.self.invariant c.args.self.now c.self.view_is c.args.window.now c.requires.window c.requires.reached (c.self.inside.scale.start_number + begin) left begin)
+
+pub returns-clause-limits : goal.returns-clause-limits
+returns-clause-limits c =
+    subst (λ (xs : List Timing). All IsWithinLimits xs) (sym (returns-clause-listed c))
+    (limits_are c.self.inside c.self.invariant c.args.self.now c.self.view_is c.args.window.now c.requires.window c.requires.reached
+    c.args.from.now)

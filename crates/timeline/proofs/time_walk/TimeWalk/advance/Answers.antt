@@ -33,10 +33,13 @@ invariant_of-self-in-None c =
     let stands = stands_in walk s (ap (option_map timed) c.in-Some.is) c.self.invariant in
     record {
       stands = stands_behind (record { now = c.go_on.new.now; later = c.go_on.new.later; tail = c.go_on.new.tail; left = c.saturating_sub-self-inside.result; first_number = walk.first_number })
-          (option_map timed c.go_on.new.now) walk.left s (slice_runs walk.later) (option_map timed walk.tail) stands.0 c.in-None.ensures stands.2 c.go_on.ensures c.saturating_sub-self-inside.ensures;
+          (option_map timed c.go_on.new.now) walk.left s (slice_runs walk.later) (option_map timed walk.tail) stands.0 stands.2
+          c.go_on.ensures (omega (arith, c.saturating_sub-self-inside.ensures, stands.0, c.in-None.ensures));
       countable = λ some.
           let sub = c.saturating_sub-self-inside.ensures in
-          let at = next_place walk.first_number walk.left s (slice_runs walk.later) (slice_runs c.go_on.new.later) (option_map timed walk.tail) (option_map timed c.go_on.new.now) (option_map timed c.go_on.new.tail) stands.0 c.in-None.ensures stands.2 c.go_on.ensures (omega (arith, some, sub)) in
+          let at = next_place walk.first_number walk.left s (slice_runs walk.later) (slice_runs c.go_on.new.later)
+          (option_map timed walk.tail) (option_map timed c.go_on.new.now) (option_map timed c.go_on.new.tail) stands.0 stands.2
+          c.go_on.ensures (omega (arith, some, sub, stands.0, c.in-None.ensures)) in
           let before = c.self.invariant.countable (omega (arith, some, sub)) in
           omega (arith, sub, at, before, ap (λ (o : Option Run). place_of (option_map timed o)) c.in-Some.is);
     }

@@ -1,0 +1,28 @@
+-- Segments begin at whole ticks of their timeline.
+use Rattle.std.specs.Prelude.{◌≡◌, ℕ, Bool, List, All, Ok}
+use Rattle.timeline.specs.declared.entry.SEntry.{SEntry}
+use Rattle.timeline.specs.declared.entry.Scale.{Scale}
+use Rattle.timeline.specs.declared.entry.End.{End}
+use Rattle.timeline.specs.declared.names.Names.{Names}
+use Rattle.timeline.specs.declared.span.Span.{Span}
+use Rattle.timeline.specs.declared.window.Window.{Window}
+use Rattle.timeline.specs.Expansions.{SegmentTimeline}
+use Rattle.timeline.specs.Listed.{listed_from}
+use Rattle.timeline.specs.SegmentTimelines.{timeline_of_entries, timeline_of_duration, timeline_of_spans}
+
+-- each listed start is counted in the timeline's ticks
+abbrev pub StartInTicks : SegmentTimeline → Type 0
+StartInTicks timeline = (place : ℕ) (window : Window) → All (λ x. x.start.scale ≡ timeline.ticks) (listed_from place timeline window)
+
+abbrev pub TimelinesInTicks : Type 0
+TimelinesInTicks = (entries : List SEntry) (end : End) (live : Bool) (scale : Scale) (names : Names) (timeline : SegmentTimeline) →
+    timeline_of_entries entries end live scale names ≡ Ok timeline → StartInTicks timeline
+
+abbrev pub DurationsInTicks : Type 0
+DurationsInTicks = (duration : ℕ) (end : End) (live : Bool) (scale : Scale) (names : Names) (timeline : SegmentTimeline) →
+    timeline_of_duration duration end live scale names ≡ Ok timeline → StartInTicks timeline
+
+-- where the given times are
+abbrev pub ListsInTicks : Type 0
+ListsInTicks = (spans : List Span) (scale : Scale) (names : Names) (timeline : SegmentTimeline) →
+    All (λ span. span.start.scale ≡ scale.ticks) spans → timeline_of_spans spans scale names ≡ Ok timeline → StartInTicks timeline
