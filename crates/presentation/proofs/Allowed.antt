@@ -2,17 +2,20 @@
 use Rattle.std.proofs.Common.{◌≡◌, ℕ, zero, suc, ◌+◌, ◌<◌, ◌++◌, [], List, length, map, slice_get, sym, ◌∙◌, ap, Some, Ok, arith, zero-add, add-zero}
 use Rattle.std.specs.List.{range_with_len}
 use Rattle.presentation.specs.Presented.{Presented}
-use Rattle.presentation.specs.Counting.{count_faults, count_of_all, tracks_of}
+use Rattle.presentation.specs.Counting.{count_faults, count_of_all, range_faults, tracks_of}
 use Rattle.presentation.specs.Verifying.{verified, url_faults, longest_of}
 use Rattle.presentation.proofs.Firsts.{none_before, value_of}
 use Rattle.presentation.proofs.Addressed.{addressed}
-use Rattle.presentation.proofs.Reached.{all_reached, none_first, none_later}
+use Rattle.presentation.proofs.Reached.{all_reached, ends_reached, none_first, none_later}
 use Rattle.presentation.proofs.Verified.{counted_is, verified_is}
-use Rattle.presentation.specs.Laws.{CountedAreListed, EachHasLongest, VerifiedAreCounted, VerifiedHaveAddresses}
+use Rattle.presentation.specs.Laws.{CountedAreListed, EachHasLongest, EndsAreCounted, VerifiedAreCounted, VerifiedHaveAddresses}
 
 pub counted_are_listed : CountedAreListed
 counted_are_listed p n s t is in_sections in_tracks =
     all_reached p (none_before (count_faults p) (count_of_all p) n (sym (counted_is p) ∙ is)) t in_tracks s in_sections
+
+pub ends_are_counted : EndsAreCounted
+ends_are_counted p done s t is in_sections in_tracks = ends_reached p (none_before (range_faults p) tt done is) t in_tracks s in_sections
 
 none_refused : (p : Presented) (unit : ℕ) (longest : List ℕ) → verified p unit ≡ Ok longest → count_faults p ++ url_faults p ≡ []
 none_refused p unit longest is = none_before (count_faults p ++ url_faults p) (map (longest_of p unit) (tracks_of p)) longest (sym (verified_is p unit) ∙ is)

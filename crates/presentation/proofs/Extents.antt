@@ -1,14 +1,21 @@
 -- How long the listed segments last.
 use Rattle.std.proofs.Common.{◌≡◌, ℕ, length, take, Some, Ok, refl, sym, ◌∙◌, ap, []}
+use Rattle.std.specs.Option.{option_map_or}
+use Rattle.timeline.specs.declared.window.Window.{Window}
 use Rattle.timeline.specs.Listed.{IsReached, answered_count, listed, listed_from, expansion}
 use Rattle.presentation.specs.declared.parts.Content.{Content}
 use Rattle.presentation.specs.Presented.{Presented, window_of, content_at, listed_at, listed_in}
+use Rattle.presentation.specs.Counting.{count_at}
 use Rattle.presentation.specs.Printing.{IsCounted}
 use Rattle.presentation.proofs.Printing.{all_listed}
 
 module _ (p : Presented) (s t : ℕ) (content : Content) (is : content_at p s t ≡ Some content) where
   pub listed_of : listed_at p s t ≡ listed_in (window_of p s) content.runs
   listed_of = rw is refl
+
+  -- what is counted in its window
+  pub answered_at : (window : Window) → window ≡ window_of p s → count_at p t s ≡ answered_count content.runs window
+  answered_at window same = ap (λ o. option_map_or (λ content. answered_count content.runs (window_of p s)) o (Ok 0)) is ∙ ap (answered_count content.runs) (sym same)
 
   pub reached_of : IsCounted p s t → IsReached content.runs (window_of p s)
   reached_of counted = rw is at counted

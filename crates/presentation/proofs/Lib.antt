@@ -12,6 +12,7 @@ pub mod Addressed
 pub mod Windows
 pub mod Printing
 pub mod Firsts
+pub mod FirstFault
 pub mod Counts
 pub mod Extents
 pub mod Tracks

@@ -7,7 +7,7 @@ use Rattle.timeline.specs.declared.fault.TimeFault.TheVariants.{Range}
 use Rattle.timeline.specs.Listed.{IsReached, answered_count}
 use Rattle.presentation.specs.declared.parts.Content.{Content}
 use Rattle.presentation.specs.Presented.{Presented, is_finished, content_at, window_of}
-use Rattle.presentation.specs.Counting.{faults_of_count, section_faults, track_faults, count_faults, limit_faults, whole_track_faults, is_over, sections_of, tracks_of, place_at}
+use Rattle.presentation.specs.Counting.{faults_of_count, section_faults, track_faults, count_faults, limit_faults, range_at, range_by, range_faults, range_faults_of, whole_track_faults, is_over, sections_of, tracks_of, place_at}
 use Rattle.presentation.specs.Verifying.{IsTrackCounted}
 
 pub none_first : {X : Type 0} (xs ys : List X) → xs ++ ys ≡ [] → xs ≡ []
@@ -40,6 +40,22 @@ module _ (p : Presented) (t s : ℕ) where
       let window = window_of p s in
       reached (is_finished p) t s (place_at p t s) _ _
       (subst (λ o. faults_of_count (is_finished p) t s (place_at p t s) (option_map_or (λ content. answered_count content.runs window) o (Ok 0)) ≡ []) is none)
+
+-- the same where ends alone are judged
+module _ (p : Presented) (t s : ℕ) where
+  ends : (is_out : Bool) (n : ℕ) → range_by p t s (if is_out then Err Range else Ok n) ≡ [] → is_out ≡ false
+  ends true n none = absurd (cc)
+  ends false n none = refl
+
+  ends_in : (o : Option Content) → content_at p s t ≡ o → range_at p t s ≡ [] → IfSome o (λ content. IsReached content.runs (window_of p s))
+  ends_in None is none = tt
+  ends_in (Some content) is none =
+      let window = window_of p s in
+      ends _ _ (subst (λ o. range_by p t s (option_map_or (λ content. answered_count content.runs window) o (Ok 0)) ≡ []) is none)
+
+pub ends_reached : (p : Presented) → range_faults p ≡ [] → (t : ℕ) → t < length p.tracks → IsTrackCounted p t
+ends_reached p none t within s in_sections =
+    ends_in p t s (content_at p s t) refl (none_within (range_at p t) (length p.sections) s (none_within (range_faults_of p) (length p.tracks) t none within) in_sections)
 
 pub all_reached : (p : Presented) → count_faults p ≡ [] → (t : ℕ) → t < length p.tracks → IsTrackCounted p t
 all_reached p none t within s in_sections =

@@ -76,6 +76,20 @@ limit_faults over = if over then Limit ∷ [] else []
 abbrev pub count_faults : Presented → List PresentationFault
 count_faults p = flat_map (track_faults p) (tracks_of p) ++ limit_faults (is_over p)
 
+-- the segments up to an open end that break a limit, without a count
+abbrev pub range_by : Presented → (t s : ℕ) → Result ℕ TimeFault → List PresentationFault
+range_by p t s (Ok n) = []
+range_by p t s (Err fault) = Timeline fault (place_at p t s) ∷ []
+
+abbrev pub range_at : Presented → (t s : ℕ) → List PresentationFault
+range_at p t s = range_by p t s (count_at p t s)
+
+abbrev pub range_faults_of : Presented → (t : ℕ) → List PresentationFault
+range_faults_of p t = flat_map (range_at p t) (sections_of p)
+
+abbrev pub range_faults : Presented → List PresentationFault
+range_faults p = flat_map (range_faults_of p) (tracks_of p)
+
 -- how many segments are listed, or the first fault
 unfoldable pub counted : Presented → Result ℕ PresentationFault
 counted p = unless_any (count_faults p) (count_of_all p)

@@ -4,13 +4,17 @@ use Rattle.url_parts.specs.declared.address.Part.{Part}
 use Rattle.timeline.specs.Expansions.{SegmentTimeline, Timing}
 use Rattle.timeline.specs.Listed.{part_of_timing}
 use Rattle.presentation.specs.Presented.{Presented, content_at, listed_at}
-use Rattle.presentation.specs.Counting.{counted}
+use Rattle.presentation.specs.Counting.{counted, range_faults, unless_any}
 use Rattle.presentation.specs.Printing.{IsCounted, printed_timings}
 use Rattle.presentation.specs.Verifying.{longest_of, verified}
 
 -- where segments are counted, each track's segments may be listed in each section
 abbrev pub CountedAreListed : Type 0
 CountedAreListed = (p : Presented) (n s t : ℕ) → counted p ≡ Ok n → s < length p.sections → t < length p.tracks → IsCounted p s t
+
+-- where segments up to open ends break no limit, each track's segments may be listed in each section
+abbrev pub EndsAreCounted : Type 0
+EndsAreCounted = (p : Presented) (done : Unit {0}) (s t : ℕ) → unless_any (range_faults p) tt ≡ Ok done → s < length p.sections → t < length p.tracks → IsCounted p s t
 
 -- segments with addresses are counted
 abbrev pub VerifiedAreCounted : Type 0

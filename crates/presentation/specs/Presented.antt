@@ -58,8 +58,12 @@ whole_window = record { after = None; until = None }
 abbrev pub start_of : Presented → ℕ → ℕ
 start_of p s = option_map_or (λ section. section.start) (slice_get p.sections s) 0
 
+-- what is listed of a Period with this start, and of a section's
+abbrev pub window_from : Presented → (start : ℕ) → Window
+window_from p start = option_map_or (λ f. window_at f start) p.following whole_window
+
 abbrev pub window_of : Presented → ℕ → Window
-window_of p s = option_map_or (λ f. window_at f (start_of p s)) p.following whole_window
+window_of p s = window_from p (start_of p s)
 
 -- what a track has in a section
 abbrev pub content_at : Presented → ℕ → ℕ → Option Content

@@ -105,7 +105,12 @@ impl Presentation {
         }
     }
 
-    fn time_fault(&self, fault: TimeFault, section: usize, track: usize) -> PresentationFault
+    pub(crate) fn time_fault(
+        &self,
+        fault: TimeFault,
+        section: usize,
+        track: usize,
+    ) -> PresentationFault
         requires section { section < length self.now.sections }
         requires track { track < length self.now.tracks }
         ensures { result ≡ spec.time_fault self.now track section fault }

@@ -1,13 +1,15 @@
 //! Laws of the definitions. The functions do nothing: what they ensure is the law.
 
-ghost use Rattle.presentation.specs.Laws.{CountedAreListed, VerifiedAreCounted, VerifiedHaveAddresses, EachHasLongest};
+ghost use Rattle.presentation.specs.Laws.{CountedAreListed, EndsAreCounted, VerifiedAreCounted, VerifiedHaveAddresses, EachHasLongest};
 ghost use Rattle.presentation.specs.MeaningLaws.{MadeAreMeant, VerifiedAreMeant, FinishedAreWhole, PresentedAreMeant, TextsAreMeant};
 ghost use Rattle.presentation.specs.Origins.{StaticAreFinished};
 
 /// Where `count` or `verify` answers Ok, `segments` and `extent` may be called for each track and section, and `verify`
-/// tells the longest duration of each track. Each listed segment then has an address.
+/// tells the longest duration of each track. Each listed segment then has an address. Where `check_ends` answers Ok, the
+/// segments that are listed at its instant may be taken.
 pub fn answers_allow_listings()
     ensures counted { CountedAreListed }
+    ensures ends { EndsAreCounted }
     ensures verified { VerifiedAreCounted }
     ensures addresses { VerifiedHaveAddresses }
     ensures longest { EachHasLongest }

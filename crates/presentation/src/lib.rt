@@ -4,6 +4,7 @@
 mod checks;
 mod count;
 mod described;
+mod ends;
 mod extent;
 mod fault;
 mod from_mpd;

@@ -1,6 +1,6 @@
 // A presentation and what it shows of itself.
-ghost use Rattle.std.specs.Prelude.{◌≡◌, ◌<◌, ◌*◌, ◌+◌, ◌^◌, ◌-ℤ◌, unsigned_abs, length, All, Some, IfOk, option_map};
-ghost use Rattle.presentation.specs.Presented.{of_parts, window_of, window_at, content_at, looked_at, following_of, IsEnded, AreFilled};
+ghost use Rattle.std.specs.Prelude.{◌≡◌, ℕ, ℤ, ◌<◌, ◌*◌, ◌+◌, ◌^◌, ◌-ℤ◌, unsigned_abs, length, All, Some, IfOk, option_map};
+ghost use Rattle.presentation.specs.Presented.{of_parts, window_of, window_at, window_from, content_at, start_of, looked_at, following_of, IsEnded, AreFilled};
 ghost use Rattle.iso_time.specs.Instant.{IsReadable};
 ghost use Rattle.timeline.specs.Listed.{IsWindowOf};
 
@@ -133,13 +133,15 @@ impl Presentation {
         &self.groups
     }
 
-    /// The segments of a track in a section.
+    /// The segments of a track in a section. The windows of all sections fit them, at each instant.
     ///
     /// Requires that both are in range.
     pub fn runs(&self, section: usize, track: usize) -> &Runs
         requires section { section < length self.now.sections }
         requires track { track < length self.now.tracks }
-        ensures { option_map (λ content. content.runs) (content_at self.now section track) ≡ Some result.now }
+        ensures content { option_map (λ content. content.runs) (content_at self.now section track) ≡ Some result.now }
+        ensures fits { IsWindowOf result.now (window_of self.now section) }
+        ensures fits_from { (now : ℤ) (start : ℕ) → IsWindowOf result.now (window_from (looked_at now self.now) start) }
     {
         &self.content(section, track).runs
     }
@@ -168,7 +170,22 @@ impl Presentation {
                 until: None,
             };
         };
-        following.window(self.sections.as_slice()[section].start)
+        following.window(self.start_of(section))
+    }
+
+    /// The segments that are listed of a Period with this start at another instant: all of a finished presentation. The
+    /// presentation stays as it is. It takes no memory.
+    pub fn window_from(&self, start: Nanos, now: Instant) -> Window
+        ensures { result ≡ window_from (looked_at now self.now) start }
+    {
+        let Some(mut following) = self.following else {
+            return Window {
+                after: None,
+                until: None,
+            };
+        };
+        following.instant = now;
+        following.window(start)
     }
 
     /// Looks at a followed presentation at another instant. A finished one stays as it is.
@@ -181,12 +198,21 @@ impl Presentation {
         }
     }
 
+    /// When a section's Period begins.
+    pub(crate) fn start_of(&self, section: usize) -> Nanos
+        requires { section < length self.now.sections }
+        ensures { result ≡ start_of self.now section }
+    {
+        self.sections.as_slice()[section].start
+    }
+
     /// What a track has in a section.
     pub(crate) fn content(&self, section: usize, track: usize) -> &Content
         requires section { section < length self.now.sections }
         requires track { track < length self.now.tracks }
         ensures content { content_at self.now section track ≡ Some result.now }
         ensures fits { IsWindowOf result.now.runs (window_of self.now section) }
+        ensures fits_from { (now : ℤ) (start : ℕ) → IsWindowOf result.now.runs (window_from (looked_at now self.now) start) }
     {
         &self.contents.as_slice()[self.place_in(section, track)]
     }
