@@ -97,60 +97,68 @@ module _ (url : List ℕ) (live : Bool) where
       length_gathered (period_told url live) (length (first_rows periods)) periods
       (λ k d within. λ ys told. period_long (get_or periods k d) ys told ∙ all_as_long periods differ k d within) tolds is
 
--- ---- ends
-
-abbrev HasEnd : Told → Type 0
-HasEnd told = IsEnded told.content
+-- ---- the segments of each Representation
 
 abbrev with_runs : Part → SegmentTimeline → Result Content PresentationFault
 with_runs initialization runs = Ok (record { initialization = initialization; runs = runs })
 
-abbrev with_initialization : End → Description → Segments → (media base : List ℕ) → Part → Result Content PresentationFault
-with_initialization end d s media base initialization = and_then (runs_of false end d s media base) (with_runs initialization)
+-- what holds of segments by a timeline or a duration holds of all that is told
+module _ (P : SegmentTimeline → Type 0) (live : Bool)
+    (each : (timeline : Option (List SView)) (s : Segments) (end : End) (names : Names) (runs : SegmentTimeline) → timeline_by timeline s live end names ≡ Ok runs → P runs) (url : List ℕ) where
+  abbrev Has : Told → Type 0
+  Has told = P told.content.runs
 
-abbrev with_base : End → Description → Segments → List ℕ → Option (List ℕ) → List ℕ → Result Content PresentationFault
-with_base end d s media template base = and_then (initialization_of d s template base) (with_initialization end d s media base)
+  abbrev with_initialization : End → Description → Segments → (media base : List ℕ) → Part → Result Content PresentationFault
+  with_initialization end d s media base initialization = and_then (runs_of live end d s media base) (with_runs initialization)
 
-abbrev with_template : List ℕ → End → Description → Segments → List ℕ → Option (List ℕ) → Result Content PresentationFault
-with_template url end d s media template = and_then (base_of url d) (with_base end d s media template)
+  abbrev with_base : End → Description → Segments → List ℕ → Option (List ℕ) → List ℕ → Result Content PresentationFault
+  with_base end d s media template base = and_then (initialization_of d s template base) (with_initialization end d s media base)
 
-abbrev with_media : List ℕ → End → Description → Segments → List ℕ → Result Content PresentationFault
-with_media url end d s media = and_then (init_of d.place s) (with_template url end d s media)
+  abbrev with_template : End → Description → Segments → List ℕ → Option (List ℕ) → Result Content PresentationFault
+  with_template end d s media template = and_then (base_of url d) (with_base end d s media template)
 
-module _ (timelines : TimelinesEnd) (durations : DurationsEnd) (url : List ℕ) where
+  abbrev with_media : End → Description → Segments → List ℕ → Result Content PresentationFault
+  with_media end d s media = and_then (init_of d.place s) (with_template end d s media)
+
+  content_has : (end : End) (d : Description) (s : Segments) (content : Content) → content_of url live end d s ≡ Ok content → P content.runs
+  unfolding content_of
+  content_has end d s content is =
+      let media = steps_of (media_of d.place s) (with_media end d s) content is in
+      let template = steps_of (init_of d.place s) (with_template end d s media.value) content media.then in
+      let base = steps_of (base_of url d) (with_base end d s media.value template.value) content template.then in
+      let initialization = steps_of (initialization_of d s template.value base.value) (with_initialization end d s media.value base.value) content base.then in
+      let runs = steps_of (runs_of live end d s media.value base.value) (with_runs initialization.value) content initialization.then in
+      let same : runs.value ≡ content.runs = (let h = runs.then in cc) in
+      subst P same (each s.timeline s end _ runs.value (ok_under _ _ runs.value runs.first))
+
+  one_has : (end : End) (row : Row) (ys : List Told) → one_told url live end row ≡ Ok ys → All Has ys
+  one_has end row ys is =
+      let s = steps_of (told_of url live end row) _ ys is in
+      let t = steps_of (content_of url live end row.description (segments_in row)) _ s.value s.first in
+      let same : s.value ∷ [] ≡ ys = (let h = s.then in cc) in
+      let content : t.value ≡ s.value.content = (let h = t.then in cc) in
+      subst (All Has) same (All-cons Has s.value [] (subst (λ (c : Content). P c.runs) content (content_has end row.description (segments_in row) t.value t.first)) (All-nil Has))
+
+  period_has : (period : Period) (ys : List Told) → period_told url live period ≡ Ok ys → All Has ys
+  period_has period ys is =
+      let s = steps_of (gathered (one_told url live (end_of period)) period.tracks) _ ys is in
+      let same : told_in_order s.value ≡ ys = (let h = s.then in cc) in
+      subst (All Has) same (all_in_order _ Has s.value (all_gathered (one_told url live (end_of period)) Has (one_has (end_of period)) period.tracks s.value s.first))
+
+  pub all_have : (periods : List Period) (tolds : List Told) → all_told url live periods ≡ Ok tolds → All (λ (content : Content). P content.runs) (map (λ (told : Told). told.content) tolds)
+  all_have periods tolds is =
+      All-map (λ (content : Content). P content.runs) (λ (told : Told). told.content) tolds (all_gathered (period_told url live) Has period_has periods tolds is)
+
+-- ---- ends
+
+module _ (timelines : TimelinesEnd) (durations : DurationsEnd) where
   timeline_ended : (timeline : Option (List SView)) (s : Segments) (end : End) (names : Names) (runs : SegmentTimeline) → timeline_by timeline s false end names ≡ Ok runs → is_open runs.members ≡ false
   timeline_ended (Some timeline) s end names runs is = timelines (entries_of timeline) end false (scale_of s) names runs is refl
   timeline_ended None s end names runs is = durations _ end false (scale_of s) names runs is refl
 
-  content_ended : (end : End) (d : Description) (s : Segments) (content : Content) → content_of url false end d s ≡ Ok content → IsEnded content
-  unfolding content_of
-  content_ended end d s content is =
-      let media = steps_of (media_of d.place s) (with_media url end d s) content is in
-      let template = steps_of (init_of d.place s) (with_template url end d s media.value) content media.then in
-      let base = steps_of (base_of url d) (with_base end d s media.value template.value) content template.then in
-      let initialization = steps_of (initialization_of d s template.value base.value) (with_initialization end d s media.value base.value) content base.then in
-      let runs = steps_of (runs_of false end d s media.value base.value) (with_runs initialization.value) content initialization.then in
-      let same : runs.value ≡ content.runs = (let h = runs.then in cc) in
-      subst (λ runs. is_open runs.members ≡ false) same (timeline_ended s.timeline s end _ runs.value (ok_under _ _ runs.value runs.first))
-
-  one_ended : (end : End) (row : Row) (ys : List Told) → one_told url false end row ≡ Ok ys → All HasEnd ys
-  one_ended end row ys is =
-      let s = steps_of (told_of url false end row) _ ys is in
-      let t = steps_of (content_of url false end row.description (segments_in row)) _ s.value s.first in
-      let same : s.value ∷ [] ≡ ys = (let h = s.then in cc) in
-      let content : t.value ≡ s.value.content = (let h = t.then in cc) in
-      subst (All HasEnd) same (All-cons HasEnd s.value [] (subst IsEnded content (content_ended end row.description (segments_in row) t.value t.first)) (All-nil HasEnd))
-
-  period_ended : (period : Period) (ys : List Told) → period_told url false period ≡ Ok ys → All HasEnd ys
-  period_ended period ys is =
-      let s = steps_of (gathered (one_told url false (end_of period)) period.tracks) _ ys is in
-      let same : told_in_order s.value ≡ ys = (let h = s.then in cc) in
-      subst (All HasEnd) same (all_in_order _ HasEnd s.value (all_gathered (one_told url false (end_of period)) HasEnd (one_ended (end_of period)) period.tracks s.value s.first))
-
-  pub all_ended : (live : Bool) (periods : List Period) (tolds : List Told) → all_told url live periods ≡ Ok tolds → live ≡ false → All IsEnded (map (λ (told : Told). told.content) tolds)
-  all_ended true periods tolds is off = absurd (cc)
-  all_ended false periods tolds is off =
-      All-map IsEnded (λ (told : Told). told.content) tolds (all_gathered (period_told url false) HasEnd period_ended periods tolds is)
+  pub all_ended : (url : List ℕ) (live : Bool) (periods : List Period) (tolds : List Told) → all_told url live periods ≡ Ok tolds → live ≡ false → All IsEnded (map (λ (told : Told). told.content) tolds)
+  all_ended url true periods tolds is off = absurd (cc)
+  all_ended url false periods tolds is off = all_have (λ runs. is_open runs.members ≡ false) false timeline_ended url periods tolds is
 
 -- ---- what is judged before
 

@@ -1,5 +1,7 @@
 pub mod Ending
 pub mod Filling
+pub mod FromMpd
+pub mod Pace
 pub mod Gathering
 pub mod Before
 pub mod Rests

@@ -14,16 +14,15 @@ use Rattle.mpd_profile.specs.declared.fault.RuleFault.{RuleFault}
 use Rattle.mpd_rules.specs.Rules.{all_refusals, dash_values, typed_mpd_of, unless_refused}
 use Rattle.mpd_rules.specs.Typed.{TypedMpd}
 use Rattle.presentation.specs.declared.told.Told.{Told}
-use Rattle.presentation.specs.Counting.{unless_any}
 use Rattle.presentation.specs.Presented.{Presented, content_at, start_of, window_at, window_of, whole_window}
 use Rattle.presentation.specs.Rows.{Row, Period, first_rows, in_order, section_of, track_of}
-use Rattle.presentation.specs.Told.{all_told, content_of, differ_told, end_of, following_of, gathered, needs_now, one_told, over_told, period_told, presented_if_told, presented_of, presented_with, segments_in, told_before, told_in_order, told_of}
+use Rattle.presentation.specs.Told.{all_told, content_of, differ_told, end_of, following_of, gathered, needs_now, one_told, over_told, period_told, presented_with, segments_in, told_in_order, told_of}
 use Rattle.presentation.specs.Meanings.{content_of_row, entry_at, entry_of, head_of, head_of_row, meaning_of, meaning_with, dash_meaning, mpd_meaning, row_at, row_meant, rows_of, window_in}
 use Rattle.presentation.specs.MeaningLaws.{PresentedAreMeant, TextsAreMeant}
 use Rattle.presentation.proofs.Allowed.{each_at}
 use Rattle.presentation.proofs.Ending.{all_as_long, none_behind}
 use Rattle.presentation.proofs.Filling.{length_in_order, steps_of}
-use Rattle.presentation.proofs.Firsts.{none_before}
+use Rattle.presentation.proofs.FromMpd.{is_told}
 use Rattle.presentation.proofs.Grids.{All-at, by_kind_made, found, in_row, same_members}
 use Rattle.presentation.proofs.Meant.{content_is}
 
@@ -145,14 +144,10 @@ module _ (mpd : TypedMpd (Option Segments)) (url : List ℕ) (now : Option ℤ) 
   means_that = sym (ap (λ rows. meaning_with (map head_of p.tracks) rows) rows_there ∙ ap (λ heads. meaning_with heads (map (row_meant url mpd.facts now) mpd.periods)) heads_there)
 
 pub presented_are_meant : PresentedAreMeant
-unfolding presented_of
 presented_are_meant mpd url now p is =
-    let before = steps_of (unless_any {X = Unit {0}} (told_before mpd.facts.live (is_some now) mpd.periods) tt) (λ _. presented_if_told mpd url now) p is in
-    let none : told_before mpd.facts.live (is_some now) mpd.periods ≡ [] = none_before _ _ _ before.first in
-    let differ : differ_told mpd.periods ≡ [] = none_behind (over_told mpd.periods) _ (none_behind (needs_now mpd.facts.live (is_some now)) _ none) in
-    let tolds = steps_of (all_told url mpd.facts.live mpd.periods) (λ tolds. Ok (presented_with mpd now tolds)) p before.then in
-    let same : presented_with mpd now tolds.value ≡ p = (let h = tolds.then in cc) in
-    means_that mpd url now tolds.value (all_is url mpd.facts.live mpd.periods tolds.value tolds.first) (all_as_long mpd.periods differ) ∙ ap meaning_of same
+    let told = is_told mpd url now p is in
+    let differ : differ_told mpd.periods ≡ [] = none_behind (over_told mpd.periods) _ (none_behind (needs_now mpd.facts.live (is_some now)) _ told.none) in
+    means_that mpd url now told.tolds (all_is url mpd.facts.live mpd.periods told.tolds told.told) (all_as_long mpd.periods differ) ∙ ap meaning_of told.is
 
 pub texts_are_meant : TextsAreMeant
 unfolding typed_mpd_of dash_meaning

@@ -8,6 +8,7 @@ pub mod Groups
 pub mod Scales
 pub mod Rows
 pub mod Told
+pub mod PresentedLaws
 pub mod Shared
 pub mod Meanings
 pub mod MeaningLaws

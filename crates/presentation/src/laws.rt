@@ -3,6 +3,7 @@
 ghost use Rattle.presentation.specs.Laws.{CountedAreListed, EndsAreCounted, VerifiedAreCounted, VerifiedHaveAddresses, EachHasLongest};
 ghost use Rattle.presentation.specs.MeaningLaws.{MadeAreMeant, VerifiedAreMeant, FinishedAreWhole, PresentedAreMeant, TextsAreMeant};
 ghost use Rattle.presentation.specs.Origins.{StaticAreFinished};
+ghost use Rattle.presentation.specs.PresentedLaws.{AreAlwaysInPace, PresentedAreFew, PresentedAreFollowed, PresentedAreInPace, SectionsArePeriods};
 
 /// Where `count` or `verify` answers Ok, `segments` and `extent` may be called for each track and section, and `verify`
 /// tells the longest duration of each track. Each listed segment then has an address. Where `check_ends` answers Ok, the
@@ -29,4 +30,15 @@ pub fn presentations_mean_what_they_list()
 /// What came from a static MPD is finished.
 pub fn static_mpds_are_finished()
     ensures { StaticAreFinished }
+{}
+
+/// What is so of each presentation of an MPD, static or dynamic. It has at most 1,000 sections, which are the MPD's Periods,
+/// and 200 tracks. It is followed where the MPD is dynamic. Where the segments up to open ends break no limit, at the
+/// presentation's instant or another one, the ends of those that are listed don't fall, and lie near one another.
+pub fn presentations_show_their_mpd()
+    ensures few { PresentedAreFew }
+    ensures followed { PresentedAreFollowed }
+    ensures sections { SectionsArePeriods }
+    ensures pace { PresentedAreInPace }
+    ensures always { AreAlwaysInPace }
 {}

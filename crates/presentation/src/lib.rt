@@ -24,7 +24,8 @@ use bridge_io::Sequence;
 pub use extent::Extent;
 pub use fault::{PresentationFault, Spot};
 pub use laws::{
-    answers_allow_listings, presentations_mean_what_they_list, static_mpds_are_finished,
+    answers_allow_listings, presentations_mean_what_they_list, presentations_show_their_mpd,
+    static_mpds_are_finished,
 };
 pub use longest::Longest;
 pub use parts::{Content, Parts};
