@@ -42,8 +42,9 @@ is_of Text Text = true
 abbrev pub by_kind : {X : Type 0} → (X → Kind) → List X → List X
 by_kind kind xs = filter (λ x. is_of Video (kind x)) xs ++ (filter (λ x. is_of Audio (kind x)) xs ++ filter (λ x. is_of Text (kind x)) xs)
 
-abbrev pub in_order : List Row → List Row
-in_order rows = by_kind (λ (row : Row). row.description.kind) rows
+-- however their segments are told
+abbrev pub in_order : {X : Type 0} → List (TrackRow X) → List (TrackRow X)
+in_order rows = by_kind (λ (row : TrackRow _). row.description.kind) rows
 
 -- ---- the same tracks: kinds and languages
 
@@ -69,7 +70,7 @@ with_commas (code ∷ codes) = code ++ flat_map (λ later. 44 ∷ later) codes
 abbrev pub joined_codes : List ℕ → List ℕ
 joined_codes text = with_commas (codes_of text)
 
-abbrev pub track_of : Row → Track
+abbrev pub track_of : {X : Type 0} → TrackRow X → Track
 track_of row = record {
   kind = row.description.kind;
   set = row.description.set;
@@ -81,7 +82,7 @@ track_of row = record {
 }
 
 -- a Period without an id has an empty one
-abbrev pub section_of : Period → Section
+abbrev pub section_of : {X : Type 0} → PeriodRow X → Section
 section_of period = record {
   id = unwrap_or period.id [];
   start = period.bounds.start;

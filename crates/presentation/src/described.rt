@@ -1,29 +1,45 @@
-// Tracks and sections of an MPD.
+// Tracks and sections of an MPD, however the segments of its Representations are told.
 ghost use Rattle.std.specs.Prelude.{◌≡◌, IfOk, map, option_map, codes};
+ghost use Rattle.mpd_rules.specs.Views.{period_in, track_in};
 ghost use Rattle.mpd_values.specs.Codecs.{codes_of};
 ghost use Rattle.presentation.specs.Rows as spec;
 ghost use Rattle.presentation.specs.Scales.{rate_of};
 
+use crate::lineup::views_in_order;
 use crate::{Section, SectionList, Track, TrackList};
 use bridge_io::{NoMemory, Ratio, Text};
 use exact_time::Nanos;
-use mpd_rules::{PeriodView, PeriodWalk, RepView, SegmentRow};
+use mpd_rules::{PeriodWalk, RepView, SegmentRow, TrackView, TypedPeriod};
 use mpd_values::{Blank, trimmed};
 use std::alloc::Global;
+
+/// The tracks of a Period: video, then audio, then text, each in document order (ISO/IEC 23009-1, 5.3.5).
+pub fn tracks_in<X>(alloc: Global, period: &TypedPeriod<'_, X>) -> Result<TrackList, NoMemory>
+    ensures { IfOk result (λ tracks. tracks ≡ map spec.track_of (spec.in_order (period_in period.now).tracks)) }
+{
+    let views = views_in_order(alloc, period)?;
+    tracks_seen(alloc, &views)
+}
 
 /// The tracks that Representations in order are.
 pub(crate) fn tracks_of(alloc: Global, rows: &[RepView<'_>]) -> Result<TrackList, NoMemory>
     ensures { IfOk result (λ tracks. tracks ≡ map spec.track_of (map spec.row_of rows.now)) }
 {
+    tracks_seen(alloc, rows)
+}
+
+fn tracks_seen<X>(alloc: Global, views: &[TrackView<'_, X>]) -> Result<TrackList, NoMemory>
+    ensures { IfOk result (λ tracks. tracks ≡ map (λ view. spec.track_of (track_in view)) views.now) }
+{
     let mut tracks = TrackList::new(alloc);
-    for row in rows {
-        tracks.push(track_of(alloc, row)?)?;
+    for view in views {
+        tracks.push(track_of(alloc, view)?)?;
     }
     Ok(tracks)
 }
 
-fn track_of(alloc: Global, row: &RepView<'_>) -> Result<Track, NoMemory>
-    ensures { IfOk result (λ track. track ≡ spec.track_of (spec.row_of row.now)) }
+fn track_of<X>(alloc: Global, row: &TrackView<'_, X>) -> Result<Track, NoMemory>
+    ensures { IfOk result (λ track. track ≡ spec.track_of (track_in row.now)) }
 {
     let language = copy_of(alloc, row.language())?;
     let codecs = codes_in(alloc, row.codecs())?;
@@ -38,8 +54,8 @@ fn track_of(alloc: Global, row: &RepView<'_>) -> Result<Track, NoMemory>
     })
 }
 
-fn rate_of(row: &RepView<'_>) -> Option<Ratio>
-    ensures { result ≡ option_map rate_of (spec.row_of row.now).description.frame_rate }
+fn rate_of<X>(row: &TrackView<'_, X>) -> Option<Ratio>
+    ensures { result ≡ option_map rate_of (track_in row.now).description.frame_rate }
 {
     row.frame_rate()
 }
@@ -87,13 +103,14 @@ pub(crate) fn sections_of(
 {
     let mut sections = SectionList::new(alloc);
     for period in periods {
-        sections.push(section_of(alloc, &period)?)?;
+        sections.push(section_in(alloc, &period)?)?;
     }
     Ok(sections)
 }
 
-fn section_of(alloc: Global, period: &PeriodView<'_>) -> Result<Section, NoMemory>
-    ensures { IfOk result (λ section. section ≡ spec.section_of (spec.period_of period.now)) }
+/// The section that a Period is (ISO/IEC 23009-1, 5.3.2).
+pub fn section_in<X>(alloc: Global, period: &TypedPeriod<'_, X>) -> Result<Section, NoMemory>
+    ensures { IfOk result (λ section. section ≡ spec.section_of (period_in period.now)) }
 {
     let id = Text::copy_of(alloc, period.id().unwrap_or(""))?;
     Ok(Section {
@@ -104,8 +121,8 @@ fn section_of(alloc: Global, period: &PeriodView<'_>) -> Result<Section, NoMemor
 }
 
 /// How long a Period lasts, where its end is known.
-pub(crate) fn length_of(period: &PeriodView<'_>) -> Option<Nanos>
-    ensures { result ≡ (spec.section_of (spec.period_of period.now)).length }
+pub(crate) fn length_of<X>(period: &TypedPeriod<'_, X>) -> Option<Nanos>
+    ensures { result ≡ (spec.section_of (period_in period.now)).length }
 {
     let end = period.end()?;
     Some(Nanos(end.0.saturating_sub(period.start().0)))

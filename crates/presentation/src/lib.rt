@@ -21,6 +21,7 @@ mod track;
 mod verify;
 
 use bridge_io::Sequence;
+pub use described::{section_in, tracks_in};
 pub use extent::Extent;
 pub use fault::{PresentationFault, Spot};
 pub use laws::{

@@ -1,10 +1,11 @@
 // The Representations of a Period in the order of the tracks.
 ghost use Rattle.std.specs.Prelude.{◌≡◌, ◌++◌, IfOk, OnOk, map, filter, option_map};
 ghost use Rattle.std.specs.Option.{option_eq};
+ghost use Rattle.mpd_rules.specs.Views.{period_in, track_in, tracks_left};
 ghost use Rattle.presentation.specs.Rows as spec;
 
 use bridge_io::{Kind, NoMemory};
-use mpd_rules::{PeriodView, RepView, RepWalk, SegmentRow};
+use mpd_rules::{PeriodView, RepView, RepWalk, TrackView, TypedPeriod};
 use std::alloc::Global;
 
 /// Video, then audio, then text, each in document order.
@@ -14,25 +15,35 @@ pub(crate) fn rows_in_order<'a>(
 ) -> Result<Vec<RepView<'a>>, NoMemory>
     ensures { IfOk result (λ rows. map spec.row_of rows.items ≡ spec.in_order (spec.period_of period.now).tracks) }
 {
-    let mut rows = Vec::new(alloc);
-    add_kind(&mut rows, period.tracks(), Kind::Video)?;
-    add_kind(&mut rows, period.tracks(), Kind::Audio)?;
-    add_kind(&mut rows, period.tracks(), Kind::Text)?;
-    Ok(rows)
+    views_in_order(alloc, period)
+}
+
+/// The same, however their segments are told.
+pub(crate) fn views_in_order<'a, X>(
+    alloc: Global,
+    period: &TypedPeriod<'a, X>,
+) -> Result<Vec<TrackView<'a, X>>, NoMemory>
+    ensures { IfOk result (λ views. map track_in views.items ≡ spec.in_order (period_in period.now).tracks) }
+{
+    let mut views = Vec::new(alloc);
+    add_kind(&mut views, period.tracks(), Kind::Video)?;
+    add_kind(&mut views, period.tracks(), Kind::Audio)?;
+    add_kind(&mut views, period.tracks(), Kind::Text)?;
+    Ok(views)
 }
 
 /// Adds the Representations of a kind behind the others.
-fn add_kind<'a>(
-    rows: &mut Vec<RepView<'a>>,
-    walk: RepWalk<'a, SegmentRow>,
+fn add_kind<'a, X>(
+    views: &mut Vec<TrackView<'a, X>>,
+    walk: RepWalk<'a, X>,
     kind: Kind,
 ) -> Result<(), NoMemory>
-    ensures { OnOk result (map spec.row_of rows.new.items
-        ≡ map spec.row_of rows.old.items ++ filter (λ row. spec.is_of kind row.description.kind) (spec.rows_left walk.entry)) }
+    ensures { OnOk result (map track_in views.new.items
+        ≡ map track_in views.old.items ++ filter (λ row. spec.is_of kind row.description.kind) (tracks_left walk.entry)) }
 {
-    for row in walk {
-        if is_of(kind, row.kind()) {
-            rows.push(row)?;
+    for view in walk {
+        if is_of(kind, view.kind()) {
+            views.push(view)?;
         }
     }
     Ok(())

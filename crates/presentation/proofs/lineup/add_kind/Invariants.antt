@@ -1,11 +1,12 @@
 use Rattle.std.proofs.Common.{◌≡◌, ◌++◌, map, filter}
-use Rattle.presentation.specs.Rows.{is_of, row_of, rows_left}
+use Rattle.mpd_rules.specs.Views.{track_in, tracks_left}
+use Rattle.presentation.specs.Rows.{is_of}
 use Rattle.presentation.proofs.lineup.add_kind.Given as goal
 
-abbrev pub invariant-loop-row : goal.invariant-loop-row
-invariant-loop-row l = record {
-  can_next : (goal.iterator-loop-row).can_next l.row-iterator;
-  finite : (goal.iterator-loop-row).is_finite l.row-iterator;
-  so_far : map row_of l.rows.items ++ filter (λ row. is_of l.kind row.description.kind) (rows_left l.row-iterator)
-      ≡ map row_of l.fn.rows.items ++ filter (λ row. is_of l.kind row.description.kind) (rows_left l.fn.walk);
+abbrev pub invariant-loop-view : goal.invariant-loop-view
+invariant-loop-view g l = record {
+  can_next : (goal.iterator-loop-view g).can_next l.view-iterator;
+  finite : (goal.iterator-loop-view g).is_finite l.view-iterator;
+  so_far : map track_in l.views.items ++ filter (λ row. is_of l.kind row.description.kind) (tracks_left l.view-iterator)
+      ≡ map track_in l.fn.views.items ++ filter (λ row. is_of l.kind row.description.kind) (tracks_left l.fn.walk);
 }

@@ -1,10 +1,15 @@
-use Rattle.std.proofs.Common.{map, ap}
-use Rattle.presentation.specs.Rows.{row_of}
-use Rattle.presentation.proofs.Ordered.{three_kinds}
+use Rattle.std.proofs.Common.{◌∙◌, ap, map, sym}
+use Rattle.std.proofs.lemmas.Result.{IfOk-weaker}
+use Rattle.mpd_rules.specs.Typed.{track_with}
+use Rattle.mpd_rules.specs.Views.{period_in, track_in}
+use Rattle.presentation.specs.Rows.{shown}
+use Rattle.presentation.proofs.Grids.{by_kind_made}
+use Rattle.presentation.proofs.Joining.{seen_twice}
 use Rattle.presentation.proofs.lineup.rows_in_order.Goals as goal
 
 pub returns : goal.returns
 returns c =
-    three_kinds (map row_of c.new-rows.result.items) (map row_of c.add_kind.new.rows.items) (map row_of c.add_kind-2.new.rows.items) (map row_of c.add_kind-3.new.rows.items) _ _ _
-    (ap (map row_of) c.new-rows.ensures.items)
-    (rw c.tracks.ensures at c.in_ok-add_kind.ensures) (rw c.tracks-2.ensures at c.in_ok-add_kind-2.ensures) (rw c.tracks-3.ensures at c.in_ok-add_kind-3.ensures)
+    IfOk-weaker c.views_in_order.result _ _
+    (λ views is.
+    seen_twice (track_with shown) track_in views.items ∙ ap (map (track_with shown)) is
+    ∙ sym (by_kind_made (track_with shown) (λ row. row.description.kind) (period_in c.args.period.now).tracks)) c.views_in_order.ensures
