@@ -1,5 +1,5 @@
 // The playlist of a followed track.
-ghost use Rattle.std.specs.Prelude.{◌≡◌, ◌⊎◌, ◌++◌, All, map, None, OnOk, OnErr};
+ghost use Rattle.std.specs.Prelude.{◌≡◌, ◌⊎◌, ◌++◌, All, map, IfOk, None, OnOk, OnErr};
 ghost use Rattle.bridge_io.specs.Fault.{HasCause};
 ghost use Rattle.bridge_io.specs.Outside.{put, Changes};
 ghost use Rattle.bridge_io.specs.Written.{HasFront};
@@ -7,7 +7,7 @@ ghost use Rattle.iso_time.specs.Instant.{IsWritable};
 ghost use Rattle.file_pieces.specs.Adding.{Adds, shown};
 ghost use Rattle.hls_writer.specs.Items.{item_of, items_text};
 ghost use Rattle.hls_writer.specs.Lines.{lines_text, discontinuity_sequence};
-ghost use Rattle.hls_writer.specs.Playlists.{head_lines, items_lines};
+ghost use Rattle.hls_writer.specs.Playlists.{head_lines, items_lines, last_section};
 ghost use Rattle.hls_writer.specs.Rows.{all_written, entry_item, CanBeThere};
 ghost use Rattle.file_pieces.specs.declared.fault.OutFault.TheVariants.{WriteFault};
 
@@ -107,8 +107,34 @@ pub fn write_items<F: Store>(
     ensures cause { HasCause WriteFault (F.write_faults store.old) (F.write_faults store.new) result }
     ensures reads { F.read_faults store.new ≡ F.read_faults store.old }
 {
+    write_item_slices(alloc, head, items.as_slice(), &[], store, name)
+}
+
+/// The same of items that stand in two slices, those of `front` before those of `back`.
+///
+/// Requires that the year of each date is 1000 to 9999.
+///
+/// An error leaves the file as it was, or a front of the text in it. [`OutFault::WriteFault`] comes only where the store's
+/// count of failed writes rose.
+pub fn write_item_slices<F: Store>(
+    alloc: Global,
+    head: &MediaHead,
+    front: &[MediaItem],
+    back: &[MediaItem],
+    store: &mut F,
+    name: &Name,
+) -> Result<(), OutFault>
+    requires front { All (λ item. IsWritable item.date) front.now }
+    requires back { All (λ item. IsWritable item.date) back.now }
+    ensures ok { OnOk result
+        (Changes (put name.now (items_text head.now (front.now ++ back.now))) (F.files store.old) (F.files store.new)) }
+    ensures err { OnErr result ((F.files store.new ≡ F.files store.old)
+        ⊎ HasFront name.now (items_text head.now (front.now ++ back.now)) (F.files store.old) (F.files store.new)) }
+    ensures cause { HasCause WriteFault (F.write_faults store.old) (F.write_faults store.new) result }
+    ensures reads { F.read_faults store.new ≡ F.read_faults store.old }
+{
     let mut writer = FileWriter::create(alloc, store, name)?;
-    push_playlist(&mut writer, store, head, items.as_slice())?;
+    push_playlist(&mut writer, store, head, front, back)?;
     writer.flush(store)?;
     Ok(())
 }
@@ -118,33 +144,58 @@ fn push_playlist<F: Store>(
     writer: &mut FileWriter<'_>,
     store: &mut F,
     head: &MediaHead,
-    items: &[MediaItem],
+    front: &[MediaItem],
+    back: &[MediaItem],
 ) -> Result<(), Fail>
-    requires { All (λ item. IsWritable item.date) items.now }
+    requires front { All (λ item. IsWritable item.date) front.now }
+    requires back { All (λ item. IsWritable item.date) back.now }
     ensures { let shows = shown F.files F.read_faults F.write_faults in
-        Adds (items_text head.now items.now) writer.old writer.new (shows store.old) (shows store.new) result }
+        Adds (items_text head.now (front.now ++ back.now)) writer.old writer.new (shows store.old) (shows store.new) result }
 {
     push_lines(writer, store, &head.lines())?;
-    push_items(writer, store, head.digits, items)?;
+    push_slices(writer, store, head.digits, front, back)?;
     let end = head.ended.then_some(Line::EndList);
     push_lines(writer, store, &[end])
 }
 
-/// Adds the lines of items in order.
+/// Adds the lines of the items of two slices, as a playlist's first ones.
+fn push_slices<F: Store>(
+    writer: &mut FileWriter<'_>,
+    store: &mut F,
+    digits: Digits,
+    front: &[MediaItem],
+    back: &[MediaItem],
+) -> Result<(), Fail>
+    requires front { All (λ item. IsWritable item.date) front.now }
+    requires back { All (λ item. IsWritable item.date) back.now }
+    ensures { let shows = shown F.files F.read_faults F.write_faults in
+        Adds (lines_text (items_lines digits None (map item_of (front.now ++ back.now))))
+        writer.old writer.new (shows store.old) (shows store.new) result }
+{
+    let former = push_items(writer, store, digits, None, front)?;
+    push_items(writer, store, digits, former, back)?;
+    Ok(())
+}
+
+/// Adds the lines of items in order, behind a segment of the section `former` or as the playlist's first ones, and tells the
+/// section of the last segment so far.
 fn push_items<F: Store>(
     writer: &mut FileWriter<'_>,
     store: &mut F,
     digits: Digits,
+    former: Option<u64>,
     items: &[MediaItem],
-) -> Result<(), Fail>
+) -> Result<Option<u64>, Fail>
     requires { All (λ item. IsWritable item.date) items.now }
-    ensures { let shows = shown F.files F.read_faults F.write_faults in
-        Adds (lines_text (items_lines digits None (map item_of items.now))) writer.old writer.new (shows store.old) (shows store.new) result }
+    ensures adds { let shows = shown F.files F.read_faults F.write_faults in
+        Adds (lines_text (items_lines digits former (map item_of items.now)))
+        writer.old writer.new (shows store.old) (shows store.new) result }
+    ensures last { IfOk result (λ last. last ≡ last_section former (map item_of items.now)) }
 {
-    let mut former = None;
+    let mut former = former;
     for item in items {
         item.entry().push_to(writer, store, digits, former)?;
         former = Some(item.section);
     }
-    Ok(())
+    Ok(former)
 }

@@ -14,5 +14,5 @@ mod variants;
 
 pub use file_pieces::OutFault;
 pub use finished::write_media;
-pub use items::{ItemList, MediaHead, MediaItem, write_items};
+pub use items::{ItemList, MediaHead, MediaItem, write_item_slices, write_items};
 pub use master::write_master;

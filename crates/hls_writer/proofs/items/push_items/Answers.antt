@@ -3,27 +3,31 @@ use Rattle.hls_writer.specs.Items.{item_of}
 use Rattle.hls_writer.specs.Lines.{lines_text}
 use Rattle.hls_writer.specs.Playlists.{item_lines}
 use Rattle.file_pieces.proofs.Adding.{adds_same, adds_then, adds_stop_at}
-use Rattle.hls_writer.proofs.Following.{goes_on}
+use Rattle.hls_writer.proofs.Following.{left_is}
+use Rattle.hls_writer.proofs.Sections.{one_more}
 use Rattle.hls_writer.proofs.items.push_items.Goals as goal
 
 pub loop-item-preserved : goal.loop-item-preserved
 loop-item-preserved g c =
-    let so_far = c.loop-item.invariant in
-    let digits = c.args.digits in
-    let former = c.loop-item.former in
+    let l = c.loop-item in
     let item = c.item-item.result in
-    let same = ap (λ s. lines_text (item_lines digits former s)) c.entry.ensures in (
-      so_far.0 ++ lines_text (item_lines digits former (item_of item)),
-      goes_on digits former c.args.items.now c.loop-item.item-index item so_far.0 _ c.loop-item-test.true c.item-item.is so_far.1,
-      adds_then _ so_far.2 (adds_same same c.in_ok-push_to.ensures),
-    )
+    let left = left_is c.args.items.now l.item-index item c.loop-item-test.true c.item-item.is in
+    let same = ap (λ s. lines_text (item_lines c.args.digits l.former s)) c.entry.ensures in
+    record {
+      done = (
+        l.invariant.done.0 ++ lines_text (item_lines c.args.digits l.former (item_of item)),
+        one_more c.args.digits l.former (item_of item) _ l.invariant.done.0 _ (rw left at l.invariant.done.1),
+        adds_then _ l.invariant.done.2 (adds_same same c.in_ok-push_to.ensures),
+      );
+      last = rw left at l.invariant.last;
+    }
 
-pub returns-in_err-push_to : goal.returns-in_err-push_to
-returns-in_err-push_to g c =
-    let so_far = c.loop-item.invariant in
-    let digits = c.args.digits in
-    let former = c.loop-item.former in
+pub returns-in_err-push_to-clause-adds : goal.returns-in_err-push_to-clause-adds
+returns-in_err-push_to-clause-adds g c =
+    let l = c.loop-item in
     let item = c.item-item.result in
-    let same = ap (λ s. lines_text (item_lines digits former s)) c.entry.ensures in
-    adds_same (goes_on digits former c.args.items.now c.loop-item.item-index item so_far.0 _ c.loop-item-test.true c.item-item.is so_far.1)
-    (adds_stop_at _ c.from_residual.result c.from_residual.ensures.1 (adds_then _ so_far.2 (adds_same same c.in_err-push_to.ensures)))
+    let left = left_is c.args.items.now l.item-index item c.loop-item-test.true c.item-item.is in
+    let same = ap (λ s. lines_text (item_lines c.args.digits l.former s)) c.entry.ensures in
+    adds_same (one_more c.args.digits l.former (item_of item) _ l.invariant.done.0 _ (rw left at l.invariant.done.1))
+    (adds_stop_at _ c.from_residual.result c.from_residual.ensures.1 (adds_then _ l.invariant.done.2
+    (adds_same same c.in_err-push_to.ensures)))

@@ -1,14 +1,19 @@
-use Rattle.std.proofs.Common.{◌≡◌, ℕ, List, ◌++◌, drop, map, None, Ok}
+use Rattle.std.proofs.Common.{◌≡◌, ℕ, List, ◌++◌, drop, map, Ok}
 use Rattle.file_pieces.specs.Adding.{Adds, shown}
 use Rattle.hls_writer.specs.Items.{item_of}
 use Rattle.hls_writer.specs.Lines.{lines_text}
-use Rattle.hls_writer.specs.Playlists.{items_lines}
+use Rattle.hls_writer.specs.Playlists.{items_lines, last_section}
 use Rattle.hls_writer.proofs.items.push_items.Given as goal
 
 -- what is added so far goes on to the text of all items
 abbrev pub invariant-loop-item : goal.invariant-loop-item
 invariant-loop-item g l =
     let shows = shown g.F.Store.files g.F.Store.read_faults g.F.Store.write_faults in
-    (done : List ℕ)
-    × (done ++ lines_text (items_lines l.digits l.former (map item_of (drop l.item-index l.items))) ≡ lines_text (items_lines l.digits None (map item_of l.items)))
-    × Adds {T = Unit {0}} done l.initial.writer l.writer (shows l.initial.store) (shows l.store) (Ok tt)
+    let all = map item_of l.items in
+    let left = map item_of (drop l.item-index l.items) in
+    record {
+      done : (done : List ℕ)
+          × (done ++ lines_text (items_lines l.digits l.former left) ≡ lines_text (items_lines l.digits l.initial.former all))
+          × Adds {T = Unit {0}} done l.initial.writer l.writer (shows l.initial.store) (shows l.store) (Ok tt);
+      last : last_section l.former left ≡ last_section l.initial.former all;
+    }

@@ -1,4 +1,4 @@
-use Rattle.std.proofs.Common.{map, None, ap}
+use Rattle.std.proofs.Common.{◌++◌, map, None, ap}
 use Rattle.hls_writer.specs.Items.{item_of}
 use Rattle.hls_writer.specs.Lines.{lines_text, discontinuity_sequence}
 use Rattle.hls_writer.specs.Playlists.{followed_text, head_lines, items_lines, end_lines}
@@ -10,24 +10,26 @@ pub returns-in_err-push_lines : goal.returns-in_err-push_lines
 unfolding followed_text
 returns-in_err-push_lines g c =
     let head = c.args.head.now in
-    let items = items_lines head.digits None (map item_of c.args.items.now) in
+    let items = items_lines head.digits None (map item_of (c.args.front.now ++ c.args.back.now)) in
     adds_same (media_text (head_lines head.target head.sequence (discontinuity_sequence head.first_section)) items (end_lines head.ended))
     (adds_stop_at _ c.from_residual.result c.from_residual.ensures.1 (adds_stop {T = Unit {0}} (lines_text items) (adds_same (ap lines_text c.lines.ensures.written) c.in_err-push_lines.ensures)))
 
-pub returns-in_err-push_items : goal.returns-in_err-push_items
+pub returns-in_err-push_slices : goal.returns-in_err-push_slices
 unfolding followed_text
-returns-in_err-push_items g c =
+returns-in_err-push_slices g c =
     let head = c.args.head.now in
-    let items = items_lines head.digits None (map item_of c.args.items.now) in
+    let items = items_lines head.digits None (map item_of (c.args.front.now ++ c.args.back.now)) in
     adds_same (media_text (head_lines head.target head.sequence (discontinuity_sequence head.first_section)) items (end_lines head.ended))
-    (adds_stop_at _ c.from_residual-in_err-push_items.result c.from_residual-in_err-push_items.ensures.1
-    (adds_then (lines_text items) (adds_same (ap lines_text c.lines.ensures.written) c.in_ok-push_lines.ensures) c.in_err-push_items.ensures))
+    (adds_stop_at _ c.from_residual-in_err-push_slices.result c.from_residual-in_err-push_slices.ensures.1
+    (adds_then (lines_text items)
+    (adds_same (ap lines_text c.lines.ensures.written) c.in_ok-push_lines.ensures) c.in_err-push_slices.ensures))
 
 pub returns : goal.returns
 unfolding followed_text
 returns g c =
     let head = c.args.head.now in
-    let items = items_lines head.digits None (map item_of c.args.items.now) in
+    let items = items_lines head.digits None (map item_of (c.args.front.now ++ c.args.back.now)) in
     adds_same (media_text (head_lines head.target head.sequence (discontinuity_sequence head.first_section)) items (end_lines head.ended))
-    (adds_then (lines_text (end_lines head.ended)) (adds_then (lines_text items) (adds_same (ap lines_text c.lines.ensures.written) c.in_ok-push_lines.ensures) c.in_ok-push_items.ensures)
+    (adds_then (lines_text (end_lines head.ended)) (adds_then (lines_text items)
+    (adds_same (ap lines_text c.lines.ensures.written) c.in_ok-push_lines.ensures) c.in_ok-push_slices.ensures)
     (adds_same (end_text head.ended c.then_some-end.result c.then_some-end.ensures) c.push_lines-2.ensures))
