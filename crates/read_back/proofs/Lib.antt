@@ -13,6 +13,7 @@ pub mod MasterSets
 pub mod MasterTold
 pub mod MasterTypes
 pub mod OriginCodes
+pub mod OriginIndexes
 pub mod OriginKept
 pub mod OriginListed
 pub mod OriginOrder

@@ -4,10 +4,13 @@ use Rattle.std.specs.Prelude.{codes, filter, if◌then◌else◌}
 use Rattle.std.proofs.lemmas.Bool.{cases_Bool}
 use Rattle.std.proofs.lemmas.List.Concat.{flat_map-append}
 use Rattle.std.proofs.lemmas.List.Elements.{All-append, All-cons, All-head, All-map, All-nil, All-tail}
+use Rattle.bridge_io.specs.declared.place.Place.{Place}
 use Rattle.mpd_text.specs.Trees.{Head, Forest, nothing, element, Element}
 use Rattle.mpd_text.specs.Views.{side_by_side}
 use Rattle.mpd_text.proofs.NameLemmas.{same_bytes}
-use Rattle.mpd_profile.specs.declared.listed.Addressing.TheVariants.{Segments as OneByOne}
+use Rattle.mpd_profile.specs.declared.fault.RuleFault.{RuleFault}
+use Rattle.mpd_profile.specs.declared.listed.Addressing.{Addressing}
+use Rattle.mpd_profile.specs.declared.listed.Addressing.TheVariants.{Index, Segments as OneByOne}
 use Rattle.mpd_profile.specs.declared.listed.Listed.{Listed}
 use Rattle.mpd_profile.specs.declared.listed.Listed.TheVariants.{Mpd, Period, AdaptationSet, Representation}
 use Rattle.mpd_profile.specs.Elements.{child_of}
@@ -18,10 +21,12 @@ use Rattle.mpd_profile.specs.Refusals.{feature_refusals, refusals_of, root_refus
 use Rattle.mpd_profile.specs.Sound.{IsSound, IsSoundAs, IsSoundChild, parent_of}
 use Rattle.mpd_profile.specs.Visits.{Parent, Visit, inside, parent_in, root_parent, root_visit, visits_in}
 use Rattle.mpd_profile.proofs.Sound.{sound_children, sound_root}
+use Rattle.mpd_levels.specs.declared.indexed.IndexRow.{IndexRow}
+use Rattle.mpd_levels.specs.Indexed.{index_of}
 use Rattle.mpd_levels.specs.Segments.{Segments, segments_of}
 use Rattle.mpd_rules.specs.Kept.{Path, is_kept, kept_children, path_in, paths_in, paths_of, periods_of, representations_of, sets_of}
 use Rattle.mpd_rules.specs.Periods.{period_refusals}
-use Rattle.mpd_rules.specs.Rules.{all_refusals, dash_values, refusals_behind, segments_refused, silence_in, typed_mpd_of}
+use Rattle.mpd_rules.specs.Rules.{all_index_refusals, all_refusals, dash_values, index_refused, index_values, indexed_mpd_of, refusals_behind, segments_refused, silence_in, typed_mpd_of, unless_refused}
 use Rattle.mpd_rules.specs.Rules as rules
 use Rattle.mpd_rules.specs.Typed.{TypedMpd, values_with}
 use Rattle.mpd_rules.proofs.Refusing.{none_told}
@@ -75,9 +80,9 @@ module _ (parent : Parent) where
       (children_plain (before ++ head ∷ []) others (none_later (flat_map features_at first) (flat_map features_at rest) both))
 
   -- nothing is refused of a child, which is kept
-  pub record IsFine (l : Listed) (c : Element) : Type 0 where
+  pub record IsFine (addressing : Addressing) (l : Listed) (c : Element) : Type 0 where
     pub kept : is_left_out parent.head (Some l) c ≡ false
-    pub sound : IsSoundAs OneByOne parent l c
+    pub sound : IsSoundAs addressing parent l c
     pub plain : IsPlain l c
 
   both : (a b : Bool) → (a && not b) ≡ true → (a ≡ true) × (b ≡ false)
@@ -85,30 +90,39 @@ module _ (parent : Parent) where
   both true false is = (refl, refl)
   both false b is = absurd (cc is)
 
-  module _ (l : Listed) (name : List ℕ) (is : child_of OneByOne parent.listed name ≡ Some l) where
+  module _ (addressing : Addressing) (l : Listed) (name : List ℕ) (plain_is : child_of OneByOne parent.listed name ≡ Some l)
+      (is : child_of addressing parent.listed name ≡ Some l) where
     abbrev IsRead : Element → Type 0
-    IsRead c = IsSoundChild OneByOne parent c × IsPlainChild c
+    IsRead c = IsSoundChild addressing parent c × IsPlainChild c
 
-    one_fine : (c : Element) → IsRead c → is_kept l name parent.head c ≡ true → IsFine l c
+    one_fine : (c : Element) → IsRead c → is_kept l name parent.head c ≡ true → IsFine addressing l c
     one_fine c read kept =
         let parts = both (is_named name c) (is_left_out parent.head (Some l) c) kept in
-        let named = ap (child_of OneByOne parent.listed) (same_bytes c.head.name name parts.0) ∙ is in
-        record { kept = parts.1; sound = read.0 l named parts.1; plain = read.1 l named parts.1 }
+        let same : c.head.name ≡ name = same_bytes c.head.name name parts.0 in
+        record {
+          kept = parts.1;
+          sound = read.0 l (ap (child_of addressing parent.listed) same ∙ is) parts.1;
+          plain = read.1 l
+              (ap (child_of OneByOne parent.listed) same ∙ plain_is) parts.1;
+        }
 
-    pub all_fine : (cs : List Element) → All IsRead cs → All (IsFine l) (filter (is_kept l name parent.head) cs)
-    all_fine [] all = All-nil (IsFine l)
+    pub all_fine : (cs : List Element) → All IsRead cs → All (IsFine addressing l) (filter (is_kept l name parent.head) cs)
+    all_fine [] all = All-nil (IsFine addressing l)
     all_fine (c ∷ cs) all = elim (cases_Bool (is_kept l name parent.head c)) [
-      | inl kept ↦ rw kept (All-cons (IsFine l) c (filter (is_kept l name parent.head) cs) (one_fine c (All-head IsRead c cs all) kept) (all_fine cs (All-tail IsRead c cs all)))
+      | inl kept ↦ rw kept (All-cons (IsFine addressing l) c (filter (is_kept l name parent.head) cs)
+          (one_fine c (All-head IsRead c cs all) kept) (all_fine cs (All-tail IsRead c cs all)))
       | inr other ↦ rw other (all_fine cs (All-tail IsRead c cs all))
     ]
 
-pub children_fine : (dynamic : Bool) (listed l : Listed) (name : List ℕ) (e : Element) → child_of OneByOne listed name ≡ Some l → IsSound OneByOne dynamic listed e
-    → flat_map features_at (visits_in OneByOne (parent_of listed dynamic e) [] e.children) ≡ [] → All (IsFine (parent_of listed dynamic e) l) (kept_children l name e)
-children_fine dynamic listed l name e is sound plain =
+pub children_fine : (addressing : Addressing) (dynamic : Bool) (listed l : Listed) (name : List ℕ) (e : Element)
+    → child_of OneByOne listed name ≡ Some l → child_of addressing listed name ≡ Some l
+    → IsSound addressing dynamic listed e → flat_map features_at (visits_in OneByOne (parent_of listed dynamic e) [] e.children) ≡ []
+    → All (IsFine (parent_of listed dynamic e) addressing l) (kept_children l name e)
+children_fine addressing dynamic listed l name e plain_is is sound plain =
     let parent = parent_of listed dynamic e in
-    let all = sound_children OneByOne dynamic listed e sound in
+    let all = sound_children addressing dynamic listed e sound in
     let features = children_plain parent [] e.children plain in
-    all_fine parent l name is (side_by_side e.children) (λ k d within. (all k d within, features k d within))
+    all_fine parent addressing l name plain_is is (side_by_side e.children) (λ k d within. (all k d within, features k d within))
 
 -- ---- Representations where they stand
 
@@ -139,56 +153,100 @@ paths_placed mpd period place (set ∷ sets) =
     (λ k d within. one_behind set sets place _ (paths_placed mpd period (place + 1) sets k d within))
 
 -- nothing is refused of its set and of itself
-pub record IsFinePath (dynamic : Bool) (path : Path) : Type 0 where
-  pub set : IsFine (parent_of Period dynamic path.period) AdaptationSet path.set
-  pub representation : IsFine (parent_of AdaptationSet dynamic path.set) Representation path.representation
+pub record IsFinePath (addressing : Addressing) (dynamic : Bool) (path : Path) : Type 0 where
+  pub set : IsFine (parent_of Period dynamic path.period) addressing AdaptationSet path.set
+  pub representation : IsFine (parent_of AdaptationSet dynamic path.set) addressing Representation path.representation
 
-module _ (dynamic : Bool) (mpd : Element) where
-  set_fine : (period set : Element) → IsFine (parent_of Period dynamic period) AdaptationSet set → (k : ℕ) → All (λ e. IsFinePath dynamic (path_in mpd period set k e)) (representations_of set)
+module _ (addressing : Addressing) (dynamic : Bool) (mpd : Element) where
+  abbrev IsFineHere : Path → Type 0
+  IsFineHere path = IsFinePath addressing dynamic path
+
+  set_fine : (period set : Element) → IsFine (parent_of Period dynamic period) addressing AdaptationSet set → (k : ℕ)
+      → All (λ e. IsFineHere (path_in mpd period set k e)) (representations_of set)
   set_fine period set fine k =
-      let all = children_fine dynamic AdaptationSet Representation (codes "Representation") set refl fine.sound.sound fine.plain.below in
+      let all = children_fine addressing dynamic AdaptationSet Representation
+      (codes "Representation") set refl refl fine.sound.sound fine.plain.below in
       λ j d within. record { set = fine; representation = all j d within }
 
-  period_fine : (period : Element) → IsFine (parent_of Mpd dynamic mpd) Period period → All (IsFinePath dynamic) (paths_of mpd period)
+  period_fine : (period : Element) → IsFine (parent_of Mpd dynamic mpd) addressing Period period → All IsFineHere (paths_of mpd period)
   period_fine period fine =
-      let all = children_fine dynamic Period AdaptationSet (codes "AdaptationSet") period refl fine.sound.sound fine.plain.below in
-      paths_hold (IsFinePath dynamic) mpd period 0 (sets_of period) (λ k d within. set_fine period _ (all k d within))
+      let all = children_fine addressing dynamic Period AdaptationSet
+      (codes "AdaptationSet") period refl refl fine.sound.sound fine.plain.below in
+      paths_hold IsFineHere mpd period 0 (sets_of period) (λ k d within. set_fine period _ (all k d within))
 
-  pub paths_fine : IsSound OneByOne dynamic Mpd mpd → flat_map features_at (visits_in OneByOne (parent_of Mpd dynamic mpd) [] mpd.children) ≡ [] → All (λ period. All (IsFinePath dynamic) (paths_of mpd period)) (periods_of mpd)
+  pub paths_fine : IsSound addressing dynamic Mpd mpd → flat_map features_at
+      (visits_in OneByOne (parent_of Mpd dynamic mpd) [] mpd.children) ≡ []
+      → All (λ period. All IsFineHere (paths_of mpd period)) (periods_of mpd)
   paths_fine sound plain =
-      let all = children_fine dynamic Mpd Period (codes "Period") mpd refl sound plain in
+      let all = children_fine addressing dynamic Mpd Period (codes "Period") mpd refl refl sound plain in
       λ k d within. period_fine _ (all k d within)
 
 -- ---- an MPD of which nothing is refused
 
-pub record IsClean (tree : Element) (mpd : TypedMpd (Option Segments)) : Type 0 where
-  pub values : mpd ≡ values_with segments_of tree
-  pub paths : All (λ period. All (IsFinePath (is_dynamic tree.head)) (paths_of tree period)) (periods_of tree)
-  pub playing : silence_in tree.head.place mpd.periods ≡ []
+module _ {X : Type 0} (addressing : Addressing) (told : List Element → X) where
+  pub record IsClean (tree : Element) (mpd : TypedMpd X) : Type 0 where
+    pub values : mpd ≡ values_with told tree
+    pub paths : All (λ period. All (IsFinePath addressing (is_dynamic tree.head)) (paths_of tree period)) (periods_of tree)
+    pub playing : silence_in tree.head.place mpd.periods ≡ []
 
-no_values : (tree : Element) → refusals_of OneByOne tree ≡ [] → value_refusals OneByOne tree ≡ []
+no_values : (addressing : Addressing) (tree : Element) → refusals_of addressing tree ≡ [] → value_refusals addressing tree ≡ []
 unfolding refusals_of
-no_values tree none = none_later (root_refusals tree ++ feature_refusals tree) (value_refusals OneByOne tree) none
+no_values addressing tree none = none_later (root_refusals tree ++ feature_refusals tree) (value_refusals addressing tree) none
 
-no_features : (tree : Element) → refusals_of OneByOne tree ≡ [] → flat_map features_at (visits_in OneByOne (root_parent tree.head) [] tree.children) ≡ []
+no_features : (addressing : Addressing) (tree : Element) → refusals_of addressing tree ≡ []
+    → flat_map features_at (visits_in OneByOne (root_parent tree.head) [] tree.children) ≡ []
 unfolding refusals_of feature_refusals
-no_features tree none =
-    let features = none_later (root_refusals tree) (feature_refusals tree) (none_first (root_refusals tree ++ feature_refusals tree) (value_refusals OneByOne tree) none) in
+no_features addressing tree none =
+    let features = none_later (root_refusals tree) (feature_refusals tree)
+    (none_first (root_refusals tree ++ feature_refusals tree) (value_refusals addressing tree) none) in
     none_later (features_at (root_visit tree.head)) (flat_map features_at (visits_in OneByOne (root_parent tree.head) [] tree.children)) features
 
-pub clean : (tree : Element) (mpd : TypedMpd (Option Segments)) → typed_mpd_of tree ≡ Ok mpd → IsClean tree mpd
+-- of which Representations are refused so, and told so
+module _ {X : Type 0} (addressing : Addressing) (many : Bool) (refused : Place → Option X → List RuleFault) (told : List Element → Option X)
+    (tree : Element) (mpd : TypedMpd (Option X)) where
+  abbrev behind : List RuleFault
+  behind = refusals_behind many refused told tree
+
+  abbrev paths : List RuleFault
+  paths = rules.paths_told many (rules.refused_at refused told) tree 0 (periods_of tree)
+
+  pub record AreUntold : Type 0 where
+    pub values : mpd ≡ values_with told tree
+    pub profile : refusals_of addressing tree ≡ []
+    pub representations : paths ≡ []
+    pub playing : silence_in tree.head.place (values_with told tree).periods ≡ []
+
+  pub are_untold : unless_refused (refusals_of addressing tree ++ behind) (values_with told tree) ≡ Ok mpd → AreUntold
+  are_untold is =
+      let none = none_told (refusals_of addressing tree ++ behind) (values_with told tree) mpd (sym is) in
+      let silent = silence_in tree.head.place (values_with told tree).periods in
+      let first = none_later (refusals_of addressing tree) behind none.0 in
+      let second = none_later (period_refusals tree) (rules.static_told many tree ++ (paths ++ silent)) first in
+      let last = none_later (rules.static_told many tree) (paths ++ silent) second in
+      record {
+        values = none.1;
+        profile = none_first (refusals_of addressing tree) behind none.0;
+        representations = none_first paths silent last;
+        playing = none_later paths silent last;
+      }
+
+  pub cleaned : AreUntold → IsClean addressing told tree mpd
+  cleaned are = record {
+    values = are.values;
+    paths = paths_fine addressing (is_dynamic tree.head) tree (sound_root addressing tree (no_values addressing tree are.profile))
+        (no_features addressing tree are.profile);
+    playing = ap (λ (m : TypedMpd (Option X)). silence_in tree.head.place m.periods) are.values ∙ are.playing;
+  }
+
+pub clean : (tree : Element) (mpd : TypedMpd (Option Segments)) → typed_mpd_of tree ≡ Ok mpd → IsClean OneByOne segments_of tree mpd
 unfolding typed_mpd_of all_refusals dash_values
-clean tree mpd is =
-    let behind = refusals_behind true segments_refused segments_of tree in
-    let told = none_told (refusals_of OneByOne tree ++ behind) (values_with segments_of tree) mpd (sym is) in
-    let profile = none_first (refusals_of OneByOne tree) behind told.0 in
-    let silent = silence_in tree.head.place (values_with segments_of tree).periods in
-    let paths = rules.paths_told true (rules.refused_at segments_refused segments_of) tree 0 (periods_of tree) in
-    let first = none_later (refusals_of OneByOne tree) behind told.0 in
-    let second = none_later (period_refusals tree) (rules.static_told true tree ++ (paths ++ silent)) first in
-    let last = none_later paths silent (none_later (rules.static_told true tree) (paths ++ silent) second) in
-    record {
-      values = told.1;
-      paths = paths_fine (is_dynamic tree.head) tree (sound_root OneByOne tree (no_values tree profile)) (no_features tree profile);
-      playing = ap (λ (m : TypedMpd (Option Segments)). silence_in tree.head.place m.periods) told.1 ∙ last;
-    }
+clean tree mpd is = cleaned OneByOne true segments_refused segments_of tree mpd
+    (are_untold OneByOne true segments_refused segments_of tree mpd is)
+
+pub index_untold : (tree : Element) (mpd : TypedMpd (Option IndexRow)) → indexed_mpd_of tree ≡ Ok mpd
+    → AreUntold Index false index_refused index_of tree mpd
+unfolding indexed_mpd_of all_index_refusals index_values
+index_untold tree mpd is = are_untold Index false index_refused index_of tree mpd is
+
+pub clean_index : (tree : Element) (mpd : TypedMpd (Option IndexRow)) → indexed_mpd_of tree ≡ Ok mpd → IsClean Index index_of tree mpd
+clean_index tree mpd is = cleaned Index false index_refused index_of tree mpd (index_untold tree mpd is)

@@ -1,8 +1,6 @@
--- The addresses and ranges of a static MPD.
-use Rattle.std.proofs.Common.{◌≡◌, ℕ, zero, suc, ◌+◌, ◌-◌, ◌<◌, ◌≤◌, ◌^◌, ◌&&◌, ◌==◌, ◌%◌, ◌/◌, Bool, true, false, List, [], ◌∷◌, ◌++◌, All, length, map, slice_get, Option, Some, None, Result, Ok, Err, IfSome, nat_le, nat_lt, refl, sym, ◌∙◌, ap, subst, inl, inr, arith}
-use Rattle.std.specs.Prelude.{bytes_eq, codes, decimal, drop, take, position, find, option_and_then, option_map, unwrap_or, not, if◌then◌else◌}
-use Rattle.std.specs.Char.{is_ascii_digit}
-use Rattle.std.specs.Str.Parse.{digits_value}
+-- The addresses and ranges of an MPD.
+use Rattle.std.proofs.Common.{◌≡◌, ℕ, zero, suc, ◌-◌, ◌<◌, ◌==◌, ◌%◌, ◌/◌, Bool, true, false, List, [], ◌∷◌, ◌++◌, All, length, map, slice_get, Option, Some, None, Result, Ok, Err, IfSome, nat_lt, refl, sym, ◌∙◌, ap, subst, inl, inr, arith}
+use Rattle.std.specs.Prelude.{bytes_eq, codes, decimal, find, option_and_then, option_map, unwrap_or, not, if◌then◌else◌}
 use Rattle.std.specs.List.{cons_option, list_all}
 use Rattle.std.specs.Fmt.{digit_glyph, digits, digits_onto}
 use Rattle.std.proofs.lemmas.Bool.{cases_Bool}
@@ -18,7 +16,6 @@ use Rattle.url_parts.specs.declared.fault.UrlFault.TheVariants.{Refused, Scheme,
 use Rattle.url_parts.specs.declared.address.Part.{Part}
 use Rattle.url_parts.specs.declared.range.Range.{Range}
 use Rattle.url_parts.specs.Addresses.{IsAddress, is_absolute, url_of as url_at, absolute, accepted, accepted_url, chain, is_address_byte, is_web, resolve, resolve_more, text_of}
-use Rattle.url_parts.specs.Ranges.{place_of, range_at, range_between, range_of}
 use Rattle.url_parts.proofs.Parsed.{resolved_is_address}
 use Rattle.template_ids.specs.declared.fault.TemplateFault.{TemplateFault}
 use Rattle.template_ids.specs.declared.identifier.Identifier.{Identifier}
@@ -36,10 +33,11 @@ use Rattle.timeline.specs.Listed.{media_time}
 use Rattle.timeline.specs.Names.{listed_part, part_at, part_of, referred}
 use Rattle.timeline.specs.OpenEnds.{DurationsEnd, TimelinesEnd}
 use Rattle.timeline.proofs.OpenEnds.{no_fault}
-use Rattle.mpd_values.specs.declared.blank.Blank.TheVariants.{Space, SpaceOrLineEnd}
+use Rattle.mpd_values.specs.declared.blank.Blank.TheVariants.{SpaceOrLineEnd}
 use Rattle.mpd_values.specs.Blanks.{trimmed}
 use Rattle.mpd_text.specs.Trees.{Attribute, Element, Forest, Head, element, nothing}
 use Rattle.mpd_text.specs.Views.{attribute_named, side_by_side}
+use Rattle.mpd_profile.specs.declared.listed.Addressing.TheVariants.{Segments as OneByOne}
 use Rattle.mpd_profile.specs.declared.listed.Listed.{Listed}
 use Rattle.mpd_profile.specs.declared.listed.Listed.TheVariants as listed
 use Rattle.mpd_profile.specs.Heads.{is_named, value_named}
@@ -49,22 +47,24 @@ use Rattle.mpd_levels.specs.declared.level.Means.TheVariants as means
 use Rattle.mpd_levels.specs.declared.tables.SegmentUrl.{SegmentUrl}
 use Rattle.mpd_levels.specs.declared.tables.SView.{SView}
 use Rattle.mpd_levels.specs.Levels.{elements_used, first_some, list_name, template_name, used}
-use Rattle.mpd_levels.specs.Readings.{child_named, children_named, range_in}
+use Rattle.mpd_levels.specs.Readings.{child_named, children_named}
 use Rattle.mpd_levels.specs.Segments.{Segments, attributes_by, if_any, initialization_in, initialization_of, of_list, of_template, segments_by, segments_of, told, unless_there, url_of, urls_by, urls_in, values_in}
 use Rattle.mpd_rules.specs.declared.rows.Description.{Description}
 use Rattle.mpd_rules.specs.Kept.{Path, is_kept, kept_children, levels_of, path_in, paths_of, periods_of, representations_of, sets_of}
 use Rattle.mpd_rules.specs.Readings.{base_in, base_reference}
 use Rattle.mpd_rules.specs.Typed.{TypedMpd, bases_below, common_at, description_in}
 use Rattle.mpd_rules.specs.Typed as typed
+use Rattle.mpd_rules.proofs.Ranges.{named_some}
 use Rattle.presentation.specs.declared.fault.PresentationFault.{PresentationFault}
 use Rattle.presentation.specs.declared.parts.Content.{Content}
 use Rattle.presentation.specs.Origins.{CameFromStaticMpd}
-use Rattle.presentation.specs.Presented.{Presented}
+use Rattle.presentation.specs.Presented.{IsEnded, Presented}
 use Rattle.presentation.specs.Rows.{Period, Row}
 use Rattle.presentation.specs.Scales.{scale_of}
 use Rattle.presentation.specs.Told.{all_told, and_then, at_url, base_of, content_of, end_of, entries_of, gathered, init_of, init_reference, init_template_of, initialization_of as initialization_told, media_of, name_of, names_in, names_of, one_told, part_with, period_told, runs_of, segments_in, some_init, timeline_by, told_as, told_in_order, told_of, unless_segments, untold}
+use Rattle.presentation.proofs.Ending.{all_ended}
 use Rattle.presentation.proofs.Filling.{all_in_order, ok_under, steps_of}
-use Rattle.read_back.specs.Origins.{AreLocated, AreOfBytes, IsByte, IsElementOfBytes, IsFound, IsHeadOfBytes, IsLocated, IsOfBytes, IsSomeBytes, OwnTextsAreAddresses, StaticInitializationsAreLocated, StaticPartsAreLocated}
+use Rattle.read_back.specs.Origins.{AreLocated, AreOfBytes, CameFromMpd, IsByte, IsElementOfBytes, IsFound, IsHeadOfBytes, IsLocated, IsOfBytes, IsSomeBytes, InitializationsAreLocated, OwnTextsAreAddresses, PartsAreLocated, of_static}
 use Rattle.read_back.proofs.OriginCodes.{All-trimmed, parts_hold}
 use Rattle.read_back.proofs.OriginKept.{clean, paths_hold}
 use Rattle.read_back.proofs.OriginPace.{IsWell, duration_well, entries_well}
@@ -168,57 +168,6 @@ replaced_bytes ids (literal ∷ identifier ∷ parts) id all =
 
 named_bytes : (text : List ℕ) (ids : Ids) → IsOfBytes text → IsOfBytes ids.id → IsOfBytes (named text ids)
 named_bytes text ids bytes id = replaced_bytes ids (parts_of text) id (parts_hold is_dollar IsByte text (λ k d within other. bytes k d within))
-
--- ---- ranges
-
-third : (a b c : Bool) → (a && b && c) ≡ true → c ≡ true
-third true true c is = is
-third true false c is = absurd (cc)
-third false b c is = absurd (cc)
-
-pub below_bound : (n bound : ℕ) → nat_lt n bound ≡ true → n < bound
-below_bound n bound is = grind (arith, nat_tests)
-
-in_order : (first last : ℕ) → nat_le first last ≡ true → first ≤ last
-in_order first last is = grind (arith, nat_tests)
-
-pub if_passes : (b : Bool) (n : ℕ) (P : ℕ → Type 0) → (b ≡ true → P n) → IfSome (if b then Some n else None) P
-if_passes true n P passes = passes refl
-if_passes false n P passes = tt
-
-abbrev IsPlace : ℕ → Type 0
-IsPlace n = n < 2 ^ 63
-
-place_is : (digits : List ℕ) → IfSome (place_of digits) IsPlace
-place_is digits =
-    let value = digits_value 10 digits in
-    let one = list_all is_ascii_digit digits in
-    let two = nat_lt 0 (length digits) in
-    let small = nat_lt value (2 ^ 63) in
-    if_passes (one && two && small) value IsPlace (λ is. below_bound value (2 ^ 63) (third one two small is))
-
-abbrev range_from : (first last : ℕ) → Range
-range_from first last = record { first = first; count = last - first + 1 }
-
-span : (first last : ℕ) (b : Bool) → first < 2 ^ 63 → last < 2 ^ 63 → nat_le first last ≡ b → IfSome (if b then Some (range_from first last) else None) IsSomeBytes
-span first last true low high order = (let before = in_order first last order in record { some = omega arith; bounded = omega arith })
-span first last false low high order = tt
-
-between : (first last : Option ℕ) → IfSome first IsPlace → IfSome last IsPlace → IfSome (range_between first last) IsSomeBytes
-between (Some first) (Some last) low high = span first last (nat_le first last) low high refl
-between (Some first) None low high = tt
-between None last low high = tt
-
-range_some : (text : List ℕ) → IfSome (range_of text) IsSomeBytes
-range_some text = at_hyphen (position (λ b. b == 45) text)
-  where
-    at_hyphen : (o : Option ℕ) → IfSome (range_at text o) IsSomeBytes
-    at_hyphen None = tt
-    at_hyphen (Some hyphen) = between (place_of (take hyphen text)) (place_of (drop (hyphen + 1) text)) (place_is (take hyphen text)) (place_is (drop (hyphen + 1) text))
-
-named_some : (o : Option (List ℕ)) → IfSome (option_and_then range_in o) IsSomeBytes
-named_some None = tt
-named_some (Some text) = range_some (trimmed Space text)
 
 -- ---- what an element of bytes says
 
@@ -478,7 +427,7 @@ one_located : (base : List ℕ) (o : Option RefPart) (part : Part) → IsAddress
 one_located base None part is bytes made = part_located None (Ok base) part tt (λ address told. (let same : base ≡ address = cc in subst IsAddress same is)) made
 one_located base (Some one) part is bytes made = part_located one.range (referred base one.reference) part bytes.1 (λ address told. referred_is_address base one.reference address is bytes.0 told) made
 
-at_place : {X : Type 0} (P : X → Type 0) (xs : List X) (k : ℕ) → All P xs → IfSome (slice_get xs k) P
+pub at_place : {X : Type 0} (P : X → Type 0) (xs : List X) (k : ℕ) → All P xs → IfSome (slice_get xs k) P
 at_place P [] k all = tt
 at_place P (x ∷ xs) zero all = All-head P x xs all
 at_place P (x ∷ xs) (suc k) all = at_place P xs k (All-tail P x xs all)
@@ -558,38 +507,49 @@ module _ (Q : Row → Type 0) (P : Content → Type 0) (url : List ℕ) (live : 
   all_have periods ys all is =
       All-map P (λ (told : Told). told.content) ys (gathered_all (period_told url live) (λ (period : Period). All Q period.tracks) Has period_has periods ys all is)
 
-contents_located : (p : Presented) (from : CameFromStaticMpd p) → IsFound from.tree from.url → All IsContentLocated p.contents
+contents_located : (p : Presented) (from : CameFromMpd p) → IsFound from.tree from.url → All IsContentLocated p.contents
 contents_located p from found =
     let of = of_mpd p from in
-    let rows = each_row IsRowOfBytes from.tree from.mpd (clean from.tree from.mpd from.typed) (rows_bytes from.tree found.tree) in
+    let rows = each_row segments_of OneByOne from.tree from.mpd (clean from.tree from.mpd from.typed) IsRowOfBytes
+    (rows_bytes from.tree found.tree) in
     subst (λ (q : Presented). All IsContentLocated q.contents) of.is
     (all_have IsRowOfBytes IsContentLocated from.url from.mpd.facts.live (λ end row content bytes made. content_located from.url from.mpd.facts.live end row content found.url bytes made) from.mpd.periods of.tolds rows of.all)
 
-pub static_initializations_are_located : StaticInitializationsAreLocated
-static_initializations_are_located p from found = λ k d within. (contents_located p from found k d within).initialization
+pub initializations_are_located : InitializationsAreLocated
+initializations_are_located p from found = λ k d within. (contents_located p from found k d within).initialization
 
-pub static_parts_are_located : StaticPartsAreLocated
-static_parts_are_located p from found = λ k d within. (contents_located p from found k d within).parts
+pub parts_are_located : PartsAreLocated
+parts_are_located p from found = λ k d within. (contents_located p from found k d within).parts
 
 -- ---- times
 
-module _ (timelines : TimelinesEnd) (durations : DurationsEnd) where
-  timeline_well : (o : Option (List SView)) (s : Segments) (end : End) (by : Names) (runs : SegmentTimeline) → timeline_by o s false end by ≡ Ok runs → IsWell runs.members
-  timeline_well (Some timeline) s end by runs is = entries_well (scale_of s) end by runs (entries_of timeline) is (timelines (entries_of timeline) end false (scale_of s) by runs is refl)
-  timeline_well None s end by runs is = duration_well (scale_of s) end by runs (unwrap_or s.duration 0) is (durations (unwrap_or s.duration 0) end false (scale_of s) by runs is refl)
+timeline_well : (o : Option (List SView)) (s : Segments) (live : Bool) (end : End) (by : Names) (runs : SegmentTimeline)
+    → timeline_by o s live end by ≡ Ok runs
+    → IsWell runs.members
+timeline_well (Some timeline) s live end by runs is = entries_well (scale_of s) live end by runs (entries_of timeline) is
+timeline_well None s live end by runs is = duration_well (scale_of s) live end by runs (unwrap_or s.duration 0) is
 
-  abbrev IsContentWell : Content → Type 0
-  IsContentWell content = IsWell content.runs.members
+abbrev pub IsContentWell : Content → Type 0
+IsContentWell content = IsWell content.runs.members
 
-  content_well : (url : List ℕ) (live : Bool) (end : End) (row : Row) (content : Content) → live ≡ false → content_of url live end row.description (segments_in row) ≡ Ok content → IsContentWell content
-  content_well url live end row content off made =
-      let s = segments_in row in
-      let m = made_of url live end row.description s content made in
-      timeline_well s.timeline s end (names_of row.description s m.media m.base) content.runs
-      (subst (λ b. timeline_by s.timeline s b end (names_of row.description s m.media m.base) ≡ Ok content.runs) off m.runs_are)
+content_well : (url : List ℕ) (live : Bool) (end : End) (row : Row) (content : Content)
+    → content_of url live end row.description (segments_in row) ≡ Ok content
+    → IsContentWell content
+content_well url live end row content made =
+    let s = segments_in row in
+    let m = made_of url live end row.description s content made in
+    timeline_well s.timeline s live end (names_of row.description s m.media m.base) content.runs m.runs_are
 
-  pub contents_well : (p : Presented) (from : CameFromStaticMpd p) → All IsContentWell p.contents
-  contents_well p from =
-      let of = of_mpd p from in
-      subst (λ (q : Presented). All IsContentWell q.contents) of.is
-      (all_have (λ row. Unit {0}) IsContentWell from.url from.mpd.facts.live (λ end row content any made. content_well from.url from.mpd.facts.live end row content from.static made) from.mpd.periods of.tolds (λ k d within. λ j e inside. tt) of.all)
+pub contents_well : (p : Presented) (from : CameFromMpd p) → All IsContentWell p.contents
+contents_well p from =
+    let of = of_mpd p from in
+    let live = from.mpd.facts.live in
+    subst (λ (q : Presented). All IsContentWell q.contents) of.is
+    (all_have (λ row. Unit {0}) IsContentWell from.url live (λ end row content any made. content_well from.url live end row content made)
+    from.mpd.periods of.tolds (λ k d within. λ j e inside. tt) of.all)
+
+pub contents_ended : TimelinesEnd → DurationsEnd → (p : Presented) (from : CameFromStaticMpd p) → All IsEnded p.contents
+contents_ended timelines durations p from =
+    let of = of_mpd p (of_static p from) in
+    subst (λ (q : Presented). All IsEnded q.contents) of.is
+    (all_ended timelines durations from.url from.mpd.facts.live from.mpd.periods of.tolds of.all from.static)

@@ -14,7 +14,8 @@ use Rattle.mpd_text.specs.Meaning.{IsOneReading, reading_of}
 use Rattle.mpd_text.specs.References.{content_text, is_allowed_character, is_hex_digit, line_ends_after, named_by_digits, named_by_number, number_of, referred_to, replaced_within, value_text, with_line_ends}
 use Rattle.mpd_text.specs.Trees.{Attribute, Element, Forest, Head, element, nothing}
 use Rattle.read_back.specs.Origins.{AreOfBytes, IsByte, IsElementOfBytes, IsOfBytes, ReadingsAreOfBytes}
-use Rattle.read_back.proofs.OriginParts.{below_bound, if_passes, inside, mapped}
+use Rattle.mpd_rules.proofs.Ranges.{below_bound, if_passes}
+use Rattle.read_back.proofs.OriginParts.{inside, mapped}
 
 -- ---- characters
 

@@ -1,5 +1,5 @@
--- The tracks of a static MPD.
-use Rattle.std.proofs.Common.{◌≡◌, ℕ, ◌+◌, ◌<◌, ◌≤◌, ◌||◌, not, Bool, true, false, List, [], ◌∷◌, ◌++◌, All, get_or, length, map, flat_map, slice_get, Option, Some, None, Ok, IfSome, nat_lt, refl, sym, ◌∙◌, ap, subst, inl, inr, arith}
+-- The tracks of an MPD.
+use Rattle.std.proofs.Common.{◌≡◌, ℕ, ◌+◌, ◌<◌, ◌≤◌, ◌^◌, ◌||◌, not, Bool, true, false, List, [], ◌∷◌, ◌++◌, All, get_or, length, map, flat_map, slice_get, Option, Some, None, Ok, IfSome, nat_lt, refl, sym, ◌∙◌, ap, subst, inl, inr, arith}
 use Rattle.std.specs.Prelude.{codes, is_none, is_some, option_map, unwrap_or, if◌then◌else◌}
 use Rattle.std.specs.List.{list_any}
 use Rattle.std.proofs.lemmas.Bool.{and_parts, cases_Bool}
@@ -17,6 +17,8 @@ use Rattle.mpd_values.specs.MediaTypes.{kind_of}
 use Rattle.mpd_text.specs.Trees.{Element, Head}
 use Rattle.mpd_profile.specs.declared.fault.RuleFault.{RuleFault}
 use Rattle.mpd_profile.specs.declared.fault.RuleFault.TheVariants.{NoTracks}
+use Rattle.mpd_profile.specs.declared.listed.Addressing.{Addressing}
+use Rattle.mpd_profile.specs.declared.listed.Addressing.TheVariants.{Index, Segments as OneByOne}
 use Rattle.mpd_profile.specs.declared.listed.Listed.TheVariants.{AdaptationSet, Representation}
 use Rattle.mpd_profile.specs.declared.value.Value.TheVariants.{Codes, Language}
 use Rattle.mpd_profile.specs.Features.{attributes_told, codes_feature, has_foreign, kind_named, parent_feature, told_at}
@@ -26,8 +28,11 @@ use Rattle.mpd_profile.specs.Sound.{parent_of}
 use Rattle.mpd_profile.specs.Visits.{Parent}
 use Rattle.mpd_profile.specs.Values.{is_value}
 use Rattle.mpd_profile.proofs.Sound.{neither}
-use Rattle.mpd_levels.specs.Segments.{Segments, segments_of}
+use Rattle.mpd_levels.specs.Indexed.{index_of}
+use Rattle.mpd_levels.specs.Segments.{segments_of}
 use Rattle.mpd_rules.specs.declared.rows.Description.{Description}
+use Rattle.mpd_rules.specs.declared.rows.PeriodRow.{PeriodRow}
+use Rattle.mpd_rules.specs.declared.rows.TrackRow.{TrackRow}
 use Rattle.mpd_rules.specs.Kept.{Path, path_in, paths_in, paths_of, periods_of, representations_of, sets_of}
 use Rattle.mpd_rules.specs.Periods.{bounds_from, end_said, first_start, start_of, timed_of, total_of}
 use Rattle.mpd_rules.specs.Rules.{is_played, is_silent, silence_in, silence_told}
@@ -38,15 +43,14 @@ use Rattle.presentation.specs.declared.fault.PresentationFault.TheVariants.{Limi
 use Rattle.presentation.proofs.Firsts.{none_before}
 use Rattle.presentation.proofs.Reached.{none_first, none_later}
 use Rattle.presentation.specs.declared.track.Track.{Track}
-use Rattle.presentation.specs.Origins.{CameFromStaticMpd}
 use Rattle.presentation.specs.Presented.{Presented}
-use Rattle.presentation.specs.Rows.{Period, Row, by_kind, first_rows, in_order, is_of, joined_codes, section_of, track_of}
+use Rattle.presentation.specs.Rows.{Period, Row, by_kind, first_rows, is_of, joined_codes, section_of}
 use Rattle.presentation.specs.Told.{differ_told, needs_now, over_told, all_told, presented_if_told, presented_of, presented_with, told_before, told_in_order}
 use Rattle.presentation.proofs.Filling.{all_in_order, length_in_order, steps_of}
-use Rattle.read_back.specs.Origins.{StaticHaveFewTracks, StaticHaveSections, StaticHaveTracks, StaticTracksAreWritable}
-use Rattle.read_back.specs.Tracks.{AreOrdered, AreOwnCodes, AreWritable, HaveOneLanguage, IsTold}
+use Rattle.read_back.specs.Origins.{CameFromMpd, HaveFewTracks, HaveSections, HaveTracks, IndexedTracksAreWritable, TracksAreWritable}
+use Rattle.read_back.specs.Tracks.{AreOrdered, AreOwnCodes, AreWritable, AreWritableIfFew, HaveOneLanguage, IsTold, track_described, tracks_described}
 use Rattle.read_back.proofs.OriginCodes.{joined_own}
-use Rattle.read_back.proofs.OriginKept.{IsClean, IsFinePath, IsPlaced, clean, paths_placed}
+use Rattle.read_back.proofs.OriginKept.{IsClean, IsFinePath, IsPlaced, clean, clean_index, paths_placed}
 use Rattle.read_back.proofs.OriginOrder.{Rises, Rises-before, Rises-map, in_order_twice, kept_in_order, map_in_order, non_decreasing}
 
 -- ---- what a Representation says
@@ -87,7 +91,7 @@ is_played_type : (type : Option (List ℕ)) (e : Element) → is_representation_
 unfolding is_representation_left_out
 is_played_type type e kept = (neither (has_child (codes "EssentialProperty") e.children) _ kept).1
 
-module _ (dynamic : Bool) (path : Path) (fine : IsFinePath dynamic path) where
+module _ (addressing : Addressing) (dynamic : Bool) (path : Path) (fine : IsFinePath addressing dynamic path) where
   none_foreign : has_foreign (kind_named (value_over (codes "mimeType") path.set.head path.representation.head)) (value_over (codes "codecs") path.set.head path.representation.head) ≡ false
   none_foreign =
       let plain = fine.representation.plain in
@@ -120,7 +124,7 @@ module _ (dynamic : Bool) (path : Path) (fine : IsFinePath dynamic path) where
         none_foreign;
   }
 
-told_track : (row : Row) → IsDescribed row.description → IsTold (track_of row)
+told_track : {X : Type 0} (row : TrackRow X) → IsDescribed row.description → IsTold (track_described row)
 told_track row is = record { language = is.language; codecs = codes_told row.description.codecs is.codecs }
   where
     codes_told : (o : Option (List ℕ)) → IfSome o (AreOwnCodes row.description.kind) → IfSome (option_map joined_codes o) (AreOwnCodes row.description.kind)
@@ -129,34 +133,34 @@ told_track row is = record { language = is.language; codecs = codes_told row.des
 
 -- ---- Periods
 
-abbrev row_of : Path → Row
-row_of path = typed.track_of segments_of path
+module _ {X : Type 0} (told : List Element → X) where
+  abbrev row_of : Path → TrackRow X
+  row_of path = typed.track_of told path
 
--- what holds at each Representation that is kept holds of each row
-pub rows_hold : (Q : Row → Type 0) (tree : Element) (total default : Option ℕ) (periods : List Element) → All (λ e. All (λ path. Q (row_of path)) (paths_of tree e)) periods
-    → All (λ (p : Period). All Q p.tracks) (map (period_of segments_of tree) (map timed_of (bounds_from total default periods)))
-rows_hold Q tree total default [] all = All-nil (λ (p : Period). All Q p.tracks)
-rows_hold Q tree total default (e ∷ periods) all =
-    let Here = λ (e : Element). All (λ path. Q (row_of path)) (paths_of tree e) in
-    All-cons (λ (p : Period). All Q p.tracks) _ _ (All-map Q row_of (paths_of tree e) (All-head Here e periods all))
-    (rows_hold Q tree total (end_said (start_of default e) e) periods (All-tail Here e periods all))
+  -- what holds of the rows of a Period's Representations that are kept
+  pub periods_hold : (Q : List (TrackRow X) → Type 0) (tree : Element) (total default : Option ℕ) (periods : List Element)
+      → All (λ e. Q (map row_of (paths_of tree e))) periods
+      → All (λ (p : PeriodRow X). Q p.tracks) (map (period_of told tree) (map timed_of (bounds_from total default periods)))
+  periods_hold Q tree total default [] all = All-nil (λ (p : PeriodRow X). Q p.tracks)
+  periods_hold Q tree total default (e ∷ periods) all =
+      let Here = λ (e : Element). Q (map row_of (paths_of tree e)) in
+      All-cons (λ (p : PeriodRow X). Q p.tracks) _ _ (All-head Here e periods all)
+      (periods_hold Q tree total (end_said (start_of default e) e) periods (All-tail Here e periods all))
 
-pub first_hold : (Q : Row → Type 0) (periods : List Period) → All (λ (p : Period). All Q p.tracks) periods → All Q (first_rows periods)
-first_hold Q [] all = All-nil Q
-first_hold Q (p ∷ periods) all = All-head (λ (p : Period). All Q p.tracks) p periods all
+  module _ (addressing : Addressing) (tree : Element) (mpd : TypedMpd X) (is : IsClean addressing told tree mpd) where
+    each_period : (Q : List (TrackRow X) → Type 0) → All (λ e. Q (map row_of (paths_of tree e))) (periods_of tree)
+        → All (λ (p : PeriodRow X). Q p.tracks) mpd.periods
+    each_period Q all =
+        subst (λ (m : TypedMpd X). All (λ (p : PeriodRow X). Q p.tracks) m.periods) (sym is.values)
+        (periods_hold Q tree (total_of tree.head) (first_start tree.head) (periods_of tree) all)
 
--- the Representations of the first Period
-abbrev first_paths : Element → List Element → List Path
-first_paths tree [] = []
-first_paths tree (e ∷ periods) = paths_of tree e
-
-abbrev first_sets : List Element → List Element
-first_sets [] = []
-first_sets (e ∷ periods) = sets_of e
-
-first_are : (tree : Element) (total default : Option ℕ) (periods : List Element) → first_rows (map (period_of segments_of tree) (map timed_of (bounds_from total default periods))) ≡ map row_of (first_paths tree periods)
-first_are tree total default [] = refl
-first_are tree total default (e ∷ periods) = refl
+    -- what holds at each Representation that is kept holds of each row
+    pub each_row : (Q : TrackRow X → Type 0) → All (λ e. All (λ path. Q (row_of path)) (paths_of tree e)) (periods_of tree)
+        → All (λ (p : PeriodRow X). All Q p.tracks) mpd.periods
+    each_row Q all =
+        let Here = λ (e : Element). All (λ path. Q (row_of path)) (paths_of tree e) in
+        each_period (All Q) (All-weaker Here (λ e. All Q (map row_of (paths_of tree e))) (λ e here. All-map Q row_of (paths_of tree e) here)
+        (periods_of tree) all)
 
 -- ---- places
 
@@ -173,11 +177,6 @@ one_language : (sets : List Element) (one other : Track) → Speaks sets one.set
 one_language sets one other first later kinds same =
     same_Some one.language other.language (sym first ∙ ap (λ k. option_map (λ (set : Element). value_named (codes "lang") set.head) (slice_get sets k)) same ∙ later)
 
-paths_speak : (tree : Element) (periods : List Element) → All (λ path. Speaks (first_sets periods) path.place (value_named (codes "lang") path.set.head)) (first_paths tree periods)
-paths_speak tree [] = All-nil (λ (path : Path). Speaks [] path.place (value_named (codes "lang") path.set.head))
-paths_speak tree (e ∷ periods) =
-    All-weaker (IsPlaced (sets_of e) 0) (λ path. Speaks (sets_of e) path.place (value_named (codes "lang") path.set.head)) (speaks (sets_of e)) (paths_of tree e) (paths_placed tree e 0 (sets_of e))
-
 paths_rise : (mpd e : Element) (place : ℕ) (sets : List Element) → Rises (λ (path : Path). path.place) (paths_in mpd e place sets)
 paths_rise mpd e place [] = tt
 paths_rise mpd e place (set ∷ sets) =
@@ -187,40 +186,73 @@ paths_rise mpd e place (set ∷ sets) =
     (λ k d within. let here = (paths_placed mpd e (place + 1) sets k d within).place_is in omega (arith, here))
     (paths_rise mpd e (place + 1) sets)
 
-first_rise : (tree : Element) (periods : List Element) → Rises (λ (path : Path). path.place) (first_paths tree periods)
-first_rise tree [] = tt
-first_rise tree (e ∷ periods) = paths_rise tree e 0 (sets_of e)
-
 -- ---- the tracks of Representations in document order
 
-long : (rows : List Row) → length (map track_of (in_order rows)) ≡ length rows
-long rows = omega (arith, length-map (in_order rows) track_of, length_in_order (λ (row : Row). row.description.kind) rows)
+abbrev row_kind : {X : Type 0} → TrackRow X → Kind
+row_kind row = row.description.kind
 
-module _ (sets : List Element) (rows : List Row) where
+long : {X : Type 0} (rows : List (TrackRow X)) → length (tracks_described rows) ≡ length rows
+long rows = omega (arith, length-map (by_kind row_kind rows) track_described, length_in_order row_kind rows)
+
+abbrev SpeaksOfSet : {X : Type 0} → List Element → TrackRow X → Type 0
+SpeaksOfSet sets row = Speaks sets row.description.set row.description.language
+
+module _ {X : Type 0} (sets : List Element) (rows : List (TrackRow X)) where
   abbrev tracks : List Track
-  tracks = map track_of rows
+  tracks = map track_described rows
 
   abbrev SaysOfSet : Track → Type 0
   SaysOfSet track = Speaks sets track.set track.language
 
-  ordered : Rises (λ (row : Row). row.description.set) rows → All (λ row. Speaks sets row.description.set row.description.language) rows → AreOrdered (by_kind (λ (track : Track). track.kind) tracks)
+  ordered : Rises (λ (row : TrackRow X). row.description.set) rows → All (SpeaksOfSet sets) rows
+      → AreOrdered (by_kind (λ (track : Track). track.kind) tracks)
   ordered rise speak =
       let kind = λ (track : Track). track.kind in
-      let all = all_in_order kind SaysOfSet tracks (All-map SaysOfSet track_of rows speak) in
+      let all = all_in_order kind SaysOfSet tracks (All-map SaysOfSet track_described rows speak) in
       record {
         kinds = in_order_twice kind tracks;
-        sets = λ k. rw (kept_in_order kind k tracks) (IsNonDecreasingBy-filter (λ (track : Track). track.set) (λ track. is_of k track.kind) tracks (non_decreasing (λ (track : Track). track.set) tracks (Rises-map (λ (track : Track). track.set) track_of rows rise)));
+        sets = λ k. rw (kept_in_order kind k tracks) (IsNonDecreasingBy-filter (λ (track : Track). track.set)
+            (λ track. is_of k track.kind) tracks (non_decreasing (λ (track : Track). track.set) tracks
+            (Rises-map (λ (track : Track). track.set) track_described rows rise)));
         languages = λ i one in_one. λ j other in_other. one_language sets (get_or (by_kind kind tracks) i one) (get_or (by_kind kind tracks) j other) (all i one in_one) (all j other in_other);
       }
 
-  told : All (λ row. IsDescribed row.description) rows → All IsTold (by_kind (λ (track : Track). track.kind) tracks)
-  told all = all_in_order (λ (track : Track). track.kind) IsTold tracks (All-map IsTold track_of rows (All-weaker (λ (row : Row). IsDescribed row.description) (λ row. IsTold (track_of row)) told_track rows all))
+  told_all : All (λ (row : TrackRow X). IsDescribed row.description) rows → All IsTold (by_kind (λ (track : Track). track.kind) tracks)
+  told_all all = all_in_order (λ (track : Track). track.kind) IsTold tracks
+      (All-map IsTold track_described rows (All-weaker (λ (row : TrackRow X). IsDescribed row.description)
+      (λ row. IsTold (track_described row)) told_track rows all))
 
-  pub writable : Rises (λ (row : Row). row.description.set) rows → All (λ row. Speaks sets row.description.set row.description.language) rows → All (λ row. IsDescribed row.description) rows
-      → length rows ≤ 200 → AreWritable (map track_of (in_order rows))
+  writable : Rises (λ (row : TrackRow X). row.description.set) rows → All (SpeaksOfSet sets) rows
+      → All (λ (row : TrackRow X). IsDescribed row.description) rows → length rows < 2 ^ 64 → AreWritable (tracks_described rows)
   writable rise speak all few =
-      let same = map_in_order (λ (track : Track). track.kind) track_of rows in
-      record { ordered = rw same (ordered rise speak); told = rw same (told all); few = omega (arith, long rows) }
+      let same = map_in_order (λ (track : Track). track.kind) track_described rows in
+      record { ordered = rw same (ordered rise speak); told = rw same (told_all all); few = omega (arith, long rows) }
+
+module _ {X : Type 0} (addressing : Addressing) (told : List Element → X) (tree : Element) where
+  period_writable : (e : Element) → All (IsFinePath addressing (is_dynamic tree.head)) (paths_of tree e)
+      → AreWritableIfFew (map (typed.track_of told) (paths_of tree e))
+  period_writable e fine few =
+      let row_of = typed.track_of told in
+      let paths = paths_of tree e in
+      let Described = λ (row : TrackRow X). IsDescribed row.description in
+      writable (sets_of e) (map row_of paths) (Rises-map (λ (row : TrackRow X). row.description.set) row_of paths
+      (paths_rise tree e 0 (sets_of e)))
+      (All-map (SpeaksOfSet (sets_of e)) row_of paths (All-weaker (IsPlaced (sets_of e) 0)
+      (λ path. Speaks (sets_of e) path.place (value_named (codes "lang") path.set.head)) (speaks (sets_of e)) paths
+      (paths_placed tree e 0 (sets_of e))))
+      (All-map Described row_of paths (All-weaker (IsFinePath addressing (is_dynamic tree.head)) (λ path. Described (row_of path))
+      (described addressing (is_dynamic tree.head)) paths fine))
+      few
+
+  pub periods_writable : (mpd : TypedMpd X) → IsClean addressing told tree mpd
+      → All (λ (p : PeriodRow X). AreWritableIfFew p.tracks) mpd.periods
+  periods_writable mpd is =
+      let Fine = λ (e : Element). All (IsFinePath addressing (is_dynamic tree.head)) (paths_of tree e) in
+      let Writable = λ (e : Element). AreWritableIfFew (map (typed.track_of told) (paths_of tree e)) in
+      each_period told addressing tree mpd is AreWritableIfFew (All-weaker Fine Writable period_writable (periods_of tree) is.paths)
+
+pub indexed_tracks_are_writable : IndexedTracksAreWritable
+indexed_tracks_are_writable tree mpd is = periods_writable Index index_of tree mpd (clean_index tree mpd is)
 
 -- ---- a presentation
 
@@ -231,13 +263,13 @@ MemberOf {X} f = X
 abbrev pub Told : Type 0
 Told = MemberOf told_in_order
 
-pub record IsOfMpd (p : Presented) (from : CameFromStaticMpd p) : Type 0 where
+pub record IsOfMpd (p : Presented) (from : CameFromMpd p) : Type 0 where
   pub tolds : List Told
   pub checked : told_before from.mpd.facts.live (is_some from.now) from.mpd.periods ≡ []
   pub all : all_told from.url from.mpd.facts.live from.mpd.periods ≡ Ok tolds
   pub is : presented_with from.mpd from.now tolds ≡ p
 
-pub of_mpd : (p : Presented) (from : CameFromStaticMpd p) → IsOfMpd p from
+pub of_mpd : (p : Presented) (from : CameFromMpd p) → IsOfMpd p from
 unfolding presented_of
 of_mpd p from =
     let before = steps_of (unless_any {X = Unit {0}} (told_before from.mpd.facts.live (is_some from.now) from.mpd.periods) tt) (λ _. presented_if_told from.mpd from.url from.now) p from.presented in
@@ -253,36 +285,6 @@ few_rows live has_now periods none =
     not_over (nat_lt 1000 (length periods)) (length (first_rows periods))
     (none_first (over_told periods) (differ_told periods) (none_later (needs_now live has_now) (over_told periods ++ differ_told periods) none))
 
-first_row_list : (tree : Element) (mpd : TypedMpd (Option Segments)) → IsClean tree mpd → first_rows mpd.periods ≡ map row_of (first_paths tree (periods_of tree))
-first_row_list tree mpd is =
-    ap (λ (m : TypedMpd (Option Segments)). first_rows m.periods) is.values ∙ first_are tree (total_of tree.head) (first_start tree.head) (periods_of tree)
-
--- what holds at each Representation that is kept holds of each row of an MPD
-pub each_row : (Q : Row → Type 0) (tree : Element) (mpd : TypedMpd (Option Segments)) → IsClean tree mpd → All (λ e. All (λ path. Q (row_of path)) (paths_of tree e)) (periods_of tree)
-    → All (λ (p : Period). All Q p.tracks) mpd.periods
-each_row Q tree mpd is all =
-    subst (λ (m : TypedMpd (Option Segments)). All (λ (p : Period). All Q p.tracks) m.periods) (sym is.values) (rows_hold Q tree (total_of tree.head) (first_start tree.head) (periods_of tree) all)
-
-all_described : (tree : Element) (mpd : TypedMpd (Option Segments)) → IsClean tree mpd → All (λ (row : Row). IsDescribed row.description) (first_rows mpd.periods)
-all_described tree mpd is =
-    let Q = λ (row : Row). IsDescribed row.description in
-    first_hold Q mpd.periods (each_row Q tree mpd is (λ k d within. λ j e inside. described (is_dynamic tree.head) _ (is.paths k d within j e inside)))
-
-pub static_tracks_are_writable : StaticTracksAreWritable
-static_tracks_are_writable p from =
-    let is = clean from.tree from.mpd from.typed in
-    let of = of_mpd p from in
-    let rows = first_rows from.mpd.periods in
-    let periods = periods_of from.tree in
-    let paths = first_paths from.tree periods in
-    let are = first_row_list from.tree from.mpd is in
-    let Said = λ (row : Row). Speaks (first_sets periods) row.description.set row.description.language in
-    subst (λ (q : Presented). AreWritable q.tracks) of.is (writable (first_sets periods) rows
-    (subst (λ (rows : List Row). Rises (λ (row : Row). row.description.set) rows) (sym are) (Rises-map (λ (row : Row). row.description.set) row_of paths (first_rise from.tree periods)))
-    (subst (All Said) (sym are) (All-map Said row_of paths (paths_speak from.tree periods)))
-    (all_described from.tree from.mpd is)
-    (few_rows from.mpd.facts.live (is_some from.now) from.mpd.periods of.checked))
-
 -- ---- something is played
 
 some_played : (rows : List Row) → not (list_any (λ (row : Row). is_played row.description.kind) rows) ≡ false → 0 < length rows
@@ -297,26 +299,46 @@ some_track : (place : Place) (periods : List Period) → silence_in place period
 some_track place [] none = absurd (cc)
 some_track place (p ∷ periods) none = (omega arith, some_played p.tracks (heard (is_silent p) (NoTracks p.place) (flat_map silence_told periods) none))
 
-module _ (p : Presented) (from : CameFromStaticMpd p) where
+first_holds : (Q : List Row → Type 0) (periods : List Period) → 0 < length periods → All (λ (p : Period). Q p.tracks) periods
+    → Q (first_rows periods)
+first_holds Q [] some all = absurd (omega (arith, some))
+first_holds Q (p ∷ periods) some all = All-head (λ (p : Period). Q p.tracks) p periods all
+
+module _ (p : Presented) (from : CameFromMpd p) where
+  abbrev is_clean : IsClean OneByOne segments_of from.tree from.mpd
+  is_clean = clean from.tree from.mpd from.typed
+
   some : (0 < length from.mpd.periods) × (0 < length (first_rows from.mpd.periods))
-  some = some_track from.tree.head.place from.mpd.periods (clean from.tree from.mpd from.typed).playing
+  some = some_track from.tree.head.place from.mpd.periods is_clean.playing
+
+  few : length (first_rows from.mpd.periods) ≤ 200
+  few = few_rows from.mpd.facts.live (is_some from.now) from.mpd.periods (of_mpd p from).checked
+
+  -- its tracks are those of the first Period
+  of_first : (Q : List Track → Type 0) → Q (tracks_described (first_rows from.mpd.periods)) → Q p.tracks
+  of_first Q is = subst (λ (q : Presented). Q q.tracks) (of_mpd p from).is is
+
+  writable_there : AreWritable p.tracks
+  writable_there = of_first AreWritable (first_holds AreWritableIfFew from.mpd.periods some.0
+      (periods_writable OneByOne segments_of from.tree from.mpd is_clean) (omega (arith, few)))
 
   track_there : 0 < length p.tracks
-  track_there =
-      let rows = first_rows from.mpd.periods in
-      subst (λ (q : Presented). 0 < length q.tracks) (of_mpd p from).is (omega (arith, long rows, some.1))
+  track_there = of_first (λ tracks. 0 < length tracks) (omega (arith, long (first_rows from.mpd.periods), some.1))
+
+  few_there : length p.tracks ≤ 200
+  few_there = of_first (λ tracks. length tracks ≤ 200) (omega (arith, long (first_rows from.mpd.periods), few))
 
   section_there : 0 < length p.sections
   section_there = subst (λ (q : Presented). 0 < length q.sections) (of_mpd p from).is (omega (arith, length-map from.mpd.periods section_of, some.0))
 
-pub static_have_tracks : StaticHaveTracks
-static_have_tracks p from = track_there p from
+pub tracks_are_writable : TracksAreWritable
+tracks_are_writable p from = writable_there p from
 
-pub static_have_few_tracks : StaticHaveFewTracks
-static_have_few_tracks p from =
-    let of = of_mpd p from in
-    let rows = first_rows from.mpd.periods in
-    subst (λ (q : Presented). length q.tracks ≤ 200) of.is (omega (arith, long rows, few_rows from.mpd.facts.live (is_some from.now) from.mpd.periods of.checked))
+pub have_tracks : HaveTracks
+have_tracks p from = track_there p from
 
-pub static_have_sections : StaticHaveSections
-static_have_sections p from = section_there p from
+pub have_few_tracks : HaveFewTracks
+have_few_tracks p from = few_there p from
+
+pub have_sections : HaveSections
+have_sections p from = section_there p from

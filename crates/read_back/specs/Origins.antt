@@ -1,19 +1,48 @@
--- What is so of a presentation that came from a static MPD.
-use Rattle.std.specs.Prelude.{◌≡◌, ℕ, ◌+◌, ◌*◌, ◌^◌, ◌<◌, ◌≤◌, List, length, All, IfSome, Ok}
+-- What is so of a presentation that came from an MPD.
+use Rattle.std.specs.Prelude.{◌≡◌, ℕ, ℤ, ◌*◌, ◌<◌, ◌≤◌, List, length, All, IfSome, Option, Some, Ok}
 use Rattle.exact_time.specs.Time.{IsTime}
 use Rattle.url_parts.specs.Addresses.{IsAddress, absolute}
 use Rattle.url_parts.specs.declared.address.Part.{Part}
-use Rattle.url_parts.specs.declared.range.Range.{Range}
 use Rattle.timeline.specs.Expansions.{SegmentTimeline, Timing}
 use Rattle.timeline.specs.Listed.{part_of_timing}
 use Rattle.timeline.specs.Steady.{ArePaced}
+use Rattle.mpd_levels.specs.declared.indexed.IndexRow.{IndexRow}
+use Rattle.mpd_levels.specs.Segments.{Segments}
+use Rattle.mpd_rules.specs.declared.rows.PeriodRow.{PeriodRow}
+use Rattle.mpd_rules.specs.declared.rows.TrackRow.{TrackRow}
+use Rattle.mpd_rules.specs.Indexes.{index_told}
+pub use Rattle.mpd_rules.specs.Ranges.{IsSomeBytes}
+use Rattle.mpd_rules.specs.Rules.{indexed_mpd_of, typed_mpd_of}
+use Rattle.mpd_rules.specs.Typed.{TypedMpd}
 use Rattle.mpd_text.specs.Trees.{Head, Forest, nothing, element, Element}
 use Rattle.mpd_text.specs.Meaning.{reading_of}
 use Rattle.presentation.specs.declared.parts.Content.{Content}
 use Rattle.presentation.specs.Origins.{CameFromStaticMpd}
 use Rattle.presentation.specs.Presented.{Presented, listed_at}
-use Rattle.presentation.specs.Printing.{begin_of, durations_of}
-use Rattle.read_back.specs.Tracks.{AreWritable}
+use Rattle.presentation.specs.Printing.{IsCounted, begin_of, durations_of}
+use Rattle.presentation.specs.Told.{presented_of}
+use Rattle.read_back.specs.Tracks.{AreWritable, AreWritableIfFew}
+
+-- ---- MPDs, static and dynamic
+
+-- from an MPD of which no rule refuses anything, looked at at an instant where it is dynamic
+pub record CameFromMpd (p : Presented) : Type 0 where
+  pub tree : Element
+  pub mpd : TypedMpd (Option Segments)
+  pub url : List ℕ
+  pub now : Option ℤ
+  pub typed : typed_mpd_of tree ≡ Ok mpd
+  pub presented : presented_of mpd url now ≡ Ok p
+
+abbrev pub of_static : (p : Presented) → CameFromStaticMpd p → CameFromMpd p
+of_static p from = record {
+  tree = from.tree;
+  mpd = from.mpd;
+  url = from.url;
+  now = from.now;
+  typed = from.typed;
+  presented = from.presented;
+}
 
 -- ---- where an MPD lies, and what it is made of
 
@@ -51,10 +80,29 @@ pub record IsFound (mpd : Element) (base : List ℕ) : Type 0 where
 
 -- ---- tracks
 
+abbrev pub TracksAreWritable : Type 0
+TracksAreWritable = (p : Presented) → CameFromMpd p → AreWritable p.tracks
+
+-- a track and a section
+abbrev pub HaveTracks : Type 0
+HaveTracks = (p : Presented) → CameFromMpd p → 0 < length p.tracks
+
+abbrev pub HaveFewTracks : Type 0
+HaveFewTracks = (p : Presented) → CameFromMpd p → length p.tracks ≤ 200
+
+abbrev pub HaveSections : Type 0
+HaveSections = (p : Presented) → CameFromMpd p → 0 < length p.sections
+
+-- those of each Period of an MPD whose segments an index inside of each file tells
+abbrev pub IndexedTracksAreWritable : Type 0
+IndexedTracksAreWritable = (tree : Element) (mpd : TypedMpd (Option IndexRow)) → indexed_mpd_of tree ≡ Ok mpd
+    → All (λ (period : PeriodRow (Option IndexRow)). AreWritableIfFew period.tracks) mpd.periods
+
+-- of a static MPD
+
 abbrev pub StaticTracksAreWritable : Type 0
 StaticTracksAreWritable = (p : Presented) → CameFromStaticMpd p → AreWritable p.tracks
 
--- a track and a section
 abbrev pub StaticHaveTracks : Type 0
 StaticHaveTracks = (p : Presented) → CameFromStaticMpd p → 0 < length p.tracks
 
@@ -64,17 +112,29 @@ StaticHaveFewTracks = (p : Presented) → CameFromStaticMpd p → length p.track
 abbrev pub StaticHaveSections : Type 0
 StaticHaveSections = (p : Presented) → CameFromStaticMpd p → 0 < length p.sections
 
--- ---- addresses
+-- ---- the indexes of files
 
--- a byte or more, of places below 2^63
-pub record IsSomeBytes (range : Range) : Type 0 where
-  pub some : 0 < range.count
-  pub bounded : range.first + range.count ≤ 2 ^ 63
+-- the bytes of a Representation's index are told, and they are some
+pub record HasIndex (row : TrackRow (Option IndexRow)) : Type 0 where
+  pub index : IndexRow
+  pub there : row.segments ≡ Some index
+  pub range : index.range ≡ Some (index_told row.segments).range
+  pub bytes : IsSomeBytes (index_told row.segments).range
+
+abbrev pub IndexesAreTold : Type 0
+IndexesAreTold = (tree : Element) (mpd : TypedMpd (Option IndexRow)) → indexed_mpd_of tree ≡ Ok mpd
+    → All (λ (period : PeriodRow (Option IndexRow)). All HasIndex period.tracks) mpd.periods
+
+-- ---- addresses
 
 -- a file, or some bytes of it
 pub record IsLocated (part : Part) : Type 0 where
   pub address : IsAddress part.address
   pub range : IfSome part.range IsSomeBytes
+
+abbrev pub InitializationsAreLocated : Type 0
+InitializationsAreLocated = (p : Presented) (from : CameFromMpd p) → IsFound from.tree from.url
+    → All (λ (content : Content). IsLocated content.initialization) p.contents
 
 abbrev pub StaticInitializationsAreLocated : Type 0
 StaticInitializationsAreLocated = (p : Presented) (from : CameFromStaticMpd p) → IsFound from.tree from.url → All (λ (content : Content). IsLocated content.initialization) p.contents
@@ -82,6 +142,10 @@ StaticInitializationsAreLocated = (p : Presented) (from : CameFromStaticMpd p) �
 -- each segment that is made
 abbrev pub AreLocated : SegmentTimeline → Type 0
 AreLocated timeline = (x : Timing) (part : Part) → part_of_timing timeline x ≡ Ok part → IsLocated part
+
+abbrev pub PartsAreLocated : Type 0
+PartsAreLocated = (p : Presented) (from : CameFromMpd p) → IsFound from.tree from.url
+    → All (λ (content : Content). AreLocated content.runs) p.contents
 
 abbrev pub StaticPartsAreLocated : Type 0
 StaticPartsAreLocated = (p : Presented) (from : CameFromStaticMpd p) → IsFound from.tree from.url → All (λ (content : Content). AreLocated content.runs) p.contents
@@ -91,6 +155,10 @@ StaticPartsAreLocated = (p : Presented) (from : CameFromStaticMpd p) → IsFound
 -- they begin at a time, from which on the ends don't fall and lie near one another
 abbrev pub IsInPace : List Timing → Type 0
 IsInPace xs = IsTime (begin_of xs) × ArePaced xs
+
+-- where segments that go on to an open end are counted
+abbrev pub AreInPace : Type 0
+AreInPace = (p : Presented) (s t : ℕ) → CameFromMpd p → IsCounted p s t → IsInPace (listed_at p s t)
 
 abbrev pub StaticAreInPace : Type 0
 StaticAreInPace = (p : Presented) (s t : ℕ) → CameFromStaticMpd p → IsInPace (listed_at p s t)

@@ -15,8 +15,9 @@ pub use media::{
     playlists_are_read_again, track_playlists_are_read_again, written_values_are_read,
 };
 pub use origins::{
+    counted_segments_are_in_pace, indexed_tracks_are_writable, indexes_are_told, parts_are_located,
     read_trees_are_of_bytes, static_parts_are_located, static_segments_are_in_pace,
-    static_tracks_are_writable,
+    static_tracks_are_writable, tracks_are_writable,
 };
 pub use same::{
     read_playlists_mean_the_same, written_means_the_same, written_playlists_mean_the_same,

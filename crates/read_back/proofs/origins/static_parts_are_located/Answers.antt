@@ -1,5 +1,8 @@
-use Rattle.read_back.proofs.OriginParts.{static_initializations_are_located, static_parts_are_located}
+use Rattle.read_back.specs.Origins.{of_static}
 use Rattle.read_back.proofs.origins.static_parts_are_located.Goals as goal
 
 pub returns : goal.returns
-returns c = record { initializations = static_initializations_are_located; segments = static_parts_are_located }
+returns c = let located = c.parts_are_located.ensures in record {
+  initializations = λ p from. located.initializations p (of_static p from);
+  segments = λ p from. located.segments p (of_static p from);
+}

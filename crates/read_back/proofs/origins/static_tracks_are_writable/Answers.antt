@@ -1,5 +1,10 @@
-use Rattle.read_back.proofs.OriginTracks.{static_have_few_tracks, static_have_sections, static_have_tracks, static_tracks_are_writable}
+use Rattle.read_back.specs.Origins.{of_static}
 use Rattle.read_back.proofs.origins.static_tracks_are_writable.Goals as goal
 
 pub returns : goal.returns
-returns c = record { writable = static_tracks_are_writable; tracks = static_have_tracks; few = static_have_few_tracks; sections = static_have_sections }
+returns c = let are = c.tracks_are_writable.ensures in record {
+  writable = λ p from. are.writable p (of_static p from);
+  tracks = λ p from. are.tracks p (of_static p from);
+  few = λ p from. are.few p (of_static p from);
+  sections = λ p from. are.sections p (of_static p from);
+}
