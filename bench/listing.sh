@@ -1,7 +1,7 @@
 #!/usr/bin/env bash
 # Times segments in order: a million addresses joined; a million segments made by a template, and from addresses that are there
 # already; a list of 230,000 equal segments laid out; and a timeline of 700,000 S elements that 200 Representations of different
-# timescales share. Each run is a program of its own; the shortest of eleven runs counts, with its largest memory. The word `none`
+# timescales share; and a million times the count of 10^18 segments and the run that they are. Each run is a program of its own; the shortest of eleven runs counts, with its largest memory. The word `none`
 # does nothing.
 #
 # It wants `rt` and python3.
@@ -146,7 +146,7 @@ fn share(alloc: Global) -> Option<()> {
         })
         .ok()?;
     }
-    let shared = SharedTimeline::of(alloc, &list).ok()?;
+    let shared = SharedTimeline::of(alloc, list).ok()?;
     let mut all = Vec::new(alloc);
     for ticks in 1..201u32 {
         let names = template(alloc)?;
@@ -155,6 +155,34 @@ fn share(alloc: Global) -> Option<()> {
         all.push(runs).ok()?;
     }
     Some(())
+}
+
+/// Counts 10^18 segments, and walks over them, a million times.
+fn at_once(alloc: Global) -> Option<()> {
+    let runs = Runs::from_duration(
+        alloc,
+        1,
+        End::Unbounded,
+        true,
+        scale(1_000_000_007),
+        template(alloc)?,
+    )
+    .ok()?;
+    for later in 0..1_000_000u32 {
+        counted(&runs, 1_000_000_000_000_000_000 + i128::from(later))?;
+    }
+    Some(())
+}
+
+fn counted(runs: &Runs, until: i128) -> Option<(u64, u64)> {
+    let window = Window {
+        after: None,
+        until: Some(until),
+    };
+    runs.count(&window).ok()?;
+    let from = runs.seek(&window);
+    let run = runs.walk(&from, &window).next_run()?;
+    Some((runs.count_from(&from, &window), run.count))
 }
 
 fn join(alloc: Global) -> Option<()> {
@@ -194,6 +222,7 @@ fn run<L: Ledger>(rt: &HostRuntime, blank: Blank) -> Option<()>
         "addresses-only" => by_addresses(alloc).map(|_| ()),
         "list" => by_list(alloc).map(|_| ()),
         "share" => share(alloc),
+        "at-once" => at_once(alloc),
         _ => Some(()),
     }
 }
@@ -216,6 +245,6 @@ RS
 (cd "$work/ours" && git init -q && cd crates/lists && rt run -- none > "$work/build.log" 2>&1) || { tail "$work/build.log"; exit 1; }
 ours=$work/ours/crates/lists/out/lists
 
-for word in none join template addresses-only addresses list share; do
+for word in none join template addresses-only addresses list share at-once; do
     python3 "$here/bench/measure.py" "$word" "$ours" "$ours" "$word"
 done
