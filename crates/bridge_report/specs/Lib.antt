@@ -1,4 +1,6 @@
 pub mod Bases
+pub mod Following
+pub mod Laws
 pub mod Outcomes
 pub mod Reading
 pub mod Refusals

@@ -11,10 +11,12 @@ use Rattle.hls_master.specs.declared.fault.MasterFault.{MasterFault}
 use Rattle.hls_master.specs.declared.fault.MasterFault.TheVariants as master
 use Rattle.hls_media.specs.declared.fault.MediaFault.{MediaFault}
 use Rattle.hls_media.specs.declared.fault.MediaFault.TheVariants as media
-use Rattle.presentation.specs.declared.fault.Spot.{Spot}
-use Rattle.presentation.specs.declared.fault.Spot.TheVariants.{At, Segment}
+use Rattle.presentation.specs.declared.fault.Spot.{Spot as AddressSpot}
+use Rattle.presentation.specs.declared.fault.Spot.TheVariants as address
 use Rattle.presentation.specs.declared.fault.PresentationFault.{PresentationFault}
 use Rattle.presentation.specs.declared.fault.PresentationFault.TheVariants as presentation
+use Rattle.bridge_report.specs.declared.spot.Spot.{Spot}
+use Rattle.bridge_report.specs.declared.spot.Spot.TheVariants.{Byte, At, Segment}
 use Rattle.bridge_report.specs.declared.refusal.Refusal.{Refusal}
 use Rattle.bridge_report.specs.declared.refusal.Refusal.TheVariants as refusal
 use Rattle.bridge_report.specs.declared.refusal.Stop.{Stop}
@@ -54,12 +56,17 @@ rule_spot (rules.IndexNeeded place) = Some (At place)
 rule_spot (rules.NoTracks place) = Some (At place)
 rule_spot rules.Memory = None
 
+-- the spot of an address
+abbrev pub spot_told : AddressSpot → Spot
+spot_told (address.At place) = At place
+spot_told (address.Segment section track segment) = Segment section track segment
+
 -- a track without segments is told as its first one
 abbrev pub presentation_spot : PresentationFault → Option Spot
 presentation_spot (presentation.PeriodsDiffer place) = Some (At place)
 presentation_spot presentation.Limit = None
 presentation_spot (presentation.NoSegments section track) = Some (Segment section track 0)
-presentation_spot (presentation.Url fault spot) = Some spot
+presentation_spot (presentation.Url fault spot) = Some (spot_told spot)
 presentation_spot (presentation.Template fault place) = Some (At place)
 presentation_spot (presentation.Timeline fault place) = Some (At place)
 presentation_spot presentation.NeedsNow = None
@@ -121,6 +128,7 @@ spot_of refusal.NotStatic = None
 
 abbrev pub spot_text : Option Spot → List ℕ
 spot_text None = []
+spot_text (Some (Byte at)) = codes " at " ++ decimal at
 spot_text (Some (At place)) = codes " at " ++ decimal place.at ++ codes " line " ++ decimal place.line
 spot_text (Some (Segment section track segment)) = codes " section " ++ decimal section ++ codes " track " ++ decimal track ++ codes " segment " ++ decimal segment
 
@@ -141,12 +149,13 @@ words_of refusal.TooManySegments = codes "job 3 Limit"
 words_of (refusal.Hls fault) = hls_words fault
 words_of refusal.NotStatic = codes "job 4 NotStatic"
 
--- the refusal of a file, or of no file where it is named `-`
-abbrev pub refused_line : (file words spot : List ℕ) → List ℕ
-refused_line file words spot = codes "refused " ++ file ++ codes " " ++ words ++ spot ++ codes "\n"
+-- what is told of a refusal, whatever is refused: its words, and where it stands, if that is told
+unfoldable pub refusal_text : Refusal → List ℕ
+refusal_text refusal = words_of refusal ++ spot_text (spot_of refusal)
 
+-- the refusal of a file, or of no file where it is named `-`
 unfoldable pub refusal_line : (file : List ℕ) → Refusal → List ℕ
-refusal_line file refusal = refused_line file (words_of refusal) (spot_text (spot_of refusal))
+refusal_line file refusal = codes "refused " ++ file ++ codes " " ++ refusal_text refusal ++ codes "\n"
 
 -- ---- what is answered where memory is wanting, which tells nothing of the input
 

@@ -4,10 +4,18 @@
 mod base;
 mod ending;
 mod fault_words;
+mod laws;
+mod lines;
 mod reading;
 mod refusal;
+mod spot;
 
 pub use base::{file_url, folder_url};
 pub use ending::{halted, refused};
+pub use laws::{
+    accepted_frames_make_the_files, commands_read_before_they_write, one_course_for_both_tellings,
+};
+pub use lines::{frame_accepted, frame_refused, stream_done, tell_line};
 pub use reading::{Halt, content_of, media_at};
-pub use refusal::{Refusal, Stop, refusal_line};
+pub use refusal::{Refusal, Stop, refusal_line, refusal_text};
+pub use spot::Spot;

@@ -1,10 +1,11 @@
 // Why the input of a job is refused, and the line of the report that tells it.
-ghost use Rattle.std.specs.Prelude.{◌≡◌, IfOk};
+ghost use Rattle.std.specs.Prelude.{◌≡◌, ◌++◌, IfOk};
 ghost use Rattle.bridge_report.specs.Refusals as spec;
 
 use crate::fault_words::{
     hls_words, master_words, media_words, presentation_words, rule_words, text_words,
 };
+use crate::spot::Spot;
 use bridge_io::{NoMemory, Place, Text};
 use hls_lines::LineFault;
 use hls_master::MasterFault;
@@ -12,7 +13,7 @@ use hls_media::MediaFault;
 use hls_presentation::HlsFault;
 use mpd_rules::RuleFault;
 use mpd_text::TextFault;
-use presentation::{PresentationFault, Spot};
+use presentation::PresentationFault;
 use std::alloc::Global;
 
 /// Why the input of a job is refused.
@@ -92,10 +93,22 @@ impl Stop {
 pub fn refusal_line(alloc: Global, file: &str, refusal: Refusal) -> Result<Text, NoMemory>
     ensures { IfOk result (λ line. line ≡ spec.refusal_line file.now refusal) }
 {
+    let text = refusal_text(alloc, refusal)?;
+    let text = text.as_str();
+    Ok(Text::from(format!(in alloc; "refused {file} {text}\n")?))
+}
+
+/// What the report tells of a refusal, whatever is refused: the layer's word, the number and the name, and where it stands, if
+/// that is told.
+#[tactic(auto, unfolding(crate::specs::Refusals::refusal_text))]
+pub fn refusal_text(alloc: Global, refusal: Refusal) -> Result<Text, NoMemory>
+    ensures { IfOk result (λ text. text ≡ spec.refusal_text refusal) }
+{
     let words = words(refusal);
     match spot(refusal) {
-        None => plain_line(alloc, file, words),
-        Some(Spot::At(place)) => line_at(alloc, file, words, place),
+        None => Text::copy_of(alloc, words),
+        Some(Spot::Byte(at)) => Ok(Text::from(format!(in alloc; "{words} at {at}")?)),
+        Some(Spot::At(place)) => text_at(alloc, words, place),
         Some(
             Spot::Segment {
                 section,
@@ -103,22 +116,16 @@ pub fn refusal_line(alloc: Global, file: &str, refusal: Refusal) -> Result<Text,
                 segment,
             },
         ) => Ok(Text::from(format!(in alloc;
-            "refused {file} {words} section {section} track {track} segment {segment}\n"
+            "{words} section {section} track {track} segment {segment}"
         )?)),
     }
 }
 
-fn plain_line(alloc: Global, file: &str, words: &str) -> Result<Text, NoMemory>
-    ensures { IfOk result (λ line. line ≡ spec.refused_line file.now words.now (spec.spot_text None)) }
-{
-    Ok(Text::from(format!(in alloc; "refused {file} {words}\n")?))
-}
-
-fn line_at(alloc: Global, file: &str, words: &str, place: Place) -> Result<Text, NoMemory>
-    ensures { IfOk result (λ line. line ≡ spec.refused_line file.now words.now (spec.spot_text (Some (Spot.At place)))) }
+fn text_at(alloc: Global, words: &str, place: Place) -> Result<Text, NoMemory>
+    ensures { IfOk result (λ text. text ≡ words.now ++ spec.spot_text (Some (Spot.At place))) }
 {
     let (at, line) = (place.at, place.line);
-    Ok(Text::from(format!(in alloc; "refused {file} {words} at {at} line {line}\n")?))
+    Ok(Text::from(format!(in alloc; "{words} at {at} line {line}")?))
 }
 
 /// The layer's word, the number and the name.
@@ -214,7 +221,7 @@ fn presentation_spot(fault: PresentationFault) -> Option<Spot>
             track,
             segment: 0,
         }),
-        PresentationFault::Url(_, spot) => Some(spot),
+        PresentationFault::Url(_, spot) => Some(Spot::of(spot)),
         PresentationFault::PeriodsDiffer(place)
         | PresentationFault::Template(_, place)
         | PresentationFault::Timeline(_, place) => Some(Spot::At(place)),

@@ -1,0 +1,20 @@
+//! Laws of commands and of followed presentations. The functions do nothing: what they ensure is the law.
+ghost use Rattle.bridge_report.specs.Laws.{CommandsReadFirst, ReadFaultOfCommandsKeepsFiles, FilesAreOfAccepted, FileIsOfAccepted, MirrorsHaveOneCourse};
+
+/// A command reads all before it writes, so that a run of it that ends at a read fault wrote nothing.
+pub fn commands_read_before_they_write()
+    ensures first { CommandsReadFirst }
+    ensures read_fault { ReadFaultOfCommandsKeepsFiles }
+{}
+
+/// After some frames of a followed presentation the files are those that are written for the frames accepted among them, and
+/// one that is written again for each has the text of what these left.
+pub fn accepted_frames_make_the_files<S, X>()
+    ensures files { FilesAreOfAccepted S X }
+    ensures file { FileIsOfAccepted S X }
+{}
+
+/// Where what is told of a history is told of what the history left, both have one course.
+pub fn one_course_for_both_tellings<S, T, X>()
+    ensures { MirrorsHaveOneCourse S T X }
+{}
