@@ -5,8 +5,8 @@ use Rattle.std.proofs.lemmas.List.Sums.{sum_by-append}
 use Rattle.std.proofs.Math.Seq.{take-append_seam}
 use Rattle.bridge_io.specs.Places.{place_of}
 use Rattle.bridge_io.specs.declared.place.Place.{Place}
-use Rattle.bridge_jobs.specs.Frames.{Framed, behind, body_of, counted, frame_at, frame_by_line, framed_if, framed_as, frames_from, frames_within, header_at, line_within, most_frames, next_frame, some_framed, stream_by, with_body, with_frame}
-use Rattle.bridge_jobs.specs.Headers.{body_length}
+use Rattle.bridge_jobs.specs.Frames.{Framed, behind, body_of, by_next, counted, frame_by_line, framed_if, framed_as, frames_from, frames_within, header_at, line_within, most_header, next_line, piece_of, most_frames, next_frame, some_of, stream_by, with_body, with_frame}
+use Rattle.bridge_jobs.specs.Headers.{body_length, header_of}
 use Rattle.bridge_jobs.specs.Laws.{FramesFollow, PlacesAreOfTheStream}
 use Rattle.bridge_jobs.specs.declared.frame.FramePos.{FramePos}
 use Rattle.bridge_jobs.specs.declared.frame.FrameFault.{FrameFault}
@@ -52,7 +52,7 @@ pub record Takes (at : FramePos) (bytes : List ℕ) (framed : Framed) : Type 0 w
 
 body-takes : (at : FramePos) (line rest : List ℕ) (header : Header) (framed : Framed) → 0 < length line
     → counted at.frames (body_of (behind at.place line) header rest) ≡ Ok framed → Takes at (line ++ rest) framed
-unfolding body_of
+unfolding body_of piece_of
 body-takes at line rest header framed some is = go (nat_le (body_length header) (length rest)) refl
   where
     after : FramePos
@@ -75,26 +75,26 @@ body-takes at line rest header framed some is = go (nat_le (body_length header) 
 
 line-takes : (at : FramePos) (line rest : List ℕ) (framed : Framed) → 0 < length line → frame_by_line at line rest ≡ Ok framed → Takes at (line ++ rest) framed
 unfolding frame_by_line
-line-takes at line rest framed some is = go (header_at at.place line) is
+line-takes at line rest framed some is = go (header_at most_header header_of at.place line) is
   where
     go : (h : Result Header FrameFault) → framed_if at line rest h ≡ Ok framed → Takes at (line ++ rest) framed
     go (Ok header) e = body-takes at line rest header framed some e
     go (Err _) e = cc
 
 pub next-takes : (at : FramePos) (bytes : List ℕ) (framed : Framed) → next_frame at bytes ≡ Ok (Some framed) → Takes at bytes framed
-unfolding next_frame frame_at
+unfolding next_frame next_line
 next-takes at [] framed is = cc
 next-takes at (b ∷ bytes) framed is = go (at.frames == most_frames) is
   where
     by_frame : (r : Result Framed FrameFault) → frame_by_line at (line_within 64 (b ∷ bytes)) (drop (length (line_within 64 (b ∷ bytes))) (b ∷ bytes)) ≡ r
-        → some_framed r ≡ Ok (Some framed) → Takes at (b ∷ bytes) framed
+        → some_of r ≡ Ok (Some framed) → Takes at (b ∷ bytes) framed
     by_frame (Ok x) e same =
         let is_x : x ≡ framed = cc in
         subst (λ w. Takes at w framed) (line-front 64 (b ∷ bytes)) (line-takes at _ _ framed (line-some 63 b bytes) (e ∙ ap Ok is_x))
     by_frame (Err _) e same = cc
 
-    go : (last : Bool) → (if last then Err (TooMany at.place) else some_framed (frame_by_line at (line_within 64 (b ∷ bytes)) (drop (length (line_within 64 (b ∷ bytes))) (b ∷ bytes)))) ≡ Ok (Some framed)
-        → Takes at (b ∷ bytes) framed
+    go : (last : Bool) → by_next (frame_by_line at) (if last then Err (TooMany at.place)
+        else Ok (Some (line_within 64 (b ∷ bytes)), drop (length (line_within 64 (b ∷ bytes))) (b ∷ bytes))) ≡ Ok (Some framed) → Takes at (b ∷ bytes) framed
     go true e = cc
     go false e = by_frame _ refl e
 

@@ -6,3 +6,5 @@ pub mod Named
 pub mod Read
 pub mod Reading
 pub mod Taken
+pub mod LengthsInTurn
+pub mod RoundsRead

@@ -45,18 +45,25 @@ without_end line =
     if bytes_eq (drop (length line - 1) line) (10 ∷ []) then Some (take (length line - 1) line) else None
 
 -- a complete line that is no header is refused at its first byte
-abbrev pub header_or_fault : Place → Option Header → Result Header FrameFault
+abbrev pub header_or_fault : {H : Type 0} → Place → Option H → Result H FrameFault
 header_or_fault place (Some header) = Ok header
 header_or_fault place None = Err (fault.Header place)
 
 -- and so is a line that is too long; one that the stream's end cuts is refused at that end
-abbrev pub header_by_line : Place → List ℕ → Option (List ℕ) → Result Header FrameFault
-header_by_line place line (Some text) = header_or_fault place (header_of text)
-header_by_line place line None =
-    if length line == most_header then Err (fault.Header place) else Err (fault.Cut (behind place line))
+abbrev pub header_by_line : {H : Type 0} → (most : ℕ) → (read : List ℕ → Option H) → Place → List ℕ → Option (List ℕ) → Result H FrameFault
+header_by_line most read place line (Some text) = header_or_fault place (read text)
+header_by_line most read place line None =
+    if length line == most then Err (fault.Header place) else Err (fault.Cut (behind place line))
 
-unfoldable pub header_at : Place → List ℕ → Result Header FrameFault
-header_at place line = header_by_line place line (without_end line)
+-- the header of a line, which has at most so many bytes with its LF
+unfoldable pub header_at : {H : Type 0} → (most : ℕ) → (read : List ℕ → Option H) → Place → List ℕ → Result H FrameFault
+header_at most read place line = header_by_line most read place line (without_end line)
+
+-- so many bytes, the place behind them, and the bytes from there on; a stream that ends inside them is refused at its end
+unfoldable pub piece_of : Place → (size : ℕ) → List ℕ → Result (List ℕ × Place × List ℕ) FrameFault
+piece_of place size bytes =
+    if nat_le size (length bytes) then Ok (take size bytes, behind place (take size bytes), drop size bytes)
+    else Err (fault.Cut (behind place bytes))
 
 abbrev pub with_body : Header → List ℕ → Frame
 with_body (header.Mpd now length) body = frame.Mpd now body
@@ -69,14 +76,13 @@ now_of (frame.Mpd now body) = now
 now_of (frame.Reset now body) = now
 now_of (frame.Tick now) = now
 
--- the frame of a header, the place behind it, and the bytes from there on, where the body begins at a place; a stream
--- that ends inside the body is refused at its end
+abbrev pub framed_body : Header → Result (List ℕ × Place × List ℕ) FrameFault → Result (Frame × Place × List ℕ) FrameFault
+framed_body header (Ok x) = Ok (with_body header x.0, x.1, x.2)
+framed_body header (Err e) = Err e
+
+-- the frame of a header, the place behind it, and the bytes from there on, where the body begins at a place
 unfoldable pub body_of : Place → Header → List ℕ → Result (Frame × Place × List ℕ) FrameFault
-body_of place header bytes =
-    let body = take (body_length header) bytes in
-    if nat_le (body_length header) (length bytes)
-    then Ok (with_body header body, behind place body, drop (body_length header) bytes)
-    else Err (fault.Cut (behind place bytes))
+body_of place header bytes = framed_body header (piece_of place (body_length header) bytes)
 
 -- a frame, where the next one begins, and the bytes from there on
 pub record Framed : Type 0 where
@@ -98,22 +104,29 @@ framed_if at line bytes (Err e) = Err e
 
 -- the frame of a line and the bytes behind it
 unfoldable pub frame_by_line : FramePos → List ℕ → List ℕ → Result Framed FrameFault
-frame_by_line at line bytes = framed_if at line bytes (header_at at.place line)
+frame_by_line at line bytes = framed_if at line bytes (header_at most_header header_of at.place line)
 
--- the frame that bytes begin with
-unfoldable pub frame_at : FramePos → List ℕ → Result Framed FrameFault
-frame_at at bytes =
-    let line = line_within most_header bytes in
-    frame_by_line at line (drop (length line) bytes)
+-- the first line of what is next, with so many bytes at most, and the bytes behind it; none where there are no bytes; a byte
+-- behind the last frame is refused
+unfoldable pub next_line : (most : ℕ) → FramePos → List ℕ → Result (Option (List ℕ) × List ℕ) FrameFault
+next_line most at [] = Ok (None, [])
+next_line most at (b ∷ bytes) =
+    if at.frames == most_frames then Err (fault.TooMany at.place)
+    else let line = line_within most (b ∷ bytes) in Ok (Some line, drop (length line) (b ∷ bytes))
 
-abbrev pub some_framed : Result Framed FrameFault → Result (Option Framed) FrameFault
-some_framed (Ok framed) = Ok (Some framed)
-some_framed (Err e) = Err e
+abbrev pub some_of : {Y : Type 0} → Result Y FrameFault → Result (Option Y) FrameFault
+some_of (Ok y) = Ok (Some y)
+some_of (Err e) = Err e
 
--- the frame that bytes begin with, none where there are no bytes; a byte behind the last frame is refused
+-- what a line and the bytes behind it are, where there is a line
+abbrev pub by_next : {Y : Type 0} → (List ℕ → List ℕ → Result Y FrameFault) → Result (Option (List ℕ) × List ℕ) FrameFault → Result (Option Y) FrameFault
+by_next read (Ok (None, rest)) = Ok None
+by_next read (Ok (Some line, rest)) = some_of (read line rest)
+by_next read (Err e) = Err e
+
+-- the frame that bytes begin with, none where there are no bytes
 unfoldable pub next_frame : FramePos → List ℕ → Result (Option Framed) FrameFault
-next_frame at [] = Ok None
-next_frame at (b ∷ bytes) = if at.frames == most_frames then Err (fault.TooMany at.place) else some_framed (frame_at at (b ∷ bytes))
+next_frame at bytes = by_next (frame_by_line at) (next_line most_header at bytes)
 
 -- ---- the whole stream
 
@@ -171,6 +184,6 @@ ReadsFrom value result before after meaning =
     (λ e. IfSome (refusal e) (λ f. meaning bytes ≡ Err f))
 
 -- no frame was read
-abbrev pub IsNoFrame : Result (Option Frame) FrameFault → Type 0
+abbrev pub IsNoFrame : {X : Type 0} → Result (Option X) FrameFault → Type 0
 IsNoFrame (Ok frame) = IsNone frame
 IsNoFrame (Err e) = Unit {0}

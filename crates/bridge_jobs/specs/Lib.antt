@@ -8,3 +8,4 @@ pub mod Laws
 pub mod Numbers
 pub mod Parameters
 pub mod Verbs
+pub mod Rounds

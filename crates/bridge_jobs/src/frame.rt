@@ -1,15 +1,15 @@
 // Frames of a stream.
-ghost use Rattle.std.specs.Prelude.{◌≡◌, ◌≤◌, ◌<◌, ◌^◌, ◌+◌, length, IfOk, IfSome, IsErrOf};
+ghost use Rattle.std.specs.Prelude.{◌≡◌, ◌≢◌, ◌≤◌, ◌<◌, ◌^◌, ◌+◌, length, IfOk, IfSome, IsErrOf};
 ghost use Rattle.std.specs.Option.{option_map};
 ghost use Rattle.bridge_io.specs.Fault.{HasCause};
 ghost use Rattle.bridge_jobs.specs.declared.frame.FrameFault.TheVariants.{Fault};
-ghost use Rattle.bridge_jobs.specs.Frames.{IsFramePos, IsNoFrame, IsNear, IsBehind, ReadsFrom, framed_as, next_frame, frame_by_line, body_of, header_at, behind, now_of, with_body, most_frames, most_header};
-ghost use Rattle.bridge_jobs.specs.Headers.{body_length, instant_at};
+ghost use Rattle.bridge_jobs.specs.Frames.{IsFramePos, IsNoFrame, IsNear, IsBehind, ReadsFrom, framed_as, next_frame, frame_by_line, body_of, header_at, next_line, piece_of, behind, now_of, with_body, most_frames, most_header};
+ghost use Rattle.bridge_jobs.specs.Headers.{body_length, header_of, instant_at};
 ghost use Rattle.iso_time.specs.Instant.{IsReadable};
 
 use crate::header::Header;
 use crate::input::{read_line, read_up_to};
-use bridge_io::{Bytes, Fail, Place, Source};
+use bridge_io::{Bytes, Fail, NoMemory, Place, Source};
 use iso_time::Instant;
 use std::alloc::{AllocError, Global};
 use thiserror::Error;
@@ -104,6 +104,16 @@ impl From<AllocError> for FrameFault {
     }
 }
 
+impl From<NoMemory> for FrameFault {
+    ghost use Rattle.bridge_jobs.specs.declared.frame.FrameFault.TheVariants.{Memory};
+
+    ghost from_gives = { λ _ e. e ≡ Memory };
+
+    fn from(_: NoMemory) -> FrameFault {
+        FrameFault::Memory
+    }
+}
+
 /// Reads the next frame of a stream, and moves the place behind it. There is none exactly where the stream ends at a
 /// frame's end. The place stays where no frame is read.
 ///
@@ -122,16 +132,39 @@ pub fn read_frame<I: Source>(
     ensures readable { IfOk result (λ frame. IfSome frame (λ f. IsReadable (now_of f))) }
     ensures cause { HasCause Fault (I.faults input.old) (I.faults input.new) result }
 {
-    let line = read_line(alloc, input, MAX_HEADER)?;
+    let next = next_line(alloc, input, *at, MAX_HEADER)?;
+    match next {
+        None => Ok(None),
+        Some(line) => {
+            let (frame, after) = read_framed(alloc, input, *at, line.as_slice())?;
+            *at = after;
+            Ok(Some(frame))
+        }
+    }
+}
+
+/// Reads the first line of what is next in a stream, with its LF, and so many bytes at most. There is none exactly where the
+/// stream ends.
+pub(crate) fn next_line<I: Source>(
+    alloc: Global,
+    input: &mut I,
+    at: FramePos,
+    most: usize,
+) -> Result<Option<Bytes>, FrameFault>
+    requires { 0 < most }
+    ensures line { ReadsFrom (λ line rest. (line, rest)) result (I.remaining input.old) (I.remaining input.new) (next_line most at) }
+    ensures room { IfOk result (λ line. IfSome line (λ l. length l ≤ most)) }
+    ensures more { IfOk result (λ line. IfSome line (λ _. at.frames ≢ most_frames)) }
+    ensures cause { HasCause Fault (I.faults input.old) (I.faults input.new) result }
+{
+    let line = read_line(alloc, input, most)?;
     if line.is_empty() {
         return Ok(None);
     }
     if at.frames == MAX_FRAMES {
         return Err(FrameFault::TooMany(at.place));
     }
-    let (frame, after) = read_framed(alloc, input, *at, line.as_slice())?;
-    *at = after;
-    Ok(Some(frame))
+    Ok(Some(line))
 }
 
 /// Reads the frame whose first line was read, and answers it with the place behind it.
@@ -160,7 +193,7 @@ fn read_framed<I: Source>(
 #[tactic(auto, unfolding(crate::specs::Frames::header_at))]
 fn header_at(place: Place, line: &[u8]) -> Result<Header, FrameFault>
     requires { IsNear place line.now }
-    ensures header { result ≡ header_at place line.now }
+    ensures header { result ≡ header_at most_header header_of place line.now }
     ensures told { IsErrOf result Fault → ⊥ }
     ensures small { IfOk result (λ header. body_length header ≤ 8388608) }
     ensures readable { IfOk result (λ header. IsReadable (instant_at header)) }
@@ -187,16 +220,34 @@ fn read_body<I: Source>(
     ensures now { IfOk result (λ x. now_of x.0 ≡ instant_at header.now) }
     ensures cause { HasCause Fault (I.faults input.old) (I.faults input.new) result }
 {
-    let length = header.length();
+    let (body, after) = read_piece(alloc, input, place, header.length())?;
+    Ok((framed(header, body), after))
+}
+
+/// Reads so many bytes from a place on, and answers them with the place behind them.
+pub(crate) fn read_piece<I: Source>(
+    alloc: Global,
+    input: &mut I,
+    place: Place,
+    length: usize,
+) -> Result<(Bytes, Place), FrameFault>
+    requires at { place.at < 2 ^ 63 }
+    requires line { place.line < 2 ^ 63 }
+    requires small { length ≤ 67108864 }
+    ensures piece { ReadsFrom (λ x rest. (x.0, x.1, rest)) result (I.remaining input.old) (I.remaining input.new) (piece_of place length) }
+    ensures place { IfOk result (λ x. IsBehind length place x.1) }
+    ensures cause { HasCause Fault (I.faults input.old) (I.faults input.new) result }
+{
     let body = read_up_to(alloc, input, length)?;
     let after = behind(place, body.as_slice());
     if body.len() < length {
         return Err(FrameFault::Cut(after));
     }
-    Ok((framed(header, Bytes::from(body)), after))
+    Ok((Bytes::from(body), after))
 }
 
-fn behind(place: Place, bytes: &[u8]) -> Place
+/// The place behind some bytes.
+pub(crate) fn behind(place: Place, bytes: &[u8]) -> Place
     requires { IsNear place bytes.now }
     ensures place { result ≡ behind place bytes.now }
     ensures within { IsBehind (length bytes.now) place result }

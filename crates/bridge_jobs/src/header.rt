@@ -70,7 +70,7 @@ fn manifest(text: &[u8]) -> Option<(Instant, u32)>
 }
 
 /// What stands before the first space, and what stands behind it.
-fn cut_at_space(text: &[u8]) -> Option<(&[u8], &[u8])>
+pub(crate) fn cut_at_space(text: &[u8]) -> Option<(&[u8], &[u8])>
     ensures { option_map (λ p. (p.0.now, p.1.now)) result ≡ cut_at_space text.now }
 {
     let space = first_space(text)?;
@@ -84,7 +84,8 @@ fn first_space(text: &[u8]) -> Option<usize>
     text.iter().position(|byte| *byte == b' ')
 }
 
-fn instant(text: &[u8]) -> Option<Instant>
+/// The instant that a text is.
+pub(crate) fn instant(text: &[u8]) -> Option<Instant>
     ensures instant { result ≡ instant_in text.now }
     ensures readable { IfSome result IsReadable }
 {
@@ -94,7 +95,7 @@ fn instant(text: &[u8]) -> Option<Instant>
 
 /// The length of a body: 1 to 7 digits, at most 8,388,608.
 #[tactic(auto, unfolding(crate::specs::Headers::length_of))]
-fn body_length(digits: &[u8]) -> Option<u32>
+pub(crate) fn body_length(digits: &[u8]) -> Option<u32>
     ensures length { result ≡ length_of digits.now }
     ensures small { IfSome result (λ length. length ≤ 8388608) }
 {

@@ -7,10 +7,13 @@ mod header;
 mod input;
 mod jobs;
 pub mod laws;
+mod lengths;
+mod round;
 mod values;
 mod verb;
 mod words;
 
 pub use frame::{Frame, FrameFault, FramePos, read_frame};
 pub use jobs::Job;
+pub use round::{BodyList, Round, read_round};
 pub use words::job;

@@ -1,20 +1,19 @@
-use Rattle.std.proofs.Common.{arith}
-use Rattle.bridge_jobs.proofs.Reading.{cut_body, whole_body}
+use Rattle.std.proofs.lemmas.Result.{err_from_is_err_and}
+use Rattle.std.proofs.Common.{Err}
+use Rattle.bridge_jobs.specs.Frames.{body_of, piece_of}
+use Rattle.bridge_jobs.specs.Headers.{body_length}
+use Rattle.bridge_jobs.proofs.Reading.{body_by, told_on}
 use Rattle.bridge_jobs.proofs.frame.read_body.Goals as goal
 
-pub returns-then-len-length-clause-frame : goal.returns-then-len-length-clause-frame
-returns-then-len-length-clause-frame g c = λ bytes told.
-    let taken = rw c.length-length.ensures at (c.in_ok-body.ensures.bytes bytes told) in
-    let there = rw c.as_slice.ensures.value at c.behind-after.ensures.place in
-    rw there (cut_body c.args.place c.args.header.now bytes c.in_ok-body.body.items taken.0 (omega arith))
+pub returns-in_err-body-clause-frame : goal.returns-in_err-body-clause-frame
+returns-in_err-body-clause-frame g c = λ bytes told.
+    let place = c.args.place in
+    let header = c.args.header.now in
+    let fault = err_from_is_err_and c.from_residual.result c.from_residual.ensures.1 in
+    rw (fault.1, fault.2) (told_on c.in_err-body.field-0.0 (piece_of place (body_length header) bytes) (body_of place header bytes)
+    (λ f same. body_by place header bytes (Err f) same) (rw c.length.ensures at (c.in_err-body.ensures.piece bytes told)))
 
 pub returns-clause-frame : goal.returns-clause-frame
 returns-clause-frame g c = λ bytes told.
-    let taken = rw c.length-length.ensures at (c.in_ok-body.ensures.bytes bytes told) in
-    let there = rw c.as_slice.ensures.value at c.behind-after.ensures.place in
-    (taken.1, taken.2, rw (there, c.framed.ensures.frame, c.from.ensures) (whole_body c.args.place c.args.header.now bytes c.in_ok-body.body.items taken.1 taken.0 taken.3 (omega arith)))
-
-pub returns-clause-place : goal.returns-clause-place
-returns-clause-place g c =
-    let within = c.behind-after.ensures.within in
-    record { at = omega (arith, within.at, c.as_slice.ensures.len, c.in_ok-body.ensures.room); line = within.line }
+    let read = rw c.length.ensures at (c.in_ok-body.ensures.piece bytes told) in
+    (read.0, read.1, rw c.framed.ensures.frame (body_by c.args.place c.args.header.now bytes _ read.2))

@@ -1,0 +1,29 @@
+use Rattle.std.proofs.Common.{◌≡◌, ◌∙◌, ◌<◌, ◌==◌, ℕ, List, [], ◌∷◌, length, true, false, sym, refl, arith}
+use Rattle.std.proofs.lemmas.Bool.Decides.{nat_tests}
+use Rattle.bridge_jobs.proofs.Reading.{next_none, next_some, next_too_many}
+use Rattle.bridge_jobs.proofs.frame.next_line.Goals as goal
+
+empty : (xs : List ℕ) → (length xs == 0) ≡ true → xs ≡ []
+empty [] is = refl
+empty (x ∷ xs) is = let zero_is : length (x ∷ xs) ≡ 0 = grind (arith, nat_tests) in absurd (omega arith)
+
+some : (xs : List ℕ) → (length xs == 0) ≡ false → 0 < length xs
+some xs is = grind (arith, nat_tests)
+
+pub returns-then-is_empty-clause-line : goal.returns-then-is_empty-clause-line
+returns-then-is_empty-clause-line g c = λ bytes told.
+    let taken = c.in_ok-line.ensures.bytes bytes told in
+    let none = empty c.in_ok-line.line (sym c.is_empty.ensures ∙ c.if-is_empty.true) in
+    (taken.1, taken.2, next_none c.args.most c.args.at bytes c.in_ok-line.line taken.1 c.requires taken.0 taken.3 none)
+
+pub returns-then-at-eq-MAX_FRAMES-clause-line : goal.returns-then-at-eq-MAX_FRAMES-clause-line
+returns-then-at-eq-MAX_FRAMES-clause-line g c = λ bytes told.
+    let taken = c.in_ok-line.ensures.bytes bytes told in
+    let more = some c.in_ok-line.line (sym c.is_empty.ensures ∙ c.if-is_empty.false) in
+    next_too_many c.args.most c.args.at bytes c.in_ok-line.line taken.0 more c.if-at-eq-MAX_FRAMES.true
+
+pub returns-clause-line : goal.returns-clause-line
+returns-clause-line g c = λ bytes told.
+    let taken = c.in_ok-line.ensures.bytes bytes told in
+    let more = some c.in_ok-line.line (sym c.is_empty.ensures ∙ c.if-is_empty.false) in
+    (taken.1, taken.2, next_some c.args.most c.args.at bytes c.in_ok-line.line taken.1 taken.0 taken.3 more c.if-at-eq-MAX_FRAMES.false)
