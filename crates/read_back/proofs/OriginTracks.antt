@@ -44,11 +44,11 @@ use Rattle.presentation.proofs.Firsts.{none_before}
 use Rattle.presentation.proofs.Reached.{none_first, none_later}
 use Rattle.presentation.specs.declared.track.Track.{Track}
 use Rattle.presentation.specs.Presented.{Presented}
-use Rattle.presentation.specs.Rows.{Period, Row, by_kind, first_rows, is_of, joined_codes, section_of}
+use Rattle.presentation.specs.Rows.{Period, Row, by_kind, first_rows, in_order, is_of, joined_codes, section_of, track_of}
 use Rattle.presentation.specs.Told.{differ_told, needs_now, over_told, all_told, presented_if_told, presented_of, presented_with, told_before, told_in_order}
 use Rattle.presentation.proofs.Filling.{all_in_order, length_in_order, steps_of}
 use Rattle.read_back.specs.Origins.{CameFromMpd, HaveFewTracks, HaveSections, HaveTracks, IndexedTracksAreWritable, TracksAreWritable}
-use Rattle.read_back.specs.Tracks.{AreOrdered, AreOwnCodes, AreWritable, AreWritableIfFew, HaveOneLanguage, IsTold, track_described, tracks_described}
+use Rattle.read_back.specs.Tracks.{AreOrdered, AreOwnCodes, AreWritable, AreWritableIfFew, HaveOneLanguage, IsTold}
 use Rattle.read_back.proofs.OriginCodes.{joined_own}
 use Rattle.read_back.proofs.OriginKept.{IsClean, IsFinePath, IsPlaced, clean, clean_index, paths_placed}
 use Rattle.read_back.proofs.OriginOrder.{Rises, Rises-before, Rises-map, in_order_twice, kept_in_order, map_in_order, non_decreasing}
@@ -124,7 +124,7 @@ module _ (addressing : Addressing) (dynamic : Bool) (path : Path) (fine : IsFine
         none_foreign;
   }
 
-told_track : {X : Type 0} (row : TrackRow X) → IsDescribed row.description → IsTold (track_described row)
+told_track : {X : Type 0} (row : TrackRow X) → IsDescribed row.description → IsTold (track_of row)
 told_track row is = record { language = is.language; codecs = codes_told row.description.codecs is.codecs }
   where
     codes_told : (o : Option (List ℕ)) → IfSome o (AreOwnCodes row.description.kind) → IfSome (option_map joined_codes o) (AreOwnCodes row.description.kind)
@@ -191,15 +191,15 @@ paths_rise mpd e place (set ∷ sets) =
 abbrev row_kind : {X : Type 0} → TrackRow X → Kind
 row_kind row = row.description.kind
 
-long : {X : Type 0} (rows : List (TrackRow X)) → length (tracks_described rows) ≡ length rows
-long rows = omega (arith, length-map (by_kind row_kind rows) track_described, length_in_order row_kind rows)
+long : {X : Type 0} (rows : List (TrackRow X)) → length (map track_of (in_order rows)) ≡ length rows
+long rows = omega (arith, length-map (by_kind row_kind rows) track_of, length_in_order row_kind rows)
 
 abbrev SpeaksOfSet : {X : Type 0} → List Element → TrackRow X → Type 0
 SpeaksOfSet sets row = Speaks sets row.description.set row.description.language
 
 module _ {X : Type 0} (sets : List Element) (rows : List (TrackRow X)) where
   abbrev tracks : List Track
-  tracks = map track_described rows
+  tracks = map track_of rows
 
   abbrev SaysOfSet : Track → Type 0
   SaysOfSet track = Speaks sets track.set track.language
@@ -208,24 +208,24 @@ module _ {X : Type 0} (sets : List Element) (rows : List (TrackRow X)) where
       → AreOrdered (by_kind (λ (track : Track). track.kind) tracks)
   ordered rise speak =
       let kind = λ (track : Track). track.kind in
-      let all = all_in_order kind SaysOfSet tracks (All-map SaysOfSet track_described rows speak) in
+      let all = all_in_order kind SaysOfSet tracks (All-map SaysOfSet track_of rows speak) in
       record {
         kinds = in_order_twice kind tracks;
         sets = λ k. rw (kept_in_order kind k tracks) (IsNonDecreasingBy-filter (λ (track : Track). track.set)
             (λ track. is_of k track.kind) tracks (non_decreasing (λ (track : Track). track.set) tracks
-            (Rises-map (λ (track : Track). track.set) track_described rows rise)));
+            (Rises-map (λ (track : Track). track.set) track_of rows rise)));
         languages = λ i one in_one. λ j other in_other. one_language sets (get_or (by_kind kind tracks) i one) (get_or (by_kind kind tracks) j other) (all i one in_one) (all j other in_other);
       }
 
   told_all : All (λ (row : TrackRow X). IsDescribed row.description) rows → All IsTold (by_kind (λ (track : Track). track.kind) tracks)
   told_all all = all_in_order (λ (track : Track). track.kind) IsTold tracks
-      (All-map IsTold track_described rows (All-weaker (λ (row : TrackRow X). IsDescribed row.description)
-      (λ row. IsTold (track_described row)) told_track rows all))
+      (All-map IsTold track_of rows (All-weaker (λ (row : TrackRow X). IsDescribed row.description)
+      (λ row. IsTold (track_of row)) told_track rows all))
 
   writable : Rises (λ (row : TrackRow X). row.description.set) rows → All (SpeaksOfSet sets) rows
-      → All (λ (row : TrackRow X). IsDescribed row.description) rows → length rows < 2 ^ 64 → AreWritable (tracks_described rows)
+      → All (λ (row : TrackRow X). IsDescribed row.description) rows → length rows < 2 ^ 64 → AreWritable (map track_of (in_order rows))
   writable rise speak all few =
-      let same = map_in_order (λ (track : Track). track.kind) track_described rows in
+      let same = map_in_order (λ (track : Track). track.kind) track_of rows in
       record { ordered = rw same (ordered rise speak); told = rw same (told_all all); few = omega (arith, long rows) }
 
 module _ {X : Type 0} (addressing : Addressing) (told : List Element → X) (tree : Element) where
@@ -315,7 +315,7 @@ module _ (p : Presented) (from : CameFromMpd p) where
   few = few_rows from.mpd.facts.live (is_some from.now) from.mpd.periods (of_mpd p from).checked
 
   -- its tracks are those of the first Period
-  of_first : (Q : List Track → Type 0) → Q (tracks_described (first_rows from.mpd.periods)) → Q p.tracks
+  of_first : (Q : List Track → Type 0) → Q (map track_of (in_order (first_rows from.mpd.periods))) → Q p.tracks
   of_first Q is = subst (λ (q : Presented). Q q.tracks) (of_mpd p from).is is
 
   writable_there : AreWritable p.tracks

@@ -1,5 +1,5 @@
 -- What is so of the tracks of an MPD: their order, their languages and their codes.
-use Rattle.std.specs.Prelude.{◌≡◌, ℕ, ◌<◌, ◌^◌, true, false, List, filter, length, map, All, IfSome, None}
+use Rattle.std.specs.Prelude.{◌≡◌, ℕ, ◌<◌, ◌^◌, true, false, List, filter, length, map, All, IfSome}
 use Rattle.std.specs.List.{list_any}
 use Rattle.std.specs.List.Sorted.{IsNonDecreasingBy}
 use Rattle.bridge_io.specs.declared.media.Kind.{Kind}
@@ -7,7 +7,7 @@ use Rattle.mpd_values.specs.Codecs.{are_codes, codes_of, is_foreign}
 use Rattle.mpd_values.specs.Languages.{is_language}
 use Rattle.mpd_rules.specs.declared.rows.TrackRow.{TrackRow}
 use Rattle.presentation.specs.declared.track.Track.{Track}
-use Rattle.presentation.specs.Rows.{Row, by_kind, is_of, track_of}
+use Rattle.presentation.specs.Rows.{by_kind, in_order, is_of, track_of}
 
 -- the tracks of one kind
 abbrev pub tracks_of_kind : Kind → List Track → List Track
@@ -41,15 +41,8 @@ pub record AreWritable (tracks : List Track) : Type 0 where
   -- as many as memory holds
   pub few : length tracks < 2 ^ 64
 
--- ---- the tracks of a Period's Representations, however their segments are told
-
-abbrev pub track_described : {X : Type 0} → TrackRow X → Track
-track_described row = let bare : Row = record { description = row.description; segments = None } in track_of bare
-
--- video, then audio, then text, each in document order
-abbrev pub tracks_described : {X : Type 0} → List (TrackRow X) → List Track
-tracks_described rows = map track_described (by_kind (λ (row : TrackRow _). row.description.kind) rows)
+-- ---- the tracks of a Period's Representations, however their segments are told: video, audio, text, each in document order
 
 -- where they are no more than memory holds
 abbrev pub AreWritableIfFew : {X : Type 0} → List (TrackRow X) → Type 0
-AreWritableIfFew rows = length rows < 2 ^ 64 → AreWritable (tracks_described rows)
+AreWritableIfFew rows = length rows < 2 ^ 64 → AreWritable (map track_of (in_order rows))
