@@ -13,6 +13,8 @@ pub mod Allowed
 pub mod Addressed
 pub mod Windows
 pub mod Printing
+pub mod GoingOn
+pub mod NextRun
 pub mod Firsts
 pub mod FirstFault
 pub mod Counts

@@ -68,7 +68,7 @@ pub paced_passed : (old new : Rest) (times : Timing) (r : Rounding) → IsPassed
 paced_passed old new times r passed_is paced = let rising = rw passed_is.next at paced.rising in let near = rw passed_is.next at paced.near in
     record { rising = rising.2; near = near.1 }
 
-floors_of : (unit : ℕ) (begin : Time) (xs : List Timing) → map (λ x. floor_in unit (difference x.end begin)) xs ≡ map (λ end. floor_in unit (difference end begin)) (ends_of xs)
+pub floors_of : (unit : ℕ) (begin : Time) (xs : List Timing) → map (λ x. floor_in unit (difference x.end begin)) xs ≡ map (λ end. floor_in unit (difference end begin)) (ends_of xs)
 floors_of unit begin [] = refl
 floors_of unit begin (x ∷ xs) = ap (λ floors. floor_in unit (difference x.end begin) ∷ floors) (floors_of unit begin xs)
 

@@ -1,12 +1,14 @@
 -- What a `Presentation` stands for, and what it keeps true.
-use Rattle.std.specs.Prelude.{◌≡◌, ℕ, map, List, length, All, None, option_map}
+use Rattle.std.specs.Prelude.{◌≡◌, ℕ, map, List, length, All, Option, None, Some, option_map}
 use Rattle.presentation.specs.declared.presentation.Presentation.TheInside.{Inside}
 use Rattle.presentation.specs.Groups.{groups_of}
 use Rattle.presentation.specs.Presented.{Presented, following_of, IsEnded, AreFilled}
-use Rattle.presentation.specs.Printing.{PrintedRest, with_durations, ends_of}
+use Rattle.presentation.specs.declared.segments.Behind.{Behind}
+use Rattle.presentation.specs.Printing.{PrintedRest, PrintedTiming, begin_of, with_durations, ends_of}
+use Rattle.exact_time.specs.Tick.{time_of}
 use Rattle.exact_time.specs.Time.{difference}
 use Rattle.exact_time.specs.Floor.{floor_in}
-use Rattle.exact_time.specs.Rounding.{Rounding, total, differences, IsRising, AreNear}
+use Rattle.exact_time.specs.Rounding.{Rounding, rounding_behind, rounding_from, total, differences, IsRising, AreNear}
 use Rattle.timeline.specs.Expansions.{Timing}
 use Rattle.timeline.specs.Listed.{Rest}
 
@@ -31,10 +33,21 @@ pub record IsKept (p : Inside) : Type 0 where
 abbrev pub durations_behind : Rounding → List Timing → List ℕ
 durations_behind r xs = differences (total r) (map (λ x. floor_in r.unit (difference x.end r.first)) xs)
 
+abbrev pub printed_left : List Timing → Rounding → List PrintedTiming
+printed_left xs r = with_durations xs (durations_behind r xs)
+
 abbrev pub printed_rest : Rest → Rounding → PrintedRest
-printed_rest rest r = record { timeline = rest.timeline; left = with_durations rest.left (durations_behind r rest.left) }
+printed_rest rest r = record { timeline = rest.timeline; left = printed_left rest.left r }
 
 -- their ends may be given to the rounder in turn
-pub record IsPaced (rest : Rest) (r : Rounding) : Type 0 where
-  pub rising : IsRising r.former (ends_of rest.left)
-  pub near : AreNear r.former (ends_of rest.left)
+pub record ArePacedBehind (xs : List Timing) (r : Rounding) : Type 0 where
+  pub rising : IsRising r.former (ends_of xs)
+  pub near : AreNear r.former (ends_of xs)
+
+abbrev pub IsPaced : Rest → Rounding → Type 0
+IsPaced rest r = ArePacedBehind rest.left r
+
+-- where the rounder begins or goes on
+abbrev pub rounding_at : Option Behind → ℕ → List Timing → Rounding
+rounding_at None unit xs = rounding_from (begin_of xs) unit
+rounding_at (Some behind) unit xs = rounding_behind (time_of behind.first) unit (time_of behind.former)

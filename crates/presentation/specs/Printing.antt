@@ -1,13 +1,19 @@
 -- Segments with the durations that are printed of them.
-use Rattle.std.specs.Prelude.{◌≡◌, ℕ, ◌<◌, ◌^◌, List, [], ◌∷◌, map, Option, Some, None, Result, Ok, Err, IsSome, IfSome, slice_get}
-use Rattle.exact_time.specs.Time.{Time, seconds}
+use Rattle.std.specs.Prelude.{◌≡◌, ℕ, ◌<◌, ◌^◌, List, [], ◌∷◌, map, filter, drop, ◌++◌, All, false, ◌-◌, ◌+◌, ◌≤◌, Option, Some, None, Result, Ok, Err, IsSome, IfSome, slice_get}
+use Rattle.exact_time.specs.Time.{Time, IsAtMost, before, seconds}
+use Rattle.exact_time.specs.Tick.{time_of}
 use Rattle.exact_time.specs.Rounding.{printed}
+use Rattle.exact_time.specs.Equal.{summed_up}
+use Rattle.timeline.specs.SpanRuns.{timings_of}
 use Rattle.timeline.specs.declared.fault.ListFault.{ListFault}
 use Rattle.timeline.specs.Names.{list_refusal}
-use Rattle.timeline.specs.Expansions.{SegmentTimeline, Timing}
-use Rattle.timeline.specs.Listed.{CanBeNamed, Made, part_of_timing, IsReached}
+use Rattle.timeline.specs.Expansions.{Extent, SegmentTimeline, Timing}
+use Rattle.timeline.specs.Faults.{is_apart}
+use Rattle.timeline.specs.Listed.{CanBeNamed, Made, part_of_timing, timing_of, IsReached}
 use Rattle.timeline.specs.declared.span.Span.{Span}
 use Rattle.url_parts.specs.declared.address.Part.{Part}
+use Rattle.presentation.specs.declared.segments.Behind.{Behind}
+use Rattle.presentation.specs.declared.segments.PrintedRun.{PrintedRun}
 use Rattle.presentation.specs.Presented.{Presented, content_at, window_of, listed_at}
 
 -- a segment's times and number, and its duration in units
@@ -45,6 +51,40 @@ pub record PrintedRest : Type 0 where
 abbrev pub rest_of : SegmentTimeline → List Timing → ℕ → PrintedRest
 rest_of timeline xs unit = record { timeline = timeline; left = printed_timings unit xs }
 
+-- those that end after a time
+abbrev pub later_than : Time → List Timing → List Timing
+later_than former xs = filter (λ x. before former x.end) xs
+
+-- The durations of segments that go on behind others, of which the first one began at a time, and the last one ended at
+-- another one: what is printed of them behind that one.
+abbrev pub durations_after : ℕ → (first former : Time) → List Timing → List ℕ
+durations_after unit first former xs = drop 1 (printed unit first (former ∷ ends_of xs))
+
+-- all of some segments, or those that go on behind others
+abbrev pub listed_behind : Option Behind → List Timing → List Timing
+listed_behind None xs = xs
+listed_behind (Some behind) xs = later_than (time_of behind.former) xs
+
+abbrev pub printed_behind : Option Behind → ℕ → List Timing → List PrintedTiming
+printed_behind None unit xs = printed_timings unit xs
+printed_behind (Some behind) unit xs =
+    let later = later_than (time_of behind.former) xs in
+    with_durations later (durations_after unit (time_of behind.first) (time_of behind.former) later)
+
+abbrev pub rest_behind : Option Behind → SegmentTimeline → List Timing → ℕ → PrintedRest
+rest_behind behind timeline xs unit = record { timeline = timeline; left = printed_behind behind unit xs }
+
+abbrev pub extent_of : Timing → Extent
+extent_of x = record { start = x.start; end = x.end }
+
+-- the first of some segments has no gap or overlap behind a time of more than half its duration
+abbrev pub FollowsNear : Time → List Timing → Type 0
+FollowsNear former xs = IfSome (slice_get xs 0) (λ x. is_apart (Some former) (extent_of x) ≡ false)
+
+pub record GoesOn (xs : List Timing) (behind : Behind) : Type 0 where
+  pub begun : IsAtMost (time_of behind.first) (time_of behind.former)
+  pub near : FollowsNear (time_of behind.former) (later_than (time_of behind.former) xs)
+
 -- segments that go on to an open end break no limit by the instant
 abbrev pub IsCounted : Presented → ℕ → ℕ → Type 0
 IsCounted p s t = IfSome (content_at p s t) (λ content. IsReached content.runs (window_of p s))
@@ -52,6 +92,11 @@ IsCounted p s t = IfSome (content_at p s t) (λ content. IsReached content.runs 
 -- all that a track has in a section
 abbrev pub IsPrintedOf : Presented → ℕ → ℕ → ℕ → PrintedRest → Type 0
 IsPrintedOf p s t unit rest = IfSome (content_at p s t) (λ content. rest ≡ rest_of content.runs (listed_at p s t) unit)
+
+-- what it has there behind others
+abbrev pub IsPrintedBehind : Presented → ℕ → ℕ → Option Behind → ℕ → PrintedRest → Type 0
+IsPrintedBehind p s t behind unit rest =
+    IfSome (content_at p s t) (λ content. rest ≡ rest_behind behind content.runs (listed_at p s t) unit)
 
 -- the next segment was made, with its own address and its duration
 pub record IsNext (old : PrintedRest) (made : Made) (duration : ℕ) (new : PrintedRest) : Type 0 where
@@ -84,6 +129,20 @@ pub record IsStep (old : PrintedRest) (duration : ℕ) (new : PrintedRest) : Typ
   pub next : old.left ≡ record { times = times; duration = duration } ∷ new.left
   pub has : part_of_timing old.timeline times ≡ Ok part
   pub timeline : new.timeline ≡ old.timeline
+
+-- a segment's times with its duration
+abbrev pub timed : Span × ℕ → PrintedTiming
+timed passed = record { times = timing_of passed.0; duration = passed.1 }
+
+-- The next segments, each as long as the first one, were passed: with its printed duration, and those of the others, which
+-- are as many, with their sum and the longest one.
+pub record IsNextRun (old : List PrintedTiming) (run : PrintedRun) (new : List PrintedTiming) : Type 0 where
+  pub durations : List ℕ
+  pub next : old ≡ with_durations (timings_of run.spans) (run.first ∷ durations) ++ new
+  pub some : 0 < run.spans.count
+  pub others : run.others ≡ summed_up durations
+  pub even : All (λ duration. run.others.longest ≤ duration + 1) durations
+  pub countable : run.spans.first.number + run.spans.count ≤ 2 ^ 64
 
 -- how many segments a call passed
 abbrev pub passed_count : Option (Span × ℕ) → ℕ

@@ -31,7 +31,7 @@ pub use laws::{
 pub use longest::Longest;
 pub use parts::{Content, Parts};
 pub use presentation::Presentation;
-pub use segments::PrintedSegments;
+pub use segments::{Behind, PrintedRun, PrintedSegments, PrintedTimes};
 pub use track::{Section, Track};
 
 /// Tracks in order.

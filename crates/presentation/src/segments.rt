@@ -1,6 +1,8 @@
 // Segments one by one, with their printed durations.
-ghost use Rattle.std.specs.Prelude.{◌≡◌, ◌+◌, ◌^◌, ◌<◌, length, true, IfOk, MatchOption, MatchResult};
-ghost use Rattle.presentation.specs.Presented.{listed_in};
+ghost use Rattle.std.specs.Prelude.{◌≡◌, ◌+◌, ◌^◌, ◌<◌, length, true, IfOk, IfSome, MatchOption, MatchResult};
+ghost use Rattle.exact_time.specs.Rounding.{rounding_from};
+ghost use Rattle.presentation.specs.Kept.{rounding_at};
+ghost use Rattle.presentation.specs.Presented.{listed_at, listed_in, looked_at};
 ghost use Rattle.timeline.specs.FileNames.{AreInFolder};
 ghost use Rattle.timeline.specs.Listed.{IsWindowOf, IsReached, listed_from, timing_of};
 ghost use Rattle.exact_time.specs.Tick.{time_of};
@@ -8,10 +10,13 @@ ghost use Rattle.presentation.specs.Printing as spec;
 
 use crate::Presentation;
 use bridge_io::{Ledger, NoMemory, Steps};
-use exact_time::{Digits, Rounder, Tick};
+use exact_time::{Digits, Equal, Rounder, Tick};
+use iso_time::Instant;
 use std::alloc::Global;
 use std::marker::Model;
-use timeline::{AddressWriter, Cursor, ListFault, Listing, Runs, Segment, Span, Window};
+use timeline::{
+    AddressWriter, Cursor, ListFault, Listing, Runs, Segment, Span, SpanRun, TimeWalk, Window,
+};
 
 /// The listed segments of a track in a section, each made when it is asked for, with the duration that is printed of it.
 /// Printed durations never drift: up to each segment they sum to the exact time from the first one's start to that
@@ -36,18 +41,119 @@ impl<'a> Model for PrintedSegments<'a> {
     ghost invariant = { λ s. IsPaced s.listing s.rounder };
 }
 
-impl<'a> PrintedSegments<'a> {
-    /// The segments that are listed in a window.
-    fn of(runs: &'a Runs, window: &Window, digits: Digits) -> PrintedSegments<'a>
+/// Segments that were printed before, behind which others go on.
+#[derive(Clone, Copy, Debug, PartialEq, Eq)]
+pub struct Behind {
+    /// When the first one began, counted from the Period's start.
+    pub first: Tick,
+    /// When the last one ended.
+    pub former: Tick,
+}
+
+/// Segments that follow one another, each as long as the first one, with the durations that are printed of them in units of
+/// the last decimal.
+#[derive(Clone, Copy, PartialEq, Eq, Debug)]
+pub struct PrintedRun {
+    /// Their times.
+    pub spans: SpanRun,
+    /// The duration of the first one, which may follow on a gap.
+    pub first: u64,
+    /// The durations of the others.
+    pub others: Equal,
+}
+
+/// The times of listed segments in order, with their printed durations in units of the last decimal.
+///
+/// In a contract it is the times and printed durations of those that are left.
+#[derive(Debug, Drop)]
+pub struct PrintedTimes<'a> {
+    walk: TimeWalk<'a>,
+    rounder: Rounder,
+}
+
+impl<'a> Model for PrintedTimes<'a> {
+    ghost use Rattle.std.specs.Prelude.{List};
+    ghost use Rattle.presentation.specs.Printing.{PrintedTiming};
+
+    ghost Value = { List PrintedTiming };
+
+    ghost use Rattle.presentation.specs.Kept.{printed_left, ArePacedBehind};
+
+    ghost view = { λ t. printed_left t.walk t.rounder };
+
+    ghost invariant = { λ t. ArePacedBehind t.walk t.rounder };
+}
+
+impl<'a> PrintedTimes<'a> {
+    ghost use Rattle.std.specs.Prelude.{[]};
+
+    /// Goes behind the next segments that are equally long, and tells them at once with their printed durations, in a few
+    /// divisions, however many they are. There are none exactly at the end.
+    pub fn next_run(&mut self) -> Option<PrintedRun>
+        ensures { MatchOption result ((self.old ≡ []) × (self.new ≡ [])) (λ run. spec.IsNextRun self.old run self.new) }
+    {
+        let spans = self.walk.next_run()?;
+        let first = self.rounder.next(spans.first.end);
+        let others = self.rounder.next_equal(spans.step, spans.count - 1);
+        Some(PrintedRun {
+            spans,
+            first,
+            others,
+        })
+    }
+
+    fn of(
+        runs: &'a Runs,
+        window: &Window,
+        behind: Option<Behind>,
+        digits: Digits,
+    ) -> PrintedTimes<'a>
         requires window { IsWindowOf runs.now window.now }
         requires reached { IsReached runs.now window.now }
-        ensures { result ≡ spec.rest_of runs.now (listed_in window.now runs.now) (10 ^ digits) }
+        requires goes_on { IfSome behind (spec.GoesOn (listed_in window.now runs.now)) }
+        ensures { result ≡ spec.printed_behind behind (10 ^ digits) (listed_in window.now runs.now) }
     {
-        let cursor = runs.seek(window);
-        let begin = first_start(runs, &cursor, window);
+        let begun = Begun::at(runs, window, behind, digits);
+        PrintedTimes {
+            walk: runs.walk(&begun.cursor, window),
+            rounder: begun.rounder,
+        }
+    }
+}
+
+impl Iterator for PrintedTimes<'_> {
+    ghost use Rattle.std.specs.Iterator.{YieldsFirstBy, item_count};
+
+    type Item = (Span, u64);
+
+    ghost next_gives = { YieldsFirstBy spec.timed (λ times. times) };
+
+    ghost remaining = { item_count (λ times. times) };
+
+    fn next(&mut self) -> Option<(Span, u64)> {
+        let span = self.walk.next()?;
+        let duration = self.rounder.next(span.end);
+        Some((span, duration))
+    }
+}
+
+impl<'a> PrintedSegments<'a> {
+    /// The segments that are listed in a window, behind others or all of them.
+    fn of(
+        runs: &'a Runs,
+        window: &Window,
+        behind: Option<Behind>,
+        digits: Digits,
+    ) -> PrintedSegments<'a>
+        requires window { IsWindowOf runs.now window.now }
+        requires reached { IsReached runs.now window.now }
+        requires goes_on { IfSome behind (spec.GoesOn (listed_in window.now runs.now)) }
+        ensures { result ≡ spec.rest_behind behind runs.now (listed_in window.now runs.now) (10 ^ digits) }
+    {
+        let begun = Begun::at(runs, window, behind, digits);
         PrintedSegments {
-            listing: runs.resume(&cursor, window),
-            rounder: Rounder::new(begin, digits.unit()),
+            listing: runs.resume(&begun.cursor, window),
+            rounder: begun.rounder,
         }
     }
 
@@ -124,6 +230,45 @@ impl<'a> PrintedSegments<'a> {
     }
 }
 
+/// Where segments begin that are printed one by one.
+#[derive(Debug, Drop)]
+struct Begun {
+    cursor: Cursor,
+    rounder: Rounder,
+}
+
+impl Begun {
+    fn at(runs: &Runs, window: &Window, behind: Option<Behind>, digits: Digits) -> Begun
+        requires window { IsWindowOf runs.now window.now }
+        requires reached { IsReached runs.now window.now }
+        requires goes_on { IfSome behind (spec.GoesOn (listed_in window.now runs.now)) }
+        ensures from { listed_from result.cursor runs.now window.now ≡ spec.listed_behind behind (listed_in window.now runs.now) }
+        ensures rounder { result.rounder ≡ rounding_at behind (10 ^ digits) (listed_in window.now runs.now) }
+    {
+        match behind {
+            None => Begun::new(runs, window, digits),
+            Some(behind) => Begun {
+                cursor: runs.seek_end(behind.former),
+                rounder: Rounder::resume(behind.first, behind.former, digits.unit()),
+            },
+        }
+    }
+
+    fn new(runs: &Runs, window: &Window, digits: Digits) -> Begun
+        requires window { IsWindowOf runs.now window.now }
+        requires reached { IsReached runs.now window.now }
+        ensures from { listed_from result.cursor runs.now window.now ≡ listed_in window.now runs.now }
+        ensures rounder { result.rounder ≡ rounding_from (spec.begin_of (listed_in window.now runs.now)) (10 ^ digits) }
+    {
+        let cursor = runs.seek(window);
+        let begin = first_start(runs, &cursor, window);
+        Begun {
+            cursor,
+            rounder: Rounder::new(begin, digits.unit()),
+        }
+    }
+}
+
 /// When the first of the segments begins that are listed from a place on.
 fn first_start(runs: &Runs, from: &Cursor, window: &Window) -> Tick
     requires window { IsWindowOf runs.now window.now }
@@ -147,6 +292,49 @@ impl Presentation {
         ensures { spec.IsPrintedOf self.now section track (10 ^ digits) result }
     {
         let window = self.window(section);
-        PrintedSegments::of(&self.content(section, track).runs, &window, digits)
+        PrintedSegments::of(&self.content(section, track).runs, &window, None, digits)
+    }
+
+    /// The segments of a track in a section that are listed at another instant and end after others that were printed
+    /// before. Their printed durations go on behind theirs, so that the sum of all never drifts. Where there were no
+    /// others it is all that are listed, as `segments` gives them. It takes no memory.
+    ///
+    /// Requires that both are in range, that `check_ends` doesn't answer that the section's segments are out of range, that
+    /// the others don't end before they begin, and that there is no gap or overlap of more than half the first segment's duration.
+    pub fn segments_behind(
+        &self,
+        section: usize,
+        track: usize,
+        now: Instant,
+        behind: Option<Behind>,
+        digits: Digits,
+    ) -> PrintedSegments<'_>
+        requires section { section < length self.now.sections }
+        requires track { track < length self.now.tracks }
+        requires reached { spec.IsCounted (looked_at now self.now) section track }
+        requires goes_on { IfSome behind (spec.GoesOn (listed_at (looked_at now self.now) section track)) }
+        ensures { spec.IsPrintedBehind (looked_at now self.now) section track behind (10 ^ digits) result }
+    {
+        let window = self.window_from(self.start_of(section), now);
+        PrintedSegments::of(&self.content(section, track).runs, &window, behind, digits)
+    }
+
+    /// The same segments without their addresses: none of them is made or counted.
+    pub fn times_behind(
+        &self,
+        section: usize,
+        track: usize,
+        now: Instant,
+        behind: Option<Behind>,
+        digits: Digits,
+    ) -> PrintedTimes<'_>
+        requires section { section < length self.now.sections }
+        requires track { track < length self.now.tracks }
+        requires reached { spec.IsCounted (looked_at now self.now) section track }
+        requires goes_on { IfSome behind (spec.GoesOn (listed_at (looked_at now self.now) section track)) }
+        ensures { result ≡ spec.printed_behind behind (10 ^ digits) (listed_at (looked_at now self.now) section track) }
+    {
+        let window = self.window_from(self.start_of(section), now);
+        PrintedTimes::of(&self.content(section, track).runs, &window, behind, digits)
     }
 }
