@@ -1,5 +1,5 @@
 -- The segments that are listed behind a time.
-use Rattle.std.proofs.Common.{◌≡◌, ℕ, ◌*◌, ℤ, pos, negsuc, ◌≤ℤ◌, arith, true, false, not, List, [], ◌∷◌, ◌++◌, take, drop, filter, map, All, refl, sym, ◌∙◌, ap, subst, inl, inr}
+use Rattle.std.proofs.Common.{◌≡◌, ℕ, ◌*◌, ℤ, pos, negsuc, ◌≤ℤ◌, arith, true, false, not, List, [], ◌∷◌, ◌++◌, take, drop, map, All, refl, sym, ◌∙◌, ap, inl, inr}
 use Rattle.std.specs.Prelude.{IfSome, Option, None, Some, unsigned_abs}
 use Rattle.std.proofs.lemmas.Int.{ints}
 use Rattle.std.proofs.lemmas.Bool.{cases_Bool}
@@ -19,7 +19,7 @@ use Rattle.timeline.specs.Steady.{ArePaced, IsWithinLimits}
 use Rattle.timeline.specs.Faults.{is_apart}
 use Rattle.presentation.specs.declared.segments.Behind.{Behind}
 use Rattle.presentation.specs.Kept.{ArePacedBehind, printed_left, rounding_at}
-use Rattle.presentation.specs.Printing.{FollowsNear, GoesOn, begin_of, ends_of, extent_of, later_than, listed_behind, printed_behind, with_durations}
+use Rattle.presentation.specs.Printing.{FollowsNear, GoesOn, begin_of, extent_of, later_than, listed_behind, printed_behind, with_durations}
 use Rattle.presentation.proofs.Printing.{floors_of}
 
 abs-le : (z : ℤ) → z ≤ℤ pos (2 * unsigned_abs z)

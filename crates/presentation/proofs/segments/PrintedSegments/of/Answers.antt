@@ -1,6 +1,5 @@
 use Rattle.std.proofs.Common.{◌∙◌, ◌^◌, ap}
 use Rattle.presentation.specs.Presented.{listed_in}
-use Rattle.presentation.specs.Printing.{PrintedRest}
 use Rattle.presentation.proofs.GoingOn.{paced_there, printed_there}
 use Rattle.presentation.proofs.segments.PrintedSegments.of.Goals as goal
 
