@@ -32,10 +32,12 @@ use Rattle.presentation.proofs.Filling.{all_gathered, all_in_order, length_gathe
 
 -- ---- keys
 
-pub of_all : (tables : Tables) (shared : Shared) (rows : List (PeriodRow SegmentRow)) → IsShared tables shared → AreOfAll shared (map (period_with (keyed tables)) rows)
+pub of_all : (tables : Tables) (shared : Shared) (rows : List (PeriodRow SegmentRow)) → IsShared tables shared
+    → AreOfAll shared (map (period_with (keyed tables)) rows)
 of_all tables shared rows is =
     All-map (λ (period : PeriodRow (Keyed SegmentRow)). AreOf shared period.tracks) (period_with (keyed tables)) rows
-    (λ k d within. All-map (λ (row : TrackRow (Keyed SegmentRow)). IsShared row.segments.tables shared) (track_with (keyed tables)) (get_or rows k d).tracks (λ j e inside. is))
+    (λ k d within. All-map (λ (row : TrackRow (Keyed SegmentRow)). IsShared row.segments.tables shared) (track_with (keyed tables))
+    (get_or rows k d).tracks (λ j e inside. is))
 
 -- ---- as many tracks in each Period
 
@@ -68,13 +70,16 @@ as_long : (first : List Row) (later : List Period) → flat_map (differs_told fi
 as_long first [] is = All-nil (IsAsLong first)
 as_long first (period ∷ later) is =
     All-cons (IsAsLong first) period later
-    (sym (length_in_order _ period.tracks) ∙ sym (alike_long first (in_order period.tracks) (holds _ _ (none_first (differs_told first period) _ is))))
+    (sym (length_in_order _ period.tracks)
+    ∙ sym (alike_long first (in_order period.tracks) (holds _ _ (none_first (differs_told first period) _ is))))
     (as_long first later (none_behind (differs_told first period) _ is))
 
-pub all_as_long : (periods : List Period) → differ_told periods ≡ [] → All (λ (period : Period). length period.tracks ≡ length (first_rows periods)) periods
+pub all_as_long : (periods : List Period) → differ_told periods ≡ []
+    → All (λ (period : Period). length period.tracks ≡ length (first_rows periods)) periods
 all_as_long [] is = All-nil (λ (period : Period). length period.tracks ≡ 0)
 all_as_long (first ∷ later) is =
-    All-cons (λ (period : Period). length period.tracks ≡ length first.tracks) first later refl (λ k d within. as_long (in_order first.tracks) later is k d within ∙ length_in_order _ first.tracks)
+    All-cons (λ (period : Period). length period.tracks ≡ length first.tracks) first later refl
+    (λ k d within. as_long (in_order first.tracks) later is k d within ∙ length_in_order _ first.tracks)
 
 module _ (url : List ℕ) (live : Bool) where
   one_long : (end : End) (row : Row) (ys : List Told) → one_told url live end row ≡ Ok ys → length ys ≡ 1
@@ -87,10 +92,12 @@ module _ (url : List ℕ) (live : Bool) where
   period_long period ys is =
       let s = steps_of (gathered (one_told url live (end_of period)) period.tracks) _ ys is in
       let same : told_in_order s.value ≡ ys = (let h = s.then in cc) in
-      let rows : length s.value ≡ length period.tracks * 1 = length_gathered (one_told url live (end_of period)) 1 period.tracks (λ k d within. one_long (end_of period) (get_or period.tracks k d)) s.value s.first in
+      let rows : length s.value ≡ length period.tracks * 1 = length_gathered (one_told url live (end_of period)) 1 period.tracks
+      (λ k d within. one_long (end_of period) (get_or period.tracks k d)) s.value s.first in
       ap length (sym same) ∙ length_in_order _ s.value ∙ omega (arith, rows)
 
-  pub all_filled : (has_now : Bool) (periods : List Period) (tolds : List Told) → told_before live has_now periods ≡ [] → all_told url live periods ≡ Ok tolds
+  pub all_filled : (has_now : Bool) (periods : List Period) (tolds : List Told) → told_before live has_now periods ≡ []
+      → all_told url live periods ≡ Ok tolds
       → length tolds ≡ length periods * length (first_rows periods)
   all_filled has_now periods tolds none is =
       let differ : differ_told periods ≡ [] = none_behind (over_told periods) _ (none_behind (needs_now live has_now) _ none) in
@@ -104,7 +111,8 @@ with_runs initialization runs = Ok (record { initialization = initialization; ru
 
 -- what holds of segments by a timeline or a duration holds of all that is told
 module _ (P : SegmentTimeline → Type 0) (live : Bool)
-    (each : (timeline : Option (List SView)) (s : Segments) (end : End) (names : Names) (runs : SegmentTimeline) → timeline_by timeline s live end names ≡ Ok runs → P runs) (url : List ℕ) where
+    (each : (timeline : Option (List SView)) (s : Segments) (end : End) (names : Names) (runs : SegmentTimeline)
+    → timeline_by timeline s live end names ≡ Ok runs → P runs) (url : List ℕ) where
   abbrev Has : Told → Type 0
   Has told = P told.content.runs
 
@@ -126,7 +134,8 @@ module _ (P : SegmentTimeline → Type 0) (live : Bool)
       let media = steps_of (media_of d.place s) (with_media end d s) content is in
       let template = steps_of (init_of d.place s) (with_template end d s media.value) content media.then in
       let base = steps_of (base_of url d) (with_base end d s media.value template.value) content template.then in
-      let initialization = steps_of (initialization_of d s template.value base.value) (with_initialization end d s media.value base.value) content base.then in
+      let initialization = steps_of (initialization_of d s template.value base.value)
+      (with_initialization end d s media.value base.value) content base.then in
       let runs = steps_of (runs_of live end d s media.value base.value) (with_runs initialization.value) content initialization.then in
       let same : runs.value ≡ content.runs = (let h = runs.then in cc) in
       subst P same (each s.timeline s end _ runs.value (ok_under _ _ runs.value runs.first))
@@ -137,37 +146,45 @@ module _ (P : SegmentTimeline → Type 0) (live : Bool)
       let t = steps_of (content_of url live end row.description (segments_in row)) _ s.value s.first in
       let same : s.value ∷ [] ≡ ys = (let h = s.then in cc) in
       let content : t.value ≡ s.value.content = (let h = t.then in cc) in
-      subst (All Has) same (All-cons Has s.value [] (subst (λ (c : Content). P c.runs) content (content_has end row.description (segments_in row) t.value t.first)) (All-nil Has))
+      subst (All Has) same (All-cons Has s.value []
+      (subst (λ (c : Content). P c.runs) content (content_has end row.description (segments_in row) t.value t.first)) (All-nil Has))
 
   period_has : (period : Period) (ys : List Told) → period_told url live period ≡ Ok ys → All Has ys
   period_has period ys is =
       let s = steps_of (gathered (one_told url live (end_of period)) period.tracks) _ ys is in
       let same : told_in_order s.value ≡ ys = (let h = s.then in cc) in
-      subst (All Has) same (all_in_order _ Has s.value (all_gathered (one_told url live (end_of period)) Has (one_has (end_of period)) period.tracks s.value s.first))
+      subst (All Has) same (all_in_order _ Has s.value
+      (all_gathered (one_told url live (end_of period)) Has (one_has (end_of period)) period.tracks s.value s.first))
 
-  pub all_have : (periods : List Period) (tolds : List Told) → all_told url live periods ≡ Ok tolds → All (λ (content : Content). P content.runs) (map (λ (told : Told). told.content) tolds)
+  pub all_have : (periods : List Period) (tolds : List Told) → all_told url live periods ≡ Ok tolds
+      → All (λ (content : Content). P content.runs) (map (λ (told : Told). told.content) tolds)
   all_have periods tolds is =
-      All-map (λ (content : Content). P content.runs) (λ (told : Told). told.content) tolds (all_gathered (period_told url live) Has period_has periods tolds is)
+      All-map (λ (content : Content). P content.runs) (λ (told : Told). told.content) tolds
+      (all_gathered (period_told url live) Has period_has periods tolds is)
 
 -- ---- ends
 
 module _ (timelines : TimelinesEnd) (durations : DurationsEnd) where
-  timeline_ended : (timeline : Option (List SView)) (s : Segments) (end : End) (names : Names) (runs : SegmentTimeline) → timeline_by timeline s false end names ≡ Ok runs → is_open runs.members ≡ false
+  timeline_ended : (timeline : Option (List SView)) (s : Segments) (end : End) (names : Names) (runs : SegmentTimeline)
+      → timeline_by timeline s false end names ≡ Ok runs → is_open runs.members ≡ false
   timeline_ended (Some timeline) s end names runs is = timelines (entries_of timeline) end false (scale_of s) names runs is refl
   timeline_ended None s end names runs is = durations _ end false (scale_of s) names runs is refl
 
-  pub all_ended : (url : List ℕ) (live : Bool) (periods : List Period) (tolds : List Told) → all_told url live periods ≡ Ok tolds → live ≡ false → All IsEnded (map (λ (told : Told). told.content) tolds)
+  pub all_ended : (url : List ℕ) (live : Bool) (periods : List Period) (tolds : List Told) → all_told url live periods ≡ Ok tolds
+      → live ≡ false → All IsEnded (map (λ (told : Told). told.content) tolds)
   all_ended url true periods tolds is off = absurd (cc)
   all_ended url false periods tolds is off = all_have (λ runs. is_open runs.members ≡ false) false timeline_ended url periods tolds is
 
 -- ---- what is judged before
 
 module _ (mpd : TypedMpd (Option Segments)) (url : List ℕ) (now : Option ℤ) where
-  pub presented_checked : (done : Unit {0}) → unless_any (told_before mpd.facts.live (is_some now) mpd.periods) tt ≡ Ok done → presented_of mpd url now ≡ presented_if_told mpd url now
+  pub presented_checked : (done : Unit {0}) → unless_any (told_before mpd.facts.live (is_some now) mpd.periods) tt ≡ Ok done
+      → presented_of mpd url now ≡ presented_if_told mpd url now
   unfolding presented_of
   presented_checked done is = ap (λ r. and_then r (λ _. presented_if_told mpd url now)) is
 
-  pub presented_refused : (fault : PresentationFault) → IfSome (refusal fault) (λ f. unless_any {X = Unit {0}} (told_before mpd.facts.live (is_some now) mpd.periods) tt ≡ Err f)
+  pub presented_refused : (fault : PresentationFault)
+      → IfSome (refusal fault) (λ f. unless_any {X = Unit {0}} (told_before mpd.facts.live (is_some now) mpd.periods) tt ≡ Err f)
       → IfSome (refusal fault) (λ f. presented_of mpd url now ≡ Err f)
   unfolding presented_of
   presented_refused fault told = if_some (refusal fault) _ _ (λ f is. ap (λ r. and_then r (λ _. presented_if_told mpd url now)) is) told

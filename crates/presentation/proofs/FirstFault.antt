@@ -20,10 +20,13 @@ module _ (faults : ℕ → List PresentationFault) (n : ℕ) where
   pub none_here : (i : ℕ) (done : Unit {0}) → i < n → IsNoneBefore i → unless_any (faults i) tt ≡ Ok done → IsNoneBefore (i + 1)
   none_here i done within before none = before ∙ no_fault_here faults (λ _. 0) i n within (none_before (faults i) tt done none)
 
-  pub first_here : (i : ℕ) (fault : PresentationFault) → i < n → IsNoneBefore i → unless_any {X = Unit {0}} (faults i) tt ≡ Err fault → Err fault ≡ unless_any {X = Unit {0}} all_faults tt
+  pub first_here : (i : ℕ) (fault : PresentationFault) → i < n → IsNoneBefore i → unless_any {X = Unit {0}} (faults i) tt ≡ Err fault
+      → Err fault ≡ unless_any {X = Unit {0}} all_faults tt
   first_here i fault within before is =
       sym (ap (λ fs. unless_any {X = Unit {0}} fs tt) (before ∙ faults_here faults (λ _. 0) i n within)
       ∙ first_stays (faults i) (flat_map faults (from_on (i + 1) n)) fault tt tt is)
 
   pub none_at_all : (i : ℕ) → i ≡ n → IsNoneBefore i → Ok tt ≡ unless_any {X = Unit {0}} all_faults tt
-  none_at_all i end before = sym (ap (λ fs. unless_any {X = Unit {0}} fs tt) (before ∙ ap (λ j. flat_map faults (from_on j n)) end ∙ ap (flat_map faults) (from_on-end n)))
+  none_at_all i end before = sym
+      (ap (λ fs. unless_any {X = Unit {0}} fs tt)
+      (before ∙ ap (λ j. flat_map faults (from_on j n)) end ∙ ap (flat_map faults) (from_on-end n)))

@@ -35,7 +35,8 @@ over false fault none = refl
 within : (n limit : ℕ) → nat_lt limit n ≡ false → n ≤ limit
 within n limit few = grind (arith, nat_tests)
 
-few_told : (live has_now : Bool) (periods : List Period) → told_before live has_now periods ≡ [] → (length periods ≤ 1000) × (length (first_rows periods) ≤ 200)
+few_told : (live has_now : Bool) (periods : List Period) → told_before live has_now periods ≡ []
+    → (length periods ≤ 1000) × (length (first_rows periods) ≤ 200)
 few_told live has_now periods none =
     let both = not_over (nat_lt 1000 (length periods)) _
     (over (is_over periods) _ (none_first (over_told periods) (differ_told periods) (none_behind (needs_now live has_now) _ none))) in
@@ -45,7 +46,8 @@ module _ (mpd : TypedMpd (Option Segments)) (url : List ℕ) (now : Option ℤ) 
   pub is_told : IsTold mpd url now p
   unfolding presented_of
   is_told =
-      let before = steps_of (unless_any {X = Unit {0}} (told_before mpd.facts.live (is_some now) mpd.periods) tt) (λ _. presented_if_told mpd url now) p made in
+      let before = steps_of (unless_any {X = Unit {0}} (told_before mpd.facts.live (is_some now) mpd.periods) tt)
+      (λ _. presented_if_told mpd url now) p made in
       let tolds = steps_of (all_told url mpd.facts.live mpd.periods) (λ tolds. Ok (presented_with mpd now tolds)) p before.then in
       record { tolds = tolds.value; none = none_before _ _ _ before.first; told = tolds.first; is = (let h = tolds.then in cc) }
 
@@ -53,8 +55,11 @@ module _ (mpd : TypedMpd (Option Segments)) (url : List ℕ) (now : Option ℤ) 
   few =
       let rows = first_rows mpd.periods in
       let told = few_told mpd.facts.live (is_some now) mpd.periods is_told.none in
-      subst (λ (q : Presented). (length q.sections ≤ 1000) × (length q.tracks ≤ 200)) is_told.is
-      (omega (arith, length-map mpd.periods section_of, told.0), omega (arith, length-map (in_order rows) track_of, length_in_order (λ row. row.description.kind) rows, told.1))
+      subst (λ (q : Presented). (length q.sections ≤ 1000) × (length q.tracks ≤ 200)) is_told.is (
+        omega (arith, length-map mpd.periods section_of, told.0),
+        omega
+            (arith, length-map (in_order rows) track_of, length_in_order (λ row. row.description.kind) rows, told.1),
+      )
 
 pub presented_are_few : PresentedAreFew
 presented_are_few mpd url now p made = few mpd url now p made

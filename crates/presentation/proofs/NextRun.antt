@@ -24,7 +24,8 @@ rounding_past r xs = record r { former = last_end r.former xs }
 left_split : (r : Rounding) (xs ys : List Timing) → printed_left (xs ++ ys) r ≡ printed_left xs r ++ printed_left ys (rounding_past r xs)
 left_split r [] ys = refl
 left_split r (x ∷ xs) ys =
-    ap (λ left. record { times = x; duration = floor_in r.unit (difference x.end r.first) - total r } ∷ left) (left_split (record r { former = x.end }) xs ys)
+    ap (λ left. record { times = x; duration = floor_in r.unit (difference x.end r.first) - total r } ∷ left)
+    (left_split (record r { former = x.end }) xs ys)
 
 rising_past : (former : Time) (xs ys : List Timing) → IsRising former (ends_of (xs ++ ys)) → IsRising (last_end former xs) (ends_of ys)
 rising_past former [] ys rising = rising
@@ -46,7 +47,8 @@ last_by_ends former (x ∷ xs) = last_by_ends x.end xs
 
 last_after : (former : Time) (step count : ℕ) → last_time former (ends_after former step count) ≡ ticks_after former (count * step)
 unfolding ends_after
-last_after former step zero = (let none : former.ticks ≡ former.ticks +ℤ pos (0 * step) = omega (arith, ints) in ap (λ ticks. record former { ticks = ticks }) none)
+last_after former step zero =
+    (let none : former.ticks ≡ former.ticks +ℤ pos (0 * step) = omega (arith, ints) in ap (λ ticks. record former { ticks = ticks }) none)
 last_after former step (suc count) =
     let same : (former.ticks +ℤ pos step) +ℤ pos (count * step) ≡ former.ticks +ℤ pos (suc count * step) = omega (arith, ints) in
     last_after (ticks_after former step) step count ∙ ap (λ ticks. record former { ticks = ticks }) same
@@ -75,15 +77,18 @@ module _ (r : Rounding) (old new : List Timing) (run : SpanRun) (is : IsNextRun 
   former_is = last_by_ends r.former passed ∙ ap (last_time r.former) is.ends ∙ last_after first_end run.step others
 
   durations_are : durations_behind r passed ≡ (total past_first - total r) ∷ equal_durations past_first run.step others
-  durations_are = ap (differences (total r)) (floors_of r.unit r.first passed) ∙ ap (λ ends. differences (total r) (map (λ end. floor_in r.unit (difference end r.first)) ends)) is.ends
+  durations_are = ap (differences (total r)) (floors_of r.unit r.first passed)
+      ∙ ap (λ ends. differences (total r) (map (λ end. floor_in r.unit (difference end r.first)) ends)) is.ends
 
   pub printed_run : (first : ℕ) → total r + first ≡ total past_first
       → printed_left old r ≡ with_durations passed (first ∷ equal_durations past_first run.step others) ++ printed_left new past_all
   printed_run first called =
       let same : total past_first - total r ≡ first = omega arith in
       ap (λ xs. printed_left xs r) is.next ∙ left_split r passed new
-      ∙ ap (λ ds. with_durations passed ds ++ printed_left new (rounding_past r passed)) (durations_are ∙ ap (λ d. d ∷ equal_durations past_first run.step others) same)
-      ∙ ap (λ former. with_durations passed (first ∷ equal_durations past_first run.step others) ++ printed_left new (record r { former = former })) former_is
+      ∙ ap (λ ds. with_durations passed ds ++ printed_left new (rounding_past r passed)) (durations_are
+      ∙ ap (λ d. d ∷ equal_durations past_first run.step others) same)
+      ∙ ap (λ former. with_durations passed (first ∷ equal_durations past_first run.step others) ++ printed_left new
+      (record r { former = former })) former_is
 
   ends_are : ends_of old ≡ first_end ∷ (ends_after first_end run.step others ++ ends_of new)
   ends_are = ap ends_of is.next ∙ map-append (λ x. x.end) passed new ∙ ap (λ ends. ends ++ ends_of new) is.ends
@@ -97,5 +102,6 @@ module _ (r : Rounding) (old new : List Timing) (run : SpanRun) (is : IsNextRun 
 
     pub others_near : AreNear first_end (ends_after first_end run.step others)
     others_near =
-        let near : AreNear r.former (first_end ∷ (ends_after first_end run.step others ++ ends_of new)) = subst (AreNear r.former) ends_are paced.near in
+        let near : AreNear r.former (first_end ∷ (ends_after first_end run.step others ++ ends_of new)) = subst
+        (AreNear r.former) ends_are paced.near in
         near_first first_end (ends_after first_end run.step others) (ends_of new) near.1

@@ -55,26 +55,36 @@ module _ (window : Window) where
   abbrev IsLate : Time → Type 0
   IsLate end = (before (seconds 0) end ≡ true) × (is_after window.after end ≡ true)
 
-  after_later : (after : Option ℤ) (former end : Time) → IsTime end → IsAtMost former end → is_after after former ≡ true → is_after after end ≡ true
+  after_later : (after : Option ℤ) (former end : Time) → IsTime end → IsAtMost former end → is_after after former ≡ true
+      → is_after after end ≡ true
   after_later None former end is_end rises is = refl
-  after_later (Some z) former end is_end rises is = before-from (nanoseconds z) end (before_then_at_most (nanoseconds z) former end is_end (before-true (nanoseconds z) former is) rises)
+  after_later (Some z) former end is_end rises is = before-from (nanoseconds z) end
+      (before_then_at_most (nanoseconds z) former end is_end (before-true (nanoseconds z) former is) rises)
 
   late_later : (former end : Time) → IsTime end → IsAtMost former end → IsLate former → IsLate end
-  late_later former end is_end rises late =
-      (before-from (seconds 0) end (before_then_at_most (seconds 0) former end is_end (before-true (seconds 0) former late.0) rises), after_later window.after former end is_end rises late.1)
+  late_later former end is_end rises late = (
+    before-from (seconds 0) end
+        (before_then_at_most (seconds 0) former end is_end
+        (before-true (seconds 0) former late.0) rises),
+    after_later window.after former end is_end rises late.1,
+  )
 
-  until_later : (until : Option ℤ) (former end : Time) → IsTime end → IsAtMost former end → is_until until former ≡ false → is_until until end ≡ false
+  until_later : (until : Option ℤ) (former end : Time) → IsTime end → IsAtMost former end → is_until until former ≡ false
+      → is_until until end ≡ false
   until_later None former end is_end rises gone = absurd (cc)
   until_later (Some z) former end is_end rises gone =
-      not_at_most-from end (nanoseconds z) (before_then_at_most (nanoseconds z) former end is_end (at_most-false former (nanoseconds z) gone) rises)
+      not_at_most-from end (nanoseconds z)
+      (before_then_at_most (nanoseconds z) former end is_end (at_most-false former (nanoseconds z) gone) rises)
 
-  none_listed : (former : Time) (xs : List Timing) → is_until window.until former ≡ false → IsRising former (ends_of xs) → listed window xs ≡ []
+  none_listed : (former : Time) (xs : List Timing) → is_until window.until former ≡ false → IsRising former (ends_of xs)
+      → listed window xs ≡ []
   none_listed former [] gone rising = refl
   none_listed former (x ∷ xs) gone rising =
       let here = until_later window.until former x.end rising.0 rising.1 gone in
       let rest = none_listed x.end xs here rising.2 in
       elim (cases_Bool (is_listed window x)) [
-        | inl is ↦ absurd (let not_here = (and_true (before (seconds 0) x.end) (is_after window.after x.end) (is_until window.until x.end) is).2 in cc)
+        | inl is ↦ absurd (let not_here =
+            (and_true (before (seconds 0) x.end) (is_after window.after x.end) (is_until window.until x.end) is).2 in cc)
         | inr not_listed ↦ rw not_listed rest
       ]
 
@@ -84,7 +94,8 @@ module _ (window : Window) where
   later_paced former (x ∷ xs) late rising near =
       let here = late_later former x.end rising.0 rising.1 late in
       elim (cases_Bool (is_until window.until x.end)) [
-        | inl is ↦ (let rest = later_paced x.end xs here rising.2 near.1 in rw (here.0, here.1, is) ((rising.0, rising.1, rest.0), (near.0, rest.1)))
+        | inl is ↦ (let rest = later_paced x.end xs here rising.2 near.1 in rw (here.0, here.1, is)
+            ((rising.0, rising.1, rest.0), (near.0, rest.1)))
         | inr gone ↦ (let rest = none_listed x.end xs gone rising.2 in rw (here.0, here.1, gone, rest) (tt, tt))
       ]
 
@@ -140,7 +151,8 @@ module _ (timeline : SegmentTimeline) (window : Window) (sound : IsSound timelin
 
   pub in_pace : IsInPace (listed_in window timeline)
   in_pace = listed_in_pace window (expansion timeline window)
-      (numbered_begin timeline.first_number (extents (instant_of window) timeline.members) (extents_begin (instant_of window) timeline.members sound.lasting)) paced_from
+      (numbered_begin timeline.first_number (extents (instant_of window) timeline.members)
+      (extents_begin (instant_of window) timeline.members sound.lasting)) paced_from
 
 -- ---- a timeline of which nothing is refused
 
@@ -158,7 +170,9 @@ module _ (scale : Scale) (end : End) (live : Bool) (names : Names) (timeline : S
       let same = ap (λ (t : SegmentTimeline). t.members) made.1 in
       record {
         lasting = subst AreLasting same (entries_last scale end 0 entries (unless _ ZeroDuration zeros.0));
-        steady = subst IsSteady same (steady_from (breaks_limits scale.ticks scale.offset) too_long (λ x kept. not_long scale.ticks scale.offset x kept) None members steps.0);
+        steady = subst IsSteady same
+            (steady_from (breaks_limits scale.ticks scale.offset) too_long
+            (λ x kept. not_long scale.ticks scale.offset x kept) None members steps.0);
       }
 
   pub duration_sound : (duration : ℕ) → timeline_of_duration duration end live scale names ≡ Ok timeline → IsSound timeline.members
@@ -171,13 +185,16 @@ module _ (scale : Scale) (end : End) (live : Bool) (names : Names) (timeline : S
       let ends = no_faults (fault_if (lacks_end live end count) NoEnd) _ zeros.1 in
       let ranges = no_faults (fault_if (extents_break (breaks_limits scale.ticks 0) members) Range) _ ends.1 in
       let same = ap (λ (t : SegmentTimeline). t.members) made.1 in
-      let row = durations_row scale.ticks duration scale.positive (not_zero duration (unless _ ZeroDuration zeros.0)) end count (unless _ ListLength ranges.1) in
+      let row = durations_row scale.ticks duration scale.positive (not_zero duration (unless _ ZeroDuration zeros.0)) end count
+      (unless _ ListLength ranges.1) in
       record {
         lasting = subst AreLasting same (row_lasting members row);
-        steady = subst IsSteady same (row_steady (breaks_limits scale.ticks 0) (λ x kept. not_long scale.ticks 0 x kept) members row (unless _ Range ranges.0));
+        steady = subst IsSteady same
+            (row_steady (breaks_limits scale.ticks 0) (λ x kept. not_long scale.ticks 0 x kept) members row (unless _ Range ranges.0));
       }
 
-timed_sound : (live : Bool) (timeline : Option (List SView)) (s : Segments) (end : End) (names : Names) (runs : SegmentTimeline) → timeline_by timeline s live end names ≡ Ok runs → IsSound runs.members
+timed_sound : (live : Bool) (timeline : Option (List SView)) (s : Segments) (end : End) (names : Names) (runs : SegmentTimeline)
+    → timeline_by timeline s live end names ≡ Ok runs → IsSound runs.members
 timed_sound live (Some timeline) s end names runs is = entries_sound (scale_of s) end live names runs (entries_of timeline) is
 timed_sound live None s end names runs is = duration_sound (scale_of s) end live names runs (unwrap_or s.duration 0) is
 
@@ -187,9 +204,11 @@ abbrev IsSoundIn : Content → Type 0
 IsSoundIn content = IsSound content.runs.members
 
 module _ (q : Presented) (s t : ℕ) (sound : All IsSoundIn q.contents) where
-  paced_in : (o : Option Content) → content_at q s t ≡ o → IfSome o (λ content. IsReached content.runs (window_of q s)) → IsInPace (option_map_or (λ content. listed_in (window_of q s) content.runs) o [])
+  paced_in : (o : Option Content) → content_at q s t ≡ o → IfSome o (λ content. IsReached content.runs (window_of q s))
+      → IsInPace (option_map_or (λ content. listed_in (window_of q s) content.runs) o [])
   paced_in None is reached = (omega arith, tt)
-  paced_in (Some content) is reached = in_pace content.runs (window_of q s) (All-at IsSoundIn q.contents (s * length q.tracks + t) content sound is) reached
+  paced_in (Some content) is reached = in_pace content.runs (window_of q s)
+      (All-at IsSoundIn q.contents (s * length q.tracks + t) content sound is) reached
 
   all_in_pace : IsCounted q s t → IsInPace (listed_at q s t)
   all_in_pace counted = paced_in (content_at q s t) refl counted
@@ -198,10 +217,12 @@ module _ (mpd : TypedMpd (Option Segments)) (url : List ℕ) (now : Option ℤ) 
   contents_sound : All IsSoundIn p.contents
   contents_sound =
       let told = is_told mpd url now p made in
-      subst (λ (q : Presented). All IsSoundIn q.contents) told.is (all_have (λ runs. IsSound runs.members) mpd.facts.live (timed_sound mpd.facts.live) url mpd.periods told.tolds told.told)
+      subst (λ (q : Presented). All IsSoundIn q.contents) told.is
+      (all_have (λ runs. IsSound runs.members) mpd.facts.live (timed_sound mpd.facts.live) url mpd.periods told.tolds told.told)
 
 pub presented_are_in_pace : PresentedAreInPace
 presented_are_in_pace mpd url now p made s t counted = all_in_pace p s t (contents_sound mpd url now p made) counted
 
 pub are_always_in_pace : AreAlwaysInPace
-are_always_in_pace mpd url now p made instant s t counted = all_in_pace (looked_at instant p) s t (contents_sound mpd url now p made) counted
+are_always_in_pace mpd url now p made instant s t counted = all_in_pace (looked_at instant p) s t
+    (contents_sound mpd url now p made) counted

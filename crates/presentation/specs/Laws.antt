@@ -14,15 +14,18 @@ CountedAreListed = (p : Presented) (n s t : ℕ) → counted p ≡ Ok n → s < 
 
 -- where segments up to open ends break no limit, each track's segments may be listed in each section
 abbrev pub EndsAreCounted : Type 0
-EndsAreCounted = (p : Presented) (done : Unit {0}) (s t : ℕ) → unless_any (range_faults p) tt ≡ Ok done → s < length p.sections → t < length p.tracks → IsCounted p s t
+EndsAreCounted = (p : Presented) (done : Unit {0}) (s t : ℕ) → unless_any (range_faults p) tt ≡ Ok done → s < length p.sections
+    → t < length p.tracks → IsCounted p s t
 
 -- segments with addresses are counted
 abbrev pub VerifiedAreCounted : Type 0
-VerifiedAreCounted = (p : Presented) (unit s t : ℕ) (longest : List ℕ) → verified p unit ≡ Ok longest → s < length p.sections → t < length p.tracks → IsCounted p s t
+VerifiedAreCounted = (p : Presented) (unit s t : ℕ) (longest : List ℕ) → verified p unit ≡ Ok longest → s < length p.sections
+    → t < length p.tracks → IsCounted p s t
 
 -- the longest durations are those of the tracks
 abbrev pub EachHasLongest : Type 0
-EachHasLongest = (p : Presented) (unit t : ℕ) (longest : List ℕ) → verified p unit ≡ Ok longest → t < length p.tracks → slice_get longest t ≡ Some (longest_of p unit t)
+EachHasLongest = (p : Presented) (unit t : ℕ) (longest : List ℕ) → verified p unit ≡ Ok longest → t < length p.tracks
+    → slice_get longest t ≡ Some (longest_of p unit t)
 
 -- a segment has an address
 abbrev pub HasAddress : SegmentTimeline → Timing → Type 0
@@ -30,5 +33,6 @@ HasAddress timeline x = (part : Part) × (part_of_timing timeline x ≡ Ok part)
 
 -- each listed segment has an address
 abbrev pub VerifiedHaveAddresses : Type 0
-VerifiedHaveAddresses = (p : Presented) (unit s t : ℕ) (longest : List ℕ) → verified p unit ≡ Ok longest → s < length p.sections → t < length p.tracks
+VerifiedHaveAddresses = (p : Presented) (unit s t : ℕ) (longest : List ℕ) → verified p unit ≡ Ok longest → s < length p.sections
+    → t < length p.tracks
     → IfSome (content_at p s t) (λ content. All (λ x. HasAddress content.runs x.times) (printed_timings unit (listed_at p s t)))

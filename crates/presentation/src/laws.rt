@@ -3,7 +3,8 @@
 ghost use Rattle.presentation.specs.Laws.{CountedAreListed, EndsAreCounted, VerifiedAreCounted, VerifiedHaveAddresses, EachHasLongest};
 ghost use Rattle.presentation.specs.MeaningLaws.{MadeAreMeant, VerifiedAreMeant, FinishedAreWhole, PresentedAreMeant, TextsAreMeant};
 ghost use Rattle.presentation.specs.Origins.{StaticAreFinished};
-ghost use Rattle.presentation.specs.PresentedLaws.{AreAlwaysInPace, PresentedAreFew, PresentedAreFollowed, PresentedAreInPace, SectionsArePeriods};
+ghost use Rattle.presentation.specs.PresentedLaws.{AreAlwaysInPace, PresentedAreInPace};
+ghost use Rattle.presentation.specs.PresentedLaws.{PresentedAreFew, PresentedAreFollowed, SectionsArePeriods};
 
 /// Where `count` or `verify` answers Ok, `segments` and `extent` may be called for each track and section, and `verify`
 /// tells the longest duration of each track. Each listed segment then has an address. Where `check_ends` answers Ok, the

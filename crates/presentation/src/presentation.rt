@@ -1,6 +1,7 @@
 // A presentation and what it shows of itself.
 ghost use Rattle.std.specs.Prelude.{◌≡◌, ℕ, ℤ, ◌<◌, ◌*◌, ◌+◌, ◌^◌, ◌-ℤ◌, unsigned_abs, length, All, Some, IfOk, option_map};
-ghost use Rattle.presentation.specs.Presented.{of_parts, window_of, window_at, window_from, content_at, start_of, looked_at, following_of, IsEnded, AreFilled};
+ghost use Rattle.presentation.specs.Presented.{of_parts, content_at, start_of, looked_at, following_of, IsEnded, AreFilled};
+ghost use Rattle.presentation.specs.Presented.{window_of, window_at, window_from};
 ghost use Rattle.iso_time.specs.Instant.{IsReadable};
 ghost use Rattle.timeline.specs.Listed.{IsWindowOf};
 

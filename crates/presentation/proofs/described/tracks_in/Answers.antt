@@ -7,4 +7,5 @@ use Rattle.presentation.proofs.described.tracks_in.Goals as goal
 pub returns : goal.returns
 returns g c =
     let rows = ap (map track_in) c.deref.ensures.value ∙ c.in_ok-views.ensures in
-    subst (λ tracks. IfOk c.tracks_seen.result (λ made. made ≡ tracks)) (seen_twice track_of track_in c.deref.result.now ∙ ap (map track_of) rows) c.tracks_seen.ensures
+    subst (λ tracks. IfOk c.tracks_seen.result (λ made. made ≡ tracks)) (seen_twice track_of track_in c.deref.result.now
+    ∙ ap (map track_of) rows) c.tracks_seen.ensures

@@ -4,4 +4,5 @@ use Rattle.presentation.specs.Rows.{track_of}
 use Rattle.presentation.proofs.described.tracks_seen.Given as goal
 
 abbrev pub invariant-loop-view : goal.invariant-loop-view
-invariant-loop-view g l = l.tracks ++ map (λ view. track_of (track_in view)) (drop l.view-index l.views) ≡ map (λ view. track_of (track_in view)) l.views
+invariant-loop-view g l = l.tracks ++ map (λ view. track_of (track_in view)) (drop l.view-index l.views) ≡ map
+    (λ view. track_of (track_in view)) l.views

@@ -7,9 +7,11 @@ use Rattle.presentation.proofs.presentation.Presentation.segments_behind.Goals a
 pub of-requires-clause-goes_on : goal.of-requires-clause-goes_on
 of-requires-clause-goes_on c = let p = looked_at c.args.now c.args.self.now in
     subst (λ xs. IfSome c.args.behind (GoesOn xs))
-    (listed_there p c.args.section c.args.track c.content.result.now c.content.ensures.content c.window_from-window.result (rw c.start_of.ensures at c.window_from-window.ensures)) c.requires.goes_on
+    (listed_there p c.args.section c.args.track c.content.result.now c.content.ensures.content c.window_from-window.result
+    (rw c.start_of.ensures at c.window_from-window.ensures)) c.requires.goes_on
 
 pub returns : goal.returns
 returns c = let p = looked_at c.args.now c.args.self.now in let unit = 10 ^ c.args.digits in
-    at_content p c.args.section c.args.track c.content.result.now c.content.ensures.content (λ content xs. c.of.result ≡ rest_behind c.args.behind content.runs xs unit)
+    at_content p c.args.section c.args.track c.content.result.now c.content.ensures.content
+    (λ content xs. c.of.result ≡ rest_behind c.args.behind content.runs xs unit)
     c.window_from-window.result (rw c.start_of.ensures at c.window_from-window.ensures) c.of.ensures

@@ -5,4 +5,5 @@ use Rattle.presentation.proofs.segments.Begun.at.Goals as goal
 
 pub returns-in-Some-clause-from : goal.returns-in-Some-clause-from
 returns-in-Some-clause-from c = let window = c.args.window.now in
-    rw c.in-Some.is (listed_later (time_of c.in-Some.behind.former) window (expansion c.args.runs.now window) c.seek_end.result (c.seek_end.ensures window c.requires.window c.requires.reached))
+    rw c.in-Some.is (listed_later (time_of c.in-Some.behind.former) window (expansion c.args.runs.now window) c.seek_end.result
+    (c.seek_end.ensures window c.requires.window c.requires.reached))

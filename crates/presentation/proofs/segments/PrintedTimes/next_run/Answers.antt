@@ -13,7 +13,8 @@ next_equal-others-requires-clause-near c = let run = c.in_ok-spans.spans in let 
 
 pub invariant_of-self-2 : goal.invariant_of-self-2
 invariant_of-self-2 c = let run = c.in_ok-spans.spans in let r = c.self.inside.rounder in
-    rw (c.next_equal-others.ensures.kept, c.next-first.ensures.kept) (paced_run r c.self.inside.walk c.next_run.new.self run c.in_ok-spans.ensures c.self.invariant)
+    rw (c.next_equal-others.ensures.kept, c.next-first.ensures.kept)
+    (paced_run r c.self.inside.walk c.next_run.new.self run c.in_ok-spans.ensures c.self.invariant)
 
 pub returns : goal.returns
 returns c =
@@ -25,7 +26,8 @@ returns c =
     let kept = c.next-first.ensures.kept in
     let durations = equal_durations (past_first r walk new run is) run.step (run.count - 1) in
     let behind : c.next_equal-others.new.self ≡ past_all r walk new run is =
-    c.next_equal-others.ensures.kept ∙ ap (λ (q : Rounding). record q { former = ticks_after q.former ((run.count - 1) * run.step) }) kept in
+    c.next_equal-others.ensures.kept
+    ∙ ap (λ (q : Rounding). record q { former = ticks_after q.former ((run.count - 1) * run.step) }) kept in
     let called = rw kept at c.next-first.ensures.printed in
     record {
       durations = durations;

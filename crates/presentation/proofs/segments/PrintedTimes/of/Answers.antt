@@ -5,9 +5,11 @@ use Rattle.presentation.proofs.segments.PrintedTimes.of.Goals as goal
 
 pub invariant_of-result : goal.invariant_of-result
 invariant_of-result c =
-    paced_there c.args.behind (10 ^ c.args.digits) (listed_in c.args.window.now c.args.runs.now) c.walk.result c.at-begun.result.rounder (c.walk.ensures.listed ∙ c.at-begun.ensures.from) c.at-begun.ensures.rounder
+    paced_there c.args.behind (10 ^ c.args.digits) (listed_in c.args.window.now c.args.runs.now) c.walk.result c.at-begun.result.rounder
+    (c.walk.ensures.listed ∙ c.at-begun.ensures.from) c.at-begun.ensures.rounder
     c.walk.ensures.paced c.walk.ensures.limits c.requires.goes_on
 
 pub returns : goal.returns
 returns c =
-    printed_there c.args.behind (10 ^ c.args.digits) (listed_in c.args.window.now c.args.runs.now) c.walk.result c.at-begun.result.rounder (c.walk.ensures.listed ∙ c.at-begun.ensures.from) c.at-begun.ensures.rounder
+    printed_there c.args.behind (10 ^ c.args.digits) (listed_in c.args.window.now c.args.runs.now) c.walk.result c.at-begun.result.rounder
+    (c.walk.ensures.listed ∙ c.at-begun.ensures.from) c.at-begun.ensures.rounder
