@@ -1,6 +1,7 @@
 //! Media playlists of HLS: RFC 8216, 4.3.2 and 4.3.3.
 #![tactic(auto)]
 
+mod copies;
 mod fault;
 mod laws;
 mod media;
