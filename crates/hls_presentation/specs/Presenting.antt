@@ -121,16 +121,20 @@ contents_of nanos rows = gathered (content_of nanos) (flattened rows)
 
 -- ---- tracks and sections
 
-abbrev pub track_of : Source → Track
-track_of s = record {
-  kind = s.track.kind;
-  set = s.track.set;
-  language = s.track.language;
-  codecs = s.track.codecs;
-  bandwidth = s.track.bandwidth;
-  size = s.track.size;
-  frame_rate = s.track.frame_rate;
+-- what a master tells of a track
+abbrev pub track_from : MasterTrack → Track
+track_from track = record {
+  kind = track.kind;
+  set = track.set;
+  language = track.language;
+  codecs = track.codecs;
+  bandwidth = track.bandwidth;
+  size = track.size;
+  frame_rate = track.frame_rate;
 }
+
+abbrev pub track_of : Source → Track
+track_of s = track_from s.track
 
 -- each section begins where the one before it ends; its id is its place
 abbrev pub section_at : (place start length : ℕ) → Section

@@ -71,13 +71,18 @@ abbrev pub fault_if : Bool → HlsFault → List HlsFault
 fault_if true fault = fault ∷ []
 fault_if false fault = []
 
+-- all that is refused of a track's segments where the track isn't left out, in order
 abbrev pub segment_faults : Media → List HlsFault
 segment_faults media = fault_if (lacks_maps media) NoMap
     ++ (fault_if (map_changes media.segments) MapChanged ++ fault_if (has_empty media.segments) ZeroDuration)
 
+-- all that is refused of a track whose playlist may go on, in order
+abbrev pub faults_so_far : Source → List HlsFault
+faults_so_far s = if is_left_out s then [] else segment_faults s.media
+
 -- all that is refused of a track, in order
 abbrev pub faults_of : Source → List HlsFault
-faults_of s = fault_if (not s.media.ended) NotEnded ++ (if is_left_out s then [] else segment_faults s.media)
+faults_of s = fault_if (not s.media.ended) NotEnded ++ faults_so_far s
 
 abbrev pub track_faults : List Source → List HlsFault
 track_faults tracks = flat_map faults_of tracks

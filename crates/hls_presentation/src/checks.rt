@@ -25,13 +25,22 @@ fn check_track(source: &Source<'_>) -> Result<(), HlsFault>
     if !source.media.ended {
         return Err(HlsFault::NotEnded);
     }
+    check_so_far(source)
+}
+
+/// The first refusal of a track whose playlist may go on: NoMap, MapChanged or ZeroDuration, in this order. Nothing is
+/// refused of a track that is left out (RFC 8216 4.3.2.1 and 4.3.2.5).
+pub fn check_so_far(source: &Source<'_>) -> Result<(), HlsFault>
+    ensures { result ≡ first_fault (spec.faults_so_far (source_of source.now)) }
+{
     if is_left_out(source) {
         return Ok(());
     }
     check_segments(source.media)
 }
 
-fn check_segments(media: &Media) -> Result<(), HlsFault>
+/// The same of a track that isn't left out, also where a segment of a text track has no map.
+pub fn check_segments(media: &Media) -> Result<(), HlsFault>
     ensures { result ≡ first_fault (spec.segment_faults media.now) }
 {
     if lacks_maps(media) {

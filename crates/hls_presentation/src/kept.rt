@@ -11,13 +11,15 @@ use std::alloc::Global;
 
 /// A track of a master with its media playlist.
 #[derive(Clone, Copy, Debug)]
-pub(crate) struct Source<'a> {
-    pub(crate) track: &'a MasterTrack,
-    pub(crate) media: &'a Media,
+pub struct Source<'a> {
+    /// The master's track.
+    pub track: &'a MasterTrack,
+    /// Its playlist.
+    pub media: &'a Media,
 }
 
-/// One media playlist for each track, in order.
-pub(crate) fn sources_of<'a>(
+/// One media playlist for each track, in order. A track or a playlist without the other gives none.
+pub fn sources_of<'a>(
     alloc: Global,
     mut tracks: &'a [MasterTrack],
     mut medias: &'a [Media],
@@ -35,11 +37,8 @@ pub(crate) fn sources_of<'a>(
     Ok(sources)
 }
 
-/// The tracks that are kept.
-pub(crate) fn kept_of<'a>(
-    alloc: Global,
-    sources: &[Source<'a>],
-) -> Result<Vec<Source<'a>>, NoMemory>
+/// The tracks that are kept, in order.
+pub fn kept_of<'a>(alloc: Global, sources: &[Source<'a>]) -> Result<Vec<Source<'a>>, NoMemory>
     ensures { IfOk result (λ kept. map source_of kept.items ≡ spec.kept (map source_of sources.now)) }
 {
     let mut kept = Vec::new(alloc);
@@ -52,7 +51,7 @@ pub(crate) fn kept_of<'a>(
 }
 
 /// How many tracks are left out.
-pub(crate) fn left_out_of(sources: &[Source<'_>]) -> u64
+pub fn left_out_of(sources: &[Source<'_>]) -> u64
     ensures { result ≡ spec.left_out (map source_of sources.now) }
 {
     let mut count = 0;
@@ -64,8 +63,8 @@ pub(crate) fn left_out_of(sources: &[Source<'_>]) -> u64
     count
 }
 
-/// A text track with a segment without map is left out.
-pub(crate) fn is_left_out(source: &Source<'_>) -> bool
+/// Whether a track is left out: a text track with a segment without map (RFC 8216 4.3.2.5).
+pub fn is_left_out(source: &Source<'_>) -> bool
     ensures { result ≡ spec.is_left_out (source_of source.now) }
 {
     is_text(source.track.kind) && lacks_maps(source.media)
@@ -77,7 +76,8 @@ fn is_text(kind: Kind) -> bool
     matches!(kind, Kind::Text)
 }
 
-pub(crate) fn lacks_maps(media: &Media) -> bool
+/// Whether a segment has no map (RFC 8216 4.3.2.5).
+pub fn lacks_maps(media: &Media) -> bool
     ensures { result ≡ spec.lacks_maps media.now }
 {
     media.segments.as_slice().iter().any(lacks_map)

@@ -8,23 +8,25 @@ use crate::groups::{Groups, row_length, section_count};
 use crate::kept::Source;
 use bridge_io::{NoMemory, Text};
 use exact_time::Nanos;
+use hls_master::MasterTrack;
 use presentation::{Section, SectionList, Track, TrackList};
 use std::alloc::Global;
 
-pub(crate) fn tracks_of(alloc: Global, sources: &[Source<'_>]) -> Result<TrackList, NoMemory>
+/// The tracks of a presentation of these playlists, in order.
+pub fn tracks_of(alloc: Global, sources: &[Source<'_>]) -> Result<TrackList, NoMemory>
     ensures { IfOk result (λ tracks. tracks ≡ map spec.track_of (map source_of sources.now)) }
 {
     let mut tracks = TrackList::new(alloc);
     for source in sources {
-        tracks.push(track_of(alloc, source)?)?;
+        tracks.push(track_of(alloc, source.track)?)?;
     }
     Ok(tracks)
 }
 
-fn track_of(alloc: Global, source: &Source<'_>) -> Result<Track, NoMemory>
-    ensures { IfOk result (λ track. track ≡ spec.track_of (source_of source.now)) }
+/// A master's track as a presentation has it.
+pub fn track_of(alloc: Global, track: &MasterTrack) -> Result<Track, NoMemory>
+    ensures { IfOk result (λ made. made ≡ spec.track_from track.now) }
 {
-    let track = source.track;
     let language = copy_of(alloc, &track.language)?;
     let codecs = copy_of(alloc, &track.codecs)?;
     Ok(Track {
