@@ -113,7 +113,7 @@ fn written_duration(alloc: Global, text: &str) -> Result<String, NoMemory> {
 
 fn written_instant(alloc: Global, text: &str) -> Result<String, NoMemory> {
     let nanos = match text.strip_prefix('-') {
-        Some(digits) => 0 - signed(digits),
+        Some(digits) => 0i128.checked_sub(signed(digits)).unwrap_or(0),
         None => signed(text),
     };
     if nanos < -30_610_224_000_000_000_000 || nanos >= 253_402_300_800_000_000_000 {
@@ -210,9 +210,7 @@ fn number(text: Option<&str>) -> u64 {
     u64::try_from(digits_of(text.unwrap_or(""))).unwrap_or(0)
 }
 
-fn signed(text: &str) -> i128
-    ensures least { -1 < result }
-{
+fn signed(text: &str) -> i128 {
     i128::try_from(digits_of(text)).unwrap_or(0)
 }
 
