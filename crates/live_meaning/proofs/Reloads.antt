@@ -1,0 +1,177 @@
+-- Each playlist of a followed track may take the place of the one before it.
+use Rattle.std.proofs.Common.{◌≡◌, ℕ, ◌+◌, ◌-◌, ◌*◌, ◌^◌, ◌≤◌, zero, suc, Bool, true, false, List, [], ◌∷◌, ◌++◌, map, length, drop, sum, Option, Some, None, Ok, refl, sym, ◌∙◌, ap, subst, inl, inr, arith}
+use Rattle.std.specs.Prelude.{option_map, slice_get, sum_by}
+use Rattle.std.specs.Result.{result_ok}
+use Rattle.std.proofs.lemmas.Bool.{cases_Bool, cases_lt}
+use Rattle.std.proofs.lemmas.List.{length-map, map-append}
+use Rattle.std.proofs.lemmas.List.Sums.{sum_by-cons}
+use Rattle.std.proofs.lemmas.Option.{same_Some, slice_get-map}
+use Rattle.std.proofs.lemmas.Nat.{pow-add}
+use Rattle.std.proofs.Math.Nat.{mul-le-mul_left, one-le-pow}
+use Rattle.hls_media.specs.declared.media.Media.{Media}
+use Rattle.hls_media.specs.declared.media.MediaSegment.{MediaSegment}
+use Rattle.reload_law.specs.Rules.{lawful}
+use Rattle.reload_law.specs.Laws.{ReloadsItself, RulesAreSentences}
+use Rattle.followed.specs.Durations.{durations, last_behind, told, told_behind}
+use Rattle.followed.proofs.KeptPlaces.{next_is_first}
+use Rattle.followed.proofs.PrintedSections.{told_goes_on}
+use Rattle.presentation.specs.Presented.{Presented, is_finished}
+use Rattle.live_meaning.specs.Updates.{Update, unit_of}
+use Rattle.live_meaning.specs.Segments.{Kept, Segment, segments_of}
+use Rattle.live_meaning.specs.Removal.{is_available}
+use Rattle.live_meaning.specs.Histories.{Common, Past, Whole, after, common_with, force_by, gone_on, least_length, new_listed, past_after, whole_of}
+use Rattle.live_meaning.specs.States.{State, Track, shown, state_of, track_of}
+use Rattle.live_meaning.specs.Refusals.{Ended, Refusal, refusal_of, told_if}
+use Rattle.live_meaning.specs.Playlists.{FollowedPlaylist, item_of, playlist_of, playlist_with}
+use Rattle.live_meaning.specs.Grown.{IsLater, media_from}
+use Rattle.live_meaning.specs.Laws.{ReloadsAreLawful, media_of, segment_of}
+use Rattle.live_meaning.proofs.Grown.{grown_is_lawful}
+use Rattle.live_meaning.proofs.Tracks.{length-told, past_at, stays_within, within_at}
+use Rattle.live_meaning.proofs.Histories.{histories_refuse, mapped, sound, whole_goes_on}
+
+-- ---- nothing follows an end
+
+not_told : (b : Bool) (r : Refusal) (rest : List Refusal) → slice_get (told_if b r ++ rest) 0 ≡ None → b ≡ false
+not_told true r rest none = absurd (cc)
+not_told false r rest none = refl
+
+goes_on : (s : State) (u : Update) → refusal_of s u ≡ None → is_finished s.common.force ≡ false
+unfolding refusal_of
+goes_on s u none =
+    elim (cases_Bool (is_finished s.common.force)) [
+      | inl is ↦ let never : Some Ended ≡ None = rw is at none in absurd (cc)
+      | inr other ↦ other
+    ]
+
+-- ---- what a playlist is read as
+
+read : (digits : ℕ) → Kept → MediaSegment
+read digits k = segment_of digits (item_of k)
+
+read_items : (digits : ℕ) (ts : List Kept) → map (segment_of digits) (map item_of ts) ≡ map (read digits) ts
+unfolding read
+read_items digits [] = refl
+read_items digits (t ∷ ts) = ap (λ (xs : List MediaSegment). segment_of digits (item_of t) ∷ xs) (read_items digits ts)
+
+read_from : (digits n : ℕ) (ts : List Kept) → map (segment_of digits) (map item_of (drop n ts)) ≡ drop n (map (read digits) ts)
+read_from digits zero ts = read_items digits ts
+read_from digits (suc n) [] = refl
+read_from digits (suc n) (t ∷ ts) = read_from digits n ts
+
+-- the segments of all, from the first kept one on
+media_is : (c : Common) (unit : ℕ) (past : Past) →
+    media_of (playlist_with c (track_of unit past)) ≡ media_from c.target past.first (is_finished c.force) (map (read c.terms.digits) (told unit past.all))
+media_is c unit past =
+    ap (λ (xs : List MediaSegment). let m : Media = record { target = c.target; sequence = past.first; ended = is_finished c.force; segments = xs } in m) (read_from c.terms.digits past.first (told unit past.all))
+
+-- ---- units and nanoseconds
+
+nanos : (digits : ℕ) (ts : List Kept) → sum_by (λ segment. segment.duration) (map (read digits) ts) ≡ sum (durations ts) * 10 ^ (9 - digits)
+unfolding read
+nanos digits [] = omega arith
+nanos digits (t ∷ ts) =
+    omega (
+      arith,
+      sum_by-cons (λ (segment : MediaSegment). segment.duration) (segment_of digits (item_of t)) (map (λ k. segment_of digits (item_of k)) ts),
+      nanos digits ts,
+      ap (λ n. n * 10 ^ (9 - digits)) (sum_by-cons (λ n. n) t.duration (durations ts)),
+    )
+
+nanos_from : (digits n : ℕ) (ts : List Kept)
+    → sum_by (λ segment. segment.duration) (drop n (map (read digits) ts)) ≡ sum (drop n (durations ts)) * 10 ^ (9 - digits)
+nanos_from digits zero ts = nanos digits ts
+nanos_from digits (suc n) [] = omega arith
+nanos_from digits (suc n) (t ∷ ts) = nanos_from digits n ts
+
+three_targets_last : (digits target units : ℕ) → 3 * target * 10 ^ digits ≤ units → 3 * 10 ^ 9 * target ≤ units * 10 ^ (9 - digits)
+three_targets_last digits target units le = elim (cases_lt 9 digits) [
+  | inl more ↦
+      let parts : digits ≡ 9 + (digits - 9) = omega arith in
+      let tens : 10 ^ digits ≡ 10 ^ 9 * 10 ^ (digits - 9) = ap (λ (n : ℕ). 10 ^ n) parts ∙ pow-add 10 9 (digits - 9) in
+      let none : 9 - digits ≡ 0 = omega arith in
+      let one : 10 ^ (9 - digits) ≡ 1 = ap (λ (n : ℕ). 10 ^ n) none in
+      let times = ap (λ n. units * n) one in
+      let some : 1 ≤ 10 ^ (digits - 9) = one-le-pow (digits - 9) 10 (omega arith) in
+      let whole : 3 * target * 10 ^ digits ≡ 3 * target * (10 ^ 9 * 10 ^ (digits - 9)) = ap (λ n. 3 * target * n) tens in
+      omega (arith, times, whole, mul-le-mul_left (3 * target * 10 ^ 9) some)
+  | inr few ↦
+      let nine : 9 ≡ digits + (9 - digits) = omega arith in
+      let tens : 10 ^ 9 ≡ 10 ^ digits * 10 ^ (9 - digits) = ap (λ (n : ℕ). 10 ^ n) nine ∙ pow-add 10 digits (9 - digits) in
+      let times = ap (λ n. 3 * target * n) tens in
+      omega (arith, times, mul-le-mul_left (10 ^ (9 - digits)) le)
+]
+
+-- ---- one track
+
+module _ (sentences : RulesAreSentences) (itself : ReloadsItself) where
+  update_is_lawful : (w : Whole) (u : Update) (p : Presented) (t : ℕ) (past : Past) → past.first ≤ length past.all
+      → is_finished w.common.force ≡ false →
+      let c = common_with w.common u p in
+      let unit = unit_of w.common.terms in
+      lawful (media_of (playlist_with w.common (track_of unit past))) (media_of (playlist_with c (track_of unit (past_after c t past)))) ≡ Ok tt
+  update_is_lawful w u p t past within unended =
+      let c : Common = common_with w.common u p in
+      let unit : ℕ = unit_of w.common.terms in
+      let digits : ℕ = w.common.terms.digits in
+      let new : List Segment = new_listed c t past.all in
+      let all : List Segment = past.all ++ new in
+      let ts : List Kept = told unit all in
+      let next : ℕ = (past_after c t past).first in
+      let is = next_is_first past.first (least_length c) (option_map is_available c.force.following) (durations ts) (segments_of ts) in
+      let olds : List MediaSegment = map (read digits) (told unit past.all) in
+      let news : List MediaSegment = map (read digits) (told_behind unit (last_behind None past.all) new) in
+      let grow : map (read digits) ts ≡ olds ++ news =
+      ap (λ (ks : List Kept). map (read digits) ks) (told_goes_on unit past.all new)
+      ∙ map-append (read digits) (told unit past.all) (told_behind unit (last_behind None past.all) new) in
+      let later : IsLater c.target past.first next (map (read digits) ts) = record {
+        rises = is.rises;
+        within = omega (arith, stays_within c t past within, length-map ts (read digits), length-told unit None all);
+        lasts =
+            λ rises. omega (arith, nanos_from digits next ts, three_targets_last digits c.target (sum (drop next (durations ts))) (is.lasts rises));
+      } in
+      let there : past.first ≤ length olds =
+      omega (arith, within, length-map (told unit past.all) (read digits), length-told unit None past.all) in
+      let grown =
+      grown_is_lawful sentences itself c.target past.first next (is_finished p) olds news there (subst (λ (xs : List MediaSegment). IsLater c.target past.first next xs) grow later) in
+      let old_is = media_is w.common unit past ∙ ap (λ (e : Bool). media_from c.target past.first e olds) unended in
+      let new_is =
+      media_is c unit (past_after c t past) ∙ ap (λ (xs : List MediaSegment). media_from c.target next (is_finished p) xs) grow in
+      ap (λ (m : Media). lawful m (media_of (playlist_with c (track_of unit (past_after c t past))))) old_is
+      ∙ ap (λ (m : Media). lawful (media_from c.target past.first false olds) m) new_is
+      ∙ grown
+
+  -- ---- states
+
+  twice : {A B C : Type 0} (f : B → C) (g : A → B) (o : Option A) → option_map f (option_map g o) ≡ option_map (λ x. f (g x)) o
+  twice {A} {B} {C} f g None = refl
+  twice {A} {B} {C} f g (Some x) = refl
+
+  looked_up : (w : Whole) (t : ℕ)
+      → playlist_of (shown w) t ≡ option_map (λ past. playlist_with w.common (track_of (unit_of w.common.terms) past)) (slice_get w.pasts t)
+  looked_up w t =
+      ap (λ (o : Option Track). option_map (playlist_with w.common) o) (slice_get-map (track_of (unit_of w.common.terms)) w.pasts t)
+      ∙ twice (playlist_with w.common) (track_of (unit_of w.common.terms)) (slice_get w.pasts t)
+
+  pub reloads_are_lawful : ReloadsAreLawful
+  unfolding state_of
+  reloads_are_lawful terms history u before later t old new shows shows_later old_is new_is =
+      let refused : refusal_of before u ≡ None =
+      sym (histories_refuse terms history u before shows) ∙ shows_later.accepted history u [] refl in
+      mapped shown (whole_of terms history) before (lawful (media_of old) (media_of new) ≡ Ok tt) shows.leaves (λ w whole shown_is.
+      mapped shown (whole_of terms (history ++ u ∷ [])) later (lawful (media_of old) (media_of new) ≡ Ok tt) shows_later.leaves (λ v whole_later shown_later.
+      let step : after terms (Some w) u ≡ Some v =
+      ap (λ o. after terms o u) (sym whole) ∙ sym (whole_goes_on terms history u) ∙ whole_later in
+      mapped (gone_on w u) (result_ok (force_by terms w.common.force u)) v (lawful (media_of old) (media_of new) ≡ Ok tt) step (λ p forced grown.
+      let c : Common = common_with w.common u p in
+      let unit : ℕ = unit_of w.common.terms in
+      let old_there = sym (looked_up w t) ∙ ap (λ (s : State). playlist_of s t) shown_is ∙ old_is in
+      mapped (λ past. playlist_with w.common (track_of unit past)) (slice_get w.pasts t) old (lawful (media_of old) (media_of new) ≡ Ok tt) old_there (λ past at made.
+      let new_there =
+      sym (ap (λ (o : Option Past). option_map (λ x. playlist_with c (track_of unit x)) o) (past_at c 0 t w.pasts ∙ ap (option_map (past_after c (0 + t))) at))
+      ∙ sym (looked_up (gone_on w u p) t) ∙ ap (λ (s : State). playlist_of s t) (ap shown grown ∙ shown_later) ∙ new_is in
+      let made_new = same_Some _ _ new_there in
+      let unended : is_finished w.common.force ≡ false =
+      ap (λ (s : State). is_finished s.common.force) shown_is ∙ goes_on before u refused in
+      ap (λ (a : FollowedPlaylist). lawful (media_of a) (media_of new)) (sym made)
+      ∙ ap (λ (b : FollowedPlaylist). lawful (media_of (playlist_with w.common (track_of unit past))) (media_of b)) (sym made_new)
+      ∙ update_is_lawful w u p (0 + t) past (within_at w.pasts t past (sound terms history w whole).within at) unended))))
