@@ -1,5 +1,7 @@
 pub mod Elements
+pub mod Lists
 pub mod Manifest
+pub mod Outline
 pub mod Runs
 pub mod SegmentRuns
 pub mod Segments

@@ -1,17 +1,13 @@
 -- The MPD of a presentation that came from playlists (ISO/IEC 23009-1, 5.3).
-use Rattle.std.specs.Prelude.{ℕ, ◌+◌, ◌-◌, ◌^◌, ◌==◌, ◌&&◌, ◌||◌, min, Bool, List, [], ◌∷◌, ◌++◌, length, slice_get, codes, decimal, Option, Some, option_map, option_and_then, option_to_list}
-use Rattle.bridge_io.specs.declared.media.Kind.{Kind}
-use Rattle.bridge_io.specs.declared.media.Kind.TheVariants.{Video, Audio, Text}
+use Rattle.std.specs.Prelude.{ℕ, ◌+◌, ◌-◌, ◌^◌, ◌<◌, min, List, [], ◌∷◌, length, slice_get, codes, decimal, Option, Some, option_map, option_and_then, option_to_list}
 use Rattle.iso_time.specs.Duration.{duration_text}
+use Rattle.presentation.specs.Origins.{CameFromPlaylists}
 use Rattle.presentation.specs.declared.track.Section.{Section}
 use Rattle.presentation.specs.declared.track.Track.{Track}
 use Rattle.presentation.specs.Presented.{Presented, content_at, listed_in, window_of}
-use Rattle.presentation.specs.Rows.{is_of, same_language}
-use Rattle.mpd_markup.specs.Markup.{document}
-use Rattle.dash_writer.specs.Elements.{Attribute, Element, node}
-use Rattle.dash_writer.specs.Runs.{longest_runs}
+use Rattle.dash_writer.specs.Elements.{Attribute, Element}
+use Rattle.dash_writer.specs.Outline.{Outline, outline_text, period_element, period_elements, root_element, set_element, set_elements, sets_of, track_element, track_elements}
 use Rattle.dash_writer.specs.Segments.{segment_list}
-use Rattle.dash_writer.specs.Values.{id_text, known_rate}
 
 -- ---- tracks (5.3.3 and 5.3.5)
 
@@ -21,56 +17,31 @@ segment_lists p section place = option_to_list (option_map
     (λ content. segment_list content.runs content.initialization (listed_in (window_of p section) content.runs))
     (content_at p section place))
 
--- attributes of the track at a place
-abbrev pub representation_attributes : (place : ℕ) → Track → List Attribute
-representation_attributes place track =
-    (codes "id", Some (id_text place))
-    ∷ (codes "bandwidth", Some (decimal track.bandwidth))
-    ∷ (codes "codecs", track.codecs)
-    ∷ (codes "width", option_map (λ size. decimal size.width) track.size)
-    ∷ (codes "height", option_map (λ size. decimal size.height) track.size)
-    ∷ (codes "frameRate", option_and_then known_rate track.frame_rate)
-    ∷ []
+-- the segments of a track in a section can be listed
+pub record CanBeListed (p : Presented) (section place : ℕ) : Type 0 where
+  pub origin : CameFromPlaylists p
+  pub in_sections : section < length p.sections
+  pub in_tracks : place < length p.tracks
 
 -- Representation: the track at a place
 abbrev pub representation : Presented → (section place : ℕ) → Track → Element
-representation p section place track = node (codes "Representation") (representation_attributes place track) (segment_lists p section place)
+representation p section place track = track_element (segment_lists p section) place track
 
 -- the tracks from a place on
 abbrev pub representations : Presented → (section place : ℕ) → List Track → List Element
-representations p section place [] = []
-representations p section place (track ∷ tracks) = representation p section place track ∷ representations p section (place + 1) tracks
-
-abbrev pub mime_type : Kind → List ℕ
-mime_type Video = codes "video/mp4"
-mime_type Audio = codes "audio/mp4"
-mime_type Text = codes "application/mp4"
-
-abbrev pub is_video : Kind → Bool
-is_video kind = is_of Video kind
-
--- Tracks of one AdaptationSet: they are of one kind and in one language, and all video or of one set of renditions.
-abbrev pub stand_together : Track → Track → Bool
-stand_together one other =
-    is_of one.kind other.kind && (is_video one.kind || one.set == other.set) && same_language one.language other.language
-
-abbrev pub set_attributes : Track → List Attribute
-set_attributes track = (codes "mimeType", Some (mime_type track.kind)) ∷ (codes "lang", track.language) ∷ []
+representations p section place tracks = track_elements (segment_lists p section) place tracks
 
 -- AdaptationSet: tracks that stand together, from a place on; there is none without a track
 abbrev pub adaptation_set : Presented → (section place : ℕ) → List Track → List Element
-adaptation_set p section place [] = []
-adaptation_set p section place (track ∷ tracks) =
-    node (codes "AdaptationSet") (set_attributes track) (representations p section place (track ∷ tracks)) ∷ []
+adaptation_set p section place tracks = set_element (segment_lists p section) place tracks
 
 abbrev pub adaptation_sets : Presented → (section place : ℕ) → List (List Track) → List Element
-adaptation_sets p section place [] = []
-adaptation_sets p section place (tracks ∷ sets) = adaptation_set p section place tracks ++ adaptation_sets p section (place + length tracks) sets
+adaptation_sets p section place sets = set_elements (segment_lists p section) place sets
 
 -- ---- sections (5.3.2), and the whole (5.3.1)
 
 abbrev pub all_sets : Presented → (section : ℕ) → List Element
-all_sets p section = adaptation_sets p section 0 (longest_runs stand_together p.tracks)
+all_sets p section = sets_of (segment_lists p section) p.tracks
 
 abbrev pub period_attributes : (place : ℕ) → Section → List Attribute
 period_attributes place section =
@@ -79,14 +50,10 @@ period_attributes place section =
     ∷ (codes "duration", option_map duration_text section.length)
     ∷ []
 
--- Period: the section at a place
-abbrev pub period : Presented → (place : ℕ) → Section → Element
-period p place section = node (codes "Period") (period_attributes place section) (all_sets p place)
-
--- the sections from a place on
-abbrev pub periods : Presented → (place : ℕ) → List Section → List Element
-periods p place [] = []
-periods p place (section ∷ sections) = period p place section ∷ periods p (place + 1) sections
+-- those of the sections from a place on
+abbrev pub all_period_attributes : (place : ℕ) → List Section → List (List Attribute)
+all_period_attributes place [] = []
+all_period_attributes place (section ∷ sections) = period_attributes place section ∷ all_period_attributes (place + 1) sections
 
 -- when a section ends, in nanoseconds, of which fewer than 10^19 can be written
 abbrev pub end_of : Section → Option ℕ
@@ -105,10 +72,27 @@ root_attributes sections =
     ∷ (codes "mediaPresentationDuration", option_map duration_text (last_end sections))
     ∷ []
 
+-- the outline of a presentation's MPD
+abbrev pub outline_of : Presented → Outline
+outline_of p = record {
+  root = root_attributes p.sections;
+  periods = all_period_attributes 0 p.sections;
+  tracks = p.tracks;
+  lists = segment_lists p;
+}
+
+-- Period: the section at a place
+abbrev pub period : Presented → (place : ℕ) → Section → Element
+period p place section = period_element (outline_of p) place (period_attributes place section)
+
+-- the sections from a place on
+abbrev pub periods : Presented → (place : ℕ) → List Section → List Element
+periods p place sections = period_elements (outline_of p) place (all_period_attributes place sections)
+
 -- MPD
 abbrev pub root_of : Presented → Element
-root_of p = node (codes "MPD") (root_attributes p.sections) (periods p 0 p.sections)
+root_of p = root_element (outline_of p)
 
 -- the text of a presentation's MPD
 unfoldable pub manifest_text : Presented → List ℕ
-manifest_text p = document (root_of p).0 (root_of p).1
+manifest_text p = outline_text (outline_of p)

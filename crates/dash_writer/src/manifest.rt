@@ -176,13 +176,14 @@ fn push_period<F: Store, L: Ledger>(
     ensures { let shows = shown F.files F.read_faults F.write_faults in
         Adds (element_text (spec.period presentation.now place section.now)) writer.old writer.new (shows store.old) (shows store.new) result }
 {
-    let childless = presentation.tracks().is_empty();
+    let tracks = presentation.tracks().as_slice();
+    let childless = tracks.is_empty();
     let attributes = [
         ("id", Some(Value::Number(place as u64))),
         ("start", Some(Value::Duration(section.start))),
         ("duration", duration(section.length)),
     ];
     push_start(writer, store, "Period", &attributes, childless)?;
-    push_sets(alloc, presentation, place, writer, store, steps)?;
+    push_sets(alloc, presentation, place, tracks, writer, store, steps)?;
     push_end(writer, store, "Period", childless)
 }

@@ -7,7 +7,7 @@ ghost use Rattle.presentation.specs.Laws.{HasAddress};
 ghost use Rattle.presentation.specs.Origins.{CameFromPlaylists, IsAddressed};
 ghost use Rattle.presentation.specs.Presented.{listed_in};
 ghost use Rattle.dash_writer.specs.Elements.{node, tag_of};
-ghost use Rattle.dash_writer.specs.Manifest.{segment_lists};
+ghost use Rattle.dash_writer.specs.Manifest.{CanBeListed, segment_lists};
 ghost use Rattle.dash_writer.specs.SegmentRuns.{runs_left};
 ghost use Rattle.dash_writer.specs.Segments as spec;
 ghost use Rattle.dash_writer.specs.Values.{range_text};
@@ -15,6 +15,7 @@ ghost use Rattle.dash_writer.specs.Written.{element_text, elements_text, start_t
 
 use crate::attribute::Value;
 use crate::element::{push_end, push_leaf, push_start};
+use crate::sets::TrackLists;
 use crate::times::{SegmentRun, push_runs};
 use bridge_io::{Fail, FileWriter, Ledger, Steps, Store};
 use presentation::Presentation;
@@ -22,8 +23,26 @@ use std::alloc::Global;
 use timeline::{ListFault, Listing, Runs, Segment, TimeWalk, Window};
 use url_parts::{Part, Range};
 
+impl TrackLists for Presentation {
+    ghost lists = { segment_lists };
+
+    ghost can_list = { CanBeListed };
+
+    fn push_list<F: Store, L: Ledger>(
+        &self,
+        alloc: Global,
+        section: usize,
+        track: usize,
+        writer: &mut FileWriter<'_>,
+        store: &mut F,
+        steps: &mut Steps<L>,
+    ) -> Result<(), Fail> {
+        push_segments(alloc, self, section, track, writer, store, steps)
+    }
+}
+
 /// Adds the SegmentList of a track in a section (ISO/IEC 23009-1, 5.3.9.3).
-pub(crate) fn push_segments<F: Store, L: Ledger>(
+fn push_segments<F: Store, L: Ledger>(
     alloc: Global,
     presentation: &Presentation,
     section: usize,

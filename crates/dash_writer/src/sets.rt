@@ -1,50 +1,61 @@
 // The tracks of a section: AdaptationSets with their Representations.
-ghost use Rattle.std.specs.Prelude.{◌≡◌, ◌+◌, ◌<◌, ◌≤◌, ◌∷◌, false, length, take, drop, codes, decimal, option_map, option_and_then};
+ghost use Rattle.std.specs.Prelude.{◌≡◌, ℕ, ◌+◌, ◌<◌, ◌≤◌, ◌^◌, List, ◌∷◌, false, length, take, drop, codes, decimal, option_map, option_and_then};
 ghost use Rattle.file_pieces.specs.Adding.{Adds, shown};
-ghost use Rattle.presentation.specs.Origins.{CameFromPlaylists};
 ghost use Rattle.presentation.specs.Rows.{is_of, same_language};
-ghost use Rattle.dash_writer.specs.Elements.{tag_of};
-ghost use Rattle.dash_writer.specs.Manifest as spec;
+ghost use Rattle.dash_writer.specs.Elements.{Element, tag_of};
+ghost use Rattle.dash_writer.specs.Outline as spec;
 ghost use Rattle.dash_writer.specs.Runs.{longest_runs};
 ghost use Rattle.dash_writer.specs.Values.{known_rate};
-ghost use Rattle.dash_writer.specs.Written.{element_text, elements_text, start_text, value_text};
+ghost use Rattle.dash_writer.specs.Written.{element_text, elements_text, is_childless, start_text, value_text};
 
 use crate::attribute::Value;
 use crate::element::{push_end, push_start};
-use crate::segments::push_segments;
 use bridge_io::{Fail, FileWriter, Kind, Ledger, Ratio, Size, Steps, Store, Text};
-use presentation::{Presentation, Track};
+use presentation::Track;
 use std::alloc::Global;
 
+/// What tracks have in Periods.
+pub(crate) trait TrackLists {
+    /// The elements of a Period's track, by their places.
+    ghost lists: { Self → ℕ → ℕ → List Element };
+
+    /// When they can be written.
+    ghost can_list: { Self → ℕ → ℕ → Type 0 };
+
+    /// Adds what the track at a place has in the Period at a place.
+    fn push_list<F: Store, L: Ledger>(
+        &self,
+        alloc: Global,
+        section: usize,
+        track: usize,
+        writer: &mut FileWriter<'_>,
+        store: &mut F,
+        steps: &mut Steps<L>,
+    ) -> Result<(), Fail>
+        requires { can_list self.now section track }
+        ensures { let shows = shown F.files F.read_faults F.write_faults in
+            Adds (elements_text (lists self.now section track)) writer.old writer.new (shows store.old) (shows store.new) result };
+}
+
 /// Adds the AdaptationSets of the section at a place (ISO/IEC 23009-1, 5.3.3).
-pub(crate) fn push_sets<F: Store, L: Ledger>(
+pub(crate) fn push_sets<T: TrackLists, F: Store, L: Ledger>(
     alloc: Global,
-    presentation: &Presentation,
+    lists: &T,
     section: usize,
+    tracks: &[Track],
     writer: &mut FileWriter<'_>,
     store: &mut F,
     steps: &mut Steps<L>,
 ) -> Result<(), Fail>
-    requires origin { CameFromPlaylists presentation.now }
-    requires section { section < length presentation.now.sections }
+    requires { spec.AreListed (T.can_list lists.now section) (T.lists lists.now section) 0 (length tracks.now) }
     ensures { let shows = shown F.files F.read_faults F.write_faults in
-        Adds (elements_text (spec.all_sets presentation.now section)) writer.old writer.new (shows store.old) (shows store.new) result }
+        Adds (elements_text (spec.sets_of (T.lists lists.now section) tracks.now)) writer.old writer.new (shows store.old) (shows store.new) result }
 {
-    let tracks = presentation.tracks().as_slice();
     let mut rest = tracks;
     while let Some((first, others)) = rest.split_first() {
         let place = tracks.len() - rest.len();
         let (set, behind) = rest.split_at(1 + standing_with(first, others));
-        push_set(
-            alloc,
-            presentation,
-            section,
-            place,
-            set,
-            writer,
-            store,
-            steps,
-        )?;
+        push_set(alloc, lists, section, place, set, writer, store, steps)?;
         rest = behind;
     }
     Ok(())
@@ -91,9 +102,9 @@ fn is_same_language(one: &Option<Text>, other: &Option<Text>) -> bool
 }
 
 /// Adds the AdaptationSet of tracks from a place on.
-fn push_set<F: Store, L: Ledger>(
+fn push_set<T: TrackLists, F: Store, L: Ledger>(
     alloc: Global,
-    presentation: &Presentation,
+    lists: &T,
     section: usize,
     place: usize,
     set: &[Track],
@@ -101,26 +112,16 @@ fn push_set<F: Store, L: Ledger>(
     store: &mut F,
     steps: &mut Steps<L>,
 ) -> Result<(), Fail>
-    requires origin { CameFromPlaylists presentation.now }
-    requires section { section < length presentation.now.sections }
-    requires tracks { place + length set.now ≤ length presentation.now.tracks }
+    requires listed { spec.AreListed (T.can_list lists.now section) (T.lists lists.now section) place (length set.now) }
+    requires places { place + length set.now < 2 ^ 64 }
     ensures { let shows = shown F.files F.read_faults F.write_faults in
-        Adds (elements_text (spec.adaptation_set presentation.now section place set.now)) writer.old writer.new (shows store.old) (shows store.new) result }
+        Adds (elements_text (spec.set_element (T.lists lists.now section) place set.now)) writer.old writer.new (shows store.old) (shows store.new) result }
 {
     let Some((track, _)) = set.split_first() else {
         return Ok(());
     };
     push_set_start(track, writer, store)?;
-    push_representations(
-        alloc,
-        presentation,
-        section,
-        place,
-        set,
-        writer,
-        store,
-        steps,
-    )?;
+    push_representations(alloc, lists, section, place, set, writer, store, steps)?;
     push_end(writer, store, "AdaptationSet", false)
 }
 
@@ -161,9 +162,9 @@ fn text(known: &Option<Text>) -> Option<Value<'_>>
 }
 
 /// Adds the Representations of tracks from a place on (5.3.5).
-fn push_representations<F: Store, L: Ledger>(
+fn push_representations<T: TrackLists, F: Store, L: Ledger>(
     alloc: Global,
-    presentation: &Presentation,
+    lists: &T,
     section: usize,
     place: usize,
     tracks: &[Track],
@@ -171,26 +172,15 @@ fn push_representations<F: Store, L: Ledger>(
     store: &mut F,
     steps: &mut Steps<L>,
 ) -> Result<(), Fail>
-    requires origin { CameFromPlaylists presentation.now }
-    requires section { section < length presentation.now.sections }
-    requires tracks { place + length tracks.now ≤ length presentation.now.tracks }
+    requires listed { spec.AreListed (T.can_list lists.now section) (T.lists lists.now section) place (length tracks.now) }
+    requires places { place + length tracks.now < 2 ^ 64 }
     ensures { let shows = shown F.files F.read_faults F.write_faults in
-        Adds (elements_text (spec.representations presentation.now section place tracks.now)) writer.old writer.new (shows store.old) (shows store.new) result }
+        Adds (elements_text (spec.track_elements (T.lists lists.now section) place tracks.now)) writer.old writer.new (shows store.old) (shows store.new) result }
 {
-    let _ = presentation.tracks().len(); // which fits a number
     let mut rest = tracks;
     let mut place = place;
     while let Some((track, others)) = rest.split_first() {
-        push_representation(
-            alloc,
-            presentation,
-            section,
-            place,
-            track,
-            writer,
-            store,
-            steps,
-        )?;
+        push_representation(alloc, lists, section, place, track, writer, store, steps)?;
         place += 1;
         rest = others;
     }
@@ -198,9 +188,9 @@ fn push_representations<F: Store, L: Ledger>(
 }
 
 /// Adds the Representation of the track at a place.
-fn push_representation<F: Store, L: Ledger>(
+fn push_representation<T: TrackLists, F: Store, L: Ledger>(
     alloc: Global,
-    presentation: &Presentation,
+    lists: &T,
     section: usize,
     place: usize,
     track: &Track,
@@ -208,14 +198,13 @@ fn push_representation<F: Store, L: Ledger>(
     store: &mut F,
     steps: &mut Steps<L>,
 ) -> Result<(), Fail>
-    requires origin { CameFromPlaylists presentation.now }
-    requires section { section < length presentation.now.sections }
-    requires track { place < length presentation.now.tracks }
+    requires can { T.can_list lists.now section place }
+    requires some { is_childless (T.lists lists.now section place) ≡ false }
     ensures { let shows = shown F.files F.read_faults F.write_faults in
-        Adds (element_text (spec.representation presentation.now section place track.now)) writer.old writer.new (shows store.old) (shows store.new) result }
+        Adds (element_text (spec.track_element (T.lists lists.now section) place track.now)) writer.old writer.new (shows store.old) (shows store.new) result }
 {
     push_track_start(place, track, writer, store)?;
-    push_segments(alloc, presentation, section, place, writer, store, steps)?;
+    lists.push_list(alloc, section, place, writer, store, steps)?;
     push_end(writer, store, "Representation", false)
 }
 

@@ -32,7 +32,8 @@ use Rattle.mpd_markup.specs.Markup.{opening}
 use Rattle.mpd_markup.specs.Placed.{placed, root_place}
 use Rattle.dash_writer.specs.Elements.{in_order, tag_of}
 use Rattle.dash_writer.specs.Runs.{longest_runs}
-use Rattle.dash_writer.specs.Manifest.{all_sets, period, period_attributes, periods, root_attributes, root_of, stand_together}
+use Rattle.dash_writer.specs.Manifest.{all_sets, period, period_attributes, periods, root_attributes, root_of}
+use Rattle.dash_writer.specs.Outline.{stand_together}
 use Rattle.mpd_read_back.specs.Told.{AreNamed, read_at}
 use Rattle.mpd_read_back.specs.Contents.{IsPlain}
 use Rattle.mpd_read_back.specs.Meant.{are_in_order, IsWritable, Seen, TreesMean, seen_of, seen_from}

@@ -19,7 +19,7 @@ use Rattle.url_parts.specs.declared.range.Range.{Range}
 use Rattle.url_parts.proofs.Bases.{bytes_from_accepted}
 use Rattle.mpd_text.specs.Characters.{begins_with_noncharacter, begins_with_bad_character, first_bad_character}
 use Rattle.dash_writer.specs.Values.{range_text, rate_text, id_text}
-use Rattle.dash_writer.specs.Manifest.{mime_type}
+use Rattle.dash_writer.specs.Outline.{mime_type}
 use Rattle.mpd_read_back.specs.Texts.{IsCarried}
 use Rattle.mpd_read_back.proofs.Addressed.{accepted_text}
 

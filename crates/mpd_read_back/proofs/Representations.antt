@@ -32,7 +32,8 @@ use Rattle.mpd_markup.specs.Markup.{Tag, opening}
 use Rattle.mpd_markup.specs.Placed.{placed}
 use Rattle.dash_writer.specs.Elements.{Element as Written, in_order, tag_of}
 use Rattle.dash_writer.specs.Segments.{duration_of, part_or_none, segment_list}
-use Rattle.dash_writer.specs.Manifest.{mime_type, representation, representation_attributes, representations, segment_lists}
+use Rattle.dash_writer.specs.Manifest.{representation, representations, segment_lists}
+use Rattle.dash_writer.specs.Outline.{mime_type, representation_attributes}
 use Rattle.mpd_read_back.specs.Rows.{in_row}
 use Rattle.mpd_read_back.specs.Told.{AreNamed, AreReadable, IsReadable, IsShort, read_at, told_of}
 use Rattle.mpd_read_back.specs.Contents.{IsPlain, IsOwnPart}

@@ -23,7 +23,8 @@ use Rattle.mpd_markup.specs.Markup.{Tag, opening}
 use Rattle.mpd_markup.specs.Placed.{placed}
 use Rattle.dash_writer.specs.Elements.{Element as Written, in_order, tag_of}
 use Rattle.dash_writer.specs.Runs.{longest_runs, with_first}
-use Rattle.dash_writer.specs.Manifest.{adaptation_sets, all_sets, is_video, representations, set_attributes, stand_together}
+use Rattle.dash_writer.specs.Manifest.{adaptation_sets, all_sets, representations}
+use Rattle.dash_writer.specs.Outline.{is_video, set_attributes, stand_together}
 use Rattle.mpd_read_back.specs.Told.{AreNamed, read_at}
 use Rattle.mpd_read_back.specs.Meant.{seen_of, seen_from}
 use Rattle.mpd_read_back.proofs.Representations.{AreOf, Around, Has, HasAll, OfSet, not_left, period_in, representations_named, representations_seen}

@@ -21,7 +21,8 @@ use Rattle.dash_writer.specs.Elements.{node}
 use Rattle.dash_writer.specs.Runs.{longest_runs}
 use Rattle.dash_writer.specs.Segments.{duration_of, initialization, part_or_none, s_element, s_elements, same_duration, segment_list, segment_url, segment_urls, timeline_elements}
 use Rattle.dash_writer.specs.Values.{id_text, range_text}
-use Rattle.dash_writer.specs.Manifest.{adaptation_sets, last_end, manifest_text, mime_type, period, period_attributes, periods, representation, representation_attributes, representations, root_attributes, root_of, segment_lists, set_attributes, stand_together}
+use Rattle.dash_writer.specs.Manifest.{adaptation_sets, last_end, manifest_text, period, period_attributes, periods, representation, representations, root_attributes, root_of, segment_lists}
+use Rattle.dash_writer.specs.Outline.{mime_type, representation_attributes, set_attributes, stand_together}
 use Rattle.mpd_read_back.specs.Contents.{IsOwnPart, IsPlain}
 use Rattle.mpd_read_back.specs.Meant.{IsWritable}
 use Rattle.mpd_read_back.specs.Texts.{IsCarried, IsTellable, TextsMean}

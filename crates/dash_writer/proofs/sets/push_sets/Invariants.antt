@@ -1,6 +1,6 @@
 use Rattle.std.proofs.Common.{◌≡◌, ℕ, ◌-◌, ◌≤◌, List, ◌++◌, length, Ok}
 use Rattle.file_pieces.specs.Adding.{Adds, shown}
-use Rattle.dash_writer.specs.Manifest.{adaptation_sets, all_sets, stand_together}
+use Rattle.dash_writer.specs.Outline.{set_elements, sets_of, stand_together}
 use Rattle.dash_writer.specs.Runs.{longest_runs}
 use Rattle.dash_writer.specs.Written.{elements_text}
 use Rattle.dash_writer.proofs.sets.push_sets.Given as goal
@@ -9,11 +9,11 @@ use Rattle.dash_writer.proofs.sets.push_sets.Given as goal
 abbrev pub invariant-loop-first : goal.invariant-loop-first
 invariant-loop-first g l =
     let shows = shown g.F.Store.files g.F.Store.read_faults g.F.Store.write_faults in
-    let p = l.presentation in
+    let lists = g.T.TrackLists.lists l.lists l.section in
     record {
-      within : length l.rest ≤ length p.tracks;
+      within : length l.rest ≤ length l.tracks;
       done : (done : List ℕ)
-          × (done ++ elements_text (adaptation_sets p l.section (length p.tracks - length l.rest) (longest_runs stand_together l.rest)) ≡ elements_text (all_sets p l.section))
+          × (done ++ elements_text (set_elements lists (length l.tracks - length l.rest) (longest_runs stand_together l.rest)) ≡ elements_text (sets_of lists l.tracks))
           × Adds {T = Unit {0}} done l.initial.writer l.writer (shows l.initial.store) (shows l.store) (Ok tt);
     }
 
