@@ -92,17 +92,17 @@ parts_are c plain =
 
 -- what was written of it
 told_is : (c : Content) (plain : IsPlain c)
-    → told_of c.runs c.initialization (listed_in whole_window c.runs) ≡ list_told c.runs.ticks c.initialization plain.durations plain.parts
+    → told_of c.runs c.initialization (listed_in whole_window c.runs) ≡ list_told c.runs.ticks 0 0 c.initialization plain.durations plain.parts
 told_is c plain =
-    ap₂ (list_told c.runs.ticks c.initialization)
+    ap₂ (list_told c.runs.ticks 0 0 c.initialization)
     (ap (map duration_of) (listed_is c plain) ∙ durations_are c.runs.ticks 0 c.runs.first_number plain.durations) (parts_are c plain)
 
 -- and what is read of that
 content_is : (c : Content) (plain : IsPlain c) (url : List ℕ) (end : End) (d : Description) → d.bases ≡ []
-    → content_meant url end d (list_told c.runs.ticks c.initialization plain.durations plain.parts)
+    → content_meant url end d (list_told c.runs.ticks 0 0 c.initialization plain.durations plain.parts)
     ≡ record {
       initialization = c.initialization;
-      runs = timeline_from (scale_of (list_told c.runs.ticks c.initialization plain.durations plain.parts)) 0
+      runs = timeline_from (scale_of (list_told c.runs.ticks 0 0 c.initialization plain.durations plain.parts)) 0
           (names.Shared (map name_of (map url_of plain.parts)) url)
           (map Closed (in_row (max 1 c.runs.ticks) 0 plain.durations));
     }
@@ -111,13 +111,13 @@ content_is c plain url end d bases =
     rw (
       bases,
       own_address url c.initialization.address plain.initialization.address,
-      timeline_expands (scale_of (list_told c.runs.ticks c.initialization plain.durations plain.parts)) end plain.durations refl,
+      timeline_expands (scale_of (list_told c.runs.ticks 0 0 c.initialization plain.durations plain.parts)) end plain.durations refl,
       whole_list (map url_of plain.parts),
     ) refl
 
 pub contents_are_meant : ContentsAreMeant
 contents_are_meant c url end d plain bases =
-    let s = list_told c.runs.ticks c.initialization plain.durations plain.parts in
+    let s = list_told c.runs.ticks 0 0 c.initialization plain.durations plain.parts in
     let other : SegmentTimeline = timeline_from (scale_of s) 0 (names.Shared (map name_of (map url_of plain.parts)) url)
     (map Closed (in_row (max 1 c.runs.ticks) 0 plain.durations)) in
     let same_ticks : max 1 c.runs.ticks ≡ c.runs.ticks = omega (arith, plain.positive) in

@@ -1,6 +1,7 @@
 -- The elements of a written SegmentList are read as they were written.
 use Rattle.std.proofs.Common.{◌≡◌, ℕ, zero, suc, ◌≤◌, ◌==◌, pos, Bool, true, false, List, [], ◌∷◌, ◌++◌, length, map, filter, codes, Option, Some, None, if◌then◌else◌, IfSome, option_map, option_and_then, unwrap_or, refl, sym, ◌∙◌, ap, ap₂, subst, arith}
 use Rattle.std.proofs.lemmas.List.{length-map}
+use Rattle.std.proofs.lemmas.Simd.{map-map}
 use Rattle.std.specs.Prelude.{decimal}
 use Rattle.std.specs.List.{AllByRecursion}
 use Rattle.bridge_io.specs.declared.place.Place.{Place}
@@ -17,12 +18,13 @@ use Rattle.mpd_levels.specs.Segments as level
 use Rattle.mpd_levels.specs.declared.initialization.Initialization.{Initialization}
 use Rattle.mpd_markup.specs.Markup.{opening}
 use Rattle.mpd_markup.specs.Placed.{placed}
-use Rattle.dash_writer.specs.Elements.{Element as Written, in_order, leaf}
+use Rattle.dash_writer.specs.Elements.{Element as Written, in_order, leaf, node}
+use Rattle.dash_writer.specs.Lists.{list_with}
 use Rattle.dash_writer.specs.Runs.{longest_runs, with_first}
-use Rattle.dash_writer.specs.Segments.{s_element, s_elements, same_duration, duration_of, part_or_none, segment_url, segment_list, initialization}
+use Rattle.dash_writer.specs.Segments.{s_element, s_elements, same_duration, duration_of, part_or_none, segment_url, segment_list, initialization, list_attributes, timeline_elements}
 use Rattle.timeline.specs.Expansions.{SegmentTimeline, Timing}
 use Rattle.timeline.specs.Listed.{part_of_timing}
-use Rattle.mpd_read_back.specs.Told.{list_told, ListsAreRead, AreReadable, told_of, read_at, run_told, runs_of, url_of, IsReadable, IsShort}
+use Rattle.mpd_read_back.specs.Told.{list_told, ListsAreRead, TimedListsAreRead, AreReadableTimes, told_of, read_at, run_told, runs_of, url_of, IsReadable, IsShort}
 use Rattle.mpd_read_back.proofs.Views.{behind, none_named, nothing_above}
 use Rattle.mpd_read_back.proofs.Numbers.{number_read, signed_read, range_read}
 
@@ -72,12 +74,11 @@ run_read here time duration repeats t d r =
 abbrev pub named_at : List ℕ → Place → List Written → List Element
 named_at name here xs = filter (is_named name) (side_by_side (placed here (in_order xs)))
 
-pub urls_read : {X : Type 0} (part_of : X → Part) (here : Place) (xs : List X) → AllByRecursion (λ x. IsReadable (part_of x)) xs
-    → map level.url_of (named_at (codes "SegmentURL") here (map (λ x. segment_url (part_of x)) xs)) ≡ map url_of (map part_of xs)
-urls_read part_of here [] readable = refl
-urls_read part_of here (x ∷ xs) readable =
-    ap₂ (λ url urls. url ∷ urls) (url_read (past here (codes "\n")) (part_of x) readable.0)
-    (urls_read part_of (behind here (segment_url (part_of x))) xs readable.1)
+urls_read : (here : Place) (parts : List Part) → AllByRecursion IsReadable parts
+    → map level.url_of (named_at (codes "SegmentURL") here (map segment_url parts)) ≡ map url_of parts
+urls_read here [] readable = refl
+urls_read here (part ∷ parts) readable =
+    ap₂ (λ url urls. url ∷ urls) (url_read (past here (codes "\n")) part readable.0) (urls_read (behind here (segment_url part)) parts readable.1)
 
 abbrev IsShortRun : ℕ → List ℕ → Type 0
 IsShortRun n run = AllByRecursion IsShort run × (length run ≤ n)
@@ -109,55 +110,77 @@ runs_short : (ds : List ℕ) → AllByRecursion IsShort ds → AllByRecursion (I
 runs_short [] short = tt
 runs_short (d ∷ ds) short = one_more (length ds) d (longest_runs same_duration ds) short.0 (runs_short ds short.1)
 
-pub timeline_read : (here : Place) (ds : List ℕ) → AllByRecursion IsShort ds → IsShort (length ds)
-    → map level.run_of (named_at (codes "S") here (s_elements (Some 0) (longest_runs same_duration ds))) ≡ runs_of (Some 0) (longest_runs same_duration ds)
-timeline_read here ds short few = runs_read here (length ds) (Some 0) (longest_runs same_duration ds) (omega arith) few (runs_short ds short)
+timeline_read : (here : Place) (first : ℕ) (ds : List ℕ) → IsShort first → AllByRecursion IsShort ds → IsShort (length ds)
+    → map level.run_of (named_at (codes "S") here (s_elements (Some first) (longest_runs same_duration ds))) ≡ runs_of (Some first) (longest_runs same_duration ds)
+timeline_read here first ds begins short few = runs_read here (length ds) (Some first) (longest_runs same_duration ds) begins few (runs_short ds short)
 
 -- ---- the list
 
--- a list at a place
-record OfList (here : Place) (timeline : SegmentTimeline) (part : Part) (listed : List Timing) : Type 0 where
-  ticks : number_named (codes "timescale") (read_at here (segment_list timeline part listed)).head ≡ Some timeline.ticks
-  initialized : level.initialization_in (read_at here (segment_list timeline part listed)) ≡ Some (initialization_of part)
-  timed : level.timeline_in (read_at here (segment_list timeline part listed)) ≡ Some (runs_of (Some 0) (longest_runs same_duration (map duration_of listed)))
-  named : level.urls_in (read_at here (segment_list timeline part listed))
-      ≡ level.if_any (map url_of (map (λ x. part_or_none (part_of_timing timeline x)) listed))
-
-of_list : (here : Place) (timeline : SegmentTimeline) (part : Part) (listed : List Timing) → AreReadable timeline part listed → OfList here timeline part listed
-of_list here timeline part listed readable = record {
-  ticks = number_read timeline.ticks readable.ticks;
-  initialized = ap Some (initialization_read _ part readable.initialization);
-  timed = ap Some (timeline_read _ (map duration_of listed) readable.durations (subst IsShort (sym (length-map listed duration_of)) readable.few));
-  named = ap level.if_any (urls_read (λ x. part_or_none (part_of_timing timeline x)) _ listed readable.parts);
-}
+-- its attributes, with the time of the Period's start where it is told
+attributes_read : (ticks : ℕ) (offset : Option ℕ) (first : ℕ) (part : Part) (ds : List ℕ) (parts : List Part) (here : Place) → IsShort ticks → IfSome offset IsShort
+    → level.attributes_in true (read_at here (list_with ticks offset first part ds parts) ∷ [])
+    ≡ record { media = None; initialization = None; timescale = Some ticks; duration = None; start_number = None; time_offset = offset }
+attributes_read ticks None first part ds parts here short told =
+    ap (λ t. record { media = None; initialization = None; timescale = or_else t None; duration = None; start_number = None; time_offset = None }) (number_read ticks short)
+attributes_read ticks (Some n) first part ds parts here short told =
+    ap₂ (λ t o. record { media = None; initialization = None; timescale = or_else t None; duration = None; start_number = None; time_offset = or_else o None })
+    (number_read ticks short) (number_read n told)
 
 -- what a list tells by its parts
-told_with : (ticks : ℕ) (part : Part) (ds : List ℕ) (parts : List Part) (values : level.Values)
-    → values.attributes ≡ record { media = None; initialization = None; timescale = Some ticks; duration = None; start_number = None; time_offset = None }
-    → values.initialization ≡ Some (initialization_of part) → values.timeline ≡ Some (runs_of (Some 0) (longest_runs same_duration ds))
+told_with : (ticks : ℕ) (offset : Option ℕ) (first : ℕ) (part : Part) (ds : List ℕ) (parts : List Part) (values : level.Values)
+    → values.attributes ≡ record { media = None; initialization = None; timescale = Some ticks; duration = None; start_number = None; time_offset = offset }
+    → values.initialization ≡ Some (initialization_of part) → values.timeline ≡ Some (runs_of (Some first) (longest_runs same_duration ds))
     → values.urls ≡ level.if_any (map url_of parts)
-    → level.told true values ≡ list_told ticks part ds parts
-told_with ticks part ds parts values attributes initialized timed named = rw (attributes, initialized, timed, named) refl
+    → level.told true values ≡ list_told ticks (unwrap_or offset 0) first part ds parts
+told_with ticks offset first part ds parts values attributes initialized timed named = rw (attributes, initialized, timed, named) refl
 
 -- what a list says, alone
-pub list_values : (here : Place) (timeline : SegmentTimeline) (part : Part) (listed : List Timing) → AreReadable timeline part listed
-    → level.told true (level.values_in true (read_at here (segment_list timeline part listed) ∷ [])) ≡ told_of timeline part listed
-list_values here timeline part listed readable =
-    let is = of_list here timeline part listed readable in
-    told_with timeline.ticks part (map duration_of listed) (map (λ x. part_or_none (part_of_timing timeline x)) listed)
-    (level.values_in true (read_at here (segment_list timeline part listed) ∷ []))
-    (ap (λ t. record { media = None; initialization = None; timescale = or_else t None; duration = None; start_number = None; time_offset = None }) is.ticks)
-    (nothing_above _ ∙ is.initialized)
-    (nothing_above _ ∙ is.timed)
-    (nothing_above _ ∙ is.named)
+list_values : (here : Place) (ticks : ℕ) (offset : Option ℕ) (first : ℕ) (part : Part) (ds : List ℕ) (parts : List Part)
+    → AreReadableTimes ticks offset first part ds parts
+    → level.told true (level.values_in true (read_at here (list_with ticks offset first part ds parts) ∷ [])) ≡ list_told ticks (unwrap_or offset 0) first part ds parts
+list_values here ticks offset first part ds parts readable =
+    told_with ticks offset first part ds parts (level.values_in true (read_at here (list_with ticks offset first part ds parts) ∷ []))
+    (attributes_read ticks offset first part ds parts here readable.ticks readable.offset)
+    (nothing_above _ ∙ ap Some (initialization_read _ part readable.initialization))
+    (nothing_above _ ∙ ap Some (timeline_read _ first ds readable.first readable.durations readable.few))
+    (nothing_above _ ∙ ap level.if_any (urls_read _ parts readable.parts))
 
 -- ---- levels
 
-pub lists_are_read : ListsAreRead
+pub timed_lists : TimedListsAreRead
 unfolding segments_of
-lists_are_read timeline part listed representation set period representations sets a b c readable in_set in_period =
+timed_lists ticks offset first part ds parts representation set period representations sets a b c readable in_set in_period =
     rw (
       none_named (codes "Representation") (codes "SegmentList") refl (past b (opening set ++ codes ">")) representations in_set,
       none_named (codes "AdaptationSet") (codes "SegmentList") refl (past c (opening period ++ codes ">")) sets in_period,
-      list_values _ timeline part listed readable,
+      list_values _ ticks offset first part ds parts readable,
     ) refl
+
+-- ---- what is written of a timeline is such a list
+
+list_is : (timeline : SegmentTimeline) (part : Part) (listed : List Timing)
+    → segment_list timeline part listed ≡ list_with timeline.ticks None 0 part (map duration_of listed) (map (λ x. part_or_none (part_of_timing timeline x)) listed)
+list_is timeline part listed =
+    ap (λ urls. node (codes "SegmentList") (list_attributes timeline) (initialization part ∷ node (codes "SegmentTimeline") [] (timeline_elements (map duration_of listed)) ∷ urls))
+    (sym (map-map segment_url (λ x. part_or_none (part_of_timing timeline x)) listed))
+
+all_mapped : {X Y : Type 0} (P : Y → Type 0) (f : X → Y) (xs : List X) → AllByRecursion (λ x. P (f x)) xs → AllByRecursion P (map f xs)
+all_mapped P f [] all = tt
+all_mapped P f (x ∷ xs) all = (all.0, all_mapped P f xs all.1)
+
+pub lists_are_read : ListsAreRead
+lists_are_read timeline part listed representation set period representations sets a b c readable in_set in_period =
+    let ds = map duration_of listed in
+    let part_at : Timing → Part = λ x. part_or_none (part_of_timing timeline x) in
+    let times : AreReadableTimes timeline.ticks None 0 part ds (map part_at listed) = record {
+      ticks = readable.ticks;
+      offset = tt;
+      first = omega arith;
+      initialization = readable.initialization;
+      durations = readable.durations;
+      few = subst IsShort (sym (length-map listed duration_of)) readable.few;
+      parts = all_mapped IsReadable part_at listed readable.parts;
+    } in
+    subst (λ (list : Written). segments_of (read_at a (representation, in_order (list ∷ [])) ∷ read_at b (set, in_order representations)
+    ∷ read_at c (period, in_order sets) ∷ []) ≡ Some (told_of timeline part listed)) (sym (list_is timeline part listed))
+    (timed_lists timeline.ticks None 0 part ds (map part_at listed) representation set period representations sets a b c times in_set in_period)

@@ -1,5 +1,5 @@
 -- What is read of the segments of a Representation that are listed (ISO/IEC 23009-1, 5.3.9).
-use Rattle.std.specs.Prelude.{◌≡◌, ℕ, ◌+◌, ◌^◌, ◌<◌, ◌≤◌, pos, Bool, true, List, [], ◌∷◌, ◌++◌, length, map, codes, bytes_eq, Option, Some, None, IfSome}
+use Rattle.std.specs.Prelude.{◌≡◌, ℕ, ◌+◌, ◌^◌, ◌<◌, ◌≤◌, pos, Bool, true, List, [], ◌∷◌, ◌++◌, length, map, codes, bytes_eq, Option, Some, None, unwrap_or, IfSome}
 use Rattle.std.specs.List.{list_all, AllByRecursion}
 use Rattle.bridge_io.specs.declared.place.Place.{Place}
 use Rattle.url_parts.specs.declared.address.Part.{Part}
@@ -14,6 +14,7 @@ use Rattle.mpd_levels.specs.Segments.{Segments, if_any, segments_of}
 use Rattle.mpd_markup.specs.Markup.{Tag, opening}
 use Rattle.mpd_markup.specs.Placed.{head_at, placed}
 use Rattle.dash_writer.specs.Elements.{Element as Written, in_order}
+use Rattle.dash_writer.specs.Lists.{list_with}
 use Rattle.dash_writer.specs.Runs.{longest_runs}
 use Rattle.dash_writer.specs.Segments.{duration_of, part_or_none, same_duration, segment_list}
 
@@ -40,16 +41,16 @@ runs_of time (run ∷ runs) = run_of time run ++ runs_of None runs
 abbrev pub url_of : Part → SegmentUrl
 url_of part = record { media = Some part.address; range = part.range }
 
--- segments of these durations and files
-abbrev pub list_told : (ticks : ℕ) → Part → (durations : List ℕ) → List Part → Segments
-list_told ticks initialization durations parts = record {
+-- segments of these durations and files: the media time of the Period's start, and that of the first segment
+abbrev pub list_told : (ticks offset first : ℕ) → Part → (durations : List ℕ) → List Part → Segments
+list_told ticks offset first initialization durations parts = record {
   is_list = true;
   media = None;
   timescale = ticks;
   duration = None;
   start_number = 1;
-  time_offset = 0;
-  timeline = Some (runs_of (Some 0) (longest_runs same_duration durations));
+  time_offset = offset;
+  timeline = Some (runs_of (Some first) (longest_runs same_duration durations));
   urls = if_any (map url_of parts);
   init_template = None;
   init_reference = Some initialization.address;
@@ -78,9 +79,19 @@ pub record AreReadable (timeline : SegmentTimeline) (part : Part) (listed : List
   pub few : IsShort (length listed)
   pub parts : AllByRecursion (λ x. IsReadable (part_or_none (part_of_timing timeline x))) listed
 
+-- the same of a list with times of its own
+pub record AreReadableTimes (scale : ℕ) (start : Option ℕ) (begin : ℕ) (map_part : Part) (lengths : List ℕ) (files : List Part) : Type 0 where
+  pub ticks : IsShort scale
+  pub offset : IfSome start IsShort
+  pub first : IsShort begin
+  pub initialization : IsReadable map_part
+  pub durations : AllByRecursion IsShort lengths
+  pub few : IsShort (length lengths)
+  pub parts : AllByRecursion IsReadable files
+
 -- what was written of a timeline
 abbrev pub told_of : SegmentTimeline → Part → List Timing → Segments
-told_of timeline part listed = list_told timeline.ticks part (map duration_of listed) (map (λ x. part_or_none (part_of_timing timeline x)) listed)
+told_of timeline part listed = list_told timeline.ticks 0 0 part (map duration_of listed) (map (λ x. part_or_none (part_of_timing timeline x)) listed)
 
 -- ---- a Representation in its set and its Period
 
@@ -99,3 +110,12 @@ ListsAreRead = (timeline : SegmentTimeline) (part : Part) (listed : List Timing)
     → segments_of (read_at a (representation, in_order (segment_list timeline part listed ∷ [])) ∷ read_at b (set, in_order representations) ∷ read_at c
     (period, in_order sets) ∷ [])
     ≡ Some (told_of timeline part listed)
+
+-- So it is at any scale, with any media time of the Period's start and of the first segment: no time of the start is 0.
+abbrev pub TimedListsAreRead : Type 0
+TimedListsAreRead = (ticks : ℕ) (offset : Option ℕ) (first : ℕ) (part : Part) (durations : List ℕ) (parts : List Part) (representation set period : Tag)
+    (representations sets : List Written) (a b c : Place)
+    → AreReadableTimes ticks offset first part durations parts → AreNamed (codes "Representation") representations → AreNamed (codes "AdaptationSet") sets
+    → segments_of (read_at a (representation, in_order (list_with ticks offset first part durations parts ∷ [])) ∷ read_at b (set, in_order representations)
+    ∷ read_at c (period, in_order sets) ∷ [])
+    ≡ Some (list_told ticks (unwrap_or offset 0) first part durations parts)

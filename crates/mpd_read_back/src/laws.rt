@@ -1,5 +1,5 @@
 // Laws of written MPDs.
-ghost use Rattle.mpd_read_back.specs.Told.{ListsAreRead};
+ghost use Rattle.mpd_read_back.specs.Told.{ListsAreRead, TimedListsAreRead};
 ghost use Rattle.mpd_read_back.specs.Contents.{ContentsAreMeant};
 ghost use Rattle.mpd_read_back.specs.Meant.{TreesMean};
 ghost use Rattle.mpd_read_back.specs.Texts.{TextsMean};
@@ -10,6 +10,12 @@ use mpd_markup::printed_trees_are_read;
 /// child but for sets and Representations, are told as they were written (ISO/IEC 23009-1, 5.3.9).
 pub fn written_lists_are_read()
     ensures { ListsAreRead }
+{}
+
+/// So are those of a list with any scale, media time of the Period's start and time of the first segment: where no time of the
+/// start is told it is 0 (ISO/IEC 23009-1, 5.3.9.2 and 5.3.9.6).
+pub fn timed_lists_are_read()
+    ensures { TimedListsAreRead }
 {}
 
 /// What a track has in a section means the same when it is read of the written SegmentList, whatever the URL of the MPD and
