@@ -1,4 +1,5 @@
 pub mod Escaping
+pub mod Listable
 pub mod Neighbours
 pub mod Nodes
 pub mod Origins

@@ -1,4 +1,5 @@
 pub mod Elements
+pub mod Listable
 pub mod Lists
 pub mod Manifest
 pub mod Outline
