@@ -21,7 +21,7 @@ use Rattle.presentation.specs.Told.{name_of}
 use Rattle.dash_writer.specs.Segments.{duration_of, part_or_none}
 use Rattle.mpd_read_back.specs.Rows.{in_row}
 use Rattle.mpd_read_back.specs.Told.{list_told, told_of, url_of}
-use Rattle.mpd_read_back.specs.Contents.{IsOwnPart, IsPlain, ContentsAreMeant}
+use Rattle.mpd_read_back.specs.Contents.{IsOwnPart, IsPlain, IsPlainFrom, ContentsAreMeant, TimedContentsAreMeant}
 use Rattle.mpd_read_back.proofs.Addressed.{own_address}
 use Rattle.mpd_read_back.proofs.Times.{all_listed, durations_are, extents_closed, timeline_expands}
 
@@ -72,9 +72,26 @@ same_entries initialization tl other n m (x ∷ xs) same = ap (λ segments. Some
 
 -- ---- a content
 
+listed_from : (from : ℕ) (c : Content) (plain : IsPlainFrom from c) → listed_in whole_window c.runs ≡ numbered c.runs.first_number (in_row c.runs.ticks from plain.durations)
+listed_from from c plain = rw (plain.members, extents_closed _ (in_row c.runs.ticks from plain.durations))
+    (all_listed c.runs.ticks from c.runs.first_number plain.durations plain.positive plain.lasting)
+
+-- one from the section's start on is one from a time on
+abbrev from_start : (c : Content) → IsPlain c → IsPlainFrom 0 c
+from_start c plain = record {
+  parts = plain.parts;
+  durations = plain.durations;
+  named = plain.named;
+  members = plain.members;
+  paired = plain.paired;
+  positive = plain.positive;
+  lasting = plain.lasting;
+  initialization = plain.initialization;
+  own = plain.own;
+}
+
 pub listed_is : (c : Content) (plain : IsPlain c) → listed_in whole_window c.runs ≡ numbered c.runs.first_number (in_row c.runs.ticks 0 plain.durations)
-listed_is c plain = rw (plain.members, extents_closed _ (in_row c.runs.ticks 0 plain.durations))
-    (all_listed c.runs.ticks 0 c.runs.first_number plain.durations plain.positive plain.lasting)
+listed_is c plain = listed_from 0 c (from_start c plain)
 
 whole_list : {X : Type 0} (xs : List X) → unwrap_or (if_any xs) [] ≡ xs
 whole_list [] = refl
@@ -98,38 +115,41 @@ told_is c plain =
     (ap (map duration_of) (listed_is c plain) ∙ durations_are c.runs.ticks 0 c.runs.first_number plain.durations) (parts_are c plain)
 
 -- and what is read of that
-content_is : (c : Content) (plain : IsPlain c) (url : List ℕ) (end : End) (d : Description) → d.bases ≡ []
-    → content_meant url end d (list_told c.runs.ticks 0 0 c.initialization plain.durations plain.parts)
+content_is : (c : Content) (offset from : ℕ) (plain : IsPlainFrom from c) (url : List ℕ) (end : End) (d : Description) → d.bases ≡ []
+    → content_meant url end d (list_told c.runs.ticks offset (offset + from) c.initialization plain.durations plain.parts)
     ≡ record {
       initialization = c.initialization;
-      runs = timeline_from (scale_of (list_told c.runs.ticks 0 0 c.initialization plain.durations plain.parts)) 0
+      runs = timeline_from (scale_of (list_told c.runs.ticks offset (offset + from) c.initialization plain.durations plain.parts)) offset
           (names.Shared (map name_of (map url_of plain.parts)) url)
-          (map Closed (in_row (max 1 c.runs.ticks) 0 plain.durations));
+          (map Closed (in_row (max 1 c.runs.ticks) from plain.durations));
     }
 unfolding content_meant
-content_is c plain url end d bases =
+content_is c offset from plain url end d bases =
     rw (
       bases,
       own_address url c.initialization.address plain.initialization.address,
-      timeline_expands (scale_of (list_told c.runs.ticks 0 0 c.initialization plain.durations plain.parts)) end plain.durations refl,
+      timeline_expands (scale_of (list_told c.runs.ticks offset (offset + from) c.initialization plain.durations plain.parts)) end (offset + from) from plain.durations refl,
       whole_list (map url_of plain.parts),
     ) refl
 
-pub contents_are_meant : ContentsAreMeant
-contents_are_meant c url end d plain bases =
-    let s = list_told c.runs.ticks 0 0 c.initialization plain.durations plain.parts in
-    let other : SegmentTimeline = timeline_from (scale_of s) 0 (names.Shared (map name_of (map url_of plain.parts)) url)
-    (map Closed (in_row (max 1 c.runs.ticks) 0 plain.durations)) in
+pub timed_contents : TimedContentsAreMeant
+timed_contents c offset from url end d plain bases =
+    let s = list_told c.runs.ticks offset (offset + from) c.initialization plain.durations plain.parts in
+    let other : SegmentTimeline = timeline_from (scale_of s) offset (names.Shared (map name_of (map url_of plain.parts)) url)
+    (map Closed (in_row (max 1 c.runs.ticks) from plain.durations)) in
     let same_ticks : max 1 c.runs.ticks ≡ c.runs.ticks = omega (arith, plain.positive) in
-    let row = in_row c.runs.ticks 0 plain.durations in
+    let row = in_row c.runs.ticks from plain.durations in
     let read : listed_in whole_window other ≡ numbered other.first_number row =
-    ap (λ t. listed_in whole_window (record other { members = map Closed (in_row t 0 plain.durations) })) same_ticks
+    ap (λ t. listed_in whole_window (record other { members = map Closed (in_row t from plain.durations) })) same_ticks
     ∙ ap (filter (is_listed whole_window)) (ap (numbered other.first_number) (extents_closed (instant_of whole_window) row))
-    ∙ all_listed c.runs.ticks 0 other.first_number plain.durations plain.positive plain.lasting in
-    let few : 0 + length row ≤ length plain.parts = omega (arith, length_row c.runs.ticks 0 plain.durations, plain.paired) in
-    ap (λ t. entry_of whole_window (content_meant url end d t)) (told_is c plain)
-    ∙ ap (entry_of whole_window) (content_is c plain url end d bases)
+    ∙ all_listed c.runs.ticks from other.first_number plain.durations plain.positive plain.lasting in
+    let few : 0 + length row ≤ length plain.parts = omega (arith, length_row c.runs.ticks from plain.durations, plain.paired) in
+    ap (entry_of whole_window) (content_is c offset from plain url end d bases)
     ∙ ap (entry_with c.initialization other) read
     ∙ same_entries c.initialization c.runs other c.runs.first_number other.first_number row
     (same_segments c.runs other url plain.parts 0 c.runs.first_number other.first_number row plain.named refl (omega arith) (omega arith) few plain.own)
-    ∙ ap (entry_with c.initialization c.runs) (sym (listed_is c plain))
+    ∙ ap (entry_with c.initialization c.runs) (sym (listed_from from c plain))
+
+pub contents_are_meant : ContentsAreMeant
+contents_are_meant c url end d plain bases =
+    ap (λ t. entry_of whole_window (content_meant url end d t)) (told_is c plain) ∙ timed_contents c 0 0 url end d (from_start c plain) bases

@@ -84,11 +84,11 @@ all_run (d ∷ ds) = first_runs d (longest_runs same_duration ds) (all_run ds)
 
 -- ---- what an S gives
 
-extent_is : (scale : Scale) (from d : ℕ) → scale.offset ≡ 0
-    → extent_from scale from d ≡ record { start = in_units scale.ticks from; end = in_units scale.ticks (from + d) }
-extent_is scale from d none =
-    let before : pos from -ℤ pos scale.offset ≡ pos from = omega (arith, ints, none) in
-    let behind : pos (from + d) -ℤ pos scale.offset ≡ pos (from + d) = omega (arith, ints, none) in
+extent_is : (scale : Scale) (time from d : ℕ) → time ≡ scale.offset + from
+    → extent_from scale time d ≡ record { start = in_units scale.ticks from; end = in_units scale.ticks (from + d) }
+extent_is scale time from d is =
+    let before : pos time -ℤ pos scale.offset ≡ pos from = omega (arith, ints, is) in
+    let behind : pos (time + d) -ℤ pos scale.offset ≡ pos (from + d) = omega (arith, ints, is) in
     rw (before, behind) refl
 
 repeat_is : (ticks from d : ℕ) → repeat_of (record { start = in_units ticks from; end = in_units ticks (from + d) })
@@ -114,19 +114,21 @@ row_joins ticks from d (e ∷ others) ds all =
     (row_joins ticks (from + e) d others ds all.1 ∙ ap (λ n. in_row ticks (from + e) others ++ in_row ticks n ds) (omega (arith, all.0)))
 
 -- the members of an S are its run
-runs_expand : (scale : Scale) (end : End) (time : Option ℕ) (from : ℕ) (runs : List (List ℕ)) → scale.offset ≡ 0 → unwrap_or time from ≡ from
-    → AllByRecursion IsRun runs
-    → members_from scale end from (entries_of (runs_of time runs)) ≡ map Closed (in_row scale.ticks from (joined runs))
-runs_expand scale end time from [] none begins all = refl
-runs_expand scale end time from ([] ∷ runs) none begins all = absurd (all.0)
-runs_expand scale end time from ((d ∷ others) ∷ runs) none begins all =
+runs_expand : (scale : Scale) (end : End) (told : Option ℕ) (former time from : ℕ) (runs : List (List ℕ)) → time ≡ scale.offset + from
+    → unwrap_or told former ≡ time → AllByRecursion IsRun runs
+    → members_from scale end former (entries_of (runs_of told runs)) ≡ map Closed (in_row scale.ticks from (joined runs))
+runs_expand scale end told former time from [] is begins all = refl
+runs_expand scale end told former time from ([] ∷ runs) is begins all = absurd (all.0)
+runs_expand scale end told former time from ((d ∷ others) ∷ runs) is begins all =
     let count : length others + 1 ≡ suc (length others) = omega arith in
-    rw (begins, count, extent_is scale from d none, run_is scale.ticks from d others all.0)
-    (ap (λ ms. map Closed (in_row scale.ticks from (d ∷ others)) ++ ms) (runs_expand scale end None (from + suc (length others) * d) runs none refl all.1)
+    let later = time + suc (length others) * d in
+    rw (begins, count, extent_is scale time from d is, run_is scale.ticks from d others all.0)
+    (ap (λ ms. map Closed (in_row scale.ticks from (d ∷ others)) ++ ms)
+    (runs_expand scale end None later later (from + suc (length others) * d) runs (omega (arith, is)) refl all.1)
     ∙ sym (map-append Closed (in_row scale.ticks from (d ∷ others)) (in_row scale.ticks (from + suc (length others) * d) (joined runs)))
     ∙ ap (map Closed) (sym (row_joins scale.ticks from d (d ∷ others) (joined runs) (refl, all.0))))
 
-pub timeline_expands : (scale : Scale) (end : End) (ds : List ℕ) → scale.offset ≡ 0
-    → expansion_of_timeline scale end (entries_of (runs_of (Some 0) (longest_runs same_duration ds))) ≡ map Closed (in_row scale.ticks 0 ds)
-timeline_expands scale end ds none =
-    runs_expand scale end (Some 0) 0 (longest_runs same_duration ds) none refl (all_run ds) ∙ ap (λ es. map Closed (in_row scale.ticks 0 es)) (all_join ds)
+pub timeline_expands : (scale : Scale) (end : End) (first from : ℕ) (ds : List ℕ) → first ≡ scale.offset + from
+    → expansion_of_timeline scale end (entries_of (runs_of (Some first) (longest_runs same_duration ds))) ≡ map Closed (in_row scale.ticks from ds)
+timeline_expands scale end first from ds is =
+    runs_expand scale end (Some first) 0 first from (longest_runs same_duration ds) is refl (all_run ds) ∙ ap (λ es. map Closed (in_row scale.ticks from es)) (all_join ds)

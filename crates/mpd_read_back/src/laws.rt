@@ -1,6 +1,6 @@
 // Laws of written MPDs.
 ghost use Rattle.mpd_read_back.specs.Told.{ListsAreRead, TimedListsAreRead};
-ghost use Rattle.mpd_read_back.specs.Contents.{ContentsAreMeant};
+ghost use Rattle.mpd_read_back.specs.Contents.{ContentsAreMeant, TimedContentsAreMeant};
 ghost use Rattle.mpd_read_back.specs.Meant.{TreesMean};
 ghost use Rattle.mpd_read_back.specs.Texts.{TextsMean};
 
@@ -23,6 +23,12 @@ pub fn timed_lists_are_read()
 /// its own (ISO/IEC 23009-1, 5.3.9.6).
 pub fn written_contents_mean_the_same()
     ensures { ContentsAreMeant }
+{}
+
+/// So it does where media time is counted from any time on, and where the first segment begins behind the section's start
+/// (ISO/IEC 23009-1, 5.3.9.2 and 5.3.9.6).
+pub fn timed_contents_mean_the_same()
+    ensures { TimedContentsAreMeant }
 {}
 
 /// The tree of a presentation's MPD means what the presentation means, at any URL and instant. The presentation is finished
