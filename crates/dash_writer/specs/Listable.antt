@@ -8,7 +8,8 @@ use Rattle.presentation.specs.Verifying.{verified}
 -- what each track has in each section goes on to an end, and each listed segment has an address
 pub record AreListable (p : Presented) : Type 0 where
   pub ended : All IsEnded p.contents
-  pub addressed : (s t : ℕ) → s < length p.sections → t < length p.tracks → IfSome (content_at p s t) (λ content. All (HasAddress content.runs) (listed_at p s t))
+  pub addressed : (s t : ℕ) → s < length p.sections → t < length p.tracks
+      → IfSome (content_at p s t) (λ content. All (HasAddress content.runs) (listed_at p s t))
 
 -- from playlists
 abbrev pub PlaylistsAreListable : Type 0

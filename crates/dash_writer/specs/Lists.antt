@@ -10,4 +10,5 @@ use Rattle.dash_writer.specs.Segments.{initialization, s_elements, same_duration
 abbrev pub list_with : (ticks : ℕ) (offset : Option ℕ) (first : ℕ) → Part → (durations : List ℕ) → List Part → Element
 list_with ticks offset first part durations parts = node (codes "SegmentList")
     ((codes "timescale", Some (decimal ticks)) ∷ (codes "presentationTimeOffset", option_map decimal offset) ∷ [])
-    (initialization part ∷ node (codes "SegmentTimeline") [] (s_elements (Some first) (longest_runs same_duration durations)) ∷ map segment_url parts)
+    (initialization part ∷ node (codes "SegmentTimeline") [] (s_elements (Some first) (longest_runs same_duration durations))
+    ∷ map segment_url parts)

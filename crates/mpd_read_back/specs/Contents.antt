@@ -52,6 +52,7 @@ ContentsAreMeant = (c : Content) (url : List ℕ) (end : End) (d : Description) 
 
 -- and at any media time of the section's start
 abbrev pub TimedContentsAreMeant : Type 0
-TimedContentsAreMeant = (c : Content) (offset from : ℕ) (url : List ℕ) (end : End) (d : Description) (plain : IsPlainFrom from c) → d.bases ≡ []
+TimedContentsAreMeant = (c : Content) (offset from : ℕ) (url : List ℕ) (end : End) (d : Description) (plain : IsPlainFrom from c)
+    → d.bases ≡ []
     → entry_of whole_window (content_meant url end d (list_told c.runs.ticks offset (offset + from) c.initialization plain.durations plain.parts))
     ≡ entry_of whole_window c

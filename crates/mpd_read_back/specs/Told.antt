@@ -91,7 +91,8 @@ pub record AreReadableTimes (scale : ℕ) (start : Option ℕ) (begin : ℕ) (ma
 
 -- what was written of a timeline
 abbrev pub told_of : SegmentTimeline → Part → List Timing → Segments
-told_of timeline part listed = list_told timeline.ticks 0 0 part (map duration_of listed) (map (λ x. part_or_none (part_of_timing timeline x)) listed)
+told_of timeline part listed =
+    list_told timeline.ticks 0 0 part (map duration_of listed) (map (λ x. part_or_none (part_of_timing timeline x)) listed)
 
 -- ---- a Representation in its set and its Period
 
@@ -113,9 +114,11 @@ ListsAreRead = (timeline : SegmentTimeline) (part : Part) (listed : List Timing)
 
 -- So it is at any scale, with any media time of the Period's start and of the first segment: no time of the start is 0.
 abbrev pub TimedListsAreRead : Type 0
-TimedListsAreRead = (ticks : ℕ) (offset : Option ℕ) (first : ℕ) (part : Part) (durations : List ℕ) (parts : List Part) (representation set period : Tag)
+TimedListsAreRead = (ticks : ℕ) (offset : Option ℕ) (first : ℕ) (part : Part) (durations : List ℕ) (parts : List Part)
+    (representation set period : Tag)
     (representations sets : List Written) (a b c : Place)
-    → AreReadableTimes ticks offset first part durations parts → AreNamed (codes "Representation") representations → AreNamed (codes "AdaptationSet") sets
-    → segments_of (read_at a (representation, in_order (list_with ticks offset first part durations parts ∷ [])) ∷ read_at b (set, in_order representations)
-    ∷ read_at c (period, in_order sets) ∷ [])
+    → AreReadableTimes ticks offset first part durations parts → AreNamed (codes "Representation") representations
+    → AreNamed (codes "AdaptationSet") sets
+    → segments_of (read_at a (representation, in_order (list_with ticks offset first part durations parts ∷ []))
+    ∷ read_at b (set, in_order representations) ∷ read_at c (period, in_order sets) ∷ [])
     ≡ Some (list_told ticks (unwrap_or offset 0) first part durations parts)
