@@ -256,7 +256,9 @@ fn add_hex(bytes: &mut Bytes, digits: &str) -> Result<(), NoMemory> {
         match high {
             None => high = Some(digit),
             Some(first) => {
-                bytes.push(u8::try_from(first * 16 + digit).unwrap_or(0))?;
+                bytes.push(u8::try_from(first.saturating_mul(16).saturating_add(digit)).unwrap_or(
+                    0,
+                ))?;
                 high = None;
             }
         }
