@@ -1,0 +1,77 @@
+-- Files by their places, and what was begun of more of them.
+use Rattle.std.proofs.Common.{◌≡◌, ◌+◌, ◌<◌, ◌≤◌, ℕ, zero, suc, List, [], ◌∷◌, ◌++◌, map, take, length, slice_get, Option, Some, option_map, Result, Ok, Err, OnOk, OnErr, refl, sym, ap, ◌∙◌, subst, arith}
+use Rattle.std.specs.List.{range_with_len}
+use Rattle.std.proofs.Math.Seq.{take-append_seam}
+use Rattle.std.proofs.lemmas.List.{take-append-le, take_all, length-append}
+use Rattle.std.proofs.lemmas.List.FromFn.{length-map-range_with_len, get_or-map-range_with_len}
+use Rattle.std.proofs.lemmas.Option.{slice_get-get_or, slice_get_within}
+use Rattle.bridge_io.specs.Outside.{Files, put, Changes}
+use Rattle.bridge_io.specs.InOrder.{put_all, MayBegin, AreBegun, put_next, begun_at}
+use Rattle.presentation.specs.Presented.{Presented}
+use Rattle.bridge_steps.specs.Playlists.{track_file, track_files}
+
+-- the playlist of a track stands at the track's place
+pub track_at : (out : List ℕ) (digits : ℕ) (p : Presented) (t : ℕ) → t < length p.tracks
+    → slice_get (track_files out digits p) t ≡ Some (track_file out digits p t)
+track_at out digits p t within =
+    let f = track_file out digits p in let n = length p.tracks in
+    let inside : t < length (map f (range_with_len 0 n)) = omega (arith, length-map-range_with_len f 0 n) in
+    let here : 0 + t ≡ t = omega arith in
+    slice_get-get_or (map f (range_with_len 0 n)) t (f 0) inside ∙ ap Some (get_or-map-range_with_len f 0 n t t (f 0) within here)
+
+-- all of them are as many as there are tracks
+pub all_tracks : (out : List ℕ) (digits : ℕ) (p : Presented) (t : ℕ) → length p.tracks ≤ t
+    → take t (track_files out digits p) ≡ track_files out digits p
+all_tracks out digits p t past = let n = length-map-range_with_len (track_file out digits p) 0 (length p.tracks) in
+    take_all t (track_files out digits p) (omega (arith, n))
+
+module _ {X : Type 0} where
+  pub at_front : (xs ys : List X) (k : ℕ) (x : X) → slice_get xs k ≡ Some x → slice_get (xs ++ ys) k ≡ Some x
+  at_front [] ys k x is = absurd (cc)
+  at_front (y ∷ xs) ys zero x is = is
+  at_front (y ∷ xs) ys (suc k) x is = at_front xs ys k x is
+
+  pub at_seam : (xs : List X) (x : X) → slice_get (xs ++ x ∷ []) (length xs) ≡ Some x
+  at_seam [] x = refl
+  at_seam (y ∷ xs) x = at_seam xs x
+
+-- of more files as many were begun
+pub begun_more : (fs gs : List (List ℕ × List ℕ)) (before after : Option Files) → AreBegun fs before after
+    → AreBegun (fs ++ gs) before after
+begun_more fs gs before after begun = record {
+  count = begun.count;
+  file = begun.file;
+  next = at_front fs gs begun.count begun.file begun.next;
+  begun = let within = slice_get_within fs begun.count begun.file begun.next in
+      let same : take begun.count (fs ++ gs) ≡ take begun.count fs = take-append-le begun.count fs gs (omega (arith, within)) in
+      subst (λ taken. MayBegin begun.file (option_map (put_all taken) before) after) (sym same) begun.begun;
+}
+
+module _ (fs : List (List ℕ × List ℕ)) (file : List ℕ × List ℕ) (before mid after : Option Files) (were : Changes (put_all fs) before mid)
+  where
+    first_put : Changes (put_all (take (length fs) (fs ++ file ∷ []))) before mid
+    first_put = subst (λ taken. Changes (put_all taken) before mid) (sym (take-append_seam fs (file ∷ []))) were
+
+    -- one more file was put, or begun, after all others
+    pub put_last : Changes (put file.0 file.1) mid after → Changes (put_all (fs ++ file ∷ [])) before after
+    put_last puts =
+        let all : take (length fs + 1) (fs ++ file ∷ []) ≡ fs ++ file ∷ [] = take_all (length fs + 1) (fs ++ file ∷ [])
+        (omega (arith, length-append fs (file ∷ []))) in
+        subst (λ taken. Changes (put_all taken) before after) all (put_next (fs ++ file ∷ []) (length fs) file before mid after
+        (at_seam fs file) first_put puts)
+
+    pub begun_last : MayBegin file mid after → AreBegun (fs ++ file ∷ []) before after
+    begun_last may = begun_at (fs ++ file ∷ []) (length fs) file before mid after (at_seam fs file) first_put may
+
+-- what an answer says follows from what it says otherwise
+pub on_ok_by : {T E : Type 0} (result : Result T E) {P Q : Type 0} → (P → Q) → OnOk result P → OnOk result Q
+on_ok_by (Ok x) f p = f p
+on_ok_by (Err e) f p = tt
+
+pub on_err_by : {T E : Type 0} (result : Result T E) {P Q : Type 0} → (P → Q) → OnErr result P → OnErr result Q
+on_err_by (Ok x) f p = tt
+on_err_by (Err e) f p = f p
+
+pub on_err : {T E : Type 0} (result : Result T E) {P : Type 0} → P → OnErr result P
+on_err (Ok x) p = tt
+on_err (Err e) p = p

@@ -1,0 +1,186 @@
+-- How the work of a run ends follows from what it leaves of the files.
+use Rattle.std.proofs.Common.{◌≡◌, ◌⊎◌, ◌+◌, ◌≤◌, ℕ, Bool, false, IsTrue, List, [], Option, None, Some, option_map, inl, inr, refl, sym, ap, ◌∙◌, subst, arith}
+use Rattle.std.proofs.lemmas.List.{append-nil}
+use Rattle.bridge_io.specs.Fault.{Rose}
+use Rattle.bridge_io.specs.declared.outside.Fail.TheVariants as fail
+use Rattle.bridge_io.specs.InOrder.{put_all}
+use Rattle.bridge_runs.specs.declared.status.Verdict.{Verdict}
+use Rattle.bridge_runs.specs.declared.status.Verdict.TheVariants as verdict
+use Rattle.bridge_runs.specs.declared.status.Status.{Status}
+use Rattle.bridge_runs.specs.declared.status.Status.TheVariants as status
+use Rattle.bridge_runs.specs.declared.ending.Ending.{Ending}
+use Rattle.bridge_runs.specs.declared.ending.Ending.TheVariants as ending
+use Rattle.bridge_runs.specs.Runs.{Works, Finishes, NeverFalls, Tells, TellsAs, IsRun, status_of, status_untold, words_line}
+use Rattle.bridge_runs.specs.Courses.{Course, World, Whole, Step, Reaches, last_step}
+use Rattle.bridge_runs.proofs.Stepping.{none_put, none_told}
+use Rattle.bridge_report.specs.Outcomes.{Outcome, Ends, Writes, course_by, IsSaid, IsEnding}
+use Rattle.bridge_steps.specs.Endings.{EndsAs, Surroundings, around}
+
+-- as many segments are made as there were
+none_made : (counts : Bool) (before after : ℕ) → (IsTrue counts → after ≡ before) → IsTrue counts
+    → (before + 0 ≤ after) × (after ≤ before + 0)
+none_made counts before after same is = (omega (arith, same is), omega (arith, same is))
+
+uncounted : {P : Type 0} → IsTrue false → P
+uncounted is = absurd (let e = is in cc)
+
+-- nothing is done yet
+at_first : (outcome : Outcome) (w : World) → Whole 0 (course_by outcome) w w
+at_first (Ends v l reads counts) w =
+    record {
+      files =
+          none_put w.files w.files refl;
+      report = none_told w.report w.report refl;
+      made = none_made counts w.made w.made (λ is. refl);
+    }
+at_first (Writes files l reads) w =
+    record {
+      files =
+          none_put w.files w.files refl;
+      report = none_told w.report w.report refl;
+      made = none_made false w.made w.made (λ is. refl);
+    }
+
+abbrev first_step : Outcome → Step
+first_step (Ends v l reads counts) = last_step (course_by (Ends v l reads counts)).end
+first_step (Writes files l reads) = record { files = files; lines = []; least = 0; most = 0; reads = reads }
+
+reached : (outcome : Outcome) (w : World) → Reaches (course_by outcome) w w (first_step outcome)
+reached (Ends v l reads counts) w = record { n = 0; next = refl; whole = at_first (Ends v l reads counts) w }
+reached (Writes files l reads) w = record { n = 0; next = refl; whole = at_first (Writes files l reads) w }
+
+said : (outcome : Outcome) (end : Verdict) (line : List ℕ) (before after : World) → IsSaid outcome end line before.files after.files
+    → after.report ≡ before.report
+    → (IsTrue (course_by outcome).counts → after.made ≡ before.made) → Finishes (course_by outcome) end line before after
+said (Ends v l reads counts) end line before after is report made = record {
+  whole =
+      record {
+        files =
+            none_put before.files after.files is.2;
+        report = none_told before.report after.report report;
+        made = none_made counts before.made after.made made;
+      };
+  verdict = is.0;
+  lines = is.1;
+}
+said (Writes files l reads) end line before after is report made = record {
+  whole = record {
+    files = is.2 ∙ ap (λ fs. option_map (put_all fs) before.files) (sym (append-nil files));
+    report = none_told before.report after.report report;
+    made = none_made false before.made after.made made;
+  };
+  verdict = is.0;
+  lines = is.1;
+}
+
+-- a run that tells nothing before its end works so
+pub works : (outcome : Outcome) (told : Ending) (before after : World) → IsEnding outcome told before.files after.files
+    → (told ≡ ending.ReadFault → Rose before.read_faults after.read_faults)
+    → (told ≡ ending.WriteFault → Rose before.write_faults after.write_faults)
+    → after.report ≡ before.report → (IsTrue (course_by outcome).counts → after.made ≡ before.made)
+    → Works (course_by outcome) told before after
+works outcome (ending.Ended end line) before after is read write report made = said outcome end line before after is report made
+works outcome ending.Words before after is read write report made = said outcome verdict.Words words_line before after is report made
+works (Ends v l reads counts) ending.ReadFault before after is read write report made = record {
+  mid = before;
+  step = first_step (Ends v l reads counts);
+  reaches = reached (Ends v l reads counts) before;
+  reads = is.0;
+  rose = inl (read refl);
+  files = is.1;
+  made = none_made counts before.made after.made made;
+  report = report;
+}
+works (Writes files l reads) ending.ReadFault before after is read write report made = record {
+  mid = before;
+  step = first_step (Writes files l reads);
+  reaches = reached (Writes files l reads) before;
+  reads = is.0;
+  rose = inl (read refl);
+  files = is.1;
+  made = none_made false before.made after.made made;
+  report = report;
+}
+works (Ends v l reads counts) ending.WriteFault before after is read write report made = absurd is
+works (Writes files l reads) ending.WriteFault before after is read write report made = record {
+  mid = before;
+  step = first_step (Writes files l reads);
+  reaches = reached (Writes files l reads) before;
+  rose = write refl;
+  files = is;
+  made = none_made false before.made after.made made;
+  report = report;
+}
+works (Ends v l reads counts) ending.Memory before after (inl same) read write report made = record {
+  mid = before;
+  step = first_step (Ends v l reads counts);
+  reaches = reached (Ends v l reads counts) before;
+  left = inl (same, none_made counts before.made after.made made);
+  report = report;
+}
+works (Ends v l reads counts) ending.Memory before after (inr begun) read write report made = absurd begun
+works (Writes files l reads) ending.Memory before after (inl same) read write report made = record {
+  mid = before;
+  step = first_step (Writes files l reads);
+  reaches = reached (Writes files l reads) before;
+  left = inl (same, none_made false before.made after.made made);
+  report = report;
+}
+works (Writes files l reads) ending.Memory before after (inr begun) read write report made = record {
+  mid = before;
+  step = first_step (Writes files l reads);
+  reaches = reached (Writes files l reads) before;
+  left = inr (inl begun, none_made false before.made after.made made);
+  report = report;
+}
+works outcome (ending.Cut fail) before after is read write report made = absurd is
+
+-- what a command meets of what a run meets
+abbrev met : World → Surroundings
+met world = around world.files world.read_faults world.write_faults world.made
+
+-- a run whose work ended so, of the course that its outcome is
+pub run_of : (o : Option Outcome) (course : Course) (told : Ending) (end : Status) (before mid after : World)
+    → option_map course_by o ≡ Some course
+    → EndsAs o told (met before) (met mid) → NeverFalls before mid → mid.report ≡ before.report → Tells told end mid after
+    → IsRun course end before after
+run_of None course told end before mid after is ends never_falls report tells = absurd (cc)
+run_of (Some outcome) course told end before mid after is ends never_falls report tells =
+    let same : course_by outcome ≡ course = cc in
+    subst (λ course. IsRun course end before after) same (record {
+      how = told;
+      mid = mid;
+      works =
+          works outcome told before mid (ends.ending outcome refl) (λ is. ends.read_fault (ap status_of is))
+          (λ is. ends.write_fault (ap status_of is)) report
+          (ends.made outcome refl);
+      never_falls = never_falls;
+      tells = tells;
+    })
+
+-- Words are told of an ending by words alone
+untold_words : (told : Ending) → status_untold told ≡ status.Words → status_of told ≡ status.Words
+untold_words (ending.Ended verdict.Done line) is = absurd (cc)
+untold_words (ending.Ended verdict.Refused line) is = is
+untold_words (ending.Ended verdict.Words line) is = is
+untold_words (ending.Ended verdict.Differ line) is = is
+untold_words ending.Words is = is
+untold_words ending.ReadFault is = is
+untold_words ending.WriteFault is = is
+untold_words ending.Memory is = is
+untold_words (ending.Cut fail.Failed) is = is
+untold_words (ending.Cut fail.Memory) is = is
+
+pub words_told : (told : Ending) (end : Status) (f f' : ℕ) (r r' : Option (List ℕ)) → TellsAs told end f f' r r' → end ≡ status.Words
+    → status_of told ≡ status.Words
+words_told told end f f' r r' (inl tells) is = sym tells.0 ∙ is
+words_told told end f f' r r' (inr (inl tells)) is = untold_words told (sym tells.0 ∙ is)
+words_told told end f f' r r' (inr (inr tells)) is = absurd (let e = tells.0 in cc)
+
+-- a write fault is told of one, or where the sink failed
+pub write_fault_told : (told : Ending) (end : Status) (f f' : ℕ) (r r' : Option (List ℕ)) {P : Type 0} → TellsAs told end f f' r r'
+    → end ≡ status.WriteFault
+    → (status_of told ≡ status.WriteFault → P) → P ⊎ Rose f f'
+write_fault_told told end f f' r r' (inl tells) is rose = inl (rose (sym tells.0 ∙ is))
+write_fault_told told end f f' r r' (inr (inl tells)) is rose = inr tells.1
+write_fault_told told end f f' r r' (inr (inr tells)) is rose = absurd (let e = tells.0 in cc)

@@ -1,0 +1,4 @@
+pub mod Done
+pub mod Endings
+pub mod Manifests
+pub mod Playlists

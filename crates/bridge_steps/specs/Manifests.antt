@@ -1,0 +1,44 @@
+-- From the bytes of an MPD to a presentation whose segments all have addresses.
+use Rattle.std.specs.Prelude.{ℕ, ℤ, List, if◌then◌else◌, Option, Some, None, Result, Ok, Err}
+use Rattle.bridge_io.specs.Outside.{Files}
+use Rattle.mpd_text.specs.Meaning.{reading_of}
+use Rattle.mpd_levels.specs.Segments.{Segments}
+use Rattle.mpd_rules.specs.Typed.{TypedMpd}
+use Rattle.mpd_rules.specs.Rules.{typed_mpd_of}
+use Rattle.presentation.specs.Presented.{Presented}
+use Rattle.presentation.specs.Told.{and_then, told_as, presented_of}
+use Rattle.presentation.specs.Verifying.{verified}
+use Rattle.bridge_report.specs.declared.refusal.Refusal.{Refusal}
+use Rattle.bridge_report.specs.declared.refusal.Refusal.TheVariants as refusal
+use Rattle.bridge_report.specs.Reading.{Named, content_of, of_file}
+use Rattle.bridge_playlists.specs.declared.place.Place.{Place}
+
+-- a live MPD is refused so, if it is
+abbrev pub unless_live : (live : Option Refusal) → TypedMpd (Option Segments) → Result (TypedMpd (Option Segments)) Refusal
+unless_live None mpd = Ok mpd
+unless_live (Some live) mpd = if mpd.facts.live then Err live else Ok mpd
+
+-- the tree that bytes spell, its values, or the first refusal
+unfoldable pub mpd_of : (live : Option Refusal) → List ℕ → Result (TypedMpd (Option Segments)) Refusal
+mpd_of live bytes =
+    and_then (told_as refusal.Text (reading_of bytes)) (λ root.
+    and_then (told_as refusal.Rules (typed_mpd_of root)) (unless_live live))
+
+-- the presentation of an MPD at a URL, or the first refusal
+unfoldable pub presentation_of : (live : Option Refusal) (url : List ℕ) (now : Option ℤ) (bytes : List ℕ) → Result Presented Refusal
+presentation_of live url now bytes = and_then (mpd_of live bytes) (λ mpd. told_as refusal.Presentation (presented_of mpd url now))
+
+-- each listed segment has an address
+unfoldable pub checked : (unit : ℕ) → Presented → Result Presented Refusal
+checked unit p = and_then (told_as refusal.Presentation (verified p unit)) (λ longest. Ok p)
+
+unfoldable pub checked_presentation : (live : Option Refusal) (unit : ℕ) (url : List ℕ) (now : Option ℤ) (bytes : List ℕ)
+    → Result Presented Refusal
+checked_presentation live unit url now bytes = and_then (presentation_of live url now bytes) (checked unit)
+
+-- the same of the file at a place, which has these bytes
+abbrev pub mpd_in : (live : Option Refusal) (unit : ℕ) (now : Option ℤ) → Place → (bytes : List ℕ) → Result Presented Named
+mpd_in live unit now place bytes = of_file place.file (checked_presentation live unit place.url now bytes)
+
+unfoldable pub mpd_at : (live : Option Refusal) (unit : ℕ) (now : Option ℤ) → Place → Files → Result Presented Named
+mpd_at live unit now place files = and_then (content_of place.file files) (mpd_in live unit now place)

@@ -1,0 +1,42 @@
+// Where a job's files lie, and how a command ends.
+ghost use Rattle.bridge_playlists.specs.Places as places;
+ghost use Rattle.bridge_steps.specs.Endings.{IsPlaced, IsTold, IsWritten};
+
+use bridge_io::{Name, NoMemory, Text};
+use bridge_playlists::{Place, place_of};
+use bridge_report::{Halt, Refusal, halted, refused};
+use bridge_runs::{Ending, Verdict};
+use hls_writer::OutFault;
+use std::alloc::Global;
+
+/// Where a file of a job lies, under the URL of the store's root. Where that is refused, the command ends so.
+pub fn place_in(alloc: Global, base: &Text, file: &Name) -> Result<Place, Ending>
+    ensures { IsPlaced (places.place_of base.now file.now) result }
+{
+    match place_of(alloc, base.as_str(), file) {
+        Ok(Some(place)) => Ok(place),
+        Ok(None) => Err(refused(alloc, "-", Refusal::Base)),
+        Err(NoMemory) => Err(Ending::Memory),
+    }
+}
+
+/// How a command ends that tells what it read, with its verdict, or why a file isn't read.
+pub fn told(alloc: Global, read: Result<(Verdict, Text), Halt>) -> Ending
+    ensures { IsTold read result }
+{
+    match read {
+        Ok((verdict, line)) => Ending::Ended(verdict, line),
+        Err(halt) => halted(alloc, halt),
+    }
+}
+
+/// How a command ends that has written its files, and tells a line of them, or that failed to write them.
+pub fn written(line: Text, written: Result<(), OutFault>) -> Ending
+    ensures { IsWritten line written result }
+{
+    match written {
+        Ok(()) => Ending::Ended(Verdict::Done, line),
+        Err(OutFault::WriteFault) => Ending::WriteFault,
+        Err(OutFault::Memory) => Ending::Memory,
+    }
+}

@@ -1,0 +1,162 @@
+// From the bytes of an MPD to a presentation whose segments all have addresses.
+ghost use Rattle.std.specs.Prelude.{◌≡◌, ◌^◌, Ok, IfOk, IsTrue, is_some, true};
+ghost use Rattle.std.specs.Option.{ForSome};
+ghost use Rattle.bridge_io.specs.Answer.{Gives};
+ghost use Rattle.bridge_io.specs.Fault.{HasCause};
+ghost use Rattle.mpd_text.specs.Meaning.{reading_of};
+ghost use Rattle.mpd_text.specs.Nodes.{root_of};
+ghost use Rattle.mpd_rules.specs.Rules.{typed_mpd_of};
+ghost use Rattle.mpd_rules.specs.Views.{segments_mpd};
+ghost use Rattle.presentation.specs.Counting.{counted, count_of_all};
+ghost use Rattle.presentation.specs.Presented.{is_finished};
+ghost use Rattle.presentation.specs.Told.{told_as};
+ghost use Rattle.presentation.specs.Verifying.{verified};
+ghost use Rattle.bridge_report.specs.declared.reading.Halt.TheVariants.{ReadFault};
+ghost use Rattle.bridge_report.specs.Reading.{halted, IsNoReadFault};
+ghost use Rattle.bridge_report.specs.Refusals.{refused_in};
+ghost use Rattle.bridge_steps.specs.Manifests as spec;
+
+use bridge_io::{Ledger, Steps, Store};
+use bridge_playlists::Place;
+use bridge_report::{Halt, Refusal, Stop, content_of};
+use exact_time::Digits;
+use iso_time::Instant;
+use mpd_rules::{Mpd, rules};
+use mpd_text::{Tree, read_tree};
+use presentation::{Longest, Presentation, static_mpds_are_finished};
+use std::alloc::Global;
+use url_parts::Base;
+
+/// A presentation whose segments all have addresses, with the longest printed duration of each track.
+#[derive(Debug, Drop)]
+pub struct Ready {
+    /// The presentation.
+    pub presentation: Presentation,
+    /// The longest printed duration of each track.
+    pub longest: Longest,
+    /// The decimals of printed durations.
+    pub digits: Digits,
+    ghost verified: { verified presentation (10 ^ digits) ≡ Ok longest },
+    ghost counted: { counted presentation ≡ Ok (count_of_all presentation) },
+}
+
+/// The presentation of the MPD in the file at a place, read at an instant, whose segments all have addresses; or why the file
+/// isn't read. A live MPD is refused as `live`, if that is given, and then what is presented is finished. [`Halt::ReadFault`]
+/// comes only where the store's count of failed reads rose.
+#[tactic(auto, unfolding(crate::specs::Manifests::mpd_at))]
+pub fn mpd_at<F: Store, L: Ledger>(
+    alloc: Global,
+    place: &Place,
+    now: Option<Instant>,
+    live: Option<Refusal>,
+    digits: Digits,
+    store: &mut F,
+    steps: &mut Steps<L>,
+) -> Result<Ready, Halt>
+    ensures mpd { ForSome (F.files store.old) (λ files.
+        Gives (λ ready. ready.presentation) halted result (spec.mpd_at live (10 ^ digits) now place.now files)) }
+    ensures digits { IfOk result (λ ready. ready.digits ≡ digits) }
+    ensures finished { IfOk result (λ ready. IsTrue (is_some live) → is_finished ready.presentation ≡ true) }
+    ensures cause { HasCause ReadFault (F.read_faults store.old) (F.read_faults store.new) result }
+    ensures files { F.files store.new ≡ F.files store.old }
+    ensures writes { F.write_faults store.new ≡ F.write_faults store.old }
+{
+    let bytes = content_of(alloc, store, &place.file)?;
+    mpd_in(alloc, place, bytes.as_slice(), now, live, digits, steps)
+}
+
+/// The same of bytes that the file at a place has.
+pub fn mpd_in<L: Ledger>(
+    alloc: Global,
+    place: &Place,
+    bytes: &[u8],
+    now: Option<Instant>,
+    live: Option<Refusal>,
+    digits: Digits,
+    steps: &mut Steps<L>,
+) -> Result<Ready, Halt>
+    ensures mpd { Gives (λ ready. ready.presentation) halted result (spec.mpd_in live (10 ^ digits) now place.now bytes.now) }
+    ensures digits { IfOk result (λ ready. ready.digits ≡ digits) }
+    ensures finished { IfOk result (λ ready. IsTrue (is_some live) → is_finished ready.presentation ≡ true) }
+    ensures no_fault { IsNoReadFault result }
+{
+    static_mpds_are_finished();
+    match checked_presentation(alloc, &place.url, bytes, now, live, digits, steps) {
+        Ok(ready) => Ok(ready),
+        Err(Stop::Refused(refusal)) => Err(Halt::refused(alloc, &place.file, refusal)),
+        Err(Stop::Memory) => Err(Halt::Memory),
+    }
+}
+
+/// The presentation of bytes, or the first refusal.
+#[tactic(auto, unfolding(crate::specs::Manifests::checked_presentation, crate::specs::Manifests::presentation_of))]
+fn checked_presentation<L: Ledger>(
+    alloc: Global,
+    url: &Base,
+    bytes: &[u8],
+    now: Option<Instant>,
+    live: Option<Refusal>,
+    digits: Digits,
+    steps: &mut Steps<L>,
+) -> Result<Ready, Stop>
+    ensures ready { Gives (λ ready. ready.presentation) refused_in result (spec.checked_presentation live (10 ^ digits) url.now now bytes.now) }
+    ensures digits { IfOk result (λ ready. ready.digits ≡ digits) }
+{
+    let mpd = mpd_of(alloc, bytes, live)?;
+    match Presentation::from_mpd(alloc, &mpd, url, now) {
+        Ok(presentation) => checked(alloc, presentation, digits, steps),
+        Err(fault) => Err(Stop::of_presentation(fault)),
+    }
+}
+
+/// Looks at each listed segment of a presentation: whether it has an address, and how long its printed duration is.
+#[tactic(auto, unfolding(crate::specs::Manifests::checked), using(crate::proofs::Counted::all_counted))]
+fn checked<L: Ledger>(
+    alloc: Global,
+    presentation: Presentation,
+    digits: Digits,
+    steps: &mut Steps<L>,
+) -> Result<Ready, Stop>
+    ensures ready { Gives (λ ready. ready.presentation) refused_in result (spec.checked (10 ^ digits) presentation) }
+    ensures digits { IfOk result (λ ready. ready.digits ≡ digits) }
+{
+    match presentation.verify(alloc, digits, steps) {
+        Ok(longest) => Ok(Ready {
+            presentation,
+            longest,
+            digits,
+        }),
+        Err(fault) => Err(Stop::of_presentation(fault)),
+    }
+}
+
+/// The values of an MPD, or the first refusal.
+#[tactic(auto, unfolding(crate::specs::Manifests::mpd_of))]
+fn mpd_of(alloc: Global, bytes: &[u8], live: Option<Refusal>) -> Result<Mpd, Stop>
+    ensures { Gives segments_mpd refused_in result (spec.mpd_of live bytes.now) }
+{
+    let tree = tree_of(alloc, bytes)?;
+    let mpd = values_of(alloc, &tree)?;
+    match live {
+        Some(refusal) if mpd.live() => Err(Stop::Refused(refusal)),
+        _ => Ok(mpd),
+    }
+}
+
+fn tree_of(alloc: Global, bytes: &[u8]) -> Result<Tree, Stop>
+    ensures { Gives root_of refused_in result (told_as Refusal.Text (reading_of bytes.now)) }
+{
+    match read_tree(alloc, bytes) {
+        Ok(tree) => Ok(tree),
+        Err(fault) => Err(Stop::of_text(fault)),
+    }
+}
+
+fn values_of(alloc: Global, tree: &Tree) -> Result<Mpd, Stop>
+    ensures { Gives segments_mpd refused_in result (told_as Refusal.Rules (typed_mpd_of (root_of tree.now))) }
+{
+    match rules(alloc, tree) {
+        Ok(mpd) => Ok(mpd),
+        Err(fault) => Err(Stop::of_rules(fault)),
+    }
+}
