@@ -31,12 +31,14 @@ two P None b end each = tt
 two P (Some x) None end each = tt
 two P (Some x) (Some y) end each = each x y
 
-three : {A B C D : Type 0} (P : D → Type 0) (a : Option A) (b : Option B) (c : Option C) (end : A → B → C → D) → ((x : A) (y : B) (z : C) → P (end x y z))
+three : {A B C D : Type 0} (P : D → Type 0) (a : Option A) (b : Option B) (c : Option C) (end : A → B → C → D)
+    → ((x : A) (y : B) (z : C) → P (end x y z))
     → IfSome (a >>= (λ x. b >>= (λ y. c >>= (λ z. Some (end x y z))))) P
 three P None b c end each = tt
 three P (Some x) b c end each = two P b c (end x) (each x)
 
-four : {A B C D E : Type 0} (P : E → Type 0) (a : Option A) (b : Option B) (c : Option C) (d : Option D) (end : A → B → C → D → E) → ((x : A) (y : B) (z : C) (w : D) → P (end x y z w))
+four : {A B C D E : Type 0} (P : E → Type 0) (a : Option A) (b : Option B) (c : Option C) (d : Option D) (end : A → B → C → D → E)
+    → ((x : A) (y : B) (z : C) (w : D) → P (end x y z w))
     → IfSome (a >>= (λ x. b >>= (λ y. c >>= (λ z. d >>= (λ w. Some (end x y z w)))))) P
 four P None b c d end each = tt
 four P (Some x) b c d end each = three P b c d (end x) (each x)
@@ -65,7 +67,8 @@ few_of : (rows : List Row) (digits : ℕ) → digits_of rows ≡ Some digits →
 unfolding digits_of
 few_of rows digits is = few_or_six (first_of (codes "digits") rows) digits is
 
-bounded_in : (out : Option (List ℕ)) (digits : Option ℕ) (mpd base : List ℕ) (now : Option ℤ) → ((o : List ℕ) → out ≡ Some o → IsTrue (is_folder o)) → ((d : ℕ) → digits ≡ Some d → d ≤ 9)
+bounded_in : (out : Option (List ℕ)) (digits : Option ℕ) (mpd base : List ℕ) (now : Option ℤ)
+    → ((o : List ℕ) → out ≡ Some o → IsTrue (is_folder o)) → ((d : ℕ) → digits ≡ Some d → d ≤ 9)
     → IfSome (out >>= (λ o. digits >>= (λ d. Some (job.Hls mpd base now o d)))) IsBounded
 bounded_in None digits mpd base now room few = tt
 bounded_in (Some o) None mpd base now room few = tt
@@ -74,8 +77,10 @@ bounded_in (Some o) (Some d) mpd base now room few = (room o refl, few d refl)
 hls_bounded : (rows : List Row) → IfSome (hls_of rows) IsBounded
 unfolding hls_of out_of
 hls_bounded rows =
-    behind IsBounded (file_of (codes "mpd") rows) _ (λ mpd. behind IsBounded (base_of rows) _ (λ base. behind IsBounded (now_of rows) _ (λ now.
-    bounded_in (out_of rows) (digits_of rows) mpd base now (folder_is (unwrap_or (first_of (codes "out") rows) (codes "out"))) (few_of rows))))
+    behind IsBounded (file_of (codes "mpd") rows) _ (λ mpd. behind IsBounded (base_of rows) _
+    (λ base. behind IsBounded (now_of rows) _ (λ now.
+    bounded_in (out_of rows) (digits_of rows) mpd base now (folder_is (unwrap_or (first_of (codes "out") rows) (codes "out")))
+    (few_of rows))))
 
 named : (text name : List ℕ) → name_in text ≡ Some name → IsTrue (is_name name)
 named text name is = elim (cases_Bool (is_name text)) [
@@ -87,7 +92,8 @@ named_in : (text : Option (List ℕ)) (name : List ℕ) → (text >>= name_in) �
 named_in None name is = absurd (cc)
 named_in (Some text) name is = named text name is
 
-dash_in : (master base out : Option (List ℕ)) → ((m : List ℕ) → master ≡ Some m → IsTrue (is_name m)) → IfSome (master >>= (λ m. base >>= (λ b. out >>= (λ o. Some (job.Dash m b o))))) IsBounded
+dash_in : (master base out : Option (List ℕ)) → ((m : List ℕ) → master ≡ Some m → IsTrue (is_name m))
+    → IfSome (master >>= (λ m. base >>= (λ b. out >>= (λ o. Some (job.Dash m b o))))) IsBounded
 dash_in None base out is = tt
 dash_in (Some m) None out is = tt
 dash_in (Some m) (Some b) None is = tt
@@ -107,22 +113,29 @@ check_in (Some f) (Some m) (Some b) (Some d) is = is m refl
 
 check_bounded : (rows : List Row) → IfSome (check_of rows) IsBounded
 unfolding check_of file_of
-check_bounded rows = check_in (file_of (codes "mpd") rows) (file_of (codes "master") rows) (base_of rows) (digits_of rows) (named_in (first_of (codes "master") rows))
+check_bounded rows =
+    check_in (file_of (codes "mpd") rows) (file_of (codes "master") rows) (base_of rows) (digits_of rows)
+    (named_in (first_of (codes "master") rows))
 
 bounded_by : (v : Verb) (rows : List Row) → IfSome (job_by v rows) IsBounded
 unfolding follow_of show_of reload_of make_of hls_index_of dash_times_of agree_of follow_hls_of
 bounded_by verb.Hls rows = hls_bounded rows
 bounded_by verb.Dash rows = dash_bounded rows
-bounded_by verb.Follow rows = four IsBounded (file_of (codes "name") rows) (base_of rows) (out_of rows) (digits_of rows) job.Follow (λ _ _ _ _. tt)
-bounded_by verb.Show rows = four IsBounded (file_of (codes "file") rows) (base_of rows) (now_of rows) (digits_of rows) job.Show (λ _ _ _ _. tt)
+bounded_by verb.Follow rows =
+    four IsBounded (file_of (codes "name") rows) (base_of rows) (out_of rows) (digits_of rows) job.Follow (λ _ _ _ _. tt)
+bounded_by verb.Show rows =
+    four IsBounded (file_of (codes "file") rows) (base_of rows) (now_of rows) (digits_of rows) job.Show (λ _ _ _ _. tt)
 bounded_by verb.Check rows = check_bounded rows
-bounded_by verb.Reload rows = three IsBounded (file_of (codes "old") rows) (file_of (codes "new") rows) (base_of rows) job.Reload (λ _ _ _. tt)
+bounded_by verb.Reload rows =
+    three IsBounded (file_of (codes "old") rows) (file_of (codes "new") rows) (base_of rows) job.Reload (λ _ _ _. tt)
 bounded_by verb.Make rows = three IsBounded (seed_of rows) (out_of rows) (digits_of rows) job.Make (λ _ _ _. tt)
-bounded_by verb.HlsIndex rows = four IsBounded (file_of (codes "mpd") rows) (base_of rows) (out_of rows) (digits_of rows) job.HlsIndex (λ _ _ _ _. tt)
+bounded_by verb.HlsIndex rows =
+    four IsBounded (file_of (codes "mpd") rows) (base_of rows) (out_of rows) (digits_of rows) job.HlsIndex (λ _ _ _ _. tt)
 bounded_by verb.DashTimes rows = three IsBounded (file_of (codes "master") rows) (base_of rows) (out_of rows) job.DashTimes (λ _ _ _. tt)
 bounded_by verb.Agree rows = two IsBounded (file_of (codes "mpd") rows) (base_of rows) job.Agree (λ _ _. tt)
 bounded_by verb.FollowHls rows = three IsBounded (file_of (codes "master") rows) (base_of rows) (out_of rows) job.FollowHls (λ _ _ _. tt)
 
 pub bounded : (words : List (List ℕ)) → IfSome (job_of words) IsBounded
 unfolding job_of
-bounded words = behind IsBounded (first_verb words) _ (λ command. behind IsBounded (values_of command words) (job_by command) (bounded_by command))
+bounded words =
+    behind IsBounded (first_verb words) _ (λ command. behind IsBounded (values_of command words) (job_by command) (bounded_by command))

@@ -13,7 +13,7 @@ use Rattle.presentation.proofs.Filling.{steps_of, ok_under}
 use Rattle.presentation.specs.MeaningLaws.{TextsAreMeant}
 use Rattle.presentation.specs.Meanings.{dash_meaning, meaning_of}
 use Rattle.presentation.specs.Presented.{Presented}
-use Rattle.presentation.specs.Told.{and_then, presented_of}
+use Rattle.presentation.specs.Told.{presented_of}
 use Rattle.bridge_runs.specs.Courses.{Course}
 use Rattle.bridge_runs.specs.Laws.{VerdictKeepsSteps}
 use Rattle.bridge_runs.specs.declared.status.Verdict.{Verdict}
@@ -24,15 +24,17 @@ use Rattle.bridge_report.specs.declared.refusal.Refusal.TheVariants.{NotStatic}
 use Rattle.bridge_playlists.specs.Places.{place_of}
 use Rattle.bridge_playlists.specs.Playlists.{presented_at}
 use Rattle.bridge_playlists.specs.declared.place.Place.{Place}
-use Rattle.bridge_core.specs.Check.{check_beside, check_by, check_outcome, check_under, compared, compared_with, differ_line, mpd_at, mpd_in, told, verdict_of}
+use Rattle.bridge_core.specs.Check.{check_at, check_outcome, compared, differ_line, judged, places_of, both_with, verdict_of}
 use Rattle.bridge_core.specs.Courses.{outcome_of_job, outcome_of_words}
-use Rattle.bridge_core.specs.Hls.{checked, presentation_of}
+use Rattle.bridge_steps.specs.Endings.{placed}
+use Rattle.bridge_steps.specs.Manifests.{checked_presentation, mpd_at, mpd_in, presentation_of}
 use Rattle.bridge_core.specs.Promises.{AreMeant, DifferIsApart, DoneIsAgreed, check_asked}
 use Rattle.bridge_core.specs.declared.check.Check.{Check}
 use Rattle.meaning.proofs.AlikeLemmas.{first_alike}
 use Rattle.bridge_core.proofs.Asked.{IsBounded, bounded}
-use Rattle.bridge_core.proofs.MpdPromises.{content_read, in_folder_is, lies_of, presentation_read}
-use Rattle.bridge_core.proofs.Static.{checked_read, static_read}
+use Rattle.bridge_core.proofs.Lies.{content_read, in_folder_is, lies_of}
+use Rattle.bridge_core.proofs.MpdPromises.{presentation_read}
+use Rattle.bridge_steps.proofs.Static.{checked_read, static_read}
 
 -- ---- a course that isn't refused
 
@@ -50,6 +52,17 @@ by_told (Ok what) course goes is_open =
     record { what = what; is = refl; verdict = ap (λ (c : Course). c.end.verdict) goes; line = ap (λ (c : Course). c.end.lines) goes }
 by_told (Err named) course goes is_open = absurd (is_open (ap (λ (c : Course). c.end.verdict) goes))
 
+-- where both lie
+placed_by : (job : Check) (places : Place × Place) (mpd master : Option Place) → place_of job.base job.mpd ≡ mpd
+    → place_of job.base job.master ≡ master
+    → places_of job ≡ Some places → (place_of job.base job.mpd ≡ Some places.0) × (place_of job.base job.master ≡ Some places.1)
+unfolding places_of
+placed_by job places None master at there is = absurd (let e = rw at at is in cc)
+placed_by job places (Some mpd) None at there is = absurd (let e = rw (at, there) at is in cc)
+placed_by job places (Some mpd) (Some master) at there is =
+    let same : both_with mpd master ≡ places = (let e = rw (at, there) at is in cc) in
+    (at ∙ ap (λ (p : Place × Place). Some p.0) same, there ∙ ap (λ (p : Place × Place). Some p.1) same)
+
 -- both are read, and this is told of them
 record IsCompared (job : Check) (files : Files) (course : Course) : Type 0 where
   source : Place
@@ -57,25 +70,31 @@ record IsCompared (job : Check) (files : Files) (course : Course) : Type 0 where
   master : Place
   master_at : place_of job.base job.master ≡ Some master
   mpd : Presented
-  mpd_read : mpd_at job source files ≡ Ok mpd
+  mpd_read : mpd_at (Some NotStatic) (10 ^ job.digits) None source files ≡ Ok mpd
   playlists : Presented
   playlists_read : presented_at master files ≡ Ok playlists
   verdict : course.end.verdict ≡ (compared (10 ^ job.digits) mpd playlists).0
   line : course.end.lines ≡ (compared (10 ^ job.digits) mpd playlists).1
 
-by_places : (job : Check) (files : Files) (course : Course) (source master : Place) → place_of job.base job.mpd ≡ Some source → place_of job.base job.master ≡ Some master
-    → course ≡ course_by (outcome_told (told job source master files)) → IsOpen course → IsCompared job files course
-unfolding told
-by_places job files course source master source_at master_at goes is_open =
-    let by = by_told (told job source master files) course goes is_open in
-    let first = steps_of (mpd_at job source files) (compared_with job master files) by.what by.is in
-    let second = steps_of (presented_at master files) (λ playlists. Ok (compared (10 ^ job.digits) first.value playlists)) by.what first.then in
+by_places : (job : Check) (files : Files) (course : Course) (places : Option (Place × Place)) → places_of job ≡ places
+    → option_map course_by (placed (check_at job (Some files)) places) ≡ Some course → IsOpen course → IsCompared job files course
+unfolding judged
+by_places job files course None at goes is_open =
+    let same : course_by base_refused ≡ course = cc in
+    absurd (is_open (ap (λ (c : Course). c.end.verdict) (sym same)))
+by_places job files course (Some places) at goes is_open =
+    let told : course_by (outcome_told (judged job places.0 places.1 files)) ≡ course = cc in
+    let by = by_told (judged job places.0 places.1 files) course (sym told) is_open in
+    let lie = placed_by job places (place_of job.base job.mpd) (place_of job.base job.master) refl refl at in
+    let first = steps_of (mpd_at (Some NotStatic) (10 ^ job.digits) None places.0 files) _ by.what by.is in
+    let second = steps_of (presented_at places.1 files) (λ playlists. Ok (compared (10 ^ job.digits) first.value playlists)) by.what
+    first.then in
     let same : compared (10 ^ job.digits) first.value second.value ≡ by.what = (let e = second.then in cc) in
     record {
-      source = source;
-      source_at = source_at;
-      master = master;
-      master_at = master_at;
+      source = places.0;
+      source_at = lie.0;
+      master = places.1;
+      master_at = lie.1;
       mpd = first.value;
       mpd_read = first.first;
       playlists = second.value;
@@ -83,24 +102,6 @@ by_places job files course source master source_at master_at goes is_open =
       verdict = by.verdict ∙ ap (λ (what : Verdict × List ℕ). what.0) (sym same);
       line = by.line ∙ ap (λ (what : Verdict × List ℕ). what.1) (sym same);
     }
-
-refused_base : (course : Course) {P : Type 0} → option_map course_by (Some base_refused) ≡ Some course → IsOpen course → P
-refused_base course goes is_open =
-    let same : course_by base_refused ≡ course = cc in
-    absurd (is_open (ap (λ (c : Course). c.end.verdict) (sym same)))
-
-by_master : (job : Check) (files : Files) (course : Course) (source : Place) (master : Option Place) → place_of job.base job.mpd ≡ Some source → place_of job.base job.master ≡ master
-    → option_map course_by (check_by job source master (Some files)) ≡ Some course → IsOpen course → IsCompared job files course
-by_master job files course source None source_at master_at goes is_open = refused_base course goes is_open
-by_master job files course source (Some master) source_at master_at goes is_open =
-    let same : course_by (outcome_told (told job source master files)) ≡ course = cc in
-    by_places job files course source master source_at master_at (sym same) is_open
-
-by_source : (job : Check) (files : Files) (course : Course) (source : Option Place) → place_of job.base job.mpd ≡ source
-    → option_map course_by (check_under job source (Some files)) ≡ Some course → IsOpen course → IsCompared job files course
-unfolding check_beside
-by_source job files course None source_at goes is_open = refused_base course goes is_open
-by_source job files course (Some source) source_at goes is_open = by_master job files course source (place_of job.base job.master) source_at refl goes is_open
 
 -- ---- what is told of two presentations
 
@@ -126,22 +127,28 @@ record IsMeant (job : Check) (files : Files) (p q : Presented) : Type 0 where
 
 module _ (keeps : VerdictKeepsSteps) (texts : TextsAreMeant) (rates : ReadHaveRates) (meant : PresentedMeanTheirFiles)
     (tells : (unit : ℕ) (a b : Meaning) → Agrees unit a b ↔ (first_difference unit a b ≡ None)) where
-  text_meant : (job : Check) (url bytes : List ℕ) (p : Presented) → and_then (presentation_of NotStatic url None bytes) (checked (10 ^ job.digits)) ≡ Ok p
+  text_meant : (job : Check) (url bytes : List ℕ) (p : Presented)
+      → checked_presentation (Some NotStatic) (10 ^ job.digits) url None bytes ≡ Ok p
       → dash_meaning bytes url None ≡ Some (meaning_of p)
+  unfolding checked_presentation
   text_meant job url bytes p is =
-      let read = static_read NotStatic url None bytes p (checked_read (presentation_of NotStatic url None bytes) (10 ^ job.digits) p is).first in
+      let read = static_read NotStatic url None bytes p (checked_read (presentation_of (Some NotStatic) url None bytes) (10 ^ job.digits) p
+      is).first in
       texts bytes url None read.came.tree read.came.mpd p read.spelled read.came.typed
-      (subst (λ u. presented_of read.came.mpd u None ≡ Ok p) read.at (subst (λ now. presented_of read.came.mpd read.came.url now ≡ Ok p) read.instant read.came.presented))
+      (subst (λ u. presented_of read.came.mpd u None ≡ Ok p) read.at (subst (λ now. presented_of read.came.mpd read.came.url now ≡ Ok p)
+      read.instant read.came.presented))
 
-  are_meant : (job : Check) (files : Files) (course : Course) → IsTrue (is_name job.master) → (by : IsCompared job files course) → IsMeant job files by.mpd by.playlists
+  are_meant : (job : Check) (files : Files) (course : Course) → IsTrue (is_name job.master) → (by : IsCompared job files course)
+      → IsMeant job files by.mpd by.playlists
   unfolding mpd_at
   are_meant job files course named by =
       let source = lies_of job.base job.mpd by.source by.source_at in
       let master = lies_of job.base job.master by.master by.master_at in
-      let text = steps_of (content_of by.source.file files) (mpd_in job by.source) by.mpd by.mpd_read in
+      let text = steps_of (content_of by.source.file files) (mpd_in (Some NotStatic) (10 ^ job.digits) None by.source) by.mpd by.mpd_read in
       let read = presentation_read rates by.master files by.playlists (subst (λ name. IsTrue (is_name name)) (sym master.file) named)
       (in_folder_is job.base job.master by.master master) by.playlists_read in
-      let meaning = meant files by.master.folder by.master.url read.tracks read.medias by.playlists read.master read.playlists read.presented in
+      let meaning = meant files by.master.folder by.master.url read.tracks read.medias by.playlists read.master read.playlists
+      read.presented in
       record {
         playlists = meaning.0;
         meant = record {
@@ -149,7 +156,9 @@ module _ (keeps : VerdictKeepsSteps) (texts : TextsAreMeant) (rates : ReadHaveRa
           source_at = by.source_at;
           bytes = text.value;
           there = ap files (sym source.file) ∙ content_read by.source.file files text.value text.first;
-          means = text_meant job by.source.url text.value by.mpd (ok_under _ (and_then (presentation_of NotStatic by.source.url None text.value) (checked (10 ^ job.digits))) by.mpd text.then);
+          means =
+              text_meant job by.source.url text.value by.mpd (ok_under _ (checked_presentation (Some NotStatic) (10 ^ job.digits)
+              by.source.url None text.value) by.mpd text.then);
           master = by.master;
           master_at = by.master_at;
           told = meaning.1.0;
@@ -158,16 +167,18 @@ module _ (keeps : VerdictKeepsSteps) (texts : TextsAreMeant) (rates : ReadHaveRa
       }
 
   ended : (job : Check) (course : Course) (v : Verdict) (files : Files)
-      → option_map course_by (outcome_of_job (Some (check_asked job)) (Some files)) ≡ Some course → v ≡ course.end.verdict → (v ≡ verdict.Refused → ⊥) → IsCompared job files course
+      → option_map course_by (outcome_of_job (Some (check_asked job)) (Some files)) ≡ Some course → v ≡ course.end.verdict
+      → (v ≡ verdict.Refused → ⊥) → IsCompared job files course
   unfolding check_outcome
-  ended job course v files goes ends is_open = by_source job files course (place_of job.base job.mpd) refl goes (λ refused. is_open (ends ∙ refused))
+  ended job course v files goes ends is_open = by_places job files course (places_of job) refl goes (λ refused. is_open (ends ∙ refused))
 
   pub done_agrees : DoneIsAgreed
   unfolding outcome_of_words
   done_agrees words job course before after files asks was goes run =
       let asked : IfSome (Some (check_asked job)) IsBounded = subst (λ asked. IfSome asked IsBounded) asks (bounded words) in
       let ends = (keeps course verdict.Done before after run).0 in
-      let by = ended job course verdict.Done files (subst (λ asked. option_map course_by (outcome_of_job asked (Some files)) ≡ Some course) asks goes) ends (λ is. absurd (cc)) in
+      let by = ended job course verdict.Done files (subst (λ asked. option_map course_by (outcome_of_job asked (Some files)) ≡ Some course)
+      asks goes) ends (λ is. absurd (cc)) in
       let are = are_meant job files course asked by in
       let none = done_none by.mpd (first_difference (10 ^ job.digits) (meaning_of by.mpd) (meaning_of by.playlists)) (ends ∙ by.verdict) in
       record {
@@ -182,10 +193,13 @@ module _ (keeps : VerdictKeepsSteps) (texts : TextsAreMeant) (rates : ReadHaveRa
   differ_is_apart words job course before after files asks was goes run =
       let asked : IfSome (Some (check_asked job)) IsBounded = subst (λ asked. IfSome asked IsBounded) asks (bounded words) in
       let ends = (keeps course verdict.Differ before after run).0 in
-      let by = ended job course verdict.Differ files (subst (λ asked. option_map course_by (outcome_of_job asked (Some files)) ≡ Some course) asks goes) ends (λ is. absurd (cc)) in
+      let by = ended job course verdict.Differ files (subst (λ asked. option_map course_by (outcome_of_job asked (Some files)) ≡ Some
+      course) asks goes) ends (λ is. absurd (cc)) in
       let are = are_meant job files course asked by in
-      let some = differ_some by.mpd (first_difference (10 ^ job.digits) (meaning_of by.mpd) (meaning_of by.playlists)) (ends ∙ by.verdict) in
-      let found : first_difference (10 ^ job.digits) (meaning_of by.mpd) are.playlists ≡ Some some.first = are.alike (10 ^ job.digits) (meaning_of by.mpd) ∙ some.is in
+      let some = differ_some by.mpd (first_difference (10 ^ job.digits) (meaning_of by.mpd) (meaning_of by.playlists)) (ends ∙ by.verdict)
+      in
+      let found : first_difference (10 ^ job.digits) (meaning_of by.mpd) are.playlists ≡ Some some.first = are.alike (10 ^ job.digits)
+      (meaning_of by.mpd) ∙ some.is in
       record {
         mpd = meaning_of by.mpd;
         playlists = are.playlists;

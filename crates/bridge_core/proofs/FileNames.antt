@@ -13,7 +13,7 @@ use Rattle.mpd_text.proofs.NameLemmas.{same_bytes, equals_itself}
 use Rattle.presentation.specs.Presented.{Presented}
 use Rattle.hls_writer.specs.Master.{master_text}
 use Rattle.read_back.specs.SameFiles.{AreWritten, master_name}
-use Rattle.bridge_core.specs.Playlists.{playlists, track_file, track_files, master_file}
+use Rattle.bridge_steps.specs.Playlists.{playlists, track_file, track_files, master_file}
 
 -- ---- one file
 
@@ -26,7 +26,8 @@ put_elsewhere name other bytes files apart = elim (cases_Bool (bytes_eq name oth
   | inr differs ↦ rw differs refl
 ]
 
-put_last : (fs : List (List ℕ × List ℕ)) (f : List ℕ × List ℕ) (files : Files) → put_all (fs ++ f ∷ []) files ≡ put f.0 f.1 (put_all fs files)
+put_last : (fs : List (List ℕ × List ℕ)) (f : List ℕ × List ℕ) (files : Files)
+    → put_all (fs ++ f ∷ []) files ≡ put f.0 f.1 (put_all fs files)
 put_last [] f files = refl
 put_last (g ∷ fs) f files = put_last fs f (put g.0 g.1 files)
 
@@ -43,7 +44,8 @@ same_first a b xs ys e = cc
 
 no_master : (out : List ℕ) (t : ℕ) → in_folder out (codes "master.m3u8") ≡ in_folder out (playlist_of t) → ⊥
 no_master out t e =
-    let names : codes "master.m3u8" ≡ playlist_of t = (let behind = append_cancel_left out (47 ∷ codes "master.m3u8") (47 ∷ playlist_of t) e in cc) in
+    let names : codes "master.m3u8" ≡ playlist_of t = (let behind = append_cancel_left out (47 ∷ codes "master.m3u8") (47 ∷ playlist_of t)
+    e in cc) in
     absurd (omega (arith, same_first 109 116 (codes "aster.m3u8") (decimal t ++ codes ".m3u8") names))
 
 -- ---- the playlists of a presentation
@@ -52,19 +54,24 @@ module _ (out : List ℕ) (digits : ℕ) (p : Presented) where
   abbrev file : ℕ → List ℕ × List ℕ
   file t = track_file out digits p t
 
-  stays : (from n : ℕ) (files : Files) (t : ℕ) → from + n ≤ 2 ^ 64 → t < from → put_all (map file (range_with_len from n)) files (file t).0 ≡ files (file t).0
+  stays : (from n : ℕ) (files : Files) (t : ℕ) → from + n ≤ 2 ^ 64 → t < from
+      → put_all (map file (range_with_len from n)) files (file t).0 ≡ files (file t).0
   stays from zero files t few less = refl
   stays from (suc n) files t few less =
       stays (from + 1) n (put (file from).0 (file from).1 files) t (omega (arith, few)) (omega (arith, less))
-      ∙ put_elsewhere (file from).0 (file t).0 (file from).1 files (λ same. absurd (omega (arith, less, same_track out from t (omega (arith, few)) (omega (arith, few, less)) same)))
+      ∙ put_elsewhere (file from).0 (file t).0 (file from).1 files (λ same. absurd
+      (omega (arith, less, same_track out from t (omega (arith, few)) (omega (arith, few, less)) same)))
 
-  there : (from n : ℕ) (files : Files) (t : ℕ) → from + n ≤ 2 ^ 64 → from ≤ t → t < from + n → put_all (map file (range_with_len from n)) files (file t).0 ≡ Some (file t).1
+  there : (from n : ℕ) (files : Files) (t : ℕ) → from + n ≤ 2 ^ 64 → from ≤ t → t < from + n
+      → put_all (map file (range_with_len from n)) files (file t).0 ≡ Some (file t).1
   there from zero files t few least less = absurd (omega (arith, least, less))
   there from (suc n) files t few least less = elim (cases_Bool (eqb from t)) [
     | inl same ↦
         let is = eqb-true from t same in
-        rw (sym is) (stays (from + 1) n (put (file from).0 (file from).1 files) from (omega (arith, few)) (omega (arith)) ∙ put_there (file from).0 (file from).1 files)
-    | inr differs ↦ there (from + 1) n (put (file from).0 (file from).1 files) t (omega (arith, few)) (grind (arith, nat_tests, least, differs)) (omega (arith, less))
+        rw (sym is) (stays (from + 1) n (put (file from).0 (file from).1 files) from (omega (arith, few)) (omega (arith)) ∙ put_there
+        (file from).0 (file from).1 files)
+    | inr differs ↦ there (from + 1) n (put (file from).0 (file from).1 files) t (omega (arith, few))
+        (grind (arith, nat_tests, least, differs)) (omega (arith, less))
   ]
 
   pub are_written : (files : Files) → length p.tracks ≤ 200 → AreWritten (put_all (playlists out digits p) files) (out ++ 47 ∷ []) p digits
@@ -72,10 +79,12 @@ module _ (out : List ℕ) (digits : ℕ) (p : Presented) where
       let last = put_last (track_files out digits p) (master_file out p) files in
       record {
         master = ap (put_all (playlists out digits p) files) (append_assoc out (47 ∷ []) master_name)
-            ∙ ap (λ fs. fs (in_folder out master_name)) last ∙ put_there (in_folder out master_name) (master_text p) (put_all (track_files out digits p) files);
+            ∙ ap (λ fs. fs (in_folder out master_name)) last ∙ put_there (in_folder out master_name) (master_text p)
+            (put_all (track_files out digits p) files);
         playlists = λ t less.
             ap (put_all (playlists out digits p) files) (append_assoc out (47 ∷ []) (playlist_of t))
             ∙ ap (λ fs. fs (in_folder out (playlist_of t))) last
-            ∙ put_elsewhere (in_folder out master_name) (in_folder out (playlist_of t)) (master_text p) (put_all (track_files out digits p) files) (no_master out t)
+            ∙ put_elsewhere (in_folder out master_name) (in_folder out (playlist_of t)) (master_text p)
+            (put_all (track_files out digits p) files) (no_master out t)
             ∙ there 0 (length p.tracks) files t (omega (arith, few)) (omega (arith)) (omega (arith, less));
       }

@@ -1,6 +1,6 @@
 -- What `dash` promises, from what its parts say.
-use Rattle.std.proofs.Common.{◌≡◌, ◌<◌, ◌&&◌, ℕ, List, [], ◌∷◌, ◌++◌, map, All, IsTrue, Option, None, Some, IfSome, option_map, Result, Ok, Err, inl, inr, refl, sym, ◌∙◌, ap, subst, append_assoc, arith}
-use Rattle.std.specs.Prelude.{codes, nat_lt, is_some}
+use Rattle.std.proofs.Common.{◌≡◌, ◌<◌, ℕ, List, [], ◌∷◌, ◌++◌, map, All, IsTrue, Option, None, Some, IfSome, option_map, Ok, inl, inr, refl, sym, ◌∙◌, ap, subst, append_assoc, arith}
+use Rattle.std.specs.Prelude.{codes, nat_lt}
 use Rattle.std.specs.Option.{option_and_then}
 use Rattle.std.proofs.lemmas.Bool.{cases_Bool}
 use Rattle.std.proofs.lemmas.List.{append-nil}
@@ -8,9 +8,8 @@ use Rattle.std.proofs.lemmas.List.Elements.{All-nil, All-cons, All-head, All-tai
 use Rattle.bridge_io.specs.InOrder.{put_all}
 use Rattle.bridge_io.specs.Names.{is_name}
 use Rattle.bridge_io.specs.Outside.{Files}
-use Rattle.bridge_io.specs.Slurped.{whole_file}
 use Rattle.exact_time.specs.Time.{IsSame}
-use Rattle.url_parts.specs.Addresses.{absolute, local_name_of}
+use Rattle.url_parts.specs.Addresses.{local_name_of}
 use Rattle.hls_media.specs.Laws.{IsBounded as IsBoundedMedia, ReadIsBounded}
 use Rattle.hls_media.specs.Media.{media_of}
 use Rattle.hls_media.specs.declared.media.Media.{Media}
@@ -29,38 +28,33 @@ use Rattle.presentation.specs.Scales.{rate_of}
 use Rattle.presentation.specs.Told.{and_then, told_as}
 use Rattle.presentation.proofs.Filling.{steps_of, ok_under}
 use Rattle.read_back.proofs.SameFolders.{file_under}
-use Rattle.bridge_report.specs.Reading.{Named, content_of, manifest_limit, media_at, media_in}
-use Rattle.bridge_report.specs.Refusals.{refusal_of_file}
+use Rattle.bridge_report.specs.Reading.{content_of, media_at, media_in}
 use Rattle.bridge_report.specs.declared.refusal.Refusal.TheVariants as refusal
 use Rattle.bridge_playlists.specs.declared.medias.Medias.{Medias}
 use Rattle.bridge_playlists.specs.declared.place.Place.{Place}
 use Rattle.bridge_playlists.specs.Playlists.{master_in, media_named, media_under, medias_of, medias_with, none_read, presented_at, presented_by, presented_with, segment_limit, track_kept, tracks_of, with_media, within_limit}
 use Rattle.bridge_jobs.specs.Laws.{in_folder}
-use Rattle.bridge_runs.specs.Courses.{Course, World, files_of}
+use Rattle.bridge_runs.specs.Courses.{Course, World, files_of as course_files}
 use Rattle.bridge_runs.specs.Laws.{DoneIsWhole, VerdictKeepsSteps}
 use Rattle.bridge_runs.specs.Runs.{IsRun}
 use Rattle.bridge_runs.specs.declared.status.Status.TheVariants as status
 use Rattle.dash_writer.specs.Manifest.{manifest_text}
 use Rattle.mpd_from_playlists.specs.Written.{HaveAddresses, ReadHaveAddresses, ReadHaveRates, ReadMeanTheSame, TracksAreOfBytes}
 use Rattle.presentation.specs.Meanings.{meaning_of}
-use Rattle.bridge_report.specs.Bases.{file_url, folder_url, is_folder, own_address}
-use Rattle.bridge_report.specs.Outcomes.{base_refused, course_by}
-use Rattle.bridge_playlists.specs.Places.{place_of, place_with}
+use Rattle.bridge_report.specs.Outcomes.{course_by}
+use Rattle.bridge_playlists.specs.Places.{place_of}
+use Rattle.bridge_steps.specs.Done.{done_line}
 use Rattle.bridge_core.specs.Courses.{outcome_of_job, outcome_of_words}
-use Rattle.bridge_core.specs.Dash.{dash_outcome, dash_under, mpd_file, outcome_of}
+use Rattle.bridge_core.specs.Dash.{dash_outcome, files_of, outcome_of}
 use Rattle.read_back.specs.Origins.{OwnTextsAreAddresses}
 use Rattle.bridge_core.specs.Promises.{MpdMeansTheSame, WrittenMpdMeansThePlaylists, mpd_asked}
 use Rattle.bridge_core.specs.declared.dash.Dash.{Dash}
 use Rattle.bridge_core.proofs.Asked.{IsBounded, bounded as bounded_words}
 use Rattle.bridge_core.proofs.FileNames.{put_there}
-use Rattle.bridge_core.proofs.Promises.{at_of, not_refused, there_of, written_so}
+use Rattle.bridge_core.proofs.DoneAt.{IsDoneAt, done_at}
+use Rattle.bridge_core.proofs.Lies.{content_read, in_folder_is, lies_of}
 
 -- ---- the files that are read
-
-pub content_read : (file : List ℕ) (files : Files) (bytes : List ℕ) → content_of file files ≡ Ok bytes → files file ≡ Some bytes
-content_read file files bytes is =
-    there_of manifest_limit (files file) bytes
-    (ok_under refusal_of_file (whole_file manifest_limit file files) bytes (ok_under _ (told_as refusal_of_file (whole_file manifest_limit file files)) bytes is))
 
 record IsFileOf (file url : List ℕ) (files : Files) (media : Media) : Type 0 where
   bytes : List ℕ
@@ -74,17 +68,21 @@ media_read file url files media is =
     record {
       bytes = step.value;
       found = content_read file files step.value step.first;
-      read = ok_under refusal.Media (media_of step.value url) media (ok_under _ (told_as refusal.Media (media_of step.value url)) media step.then);
+      read =
+          ok_under refusal.Media (media_of step.value url) media (ok_under _ (told_as refusal.Media (media_of step.value url)) media
+          step.then);
     }
 
-named_read : (place : Place) (files : Files) (address : List ℕ) (name : Option (List ℕ)) (media : Media) → local_name_of place.folder address ≡ name
+named_read : (place : Place) (files : Files) (address : List ℕ) (name : Option (List ℕ)) (media : Media)
+    → local_name_of place.folder address ≡ name
     → media_named place files address name ≡ Ok media → IsPlaylist files place.folder address media
 named_read place files address None media at is = absurd (cc)
 named_read place files address (Some file) media at is =
     let read = media_read file address files media is in
     record { bytes = read.bytes; found = ap (option_and_then files) at ∙ read.found; read = read.read }
 
-playlist_read : (place : Place) (files : Files) (address : List ℕ) (media : Media) → media_under place files address ≡ Ok media → IsPlaylist files place.folder address media
+playlist_read : (place : Place) (files : Files) (address : List ℕ) (media : Media) → media_under place files address ≡ Ok media
+    → IsPlaylist files place.folder address media
 unfolding media_under
 playlist_read place files address media is = named_read place files address (local_name_of place.folder address) media refl is
 
@@ -100,14 +98,21 @@ record AreGathered (place : Place) (files : Files) (before : Medias) (tracks : L
   behind : all.files ≡ before.files ++ later
   playlists : ArePlaylists files place.folder tracks later
 
-one_read : (place : Place) (files : Files) (before : Medias) (track : MasterTrack) (next : Medias) → medias_with place files before track ≡ Ok next
+one_read : (place : Place) (files : Files) (before : Medias) (track : MasterTrack) (next : Medias)
+    → medias_with place files before track ≡ Ok next
     → (media : Media) × ((next.files ≡ before.files ++ media ∷ []) × IsPlaylist files place.folder track.address media)
 unfolding medias_with
 one_read place files before track next is =
-    let step = steps_of (media_under place files track.address) (λ media. within_limit place (with_media before media)) next is in
-    (step.value, (sym (ap (λ (medias : Medias). medias.files) (few_enough place (with_media before step.value) next step.then)), playlist_read place files track.address step.value step.first))
+    let step = steps_of (media_under place files track.address) (λ media. within_limit place (with_media before media)) next is in (
+      step.value,
+      (
+        sym (ap (λ (medias : Medias). medias.files) (few_enough place (with_media before step.value) next step.then)),
+        playlist_read place files track.address step.value step.first,
+      ),
+    )
 
-gathered : (place : Place) (files : Files) (before : Medias) (tracks : List MasterTrack) (all : Medias) → medias_of place files before tracks ≡ Ok all → AreGathered place files before tracks all
+gathered : (place : Place) (files : Files) (before : Medias) (tracks : List MasterTrack) (all : Medias)
+    → medias_of place files before tracks ≡ Ok all → AreGathered place files before tracks all
 gathered place files before [] all is =
     let same : before ≡ all = cc in
     record { later = []; behind = ap (λ (medias : Medias). medias.files) (sym same) ∙ sym (append-nil before.files); playlists = tt }
@@ -136,7 +141,8 @@ seen_again track has = ap (λ rate. record track { frame_rate = rate }) (rate_ag
 all_seen_again : (seen : List TrackValue) → All HasRate seen → map track_seen (map track_kept seen) ≡ seen
 all_seen_again [] all = refl
 all_seen_again (track ∷ seen) all =
-    rw (seen_again track (All-head HasRate track seen all)) (ap (λ others. track ∷ others) (all_seen_again seen (All-tail HasRate track seen all)))
+    rw (seen_again track (All-head HasRate track seen all)) (ap (λ others. track ∷ others)
+    (all_seen_again seen (All-tail HasRate track seen all)))
 
 -- ---- the presentation that is read
 
@@ -148,93 +154,38 @@ pub record IsReadFrom (place : Place) (files : Files) (p : Presented) : Type 0 w
   pub presented : hls_presented_of tracks medias ≡ Ok p
 
 module _ (rates : ReadHaveRates) where
-  master_read : (place : Place) (bytes : List ℕ) (tracks : List MasterTrack) → master_in place bytes ≡ Ok tracks → master_of bytes place.url ≡ Ok (map track_seen tracks)
+  master_read : (place : Place) (bytes : List ℕ) (tracks : List MasterTrack) → master_in place bytes ≡ Ok tracks
+      → master_of bytes place.url ≡ Ok (map track_seen tracks)
   unfolding master_in
   master_read place bytes tracks is =
       let step = steps_of (master_of bytes place.url) (λ seen. Ok (map track_kept seen)) tracks
-      (ok_under refusal.Master (tracks_of bytes place.url) tracks (ok_under _ (told_as refusal.Master (tracks_of bytes place.url)) tracks is)) in
+      (ok_under refusal.Master (tracks_of bytes place.url) tracks (ok_under _ (told_as refusal.Master (tracks_of bytes place.url)) tracks
+      is)) in
       let kept : map track_kept step.value ≡ tracks = (let e = step.then in cc) in
       step.first ∙ ap Ok (sym (all_seen_again step.value (rates bytes place.url step.value step.first)) ∙ ap (map track_seen) kept)
 
-  pub presentation_read : (place : Place) (files : Files) (p : Presented) → IsTrue (is_name place.file) → place.url ≡ place.folder ++ place.file → presented_at place files ≡ Ok p
+  pub presentation_read : (place : Place) (files : Files) (p : Presented) → IsTrue (is_name place.file)
+      → place.url ≡ place.folder ++ place.file → presented_at place files ≡ Ok p
       → IsReadFrom place files p
   unfolding presented_at presented_with presented_by
   presentation_read place files p named lies is =
       let first = steps_of (content_of place.file files) (λ bytes. and_then (master_in place bytes) (presented_with place files)) p is in
       let second = steps_of (master_in place first.value) (presented_with place files) p first.then in
-      let third = steps_of (medias_of place files none_read second.value) (λ medias. presented_by place second.value medias.files) p second.then in
+      let third = steps_of (medias_of place files none_read second.value) (λ medias. presented_by place second.value medias.files) p
+      second.then in
       let all = gathered place files none_read second.value third.value third.first in
       let found : file_at files place.folder place.url ≡ Some first.value =
-      ap (file_at files place.folder) lies ∙ file_under files place.folder place.file named ∙ content_read place.file files first.value first.first in
+      ap (file_at files place.folder) lies ∙ file_under files place.folder place.file named
+      ∙ content_read place.file files first.value first.first in
       record {
         tracks = second.value;
         medias = all.later;
         master = record { bytes = first.value; found = found; read = master_read place first.value second.value second.first };
         playlists = all.playlists;
         presented = ap (hls_presented_of second.value) (sym all.behind)
-            ∙ ok_under refusal.Hls (hls_presented_of second.value third.value.files) p (ok_under _ (told_as refusal.Hls (hls_presented_of second.value third.value.files)) p third.then);
+            ∙ ok_under refusal.Hls (hls_presented_of second.value third.value.files) p
+            (ok_under _ (told_as refusal.Hls (hls_presented_of second.value third.value.files)) p third.then);
       }
-
--- ---- where it lies
-
-pub record Lies (base name : List ℕ) (place : Place) : Type 0 where
-  pub folder : place.folder ≡ base
-  pub file : place.file ≡ name
-  pub url : place.url ≡ base ++ name
-  pub own : absolute place.url ≡ Ok place.url
-
-pub in_folder_is : (base name : List ℕ) (place : Place) → Lies base name place → place.url ≡ place.folder ++ place.file
-in_folder_is base name place lies = lies.url ∙ ap (λ folder. folder ++ name) (sym lies.folder) ∙ ap (λ file. place.folder ++ file) (sym lies.file)
-
-folder_written : (base folder : List ℕ) → folder_url base ≡ Some folder → folder ≡ base
-unfolding folder_url
-folder_written base folder is = elim (cases_Bool (is_folder base)) [
-  | inl is_so ↦ (written_so base folder (absolute base) (rw is_so at is)).1
-  | inr other ↦ absurd (let e = rw other at is in cc)
-]
-
-url_written : (base file url : List ℕ) → file_url base file ≡ Some url → url ≡ base ++ file
-unfolding file_url
-url_written base file url is = elim (cases_Bool (is_folder base && is_some (own_address base))) [
-  | inl is_so ↦ (written_so (base ++ file) url (absolute (base ++ file)) (rw is_so at is)).1
-  | inr other ↦ absurd (let e = rw other at is in cc)
-]
-
-lies_with : (base file : List ℕ) (folder url : Option (List ℕ)) (place : Place) → folder_url base ≡ folder → file_url base file ≡ url
-    → option_and_then (λ folder. option_map (place_with file folder) url) folder ≡ Some place → Lies base file place
-lies_with base file None url place at there is = absurd (cc)
-lies_with base file (Some folder) None place at there is = absurd (cc)
-lies_with base file (Some folder) (Some url) place at there is =
-    let same : place_with file folder url ≡ place = cc in
-    subst (Lies base file) same (record { folder = folder_written base folder at; file = refl; url = url_written base file url there; own = (at_of base file url there).own })
-
-pub lies_of : (base file : List ℕ) (place : Place) → place_of base file ≡ Some place → Lies base file place
-unfolding place_of
-lies_of base file place is = lies_with base file (folder_url base) (file_url base file) place refl refl is
-
--- ---- a run that is done
-
-record IsDoneAt (job : Dash) (first : Files) (course : Course) : Type 0 where
-  place : Place
-  at : place_of job.base job.master ≡ Some place
-  p : Presented
-  is : presented_at place first ≡ Ok p
-  goes : course ≡ course_by (outcome_of job (Ok p))
-
-module _ (keeps : VerdictKeepsSteps) (before after : World) where
-  by_answer : (job : Dash) (r : Result Presented Named) → IsRun (course_by (outcome_of job r)) status.Done before after → (p : Presented) × (r ≡ Ok p)
-  by_answer job (Ok p) run = (p, refl)
-  by_answer job (Err named) run = absurd (not_refused keeps before after _ _ _ run)
-
-  by_place : (job : Dash) (first : Files) (course : Course) (place : Option Place) → place_of job.base job.master ≡ place
-      → option_map course_by (dash_under job place (Some first)) ≡ Some course → IsRun course status.Done before after → IsDoneAt job first course
-  by_place job first course None at goes run =
-      let same : course ≡ course_by base_refused = cc in
-      absurd (not_refused keeps before after _ _ _ (subst (λ c. IsRun c status.Done before after) same run))
-  by_place job first course (Some place) at goes run =
-      let same : course ≡ course_by (outcome_of job (presented_at place first)) = cc in
-      let found = by_answer job (presented_at place first) (subst (λ c. IsRun c status.Done before after) same run) in
-      record { place = place; at = at; p = found.0; is = found.1; goes = same ∙ ap (λ r. course_by (outcome_of job r)) found.1 }
 
 -- ---- the promise
 
@@ -245,15 +196,18 @@ abbrev IsOfBytes : MasterTrack → Type 0
 IsOfBytes track = All (λ b. b < 256) track.address
 
 module _ (bounded : ReadIsBounded) where
-  each_bounded : (files : Files) (folder : List ℕ) (tracks : List MasterTrack) (medias : List Media) → ArePlaylists files folder tracks medias → All IsBoundedMedia medias
+  each_bounded : (files : Files) (folder : List ℕ) (tracks : List MasterTrack) (medias : List Media)
+      → ArePlaylists files folder tracks medias → All IsBoundedMedia medias
   each_bounded files folder [] [] are = All-nil IsBoundedMedia
   each_bounded files folder [] (media ∷ medias) are = absurd are
   each_bounded files folder (track ∷ tracks) [] are = absurd are
   each_bounded files folder (track ∷ tracks) (media ∷ medias) are =
-      All-cons IsBoundedMedia media medias (bounded are.0.bytes track.address media are.0.read) (each_bounded files folder tracks medias are.1)
+      All-cons IsBoundedMedia media medias (bounded are.0.bytes track.address media are.0.read)
+      (each_bounded files folder tracks medias are.1)
 
 module _ (addresses : ReadHaveAddresses) where
-  each_addressed : (files : Files) (folder : List ℕ) (tracks : List MasterTrack) (medias : List Media) → All IsOfBytes tracks → ArePlaylists files folder tracks medias → All HaveAddresses medias
+  each_addressed : (files : Files) (folder : List ℕ) (tracks : List MasterTrack) (medias : List Media) → All IsOfBytes tracks
+      → ArePlaylists files folder tracks medias → All HaveAddresses medias
   each_addressed files folder [] [] of_bytes are = All-nil HaveAddresses
   each_addressed files folder [] (media ∷ medias) of_bytes are = absurd are
   each_addressed files folder (track ∷ tracks) [] of_bytes are = absurd are
@@ -267,38 +221,44 @@ all_of_bytes (track ∷ tracks) all =
     All-cons IsOfBytes track tracks (All-head IsSeenOfBytes (track_seen track) (map track_seen tracks) all)
     (all_of_bytes tracks (All-tail IsSeenOfBytes (track_seen track) (map track_seen tracks) all))
 
-module _ (done : DoneIsWhole) (keeps : VerdictKeepsSteps) (own : OwnTextsAreAddresses) (rates : ReadHaveRates) (lie : TracksAreOfBytes) (meant : PresentedMeanTheirFiles)
+module _ (done : DoneIsWhole) (keeps : VerdictKeepsSteps) (own : OwnTextsAreAddresses) (rates : ReadHaveRates) (lie : TracksAreOfBytes)
+    (meant : PresentedMeanTheirFiles)
     (bounded : ReadIsBounded) (addresses : ReadHaveAddresses) (same : ReadMeanTheSame) where
-  promised : (job : Dash) (course : Course) (before after : World) (first last : Files) → IsTrue (is_name job.master) → before.files ≡ Some first → after.files ≡ Some last
-      → IsDoneAt job first course → IsRun course status.Done before after → MpdMeansTheSame job first last
+  promised : (job : Dash) (course : Course) (before after : World) (first last : Files) → IsTrue (is_name job.master)
+      → before.files ≡ Some first → after.files ≡ Some last
+      → IsDoneAt (outcome_of job) presented_at (place_of job.base job.master) first course → IsRun course status.Done before after
+      → MpdMeansTheSame job first last
   promised job course before after first last named was is by run =
-      let lies = lies_of job.base job.master by.place by.at in
-      let url = in_folder_is job.base job.master by.place lies in
-      let read = presentation_read rates by.place first by.p (subst (λ name. IsTrue (is_name name)) (sym lies.file) named) url by.is in
-      let meaning = meant first by.place.folder by.place.url read.tracks read.medias by.p read.master read.playlists read.presented in
-      let of_bytes = all_of_bytes read.tracks (lie read.master.bytes by.place.url (map track_seen read.tracks) (own by.place.url lies.own) read.master.read) in
-      let pieces : List (List ℕ × List ℕ) = mpd_file job.out by.p ∷ [] in
-      let files : files_of course ≡ pieces = ap files_of by.goes ∙ append-nil pieces in
+      let lies = lies_of job.base job.master by.found by.at in
+      let url = in_folder_is job.base job.master by.found lies in
+      let read = presentation_read rates by.found first by.value (subst (λ name. IsTrue (is_name name)) (sym lies.file) named) url by.is in
+      let meaning = meant first by.found.folder by.found.url read.tracks read.medias by.value read.master read.playlists read.presented in
+      let of_bytes = all_of_bytes read.tracks (lie read.master.bytes by.found.url (map track_seen read.tracks) (own by.found.url lies.own)
+      read.master.read) in
+      let pieces : List (List ℕ × List ℕ) = files_of job by.value in
+      let files : course_files course ≡ pieces = ap course_files by.goes ∙ append-nil pieces in
       let left : Some last ≡ Some (put_all pieces first) =
-      sym is ∙ (done course before after run).files ∙ ap (λ fs. option_map (put_all fs) before.files) files ∙ ap (option_map (put_all pieces)) was in
+      sym is ∙ (done course before after run).files ∙ ap (λ fs. option_map (put_all fs) before.files) files
+      ∙ ap (option_map (put_all pieces)) was in
       let last_is : last ≡ put_all pieces first = cc in
       record {
-        place = by.place;
+        place = by.found;
         at = by.at;
         playlists = meaning.0;
         means = meaning.1.0;
-        text = manifest_text by.p;
-        written = rw last_is (put_there (in_folder job.out (codes "manifest.mpd")) (manifest_text by.p) first);
-        mpd = meaning_of by.p;
-        told = λ url now. same read.master.bytes by.place.url read.tracks read.medias by.p url now read.master.read
-            (each_bounded bounded first by.place.folder read.tracks read.medias read.playlists)
-            (each_addressed addresses first by.place.folder read.tracks read.medias of_bytes read.playlists) read.presented;
-        same = Same-wider IsSameTime IsSame (λ x y same. same.1.1) meaning.0 (meaning_of by.p) meaning.1.1;
+        text = manifest_text by.value;
+        written = rw last_is (put_there (in_folder job.out (codes "manifest.mpd")) (manifest_text by.value) first);
+        mpd = meaning_of by.value;
+        told = λ url now. same read.master.bytes by.found.url read.tracks read.medias by.value url now read.master.read
+            (each_bounded bounded first by.found.folder read.tracks read.medias read.playlists)
+            (each_addressed addresses first by.found.folder read.tracks read.medias of_bytes read.playlists) read.presented;
+        same = Same-wider IsSameTime IsSame (λ x y same. same.1.1) meaning.0 (meaning_of by.value) meaning.1.1;
       }
 
   pub written_mpd_means : WrittenMpdMeansThePlaylists
   unfolding outcome_of_words dash_outcome
   written_mpd_means words job course before after first last asks was is goes run =
       let asked : IfSome (Some (mpd_asked job)) IsBounded = subst (λ asked. IfSome asked IsBounded) asks (bounded_words words) in
-      let by = by_place keeps before after job first course (place_of job.base job.master) refl (subst (λ asked. option_map course_by (outcome_of_job asked (Some first)) ≡ Some course) asks goes) run in
+      let by = done_at (files_of job) done_line presented_at keeps before after (place_of job.base job.master) first course
+      (subst (λ asked. option_map course_by (outcome_of_job asked (Some first)) ≡ Some course) asks goes) run in
       promised job course before after first last asked was is by run

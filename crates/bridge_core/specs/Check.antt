@@ -1,5 +1,6 @@
 -- Whether an MPD and a master with its playlists agree.
 use Rattle.std.specs.Prelude.{ℕ, ◌^◌, List, ◌++◌, length, codes, decimal, Option, Some, None, option_map, Result, Ok}
+use Rattle.std.specs.Option.{option_and_then}
 use Rattle.bridge_io.specs.Outside.{Files}
 use Rattle.meaning.specs.Differences.{first_difference}
 use Rattle.meaning.specs.declared.difference.Aspect.{Aspect}
@@ -11,13 +12,14 @@ use Rattle.presentation.specs.Presented.{Presented}
 use Rattle.presentation.specs.Told.{and_then}
 use Rattle.bridge_runs.specs.declared.status.Verdict.{Verdict}
 use Rattle.bridge_runs.specs.declared.status.Verdict.TheVariants as verdict
-use Rattle.bridge_report.specs.Outcomes.{Outcome, base_refused, outcome_told}
-use Rattle.bridge_report.specs.Reading.{Named, content_of, of_file}
+use Rattle.bridge_report.specs.Outcomes.{Outcome, outcome_told}
+use Rattle.bridge_report.specs.Reading.{Named}
 use Rattle.bridge_report.specs.declared.refusal.Refusal.TheVariants as refusal
 use Rattle.bridge_playlists.specs.declared.place.Place.{Place}
 use Rattle.bridge_playlists.specs.Places.{place_of}
 use Rattle.bridge_playlists.specs.Playlists.{presented_at}
-use Rattle.bridge_core.specs.Hls.{presentation_of, checked}
+use Rattle.bridge_steps.specs.Endings.{placed}
+use Rattle.bridge_steps.specs.Manifests.{mpd_at}
 use Rattle.bridge_core.specs.declared.check.Check.{Check}
 
 -- ---- the report
@@ -34,7 +36,8 @@ aspect_word aspect.Count = codes "count"
 
 unfoldable pub differ_text : (what : List ℕ) (section track segment : ℕ) → List ℕ
 differ_text what section track segment =
-    codes "differ " ++ what ++ codes " section " ++ decimal section ++ codes " track " ++ decimal track ++ codes " segment " ++ decimal segment ++ codes "\n"
+    codes "differ " ++ what ++ codes " section " ++ decimal section ++ codes " track " ++ decimal track
+    ++ codes " segment " ++ decimal segment ++ codes "\n"
 
 abbrev pub differ_line : Difference → List ℕ
 differ_line d = differ_text (aspect_word d.what) d.section d.track d.segment
@@ -53,36 +56,24 @@ verdict_of mpd (Some d) = (verdict.Differ, differ_line d)
 
 -- ---- how the command ends
 
--- a live MPD is refused behind its rules
-abbrev pub mpd_in : Check → Place → (bytes : List ℕ) → Result Presented Named
-mpd_in job place bytes = of_file place.file (and_then (presentation_of refusal.NotStatic place.url None bytes) (checked (10 ^ job.digits)))
+-- where the MPD and the master of a job lie
+abbrev pub both_with : (mpd master : Place) → Place × Place
+both_with mpd master = (mpd, master)
 
-unfoldable pub mpd_at : Check → Place → Files → Result Presented Named
-mpd_at job place files = and_then (content_of place.file files) (mpd_in job place)
+unfoldable pub places_of : Check → Option (Place × Place)
+places_of job = option_and_then (λ mpd. option_map (both_with mpd) (place_of job.base job.master)) (place_of job.base job.mpd)
 
 abbrev pub compared : (unit : ℕ) → (mpd playlists : Presented) → Verdict × List ℕ
 compared unit mpd playlists = verdict_of mpd (first_difference unit (meaning_of mpd) (meaning_of playlists))
 
-abbrev pub compared_with : Check → Place → Files → (mpd : Presented) → Result (Verdict × List ℕ) Named
-compared_with job master files mpd = and_then (presented_at master files) (λ playlists. Ok (compared (10 ^ job.digits) mpd playlists))
+-- the MPD first, of which a live one is refused behind its rules, and then the playlists
+unfoldable pub judged : Check → (mpd master : Place) → Files → Result (Verdict × List ℕ) Named
+judged job mpd master files =
+    and_then (mpd_at (Some refusal.NotStatic) (10 ^ job.digits) None mpd files) (λ p.
+    and_then (presented_at master files) (λ playlists. Ok (compared (10 ^ job.digits) p playlists)))
 
--- the MPD first, and then the playlists
-unfoldable pub told : Check → (mpd master : Place) → Files → Result (Verdict × List ℕ) Named
-told job mpd master files = and_then (mpd_at job mpd files) (compared_with job master files)
-
-abbrev pub check_at : Check → (mpd master : Place) → Files → Outcome
-check_at job mpd master files = outcome_told (told job mpd master files)
-
-abbrev pub check_by : Check → (mpd : Place) (master : Option Place) → Option Files → Option Outcome
-check_by job mpd None files = Some base_refused
-check_by job mpd (Some master) files = option_map (check_at job mpd master) files
-
-unfoldable pub check_beside : Check → (mpd : Place) → Option Files → Option Outcome
-check_beside job mpd files = check_by job mpd (place_of job.base job.master) files
-
-abbrev pub check_under : Check → (mpd : Option Place) → Option Files → Option Outcome
-check_under job None files = Some base_refused
-check_under job (Some mpd) files = check_beside job mpd files
+abbrev pub check_at : Check → Option Files → Place × Place → Option Outcome
+check_at job files places = option_map (λ files. outcome_told (judged job places.0 places.1 files)) files
 
 unfoldable pub check_outcome : Check → Option Files → Option Outcome
-check_outcome job files = check_under job (place_of job.base job.mpd) files
+check_outcome job files = placed (check_at job files) (places_of job)

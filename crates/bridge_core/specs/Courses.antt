@@ -20,12 +20,15 @@ no_job = Ends verdict.Words words_line false true
 
 -- `follow` isn't built yet: it is no job of the program
 abbrev pub outcome_of_job : Option Job → Option Files → Option Outcome
-outcome_of_job (Some (job.Hls mpd base now out digits)) files = hls_outcome (record { mpd = mpd; base = base; instant = now; out = out; digits = digits }) files
+outcome_of_job (Some (job.Hls mpd base now out digits)) files =
+    hls_outcome (record { mpd = mpd; base = base; instant = now; out = out; digits = digits }) files
 outcome_of_job (Some (job.Dash master base out)) files = dash_outcome (record { master = master; base = base; out = out }) files
-outcome_of_job (Some (job.Show file base now digits)) files = show_outcome (record { file = file; base = base; instant = now; digits = digits }) files
-outcome_of_job (Some (job.Check mpd master base digits)) files = check_outcome (record { mpd = mpd; master = master; base = base; digits = digits }) files
+outcome_of_job (Some (job.Show file base now digits)) files =
+    show_outcome (record { file = file; base = base; instant = now; digits = digits }) files
+outcome_of_job (Some (job.Check mpd master base digits)) files =
+    check_outcome (record { mpd = mpd; master = master; base = base; digits = digits }) files
 outcome_of_job (Some (job.Reload old new base)) files = reload_outcome (record { old = old; new = new; base = base }) files
-outcome_of_job (Some (job.Make seed out digits)) files = Some (make_outcome (record { seed = seed; out = out; digits = digits }))
+outcome_of_job (Some (job.Make seed out digits)) files = make_outcome (record { seed = seed; out = out; digits = digits })
 outcome_of_job other files = Some no_job
 
 -- How a run of these words ends over these files. Where the store doesn't tell its files, it is known if the words alone
@@ -47,7 +50,8 @@ IsUnbuilt (job.Make seed out digits) = ⊥
 IsUnbuilt other = Unit {0}
 
 -- what a run meets, in the order of its record
-abbrev pub world_of : (files : Option Files) (report : Option (List ℕ)) (input_faults read_faults write_faults report_faults made : ℕ) → World
+abbrev pub world_of : (files : Option Files) (report : Option (List ℕ)) (input_faults read_faults write_faults report_faults made : ℕ)
+    → World
 world_of files report input_faults read_faults write_faults report_faults made = record {
   files = files;
   report = report;

@@ -1,10 +1,9 @@
 pub mod Check
 pub mod Courses
 pub mod Dash
-pub mod Done
 pub mod Hls
 pub mod Make
-pub mod Playlists
 pub mod Promises
+pub mod Reports
 pub mod Show
 pub mod Source

@@ -3,16 +3,17 @@ use Rattle.std.specs.Prelude.{ℕ, ◌^◌, ◌&&◌, nat_lt, false, List, ◌�
 use Rattle.bridge_jobs.specs.Laws.{in_folder}
 use Rattle.hls_writer.specs.Lines.{seconds_bytes}
 use Rattle.presentation.specs.Presented.{Presented, listed_at}
-use Rattle.presentation.specs.Told.{and_then}
 use Rattle.presentation.specs.Verifying.{length_of}
 use Rattle.bridge_runs.specs.declared.status.Verdict.TheVariants as verdict
-use Rattle.bridge_report.specs.declared.refusal.Refusal.{Refusal}
-use Rattle.bridge_report.specs.Bases.{file_url}
-use Rattle.bridge_report.specs.Outcomes.{Outcome, Ends, Writes, base_refused}
+use Rattle.bridge_report.specs.Outcomes.{Outcome, Ends, Writes}
+use Rattle.bridge_report.specs.Reading.{Named}
 use Rattle.bridge_report.specs.Refusals.{refusal_line}
 use Rattle.bridge_report.specs.declared.refusal.Refusal.TheVariants.{NotStatic}
-use Rattle.bridge_core.specs.Hls.{presentation_of, checked}
-use Rattle.bridge_core.specs.Playlists.{playlists}
+use Rattle.bridge_playlists.specs.declared.place.Place.{Place}
+use Rattle.bridge_playlists.specs.Places.{place_of}
+use Rattle.bridge_steps.specs.Endings.{placed}
+use Rattle.bridge_steps.specs.Manifests.{mpd_in}
+use Rattle.bridge_steps.specs.Playlists.{playlists}
 use Rattle.bridge_core.specs.Source.{source_text}
 use Rattle.bridge_core.specs.declared.make.Make.{Make}
 
@@ -24,7 +25,8 @@ length_at unit p track = if nat_lt track (length p.tracks) && nat_lt 0 (length p
 
 unfoldable pub lengths_line : (digits video audio : ℕ) → List ℕ
 lengths_line digits video audio =
-    codes "made tracks=6 segments=120000 video=" ++ seconds_bytes digits video ++ codes " audio=" ++ seconds_bytes digits audio ++ codes "\n"
+    codes "made tracks=6 segments=120000 video=" ++ seconds_bytes digits video
+    ++ codes " audio=" ++ seconds_bytes digits audio ++ codes "\n"
 
 -- the length of the first video track, and of the first audio track
 abbrev pub made_line : (digits : ℕ) → Presented → List ℕ
@@ -45,21 +47,20 @@ made_files job p = source_file job.out job.seed ∷ playlists job.out job.digits
 
 -- ---- how the command ends
 
-abbrev pub outcome_of : Make → Result Presented Refusal → Outcome
+abbrev pub outcome_of : Make → Result Presented Named → Outcome
 outcome_of job (Ok p) = Writes (made_files job p) (made_line job.digits p) false
-outcome_of job (Err refusal) = Ends verdict.Refused (refusal_line source_name refusal) false false
+outcome_of job (Err named) = Ends verdict.Refused (refusal_line named.0 named.1) false false
 
--- the presentation of the MPD as if it were at this URL
-unfoldable pub made_presentation : Make → (url : List ℕ) → Result Presented Refusal
-made_presentation job url = and_then (presentation_of NotStatic url None (source_text job.seed)) (checked (10 ^ job.digits))
+-- the presentation of the MPD as if it were at this place
+abbrev pub made_presentation : Make → Place → Result Presented Named
+made_presentation job place = mpd_in (Some NotStatic) (10 ^ job.digits) None place (source_text job.seed)
 
-abbrev pub source_url : Option (List ℕ)
-source_url = file_url (codes "https://make.example/") source_name
+abbrev pub source_place : Option Place
+source_place = place_of (codes "https://make.example/") source_name
 
-abbrev pub make_under : Make → Option (List ℕ) → Outcome
-make_under job None = base_refused
-make_under job (Some url) = outcome_of job (made_presentation job url)
+abbrev pub make_at : Make → Place → Option Outcome
+make_at job place = Some (outcome_of job (made_presentation job place))
 
 -- No file is read.
-unfoldable pub make_outcome : Make → Outcome
-make_outcome job = make_under job source_url
+unfoldable pub make_outcome : Make → Option Outcome
+make_outcome job = placed (make_at job) source_place

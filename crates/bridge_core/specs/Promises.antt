@@ -120,10 +120,14 @@ AsksToCheck words job = job_of words ≡ Some (check_asked job)
 
 -- Where such a run is done, the MPD and the playlists agree.
 abbrev pub DoneIsAgreed : Type 0
-DoneIsAgreed = (words : List (List ℕ)) (job : Check) (course : Course) (before after : World) (files : Files) → AsksToCheck words job → before.files ≡ Some files
+DoneIsAgreed =
+    (words : List (List ℕ)) (job : Check) (course : Course) (before after : World) (files : Files) → AsksToCheck words job
+    → before.files ≡ Some files
     → course_of words (Some files) ≡ Some course → IsRun course status.Done before after → AreAgreed job files
 
 -- Where it ends as Differ, they don't, and its line, of which the report may have a front, tells where they differ first.
 abbrev pub DifferIsApart : Type 0
-DifferIsApart = (words : List (List ℕ)) (job : Check) (course : Course) (before after : World) (files : Files) → AsksToCheck words job → before.files ≡ Some files
+DifferIsApart =
+    (words : List (List ℕ)) (job : Check) (course : Course) (before after : World) (files : Files) → AsksToCheck words job
+    → before.files ≡ Some files
     → course_of words (Some files) ≡ Some course → IsRun course status.Differ before after → AreApart job files course.end.lines

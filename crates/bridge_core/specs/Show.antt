@@ -12,13 +12,14 @@ use Rattle.presentation.specs.Verifying.{length_of}
 use Rattle.presentation.specs.declared.track.Track.{Track}
 use Rattle.bridge_runs.specs.declared.status.Verdict.{Verdict}
 use Rattle.bridge_runs.specs.declared.status.Verdict.TheVariants as verdict
-use Rattle.bridge_report.specs.Outcomes.{Outcome, base_refused, outcome_told}
-use Rattle.bridge_report.specs.Reading.{Named, content_of, of_file}
+use Rattle.bridge_report.specs.Outcomes.{Outcome, outcome_told}
+use Rattle.bridge_report.specs.Reading.{Named, content_of}
 use Rattle.bridge_playlists.specs.declared.place.Place.{Place}
 use Rattle.bridge_playlists.specs.Places.{place_of}
 use Rattle.bridge_playlists.specs.Playlists.{presented_in}
-use Rattle.bridge_core.specs.Done.{counts_line}
-use Rattle.bridge_core.specs.Hls.{any_presentation_of, checked}
+use Rattle.bridge_steps.specs.Done.{counts_line}
+use Rattle.bridge_steps.specs.Endings.{placed}
+use Rattle.bridge_steps.specs.Manifests.{mpd_in}
 use Rattle.bridge_core.specs.declared.show.Show.{Show}
 
 -- ---- which manifest it is
@@ -55,13 +56,15 @@ language_word (Some language) = language
 
 unfoldable pub entry_text : (track : ℕ) (kind language : List ℕ) (section segments : ℕ) → List ℕ
 entry_text track kind language section segments =
-    codes "track " ++ decimal track ++ codes " " ++ kind ++ codes " " ++ language ++ codes " section " ++ decimal section ++ codes " segments=" ++ decimal segments ++ codes " length="
+    codes "track " ++ decimal track ++ codes " " ++ kind ++ codes " " ++ language ++ codes " section " ++ decimal section
+    ++ codes " segments=" ++ decimal segments ++ codes " length="
 
 -- a track in a section: how many segments are listed, and how long they last
 abbrev pub entry_line : (digits : ℕ) → Presented → (track section : ℕ) → Track → List ℕ
 entry_line digits p track section t =
     let listed = listed_at p section track in
-    entry_text track (kind_word t.kind) (language_word t.language) section (length listed) ++ (seconds_bytes digits (length_of (10 ^ digits) listed) ++ codes "\n")
+    entry_text track (kind_word t.kind) (language_word t.language) section (length listed)
+    ++ (seconds_bytes digits (length_of (10 ^ digits) listed) ++ codes "\n")
 
 abbrev pub entry_lines : (digits : ℕ) → Presented → (track : ℕ) → Track → List ℕ
 entry_lines digits p track t = flat_map (λ section. entry_line digits p track section t) (sections_of p)
@@ -75,29 +78,23 @@ shown word digits p = counts_line word p ++ flat_map (track_lines digits p) (tra
 
 -- ---- how the command ends
 
-unfoldable pub mpd_shown : Show → Place → (bytes : List ℕ) → Result (List ℕ) Named
-mpd_shown job place bytes =
-    and_then (of_file place.file (and_then (any_presentation_of place.url job.instant bytes) (checked (10 ^ job.digits)))) (λ p. Ok (shown (codes "mpd") job.digits p))
+abbrev pub told : Show → (word : List ℕ) → Presented → Result (Verdict × List ℕ) Named
+told job word p = Ok (verdict.Done, shown word job.digits p)
 
-unfoldable pub master_shown : Show → Place → Files → (bytes : List ℕ) → Result (List ℕ) Named
-master_shown job place files bytes = and_then (presented_in place files bytes) (λ p. Ok (shown (codes "hls") job.digits p))
+-- an MPD, live or not
+abbrev pub mpd_told : Show → Place → (bytes : List ℕ) → Result (Verdict × List ℕ) Named
+mpd_told job place bytes = and_then (mpd_in None (10 ^ job.digits) job.instant place bytes) (told job (codes "mpd"))
 
-abbrev pub bytes_shown : Show → Place → Files → (bytes : List ℕ) → Result (List ℕ) Named
-bytes_shown job place files bytes = if is_mpd bytes then mpd_shown job place bytes else master_shown job place files bytes
+abbrev pub master_told : Show → Place → Files → (bytes : List ℕ) → Result (Verdict × List ℕ) Named
+master_told job place files bytes = and_then (presented_in place files bytes) (told job (codes "hls"))
 
-unfoldable pub told : Show → Place → Files → Result (List ℕ) Named
-told job place files = and_then (content_of place.file files) (bytes_shown job place files)
-
-abbrev pub is_done : List ℕ → Result (Verdict × List ℕ) Named
-is_done lines = Ok (verdict.Done, lines)
+unfoldable pub shown_at : Show → Place → Files → Result (Verdict × List ℕ) Named
+shown_at job place files =
+    and_then (content_of place.file files) (λ bytes. if is_mpd bytes then mpd_told job place bytes else master_told job place files bytes)
 
 -- the file is at this place
-abbrev pub show_at : Show → Place → Files → Outcome
-show_at job place files = outcome_told (and_then (told job place files) is_done)
-
-abbrev pub show_under : Show → Option Place → Option Files → Option Outcome
-show_under job None files = Some base_refused
-show_under job (Some place) files = option_map (show_at job place) files
+abbrev pub show_at : Show → Option Files → Place → Option Outcome
+show_at job files place = option_map (λ files. outcome_told (shown_at job place files)) files
 
 unfoldable pub show_outcome : Show → Option Files → Option Outcome
-show_outcome job files = show_under job (place_of job.base job.file) files
+show_outcome job files = placed (show_at job files) (place_of job.base job.file)

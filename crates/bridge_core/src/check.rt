@@ -1,32 +1,27 @@
 // Whether an MPD and a master with its playlists agree.
-ghost use Rattle.std.specs.Prelude.{◌≡◌, ◌≢◌, ◌≤◌, ◌^◌, None, Ok, IfOk, IsTrue, true};
+ghost use Rattle.std.specs.Prelude.{◌≡◌, ◌≢◌, ◌^◌, Ok, IfOk, true};
 ghost use Rattle.std.specs.Option.{ForSome};
 ghost use Rattle.bridge_io.specs.Answer.{Gives};
-ghost use Rattle.bridge_io.specs.Fault.{HasCause, Rose};
+ghost use Rattle.bridge_io.specs.Fault.{HasCause};
 ghost use Rattle.bridge_runs.specs.declared.status.Status.TheVariants as status;
-ghost use Rattle.bridge_runs.specs.Runs.{status_by, status_of};
+ghost use Rattle.bridge_runs.specs.Runs.{status_by};
 ghost use Rattle.presentation.specs.Counting.{counted, count_of_all};
 ghost use Rattle.presentation.specs.Origins.{CameFromPlaylists};
 ghost use Rattle.presentation.specs.Presented.{is_finished};
 ghost use Rattle.bridge_report.specs.declared.reading.Halt.TheVariants.{ReadFault};
-ghost use Rattle.bridge_report.specs.Outcomes.{IsEnding, course_by};
-ghost use Rattle.bridge_report.specs.Reading as reading;
-ghost use Rattle.bridge_report.specs.Refusals.{refused_in};
-ghost use Rattle.presentation.specs.Told.{and_then};
-ghost use Rattle.bridge_report.specs.declared.refusal.Refusal.TheVariants.{NotStatic};
+ghost use Rattle.bridge_report.specs.Reading.{halted};
+ghost use Rattle.bridge_steps.specs.Endings.{IsPlaced, JobEndsAs, NeverWrites, around};
 ghost use Rattle.bridge_core.specs.Check as spec;
-ghost use Rattle.bridge_core.specs.Hls.{checked, presentation_of};
 
-use crate::done::count_of;
-use crate::manifest::{Ready, checked, presentation_of};
 use bridge_io::{Ledger, Name, NoMemory, Steps, Store, Text};
-use bridge_playlists::{Place, place_of, presented_at};
-use bridge_report::{Halt, Refusal, Stop, content_of, halted, refused};
+use bridge_playlists::{Place, presented_at};
+use bridge_report::{Halt, Refusal};
 use bridge_runs::{Ending, Verdict};
+use bridge_steps::{Ready, count_of, mpd_at, place_in, told};
 use comparison::compare;
 use exact_time::Digits;
 use meaning::{Aspect, Difference};
-use presentation::{Presentation, static_mpds_are_finished};
+use presentation::Presentation;
 use std::alloc::Global;
 
 /// An MPD and a master that are to be compared.
@@ -51,70 +46,30 @@ pub fn judge<F: Store, L: Ledger>(
     store: &mut F,
     steps: &mut Steps<L>,
 ) -> Ending
-    ensures ending { ForSome (spec.check_outcome job.now (F.files store.old)) (λ outcome. IsEnding outcome result (F.files store.old) (F.files store.new)) }
-    ensures made { ForSome (spec.check_outcome job.now (F.files store.old)) (λ outcome. IsTrue (course_by outcome).counts → steps.new ≡ steps.old) }
-    ensures read_fault { status_of result ≡ status.ReadFault → Rose (F.read_faults store.old) (F.read_faults store.new) }
-    ensures job { status_of result ≡ status.Words → ⊥ }
-    ensures write_fault { status_of result ≡ status.WriteFault → ⊥ }
-    ensures reads { F.read_faults store.old ≤ F.read_faults store.new }
-    ensures writes { F.write_faults store.new ≡ F.write_faults store.old }
+    ensures ends { JobEndsAs (spec.check_outcome job.now (F.files store.old)) result
+        (around (F.files store.old) (F.read_faults store.old) (F.write_faults store.old) steps.old)
+        (around (F.files store.new) (F.read_faults store.new) (F.write_faults store.new) steps.new) }
+    ensures never_writes { NeverWrites result (F.write_faults store.old) (F.write_faults store.new) }
 {
-    match place_of(alloc, job.base.as_str(), &job.mpd) {
-        Ok(Some(mpd)) => judge_beside(alloc, job, &mpd, store, steps),
-        Ok(None) => refused(alloc, "-", Refusal::Base),
-        Err(NoMemory) => Ending::Memory,
+    match places_of(alloc, job) {
+        Ok((mpd, master)) => told(alloc, judged(alloc, job, &mpd, &master, store, steps)),
+        Err(told) => told,
     }
 }
 
-/// The same where the MPD is at this place.
-#[tactic(auto, unfolding(crate::specs::Check::check_beside))]
-fn judge_beside<F: Store, L: Ledger>(
-    alloc: Global,
-    job: &Check,
-    mpd: &Place,
-    store: &mut F,
-    steps: &mut Steps<L>,
-) -> Ending
-    ensures ending { ForSome (spec.check_beside job.now mpd.now (F.files store.old)) (λ outcome. IsEnding outcome result (F.files store.old) (F.files store.new)) }
-    ensures made { ForSome (spec.check_beside job.now mpd.now (F.files store.old)) (λ outcome. IsTrue (course_by outcome).counts → steps.new ≡ steps.old) }
-    ensures read_fault { status_of result ≡ status.ReadFault → Rose (F.read_faults store.old) (F.read_faults store.new) }
-    ensures job { status_of result ≡ status.Words → ⊥ }
-    ensures write_fault { status_of result ≡ status.WriteFault → ⊥ }
-    ensures reads { F.read_faults store.old ≤ F.read_faults store.new }
-    ensures writes { F.write_faults store.new ≡ F.write_faults store.old }
+/// Where the MPD and the master of a job lie.
+#[tactic(auto, unfolding(crate::specs::Check::places_of))]
+fn places_of(alloc: Global, job: &Check) -> Result<(Place, Place), Ending>
+    ensures { IsPlaced (spec.places_of job.now) result }
 {
-    match place_of(alloc, job.base.as_str(), &job.master) {
-        Ok(Some(master)) => judge_at(alloc, job, mpd, &master, store, steps),
-        Ok(None) => refused(alloc, "-", Refusal::Base),
-        Err(NoMemory) => Ending::Memory,
-    }
+    let mpd = place_in(alloc, &job.base, &job.mpd)?;
+    let master = place_in(alloc, &job.base, &job.master)?;
+    Ok((mpd, master))
 }
 
-/// The same of the MPD and the master at these places.
-fn judge_at<F: Store, L: Ledger>(
-    alloc: Global,
-    job: &Check,
-    mpd: &Place,
-    master: &Place,
-    store: &mut F,
-    steps: &mut Steps<L>,
-) -> Ending
-    ensures ending { ForSome (F.files store.old) (λ files. IsEnding (spec.check_at job.now mpd.now master.now files) result (F.files store.old) (F.files store.new)) }
-    ensures read_fault { status_of result ≡ status.ReadFault → Rose (F.read_faults store.old) (F.read_faults store.new) }
-    ensures job { status_of result ≡ status.Words → ⊥ }
-    ensures write_fault { status_of result ≡ status.WriteFault → ⊥ }
-    ensures reads { F.read_faults store.old ≤ F.read_faults store.new }
-    ensures writes { F.write_faults store.new ≡ F.write_faults store.old }
-{
-    match told(alloc, job, mpd, master, store, steps) {
-        Ok((verdict, line)) => Ending::Ended(verdict, line),
-        Err(halt) => halted(alloc, halt),
-    }
-}
-
-/// What is told of the MPD and the master, or why a file isn't read.
-#[tactic(auto, unfolding(crate::specs::Check::told))]
-fn told<F: Store, L: Ledger>(
+/// What is told of the MPD and the master at these places, or why a file isn't read.
+#[tactic(auto, unfolding(crate::specs::Check::judged))]
+fn judged<F: Store, L: Ledger>(
     alloc: Global,
     job: &Check,
     mpd: &Place,
@@ -122,75 +77,16 @@ fn told<F: Store, L: Ledger>(
     store: &mut F,
     steps: &mut Steps<L>,
 ) -> Result<(Verdict, Text), Halt>
-    ensures told { ForSome (F.files store.old) (λ files. Gives (λ told. told) reading.halted result (spec.told job.now mpd.now master.now files)) }
+    ensures told { ForSome (F.files store.old) (λ files. Gives (λ told. told) halted result (spec.judged job.now mpd.now master.now files)) }
     ensures verdict { IfOk result (λ told. status_by told.0 ≢ status.Words) }
     ensures cause { HasCause ReadFault (F.read_faults store.old) (F.read_faults store.new) result }
     ensures files { F.files store.new ≡ F.files store.old }
     ensures writes { F.write_faults store.new ≡ F.write_faults store.old }
 {
-    let ready = mpd_at(alloc, job, mpd, store, steps)?;
-    compared_with(alloc, job, master, &ready, store, steps)
-}
-
-/// The presentation of the MPD at a place, or why its file isn't read.
-#[tactic(auto, unfolding(crate::specs::Check::mpd_at))]
-fn mpd_at<F: Store, L: Ledger>(
-    alloc: Global,
-    job: &Check,
-    place: &Place,
-    store: &mut F,
-    steps: &mut Steps<L>,
-) -> Result<Ready, Halt>
-    ensures mpd { ForSome (F.files store.old) (λ files. Gives (λ ready. ready.presentation) reading.halted result (spec.mpd_at job.now place.now files)) }
-    ensures finished { IfOk result (λ ready. is_finished ready.presentation ≡ true) }
-    ensures digits { IfOk result (λ ready. ready.digits ≡ job.now.digits) }
-    ensures cause { HasCause ReadFault (F.read_faults store.old) (F.read_faults store.new) result }
-    ensures files { F.files store.new ≡ F.files store.old }
-    ensures writes { F.write_faults store.new ≡ F.write_faults store.old }
-{
-    static_mpds_are_finished();
-    let bytes = content_of(alloc, store, &place.file)?;
-    match ready(alloc, job, place, bytes.as_slice(), steps) {
-        Ok(ready) => Ok(ready),
-        Err(Stop::Refused(refusal)) => Err(Halt::refused(alloc, &place.file, refusal)),
-        Err(Stop::Memory) => Err(Halt::Memory),
-    }
-}
-
-/// The presentation of a static MPD whose segments all have addresses, or the first refusal.
-fn ready<L: Ledger>(
-    alloc: Global,
-    job: &Check,
-    place: &Place,
-    bytes: &[u8],
-    steps: &mut Steps<L>,
-) -> Result<Ready, Stop>
-    ensures ready { Gives (λ ready. ready.presentation) refused_in result (and_then (presentation_of NotStatic place.now.url None bytes.now) (checked (10 ^ job.now.digits))) }
-    ensures digits { IfOk result (λ ready. ready.digits ≡ job.now.digits) }
-{
-    let presentation = presentation_of(alloc, bytes, &place.url, None, Refusal::NotStatic)?;
-    checked(alloc, presentation, job.digits, steps)
-}
-
-/// What is told of an MPD's presentation and of the master at a place, or why a file isn't read.
-fn compared_with<F: Store, L: Ledger>(
-    alloc: Global,
-    job: &Check,
-    place: &Place,
-    mpd: &Ready,
-    store: &mut F,
-    steps: &mut Steps<L>,
-) -> Result<(Verdict, Text), Halt>
-    requires finished { is_finished mpd.now.presentation ≡ true }
-    requires digits { mpd.now.digits ≡ job.now.digits }
-    ensures told { ForSome (F.files store.old) (λ files. Gives (λ told. told) reading.halted result (spec.compared_with job.now place.now files mpd.now.presentation)) }
-    ensures verdict { IfOk result (λ told. status_by told.0 ≢ status.Words) }
-    ensures cause { HasCause ReadFault (F.read_faults store.old) (F.read_faults store.new) result }
-    ensures files { F.files store.new ≡ F.files store.old }
-    ensures writes { F.write_faults store.new ≡ F.write_faults store.old }
-{
-    let playlists = presented_at(alloc, place, store)?;
-    Ok(compared(alloc, mpd, &playlists, steps)?)
+    let live = Some(Refusal::NotStatic);
+    let ready = mpd_at(alloc, mpd, None, live, job.digits, store, steps)?;
+    let playlists = presented_at(alloc, master, store)?;
+    Ok(compared(alloc, &ready, &playlists, steps)?)
 }
 
 /// What is told of an MPD and of playlists.

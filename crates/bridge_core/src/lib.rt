@@ -3,13 +3,10 @@
 
 mod check;
 mod dash;
-mod done;
 mod hls;
 mod laws;
 mod listing;
 mod make;
-mod manifest;
-mod playlists;
 mod run;
 mod seconds;
 mod show;

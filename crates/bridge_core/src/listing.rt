@@ -5,9 +5,9 @@ ghost use Rattle.hls_writer.specs.Lines.{seconds_bytes};
 ghost use Rattle.presentation.specs.Counting.{counted, count_of_all, sections_of, tracks_of};
 ghost use Rattle.bridge_core.specs.Show as spec;
 
-use crate::done::push_counts;
 use crate::seconds::push_seconds;
 use bridge_io::Kind;
+use bridge_steps::push_counts;
 use exact_time::Digits;
 use presentation::{Extent, Presentation, Track, answers_allow_listings};
 use std::alloc::AllocError;

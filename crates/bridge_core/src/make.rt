@@ -1,31 +1,26 @@
 // From a made MPD to playlists.
-ghost use Rattle.std.specs.Prelude.{◌≡◌, ◌≤◌, ◌^◌, ◌++◌, Ok, IfOk, OnOk, OnErr, IsTrue};
+ghost use Rattle.std.specs.Prelude.{◌≡◌, ◌^◌, ◌++◌, Ok, Some, IfOk, OnOk, OnErr};
 ghost use Rattle.std.specs.String.{string_bytes};
-ghost use Rattle.bridge_io.specs.Answer.{Gives};
-ghost use Rattle.bridge_io.specs.Fault.{HasCause, Rose};
+ghost use Rattle.bridge_io.specs.Fault.{HasCause};
 ghost use Rattle.bridge_io.specs.InOrder.{put_all, MayBegin, AreBegun};
 ghost use Rattle.bridge_io.specs.Outside.{put, Changes};
-ghost use Rattle.bridge_jobs.specs.Laws.{in_folder};
-ghost use Rattle.bridge_runs.specs.declared.status.Status.TheVariants as status;
-ghost use Rattle.bridge_runs.specs.Runs.{status_of};
-ghost use Rattle.bridge_report.specs.Refusals.{refused_in};
-ghost use Rattle.bridge_report.specs.Outcomes.{IsEnding, course_by};
 ghost use Rattle.file_pieces.specs.declared.fault.OutFault.TheVariants.{WriteFault};
+ghost use Rattle.bridge_jobs.specs.Laws.{in_folder};
+ghost use Rattle.bridge_steps.specs.Endings.{IsPlaced, JobEndsAs, NeverReads, around};
 ghost use Rattle.bridge_core.specs.Make as spec;
 ghost use Rattle.bridge_core.specs.Source.{source_text};
 
-use crate::manifest::{Ready, checked, presentation_of};
-use crate::playlists::write_playlists;
 use crate::seconds::push_seconds;
 use crate::source::source_text;
 use bridge_io::{FileWriter, Ledger, Name, NoMemory, Steps, Store, Text};
-use bridge_report::{Refusal, Stop, file_url, refused};
-use bridge_runs::{Ending, Verdict};
+use bridge_playlists::Place;
+use bridge_report::{Refusal, halted};
+use bridge_runs::Ending;
+use bridge_steps::{Ready, file_in, mpd_in, place_in, write_playlists, written};
 use exact_time::Digits;
 use hls_writer::OutFault;
 use presentation::answers_allow_listings;
 use std::alloc::{AllocError, Global};
-use url_parts::Base;
 
 /// The URL of the folder that the MPD is thought to be in.
 const BASE: &str = "https://make.example/";
@@ -52,71 +47,33 @@ pub fn translate<F: Store, L: Ledger>(
     store: &mut F,
     steps: &mut Steps<L>,
 ) -> Ending
-    ensures ending { IsEnding (spec.make_outcome job.now) result (F.files store.old) (F.files store.new) }
-    ensures made { IsTrue (course_by (spec.make_outcome job.now)).counts → steps.new ≡ steps.old }
-    ensures status { (status_of result ≡ status.ReadFault → ⊥) × (status_of result ≡ status.Words → ⊥) }
-    ensures write_fault { status_of result ≡ status.WriteFault → Rose (F.write_faults store.old) (F.write_faults store.new) }
-    ensures counts { (F.read_faults store.new ≡ F.read_faults store.old) × (F.write_faults store.old ≤ F.write_faults store.new) }
-{
-    match source_url(alloc) {
-        Ok(Some(url)) => make_at(alloc, job, &url, store, steps),
-        Ok(None) => refused(alloc, "-", Refusal::Base),
-        Err(NoMemory) => Ending::Memory,
-    }
-}
-
-/// The URL of the MPD.
-fn source_url(alloc: Global) -> Result<Option<Base>, NoMemory>
-    ensures { IfOk result (λ url. url ≡ spec.source_url) }
-{
-    let name = Name::read(alloc, SOURCE).map_err(|_| NoMemory)?;
-    file_url(alloc, BASE, &name)
-}
-
-/// Writes the MPD and its playlists as those of an MPD at this URL.
-fn make_at<F: Store, L: Ledger>(
-    alloc: Global,
-    job: &Make,
-    url: &Base,
-    store: &mut F,
-    steps: &mut Steps<L>,
-) -> Ending
-    ensures ending { IsEnding (spec.outcome_of job.now (spec.made_presentation job.now url.now)) result (F.files store.old) (F.files store.new) }
-    ensures status { (status_of result ≡ status.ReadFault → ⊥) × (status_of result ≡ status.Words → ⊥) }
-    ensures write_fault { status_of result ≡ status.WriteFault → Rose (F.write_faults store.old) (F.write_faults store.new) }
-    ensures counts { (F.read_faults store.new ≡ F.read_faults store.old) × (F.write_faults store.old ≤ F.write_faults store.new) }
+    ensures ends { JobEndsAs (spec.make_outcome job.now) result
+        (around (F.files store.old) (F.read_faults store.old) (F.write_faults store.old) steps.old)
+        (around (F.files store.new) (F.read_faults store.new) (F.write_faults store.new) steps.new) }
+    ensures never_reads { NeverReads result (F.read_faults store.old) (F.read_faults store.new) }
 {
     let Ok(text) = source_text(alloc, job.seed) else {
         return Ending::Memory;
     };
-    match ready(alloc, job, url, &text, steps) {
-        Ok(ready) => write(alloc, job, &text, &ready, store, steps),
-        Err(Stop::Refused(refusal)) => refused(alloc, SOURCE, refusal),
-        Err(Stop::Memory) => Ending::Memory,
+    let bytes = text.as_str().as_bytes();
+    let live = Some(Refusal::NotStatic);
+    match source_place(alloc) {
+        Ok(place) => match mpd_in(alloc, &place, bytes, None, live, job.digits, steps) {
+            Ok(ready) => write(alloc, job, &text, &ready, store, steps),
+            Err(halt) => halted(alloc, halt),
+        },
+        Err(told) => told,
     }
 }
 
-/// The presentation of the MPD, whose segments all have addresses, or the first refusal.
-#[tactic(auto, unfolding(crate::specs::Make::made_presentation))]
-fn ready<L: Ledger>(
-    alloc: Global,
-    job: &Make,
-    url: &Base,
-    text: &Text,
-    steps: &mut Steps<L>,
-) -> Result<Ready, Stop>
-    requires { text.now ≡ source_text job.now.seed }
-    ensures ready { Gives (λ ready. ready.presentation) refused_in result (spec.made_presentation job.now url.now) }
-    ensures digits { IfOk result (λ ready. ready.digits ≡ job.now.digits) }
+/// Where the MPD is thought to lie.
+fn source_place(alloc: Global) -> Result<Place, Ending>
+    ensures { IsPlaced spec.source_place result }
 {
-    let presentation = presentation_of(
-        alloc,
-        text.as_str().as_bytes(),
-        url,
-        None,
-        Refusal::NotStatic,
-    )?;
-    checked(alloc, presentation, job.digits, steps)
+    match (Text::copy_of(alloc, BASE), Name::read(alloc, SOURCE)) {
+        (Ok(base), Ok(name)) => place_in(alloc, &base, &name),
+        _ => Err(Ending::Memory),
+    }
 }
 
 /// Writes the MPD and the playlists of its presentation.
@@ -130,19 +87,15 @@ fn write<F: Store, L: Ledger>(
 ) -> Ending
     requires text { text.now ≡ source_text job.now.seed }
     requires digits { ready.now.digits ≡ job.now.digits }
-    ensures ending { IsEnding (spec.outcome_of job.now (Ok ready.now.presentation)) result (F.files store.old) (F.files store.new) }
-    ensures status { (status_of result ≡ status.ReadFault → ⊥) × (status_of result ≡ status.Words → ⊥) }
-    ensures write_fault { status_of result ≡ status.WriteFault → Rose (F.write_faults store.old) (F.write_faults store.new) }
-    ensures counts { (F.read_faults store.new ≡ F.read_faults store.old) × (F.write_faults store.old ≤ F.write_faults store.new) }
+    ensures ends { JobEndsAs (Some (spec.outcome_of job.now (Ok ready.now.presentation))) result
+        (around (F.files store.old) (F.read_faults store.old) (F.write_faults store.old) steps.old)
+        (around (F.files store.new) (F.read_faults store.new) (F.write_faults store.new) steps.new) }
+    ensures never_reads { NeverReads result (F.read_faults store.old) (F.read_faults store.new) }
 {
     let Ok(line) = made_line(alloc, ready) else {
         return Ending::Memory;
     };
-    match write_files(alloc, job, text, ready, store, steps) {
-        Ok(()) => Ending::Ended(Verdict::Done, line),
-        Err(OutFault::WriteFault) => Ending::WriteFault,
-        Err(OutFault::Memory) => Ending::Memory,
-    }
+    written(line, write_files(alloc, job, text, ready, store, steps))
 }
 
 /// Writes the MPD, and then the playlists.
@@ -177,7 +130,7 @@ fn write_source<F: Store>(
     ensures cause { HasCause WriteFault (F.write_faults store.old) (F.write_faults store.new) result }
     ensures reads { F.read_faults store.new ≡ F.read_faults store.old }
 {
-    match source_name(alloc, out) {
+    match file_in(alloc, out, SOURCE) {
         Ok(name) => write_text(alloc, &name, text, store),
         Err(NoMemory) => Err(OutFault::Memory),
     }
@@ -199,15 +152,6 @@ fn write_text<F: Store>(
     writer.push(store, text.as_str().as_bytes())?;
     writer.flush(store)?;
     Ok(())
-}
-
-/// The name of the MPD. A folder of a job leaves room for it.
-fn source_name(alloc: Global, out: &Name) -> Result<Name, NoMemory>
-    ensures { IfOk result (λ name. name ≡ in_folder out.now spec.source_name) }
-{
-    let out = out.as_str();
-    let name = format!(in alloc; "{out}/source.mpd")?;
-    Name::read(alloc, name.as_str()).map_err(|_| NoMemory)
 }
 
 /// The line of the report.

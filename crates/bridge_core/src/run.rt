@@ -1,13 +1,14 @@
 // The top call.
-ghost use Rattle.std.specs.Prelude.{◌≡◌, ◌⊎◌, ◌≤◌, IsTrue};
+ghost use Rattle.std.specs.Prelude.{◌≡◌, ◌⊎◌, Some};
 ghost use Rattle.std.specs.Option.{ForSome};
 ghost use Rattle.bridge_io.specs.Fault.{Rose};
 ghost use Rattle.bridge_jobs.specs.Jobs.{job_of};
 ghost use Rattle.bridge_runs.specs.declared.status.Status.TheVariants as status;
 ghost use Rattle.bridge_runs.specs.Runs.{IsRun, status_by, status_of};
 ghost use Rattle.bridge_runs.specs.Laws.{IsCalm};
+ghost use Rattle.bridge_steps.specs.Endings.{EndsAs, around};
 ghost use Rattle.bridge_core.specs.Courses.{IsUnbuilt, course_of, outcome_of_job, outcome_of_words, world_of};
-ghost use Rattle.bridge_report.specs.Outcomes.{IsEnding, course_by};
+ghost use Rattle.bridge_core.specs.Reports.{TellsItsEnd};
 
 use crate::check::{self, Check};
 use crate::dash::{self, Dash};
@@ -21,14 +22,14 @@ use bridge_runs::{Ending, Status, tell};
 use std::alloc::Global;
 
 /// Runs the command that the words are, without the program's own name: it reads and writes the files of the store,
-/// and reports its end in one line. The input is left as it was.
+/// and reports how it ends, in one line but for `show`. The input is left as it was.
 ///
 /// Six commands are built yet. `hls` writes the playlists of an MPD, `t0.m3u8` and so on for each track and `master.m3u8` for
 /// all, to a folder, the master last. `dash` writes the MPD of a master and its playlists, `manifest.mpd`. Neither writes
-/// anything before every refusal is ruled out. `show` tells the tracks and sections of an MPD or of a master. `check` tells whether an MPD and a master agree, or
-/// where they differ first. `reload` reads two
-/// media playlists and tells whether the second may take the first one's place, or the first rule that it breaks. `make` writes an
-/// MPD that is made from a seed, `source.mpd`, and then what `hls` writes of it, and reads nothing.
+/// anything before every refusal is ruled out. `show` tells the tracks and sections of an MPD or of a master, a line for each
+/// track in each section. `check` tells whether an MPD and a master agree, or where they differ first. `reload` reads two media
+/// playlists and tells whether the second may take the first one's place, or the first rule that it breaks. `make` writes an MPD
+/// that is made from a seed, `source.mpd`, and then what `hls` writes of it, and reads nothing.
 pub fn bridge<I: Source, F: Store, P: Sink, L: Ledger>(
     alloc: Global,
     words: &[Text],
@@ -56,6 +57,9 @@ pub fn bridge<I: Source, F: Store, P: Sink, L: Ledger>(
     ensures read_fault { result ≡ status.ReadFault → Rose (F.read_faults store.old) (F.read_faults store.new) }
     ensures write_fault { result ≡ status.WriteFault → Rose (F.write_faults store.old) (F.write_faults store.new) ⊎ Rose (P.faults report.old) (P.faults report.new) }
 
+    // How it ends is told, whatever the store tells.
+    ensures told { TellsItsEnd result (P.faults report.old) (P.faults report.new) (P.written report.old) (P.written report.new) }
+
     ensures input { input.new ≡ input.old }
 {
     let ending = work(alloc, words, store, steps);
@@ -70,44 +74,37 @@ fn work<F: Store, L: Ledger>(
     store: &mut F,
     steps: &mut Steps<L>,
 ) -> Ending
-    ensures ending { ForSome (outcome_of_words words.now (F.files store.old)) (λ outcome. IsEnding outcome result (F.files store.old) (F.files store.new)) }
-    ensures made { ForSome (outcome_of_words words.now (F.files store.old)) (λ outcome. IsTrue (course_by outcome).counts → steps.new ≡ steps.old) }
+    ensures ends { EndsAs (outcome_of_words words.now (F.files store.old)) result
+        (around (F.files store.old) (F.read_faults store.old) (F.write_faults store.old) steps.old)
+        (around (F.files store.new) (F.read_faults store.new) (F.write_faults store.new) steps.new) }
     ensures words { status_of result ≡ status.Words → ForSome (job_of words.now) IsUnbuilt }
-    ensures read_fault { status_of result ≡ status.ReadFault → Rose (F.read_faults store.old) (F.read_faults store.new) }
-    ensures write_fault { status_of result ≡ status.WriteFault → Rose (F.write_faults store.old) (F.write_faults store.new) }
-    ensures reads { F.read_faults store.old ≤ F.read_faults store.new }
-    ensures writes { F.write_faults store.old ≤ F.write_faults store.new }
 {
     match job(alloc, words) {
-        Ok(job) => run_job(alloc, job, store, steps),
+        Ok(Some(job)) => run_job(alloc, job, store, steps),
+        Ok(None) => Ending::Words,
         Err(NoMemory) => Ending::Memory,
     }
 }
 
 fn run_job<F: Store, L: Ledger>(
     alloc: Global,
-    job: Option<Job>,
+    job: Job,
     store: &mut F,
     steps: &mut Steps<L>,
 ) -> Ending
-    ensures ending { ForSome (outcome_of_job job (F.files store.old)) (λ outcome. IsEnding outcome result (F.files store.old) (F.files store.new)) }
-    ensures made { ForSome (outcome_of_job job (F.files store.old)) (λ outcome. IsTrue (course_by outcome).counts → steps.new ≡ steps.old) }
-    ensures words { status_of result ≡ status.Words → ForSome job IsUnbuilt }
-    ensures read_fault { status_of result ≡ status.ReadFault → Rose (F.read_faults store.old) (F.read_faults store.new) }
-    ensures write_fault { status_of result ≡ status.WriteFault → Rose (F.write_faults store.old) (F.write_faults store.new) }
-    ensures reads { F.read_faults store.old ≤ F.read_faults store.new }
-    ensures writes { F.write_faults store.old ≤ F.write_faults store.new }
+    ensures ends { EndsAs (outcome_of_job (Some job) (F.files store.old)) result
+        (around (F.files store.old) (F.read_faults store.old) (F.write_faults store.old) steps.old)
+        (around (F.files store.new) (F.read_faults store.new) (F.write_faults store.new) steps.new) }
+    ensures words { status_of result ≡ status.Words → IsUnbuilt job }
 {
     match job {
-        Some(
-            Job::Hls {
-                mpd,
-                base,
-                now,
-                out,
-                digits,
-            },
-        ) => {
+        Job::Hls {
+            mpd,
+            base,
+            now,
+            out,
+            digits,
+        } => {
             let job = Hls {
                 mpd,
                 base,
@@ -117,33 +114,15 @@ fn run_job<F: Store, L: Ledger>(
             };
             hls::translate(alloc, &job, store, steps)
         }
-        Some(
-            Job::Check {
-                mpd,
-                master,
-                base,
-                digits,
-            },
-        ) => {
-            let job = Check {
-                mpd,
-                master,
-                base,
-                digits,
-            };
-            check::judge(alloc, &job, store, steps)
-        }
-        Some(Job::Dash { master, base, out }) => {
+        Job::Dash { master, base, out } => {
             dash::translate(alloc, &Dash { master, base, out }, store, steps)
         }
-        Some(
-            Job::Show {
-                file,
-                base,
-                now,
-                digits,
-            },
-        ) => {
+        Job::Show {
+            file,
+            base,
+            now,
+            digits,
+        } => {
             let job = Show {
                 file,
                 base,
@@ -152,13 +131,24 @@ fn run_job<F: Store, L: Ledger>(
             };
             show::tell(alloc, &job, store, steps)
         }
-        Some(Job::Reload { old, new, base }) => judge(alloc, &Reload { old, new, base }, store),
-        Some(Job::Make { seed, out, digits }) => make::translate(
-            alloc,
-            &Make { seed, out, digits },
-            store,
-            steps,
-        ),
+        Job::Check {
+            mpd,
+            master,
+            base,
+            digits,
+        } => {
+            let job = Check {
+                mpd,
+                master,
+                base,
+                digits,
+            };
+            check::judge(alloc, &job, store, steps)
+        }
+        Job::Reload { old, new, base } => judge(alloc, &Reload { old, new, base }, store),
+        Job::Make { seed, out, digits } => {
+            make::translate(alloc, &Make { seed, out, digits }, store, steps)
+        }
         _ => Ending::Words,
     }
 }

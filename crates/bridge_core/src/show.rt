@@ -1,25 +1,22 @@
 // What is told of the tracks and sections of an MPD or of a master.
-ghost use Rattle.std.specs.Prelude.{◌≡◌, ◌≤◌, ◌^◌, Ok, IfOk, IsTrue};
+ghost use Rattle.std.specs.Prelude.{◌≡◌, ◌≢◌, Ok, IfOk};
 ghost use Rattle.std.specs.Option.{ForSome};
 ghost use Rattle.bridge_io.specs.Answer.{Gives};
-ghost use Rattle.bridge_io.specs.Fault.{HasCause, Rose};
+ghost use Rattle.bridge_io.specs.Fault.{HasCause};
 ghost use Rattle.bridge_runs.specs.declared.status.Status.TheVariants as status;
-ghost use Rattle.bridge_runs.specs.Runs.{status_of};
+ghost use Rattle.bridge_runs.specs.Runs.{status_by};
 ghost use Rattle.presentation.specs.Counting.{counted, count_of_all};
 ghost use Rattle.bridge_report.specs.declared.reading.Halt.TheVariants.{ReadFault};
-ghost use Rattle.bridge_report.specs.Outcomes.{IsEnding, course_by};
-ghost use Rattle.bridge_report.specs.Reading as reading;
-ghost use Rattle.presentation.specs.Told.{and_then};
-ghost use Rattle.bridge_report.specs.Refusals.{refused_in};
-ghost use Rattle.bridge_core.specs.Hls.{any_presentation_of, checked};
+ghost use Rattle.bridge_report.specs.Reading.{halted};
+ghost use Rattle.bridge_steps.specs.Endings.{JobEndsAs, NeverWrites, around};
 ghost use Rattle.bridge_core.specs.Show as spec;
 
 use crate::listing::push_shown;
-use crate::manifest::{Ready, any_presentation_of, checked};
 use bridge_io::{Ledger, Name, NoMemory, Steps, Store, Text};
-use bridge_playlists::{Place, place_of, presented_in};
-use bridge_report::{Halt, Refusal, Stop, content_of, halted, refused};
+use bridge_playlists::{Place, presented_in};
+use bridge_report::{Halt, content_of};
 use bridge_runs::{Ending, Verdict};
+use bridge_steps::{mpd_in, place_in, told};
 use exact_time::Digits;
 use iso_time::Instant;
 use presentation::Presentation;
@@ -47,130 +44,46 @@ pub fn tell<F: Store, L: Ledger>(
     store: &mut F,
     steps: &mut Steps<L>,
 ) -> Ending
-    ensures ending { ForSome (spec.show_outcome job.now (F.files store.old)) (λ outcome. IsEnding outcome result (F.files store.old) (F.files store.new)) }
-    ensures made { ForSome (spec.show_outcome job.now (F.files store.old)) (λ outcome. IsTrue (course_by outcome).counts → steps.new ≡ steps.old) }
-    ensures read_fault { status_of result ≡ status.ReadFault → Rose (F.read_faults store.old) (F.read_faults store.new) }
-    ensures job { status_of result ≡ status.Words → ⊥ }
-    ensures write_fault { status_of result ≡ status.WriteFault → ⊥ }
-    ensures reads { F.read_faults store.old ≤ F.read_faults store.new }
-    ensures writes { F.write_faults store.new ≡ F.write_faults store.old }
+    ensures ends { JobEndsAs (spec.show_outcome job.now (F.files store.old)) result
+        (around (F.files store.old) (F.read_faults store.old) (F.write_faults store.old) steps.old)
+        (around (F.files store.new) (F.read_faults store.new) (F.write_faults store.new) steps.new) }
+    ensures never_writes { NeverWrites result (F.write_faults store.old) (F.write_faults store.new) }
 {
-    match place_of(alloc, job.base.as_str(), &job.file) {
-        Ok(Some(place)) => tell_at(alloc, job, &place, store, steps),
-        Ok(None) => refused(alloc, "-", Refusal::Base),
-        Err(NoMemory) => Ending::Memory,
+    match place_in(alloc, &job.base, &job.file) {
+        Ok(place) => told(alloc, shown_at(alloc, job, &place, store, steps)),
+        Err(told) => told,
     }
 }
 
-/// Tells of the manifest at a place.
-fn tell_at<F: Store, L: Ledger>(
+/// What is told of the manifest at a place, or why a file isn't read.
+#[tactic(auto, unfolding(crate::specs::Show::shown_at))]
+fn shown_at<F: Store, L: Ledger>(
     alloc: Global,
     job: &Show,
     place: &Place,
     store: &mut F,
     steps: &mut Steps<L>,
-) -> Ending
-    ensures ending { ForSome (F.files store.old) (λ files. IsEnding (spec.show_at job.now place.now files) result (F.files store.old) (F.files store.new)) }
-    ensures read_fault { status_of result ≡ status.ReadFault → Rose (F.read_faults store.old) (F.read_faults store.new) }
-    ensures job { status_of result ≡ status.Words → ⊥ }
-    ensures write_fault { status_of result ≡ status.WriteFault → ⊥ }
-    ensures reads { F.read_faults store.old ≤ F.read_faults store.new }
-    ensures writes { F.write_faults store.new ≡ F.write_faults store.old }
-{
-    match told(alloc, job, place, store, steps) {
-        Ok(lines) => Ending::Ended(Verdict::Done, lines),
-        Err(halt) => halted(alloc, halt),
-    }
-}
-
-/// The lines of the manifest at a place, or why a file isn't read.
-#[tactic(auto, unfolding(crate::specs::Show::told))]
-fn told<F: Store, L: Ledger>(
-    alloc: Global,
-    job: &Show,
-    place: &Place,
-    store: &mut F,
-    steps: &mut Steps<L>,
-) -> Result<Text, Halt>
-    ensures told { ForSome (F.files store.old) (λ files. Gives (λ lines. lines) reading.halted result (spec.told job.now place.now files)) }
+) -> Result<(Verdict, Text), Halt>
+    ensures told { ForSome (F.files store.old) (λ files. Gives (λ told. told) halted result (spec.shown_at job.now place.now files)) }
+    ensures verdict { IfOk result (λ told. status_by told.0 ≢ status.Words) }
     ensures cause { HasCause ReadFault (F.read_faults store.old) (F.read_faults store.new) result }
     ensures files { F.files store.new ≡ F.files store.old }
     ensures writes { F.write_faults store.new ≡ F.write_faults store.old }
 {
     let bytes = content_of(alloc, store, &place.file)?;
-    bytes_shown(alloc, job, place, bytes.as_slice(), store, steps)
-}
-
-/// The lines of a manifest that has these bytes.
-fn bytes_shown<F: Store, L: Ledger>(
-    alloc: Global,
-    job: &Show,
-    place: &Place,
-    bytes: &[u8],
-    store: &mut F,
-    steps: &mut Steps<L>,
-) -> Result<Text, Halt>
-    ensures told { ForSome (F.files store.old) (λ files. Gives (λ lines. lines) reading.halted result (spec.bytes_shown job.now place.now files bytes.now)) }
-    ensures cause { HasCause ReadFault (F.read_faults store.old) (F.read_faults store.new) result }
-    ensures files { F.files store.new ≡ F.files store.old }
-    ensures writes { F.write_faults store.new ≡ F.write_faults store.old }
-{
-    if is_mpd(bytes) {
-        mpd_shown(alloc, job, place, bytes, steps)
-    } else {
-        master_shown(alloc, job, place, bytes, store)
+    if is_mpd(bytes.as_slice()) {
+        let bytes = bytes.as_slice();
+        let ready = mpd_in(alloc, place, bytes, job.instant, None, job.digits, steps)?;
+        return Ok((
+            Verdict::Done,
+            shown(alloc, "mpd", &ready.presentation, job.digits)?,
+        ));
     }
-}
-
-/// The lines of an MPD.
-#[tactic(auto, unfolding(crate::specs::Show::mpd_shown))]
-fn mpd_shown<L: Ledger>(
-    alloc: Global,
-    job: &Show,
-    place: &Place,
-    bytes: &[u8],
-    steps: &mut Steps<L>,
-) -> Result<Text, Halt>
-    ensures told { Gives (λ lines. lines) reading.halted result (spec.mpd_shown job.now place.now bytes.now) }
-    ensures no_fault { reading.IsNoReadFault result }
-{
-    match ready(alloc, job, place, bytes, steps) {
-        Ok(ready) => Ok(shown(alloc, "mpd", &ready.presentation, job.digits)?),
-        Err(Stop::Refused(refusal)) => Err(Halt::refused(alloc, &place.file, refusal)),
-        Err(Stop::Memory) => Err(Halt::Memory),
-    }
-}
-
-/// The presentation of an MPD, live or not, whose segments all have addresses, or the first refusal.
-fn ready<L: Ledger>(
-    alloc: Global,
-    job: &Show,
-    place: &Place,
-    bytes: &[u8],
-    steps: &mut Steps<L>,
-) -> Result<Ready, Stop>
-    ensures { Gives (λ ready. ready.presentation) refused_in result (and_then (any_presentation_of place.now.url job.now.instant bytes.now) (checked (10 ^ job.now.digits))) }
-{
-    let presentation = any_presentation_of(alloc, bytes, &place.url, job.instant)?;
-    checked(alloc, presentation, job.digits, steps)
-}
-
-/// The lines of a master with its playlists.
-#[tactic(auto, unfolding(crate::specs::Show::master_shown))]
-fn master_shown<F: Store>(
-    alloc: Global,
-    job: &Show,
-    place: &Place,
-    bytes: &[u8],
-    store: &mut F,
-) -> Result<Text, Halt>
-    ensures told { ForSome (F.files store.old) (λ files. Gives (λ lines. lines) reading.halted result (spec.master_shown job.now place.now files bytes.now)) }
-    ensures cause { HasCause ReadFault (F.read_faults store.old) (F.read_faults store.new) result }
-    ensures files { F.files store.new ≡ F.files store.old }
-    ensures writes { F.write_faults store.new ≡ F.write_faults store.old }
-{
-    let presentation = presented_in(alloc, place, bytes, store)?;
-    Ok(shown(alloc, "hls", &presentation, job.digits)?)
+    let presentation = presented_in(alloc, place, bytes.as_slice(), store)?;
+    Ok((
+        Verdict::Done,
+        shown(alloc, "hls", &presentation, job.digits)?,
+    ))
 }
 
 /// The lines of a presentation.

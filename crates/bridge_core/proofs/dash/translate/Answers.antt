@@ -1,18 +1,23 @@
-use Rattle.std.proofs.Common.{sym, ◌∙◌, ap, subst}
-use Rattle.bridge_report.specs.Outcomes.{IsEnding}
+use Rattle.std.proofs.Common.{ap, Err}
 use Rattle.bridge_playlists.specs.Places.{place_of}
-use Rattle.bridge_core.proofs.Found.{dash_found, dash_never}
+use Rattle.bridge_playlists.specs.Playlists.{presented_at}
+use Rattle.bridge_steps.specs.Done.{done_line}
+use Rattle.bridge_steps.proofs.Endings.{at_place, halts, then_ends, writing}
+use Rattle.bridge_core.specs.Dash.{dash_at, dash_outcome, files_of, outcome_of}
 use Rattle.bridge_core.proofs.dash.translate.Goals as goal
 
-pub returns-in-Ok-Some-clause-ending : goal.returns-in-Ok-Some-clause-ending
-returns-in-Ok-Some-clause-ending g c = λ outcome is.
-    let store = g.F.Store in
-    let at = sym c.in-Ok-Some.field-0-is ∙ c.in-Ok-Some.ensures ∙ ap (λ base. place_of base c.args.job.now.master) c.as_str.ensures in
-    let by = dash_found c.args.job.now c.in-Ok-Some.place (store.files c.args.store.now) outcome at is in
-    subst (λ o. IsEnding o c.translate_at.result (store.files c.args.store.now) (store.files c.translate_at.new.store)) by.same (c.translate_at.ensures.ending by.found by.told)
+pub returns-in-Ok-presented_at : goal.returns-in-Ok-presented_at
+unfolding dash_outcome
+returns-in-Ok-presented_at g c =
+    let job = c.args.job.now in let place = c.in-Ok.place in let read = c.in-Ok-presented_at.ensures in
+    at_place (place_of job.base job.master) place (dash_at job (g.F.Store.files c.args.store.now)) c.write.result _ _ c.in-Ok.ensures
+    (then_ends (outcome_of job) (writing (files_of job) done_line) (presented_at place) c.write.result _ _
+    c.in-Ok-presented_at.presentation _ read.presented read.cause.never_falls read.files read.writes c.write.ensures)
 
-pub returns-in-Ok-Some-clause-made : goal.returns-in-Ok-Some-clause-made
-returns-in-Ok-Some-clause-made g c = λ outcome is counts.
-    let files = g.F.Store.files c.args.store.now in
-    let at = sym c.in-Ok-Some.field-0-is ∙ c.in-Ok-Some.ensures ∙ ap (λ base. place_of base c.args.job.now.master) c.as_str.ensures in
-    dash_never c.args.job.now c.in-Ok-Some.place files outcome (dash_found c.args.job.now c.in-Ok-Some.place files outcome at is) counts
+pub returns-in-Ok : goal.returns-in-Ok
+unfolding dash_outcome
+returns-in-Ok g c =
+    let job = c.args.job.now in let place = c.in-Ok.place in let read = c.in-Err-presented_at.ensures in
+    at_place (place_of job.base job.master) place (dash_at job (g.F.Store.files c.args.store.now)) c.halted.result _ _ c.in-Ok.ensures
+    (halts (outcome_of job) (writing (files_of job) done_line) (presented_at place) c.halted.result _ _ c.in-Err-presented_at.halt
+    c.halted.ensures read.presented (λ e. read.cause.rose (ap Err e)) read.cause.never_falls read.files read.writes)

@@ -1,19 +1,23 @@
-use Rattle.std.proofs.Common.{[], ◌∷◌, inr, subst}
-use Rattle.bridge_io.specs.InOrder.{AreBegun}
+use Rattle.std.proofs.Common.{[], ◌∷◌, true, subst}
+use Rattle.bridge_io.specs.InOrder.{put_all, AreBegun}
+use Rattle.bridge_io.specs.Outside.{Changes}
 use Rattle.dash_writer.specs.Manifest.{manifest_text}
-use Rattle.bridge_core.proofs.Begun.{begun}
+use Rattle.bridge_steps.specs.Done.{done_line}
+use Rattle.bridge_steps.specs.Endings.{IsWritten}
+use Rattle.bridge_steps.proofs.Begun.{begun, one_put}
+use Rattle.bridge_steps.proofs.Endings.{writes}
+use Rattle.bridge_steps.proofs.Files.{on_ok_by, on_err_by}
+use Rattle.bridge_core.specs.Dash.{files_of}
 use Rattle.bridge_core.proofs.dash.write.Goals as goal
 
-pub returns-in-Err-WriteFault-clause-ending : goal.returns-in-Err-WriteFault-clause-ending
-returns-in-Err-WriteFault-clause-ending g c =
-    let files = g.F.Store.files in
-    let text = manifest_text c.args.presentation.now in
-    subst (λ name. AreBegun ((name, text) ∷ []) (files c.args.store.now) (files c.write_mpd.new.store)) c.in-Ok.ensures.name
-    (begun (c.in-Ok.name, text) (files c.args.store.now) (files c.write_mpd.new.store) c.in-Err-WriteFault.ensures.err)
-
-pub returns-clause-ending : goal.returns-clause-ending
-returns-clause-ending g c =
-    let files = g.F.Store.files in
-    let text = manifest_text c.args.presentation.now in
-    inr (subst (λ name. AreBegun ((name, text) ∷ []) (files c.args.store.now) (files c.write_mpd.new.store)) c.in-Ok.ensures.name
-    (begun (c.in-Ok.name, text) (files c.args.store.now) (files c.write_mpd.new.store) c.in-Err-Memory.ensures.err))
+pub returns : goal.returns
+returns g c =
+    let p = c.args.presentation.now in let text = manifest_text p in let put = c.write_mpd.ensures in let told = c.in-Ok.ensures in
+    let name = c.in-Ok.name in
+    let before = g.F.Store.files c.args.store.now in let after = g.F.Store.files c.write_mpd.new.store in
+    writes (files_of c.args.job.now p) (done_line p) true c.write_mpd.result c.written.result _ _
+    (on_ok_by c.write_mpd.result (λ ok. subst (λ name. Changes (put_all ((name, text) ∷ [])) before after) told.name
+    (one_put (name, text) before after ok)) put.ok)
+    (on_err_by c.write_mpd.result (λ may. subst (λ name. AreBegun ((name, text) ∷ []) before after) told.name
+    (begun (name, text) before after may)) put.err)
+    put.cause put.reads (subst (λ line. IsWritten line c.write_mpd.result c.written.result) told.line c.written.ensures)

@@ -12,5 +12,6 @@ loop-section-preserved c =
     let text : ℕ → List ℕ = λ section. entry_line c.args.digits p c.args.track section c.args.told.now in
     let sections = length p.sections in
     ap (λ lines. lines ++ flat_map text (from_on (c.loop-section.section + 1) sections)) c.in_ok-push_entry.ensures
-    ∙ one_more text (string_bytes c.args.lines.now ++ flat_map text (sections_of p)) (string_bytes c.loop-section.lines) c.loop-section.section sections
+    ∙ one_more text (string_bytes c.args.lines.now ++ flat_map text (sections_of p)) (string_bytes c.loop-section.lines)
+    c.loop-section.section sections
     (omega (arith, ap length c.sections.ensures)) c.loop-section.invariant

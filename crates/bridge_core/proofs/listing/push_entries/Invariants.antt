@@ -7,4 +7,5 @@ use Rattle.bridge_core.proofs.listing.push_entries.Given as goal
 
 abbrev pub invariant-loop-section : goal.invariant-loop-section
 invariant-loop-section l = let text : ℕ → List ℕ = λ section. entry_line l.digits l.presentation l.track section l.told in
-    string_bytes l.lines ++ flat_map text (from_on l.section (length l.presentation.sections)) ≡ string_bytes l.fn.lines ++ flat_map text (sections_of l.presentation)
+    string_bytes l.lines ++ flat_map text (from_on l.section (length l.presentation.sections))
+    ≡ string_bytes l.fn.lines ++ flat_map text (sections_of l.presentation)

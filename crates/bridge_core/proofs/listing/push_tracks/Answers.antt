@@ -12,5 +12,6 @@ loop-track-preserved c =
     let text = track_lines c.args.digits p in
     let tracks = length p.tracks in
     ap (λ lines. lines ++ flat_map text (from_on (c.loop-track.track + 1) tracks)) c.in_ok-push_track.ensures
-    ∙ one_more text (string_bytes c.args.lines.now ++ flat_map text (tracks_of p)) (string_bytes c.loop-track.lines) c.loop-track.track tracks
+    ∙ one_more text (string_bytes c.args.lines.now ++ flat_map text (tracks_of p)) (string_bytes c.loop-track.lines) c.loop-track.track
+    tracks
     (omega (arith, ap length c.tracks.ensures)) c.loop-track.invariant

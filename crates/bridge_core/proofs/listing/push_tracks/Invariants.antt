@@ -7,4 +7,5 @@ use Rattle.bridge_core.proofs.listing.push_tracks.Given as goal
 
 abbrev pub invariant-loop-track : goal.invariant-loop-track
 invariant-loop-track l = let text = track_lines l.digits l.presentation in
-    string_bytes l.lines ++ flat_map text (from_on l.track (length l.presentation.tracks)) ≡ string_bytes l.fn.lines ++ flat_map text (tracks_of l.presentation)
+    string_bytes l.lines ++ flat_map text (from_on l.track (length l.presentation.tracks))
+    ≡ string_bytes l.fn.lines ++ flat_map text (tracks_of l.presentation)

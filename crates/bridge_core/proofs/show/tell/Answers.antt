@@ -1,18 +1,24 @@
-use Rattle.std.proofs.Common.{sym, ◌∙◌, ap, subst}
-use Rattle.bridge_report.specs.Outcomes.{IsEnding}
 use Rattle.bridge_playlists.specs.Places.{place_of}
-use Rattle.bridge_core.proofs.Found.{show_found, show_never}
+use Rattle.bridge_steps.proofs.Endings.{at_place, tells, told_never_writes, unplaced, unplaced_never_writes}
+use Rattle.bridge_core.specs.Show.{show_at, show_outcome, shown_at}
 use Rattle.bridge_core.proofs.show.tell.Goals as goal
 
-pub returns-in-Ok-Some-clause-ending : goal.returns-in-Ok-Some-clause-ending
-returns-in-Ok-Some-clause-ending g c = λ outcome is.
-    let store = g.F.Store in
-    let at = sym c.in-Ok-Some.field-0-is ∙ c.in-Ok-Some.ensures ∙ ap (λ base. place_of base c.args.job.now.file) c.as_str.ensures in
-    let by = show_found c.args.job.now c.in-Ok-Some.place (store.files c.args.store.now) outcome at is in
-    subst (λ o. IsEnding o c.tell_at.result (store.files c.args.store.now) (store.files c.tell_at.new.store)) by.same (c.tell_at.ensures.ending by.found by.told)
+pub returns-in-Ok-clause-ends : goal.returns-in-Ok-clause-ends
+unfolding show_outcome
+returns-in-Ok-clause-ends g c =
+    let job = c.args.job.now in let place = c.in-Ok.place in let read = c.shown_at.ensures in
+    at_place (place_of job.base job.file) place (show_at job (g.F.Store.files c.args.store.now)) c.told.result _ _ c.in-Ok.ensures
+    (tells (shown_at job place) c.shown_at.result c.told.result _ _ read.told read.verdict read.cause read.files read.writes c.told.ensures)
 
-pub returns-in-Ok-Some-clause-made : goal.returns-in-Ok-Some-clause-made
-returns-in-Ok-Some-clause-made g c = λ outcome is counts.
-    let files = g.F.Store.files c.args.store.now in
-    let at = sym c.in-Ok-Some.field-0-is ∙ c.in-Ok-Some.ensures ∙ ap (λ base. place_of base c.args.job.now.file) c.as_str.ensures in
-    show_never c.args.job.now c.in-Ok-Some.place files outcome (show_found c.args.job.now c.in-Ok-Some.place files outcome at is) counts
+pub returns-in-Ok-clause-never_writes : goal.returns-in-Ok-clause-never_writes
+returns-in-Ok-clause-never_writes g c = told_never_writes c.shown_at.result c.told.result _ _ c.told.ensures c.shown_at.ensures.writes
+
+pub returns-in-Err-clause-ends : goal.returns-in-Err-clause-ends
+unfolding show_outcome
+returns-in-Err-clause-ends g c =
+    let job = c.args.job.now in
+    unplaced (place_of job.base job.file) (show_at job (g.F.Store.files c.args.store.now)) c.in-Err.told _ c.in-Err.ensures
+
+pub returns-in-Err-clause-never_writes : goal.returns-in-Err-clause-never_writes
+returns-in-Err-clause-never_writes g c =
+    unplaced_never_writes (place_of c.args.job.now.base c.args.job.now.file) c.in-Err.told _ c.in-Err.ensures

@@ -9,7 +9,8 @@ pub loop-run-preserved : goal.loop-run-preserved
 loop-run-preserved c =
     let l = c.loop-run in let side = c.args.side in let before = string_bytes l.text in
     let added : string_bytes c.push_run.new.text ≡ before ++ run_at side c.args.seed l.run =
-    c.in_ok-push_run.ensures ∙ ap (λ ticks. before ++ run_text ticks) c.ticks.ensures ∙ ap (λ seed. before ++ run_text (ticks_of side (seed + l.run))) c.from.ensures in
+    c.in_ok-push_run.ensures ∙ ap (λ ticks. before ++ run_text ticks) c.ticks.ensures
+    ∙ ap (λ seed. before ++ run_text (ticks_of side (seed + l.run))) c.from.ensures in
     ap (λ text. text ++ flat_map (run_at side c.args.seed) (from_on (l.run + 1) c.args.count)) added
     ∙ one_more (run_at side c.args.seed) _ before l.run c.args.count c.loop-run-test.true l.invariant
 
@@ -17,4 +18,5 @@ pub returns : goal.returns
 returns c =
     let l = c.loop-run in let count = c.args.count in let runs = run_at c.args.side c.args.seed in
     let all : l.run ≡ count = omega (arith, l.auto.run-end, c.loop-run-test.false) in
-    no_more runs _ (string_bytes l.text) count (subst (λ run. string_bytes l.text ++ flat_map runs (from_on run count) ≡ string_bytes c.args.text.now ++ runs_text c.args.side c.args.seed count) all l.invariant)
+    no_more runs _ (string_bytes l.text) count (subst (λ run. string_bytes l.text ++ flat_map runs (from_on run count) ≡ string_bytes
+    c.args.text.now ++ runs_text c.args.side c.args.seed count) all l.invariant)

@@ -6,4 +6,6 @@ use Rattle.bridge_core.proofs.source.push_runs.Given as goal
 
 -- the runs so far are added
 abbrev pub invariant-loop-run : goal.invariant-loop-run
-invariant-loop-run l = string_bytes l.text ++ flat_map (run_at l.side l.seed) (from_on l.run l.count) ≡ string_bytes l.fn.text ++ runs_text l.side l.seed l.count
+invariant-loop-run l =
+    string_bytes l.text ++ flat_map (run_at l.side l.seed) (from_on l.run l.count)
+    ≡ string_bytes l.fn.text ++ runs_text l.side l.seed l.count

@@ -1,0 +1,80 @@
+-- Where a file lies under a base, and what is read there.
+use Rattle.std.proofs.Common.{◌≡◌, ◌&&◌, ℕ, List, ◌++◌, length, Option, None, Some, option_map, Result, Ok, Err, bytes_eq, inl, inr, refl, sym, ◌∙◌, ap, subst}
+use Rattle.std.specs.Prelude.{is_some, nat_lt, true}
+use Rattle.std.specs.Option.{option_and_then}
+use Rattle.std.proofs.lemmas.Bool.{cases_Bool}
+use Rattle.bridge_io.specs.Outside.{Files}
+use Rattle.bridge_io.specs.Slurped.{whole_file, within}
+use Rattle.mpd_text.proofs.NameLemmas.{same_bytes}
+use Rattle.presentation.specs.Told.{told_as}
+use Rattle.presentation.proofs.Filling.{ok_under}
+use Rattle.url_parts.specs.Addresses.{absolute}
+use Rattle.bridge_report.specs.Bases.{file_url, folder_url, if_written_so, is_folder, own_address}
+use Rattle.bridge_report.specs.Reading.{content_of, manifest_limit}
+use Rattle.bridge_report.specs.Refusals.{refusal_of_file}
+use Rattle.bridge_playlists.specs.declared.place.Place.{Place}
+use Rattle.bridge_playlists.specs.Places.{place_of, place_with}
+
+-- ---- what is read
+
+there_of : (limit : ℕ) (found : Option (List ℕ)) (bytes : List ℕ) → within limit found ≡ Ok bytes → found ≡ Some bytes
+there_of limit None bytes is = absurd (cc)
+there_of limit (Some all) bytes is = elim (cases_Bool (nat_lt limit (length all))) [
+  | inl long ↦ absurd (let e = rw long at is in cc)
+  | inr short ↦ (let e : all ≡ bytes = (let told = rw short at is in cc) in ap Some e)
+]
+
+pub content_read : (file : List ℕ) (files : Files) (bytes : List ℕ) → content_of file files ≡ Ok bytes → files file ≡ Some bytes
+content_read file files bytes is =
+    there_of manifest_limit (files file) bytes
+    (ok_under refusal_of_file (whole_file manifest_limit file files) bytes (ok_under _
+    (told_as refusal_of_file (whole_file manifest_limit file files)) bytes is))
+
+-- ---- where it lies
+
+written_so : (text url : List ℕ) (r : Result (List ℕ) _) → if_written_so text r ≡ Some url → (r ≡ Ok url) × (url ≡ text)
+written_so text url (Ok found) is = elim (cases_Bool (bytes_eq found text)) [
+  | inl same ↦ (let e : found ≡ url = (let all = rw same at is in cc) in (ap Ok e, sym e ∙ same_bytes found text same))
+  | inr other ↦ absurd (let e = rw other at is in cc)
+]
+written_so text url (Err fault) is = absurd (cc)
+
+folder_written : (base folder : List ℕ) → folder_url base ≡ Some folder → (is_folder base ≡ true) × (folder ≡ base)
+unfolding folder_url
+folder_written base folder is = elim (cases_Bool (is_folder base)) [
+  | inl is_so ↦ (is_so, (written_so base folder (absolute base) (rw is_so at is)).1)
+  | inr other ↦ absurd (let e = rw other at is in cc)
+]
+
+url_written : (base file url : List ℕ) → file_url base file ≡ Some url → (absolute url ≡ Ok url) × (url ≡ base ++ file)
+unfolding file_url
+url_written base file url is = elim (cases_Bool (is_folder base && is_some (own_address base))) [
+  | inl is_so ↦ (let own = written_so (base ++ file) url (absolute (base ++ file)) (rw is_so at is) in (ap absolute own.1 ∙ own.0, own.1))
+  | inr other ↦ absurd (let e = rw other at is in cc)
+]
+
+pub record Lies (base name : List ℕ) (place : Place) : Type 0 where
+  pub is_base : is_folder base ≡ true
+  pub folder : place.folder ≡ base
+  pub file : place.file ≡ name
+  pub at : file_url base name ≡ Some place.url
+  pub url : place.url ≡ base ++ name
+  pub own : absolute place.url ≡ Ok place.url
+
+pub in_folder_is : (base name : List ℕ) (place : Place) → Lies base name place → place.url ≡ place.folder ++ place.file
+in_folder_is base name place lies =
+    lies.url ∙ ap (λ folder. folder ++ name) (sym lies.folder) ∙ ap (λ file. place.folder ++ file) (sym lies.file)
+
+lies_with : (base file : List ℕ) (folder url : Option (List ℕ)) (place : Place) → folder_url base ≡ folder → file_url base file ≡ url
+    → option_and_then (λ folder. option_map (place_with file folder) url) folder ≡ Some place → Lies base file place
+lies_with base file None url place at there is = absurd (cc)
+lies_with base file (Some folder) None place at there is = absurd (cc)
+lies_with base file (Some folder) (Some url) place at there is =
+    let same : place_with file folder url ≡ place = cc in
+    let under = folder_written base folder at in
+    let own = url_written base file url there in
+    subst (Lies base file) same (record { is_base = under.0; folder = under.1; file = refl; at = there; url = own.1; own = own.0 })
+
+pub lies_of : (base file : List ℕ) (place : Place) → place_of base file ≡ Some place → Lies base file place
+unfolding place_of
+lies_of base file place is = lies_with base file (folder_url base) (file_url base file) place refl refl is

@@ -1,0 +1,14 @@
+-- What a run tells, whatever the store tells.
+use Rattle.std.specs.Prelude.{ℕ, List, Option}
+use Rattle.bridge_io.specs.Outside.{Appends}
+use Rattle.bridge_runs.specs.Runs.{TellsAs}
+use Rattle.bridge_runs.specs.declared.ending.Ending.{Ending}
+use Rattle.bridge_runs.specs.declared.status.Status.{Status}
+
+-- lines, if any, and behind them how the run ends, as its status says
+pub record TellsItsEnd (end : Status) (faults faults' : ℕ) (report report' : Option (List ℕ)) : Type 0 where
+  pub how : Ending
+  pub lines : List ℕ
+  pub mid : Option (List ℕ)
+  pub before : Appends lines report mid
+  pub tells : TellsAs how end faults faults' mid report'
