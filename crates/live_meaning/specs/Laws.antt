@@ -1,5 +1,5 @@
 -- What holds of histories.
-use Rattle.std.specs.Prelude.{◌≡◌, ℕ, ℤ, ◌+◌, ◌-◌, ◌*◌, ◌^◌, ◌<◌, All, List, [], ◌∷◌, ◌++◌, filter, length, map, sum, take, slice_get, Option, Some, None, Ok}
+use Rattle.std.specs.Prelude.{◌≡◌, ℕ, ℤ, ◌+◌, ◌-◌, ◌*◌, ◌^◌, ◌<◌, ◌≤◌, All, List, [], ◌∷◌, ◌++◌, filter, length, map, sum, take, slice_get, Option, Some, None, Ok}
 use Rattle.std.specs.List.{fold}
 use Rattle.exact_time.specs.Time.{AreRising, IsAtMost, IsTime, Time, difference}
 use Rattle.exact_time.specs.Floor.{floor_in}
@@ -7,11 +7,13 @@ use Rattle.hls_media.specs.declared.media.Media.{Media}
 use Rattle.hls_media.specs.declared.media.MediaSegment.{MediaSegment}
 use Rattle.hls_writer.specs.Playlists.{Item}
 use Rattle.reload_law.specs.Rules.{lawful}
+use Rattle.mpd_text.specs.Trees.{Element}
+use Rattle.mpd_rules.specs.Rules.{typed_mpd_of}
 use Rattle.timeline.specs.Expansions.{Timing}
 use Rattle.presentation.specs.Presented.{Presented, listed_at}
 use Rattle.followed.specs.Durations.{durations, ends, is_in, told}
 use Rattle.followed.specs.Order.{InOrder}
-use Rattle.live_meaning.specs.Updates.{Update, Refresh, Terms, Values, unit_of}
+use Rattle.live_meaning.specs.Updates.{Update, Refresh, Terms, Values, mpd_of, unit_of}
 use Rattle.live_meaning.specs.Segments.{Numbering, Segment, id_at, listed_of, place_of}
 use Rattle.live_meaning.specs.Histories.{Whole, all_of, numbering_of, whole_of}
 use Rattle.live_meaning.specs.States.{State, state_of}
@@ -93,6 +95,31 @@ NeverDrifts terms history = (t section k : ℕ) (x : Segment) (xs : List Segment
 
 abbrev pub SectionsNeverDrift : Type 0
 SectionsNeverDrift = (terms : Terms) (history : List Update) → IsListedInOrder terms history → NeverDrifts terms history
+
+-- ---- accepted updates of typed MPDs
+
+-- the values of an MPD are those of a tree of which nothing is refused
+abbrev pub IsTyped : Option Values → Type 0
+IsTyped None = Unit {0}
+IsTyped (Some mpd) = (tree : Element) × (typed_mpd_of tree ≡ Ok mpd)
+
+abbrev pub AreTyped : (history : List Update) → Type 0
+AreTyped history = (earlier : List Update) (u : Update) (later : List Update) → history ≡ earlier ++ u ∷ later → IsTyped (mpd_of u)
+
+-- each of them lists its segments in order
+abbrev pub AcceptedAreListedInOrder : Type 0
+AcceptedAreListedInOrder =
+    (terms : Terms) (history : List Update) → IsAccepted terms history → AreTyped history → IsListedInOrder terms history
+
+-- so durations never drift
+abbrev pub AcceptedNeverDrift : Type 0
+AcceptedNeverDrift = (terms : Terms) (history : List Update) → IsAccepted terms history → AreTyped history → NeverDrifts terms history
+
+-- and section numbers never fall
+abbrev pub SectionsNeverFall : Type 0
+SectionsNeverFall =
+    (terms : Terms) (history : List Update) (t i j : ℕ) (x y : Segment) → IsAccepted terms history → AreTyped history → i ≤ j
+    → slice_get (all_of terms history t) i ≡ Some x → slice_get (all_of terms history t) j ≡ Some y → x.section ≤ y.section
 
 -- ---- each playlist may take the place of the one before it
 

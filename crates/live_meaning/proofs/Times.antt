@@ -1,0 +1,122 @@
+-- In each Period of an MPD's presentation the ends of the listed segments rise, at each instant.
+use Rattle.std.proofs.Common.{◌≡◌, ℕ, zero, suc, ◌+◌, ◌*◌, Bool, ℤ, List, [], ◌∷◌, map, length, Option, Some, None, Ok, refl, sym, ap, subst, inl, inr}
+use Rattle.std.specs.Prelude.{All, filter, unwrap_or}
+use Rattle.std.specs.List.{AllByRecursion}
+use Rattle.std.specs.Option.{option_map_or}
+use Rattle.std.proofs.lemmas.Bool.{cases_Bool}
+use Rattle.std.proofs.lemmas.List.Elements.{All-nil, All-filter, All-from_recursion}
+use Rattle.exact_time.specs.Time.{Time, AreRising}
+use Rattle.exact_time.proofs.TimeOrder.{IsAtMost-from_before, before_then_at_most}
+use Rattle.mpd_levels.specs.declared.tables.SView.{SView}
+use Rattle.mpd_levels.specs.Segments.{Segments}
+use Rattle.timeline.specs.declared.entry.End.{End}
+use Rattle.timeline.specs.declared.names.Names.{Names}
+use Rattle.timeline.specs.declared.window.Window.{Window}
+use Rattle.timeline.specs.Expansions.{Closed, Endless, Extent, Member, SegmentTimeline, Short, Timing, ended_by, extents, numbered, repeat_of, repeated}
+use Rattle.timeline.specs.Limits.{too_long}
+use Rattle.timeline.specs.Listed.{instant_of, is_listed}
+use Rattle.timeline.specs.Steady.{AreLasting, Lasts, LastsTicks}
+use Rattle.timeline.proofs.KeptLemmas.{all_append}
+use Rattle.timeline.proofs.Rises.{Lasts-from_ticks, LastsTicks-repeat, ends_rise, no_step_from}
+use Rattle.presentation.specs.declared.parts.Content.{Content}
+use Rattle.presentation.specs.Presented.{Presented, content_at, listed_at, listed_in, window_of}
+use Rattle.presentation.specs.Scales.{scale_of}
+use Rattle.presentation.specs.Told.{entries_of, presented_of, timeline_by}
+use Rattle.presentation.proofs.Ending.{all_have}
+use Rattle.presentation.proofs.FromMpd.{is_told}
+use Rattle.presentation.proofs.Grids.{All-at}
+use Rattle.presentation.proofs.Pace.{IsSound, duration_sound, entries_sound}
+use Rattle.live_meaning.specs.Updates.{Values}
+use Rattle.live_meaning.specs.Laws.{DoesLast}
+
+-- ---- the segments that are listed of some whose ends rise
+
+skipped : (former : Time) (x : Timing) (xs : List Timing) → AllByRecursion DoesLast xs → AreRising (former ∷ x.end ∷ map (λ y. y.end) xs)
+    → AreRising (former ∷ map (λ y. y.end) xs)
+skipped former x [] last rise = tt
+skipped former x (y ∷ ys) last rise =
+    (before_then_at_most former x.end y.end last.0.end rise.0 (IsAtMost-from_before x.end y.end rise.1.0), rise.1.1)
+
+later_rise : (test : Timing → Bool) (former : Time) (xs : List Timing) → AllByRecursion DoesLast xs
+    → AreRising (former ∷ map (λ y. y.end) xs) → AreRising (former ∷ map (λ y. y.end) (filter test xs))
+later_rise test former [] last rise = tt
+later_rise test former (x ∷ xs) last rise = elim (cases_Bool (test x)) [
+  | inl is ↦ let rest = later_rise test x.end xs last.1 rise.1 in rw is (rise.0, rest)
+  | inr other ↦ let rest = later_rise test former xs last.1 (skipped former x xs last.1 rise) in rw other rest
+]
+
+behind_first : (x : Timing) (xs : List Timing) → AreRising (x.end ∷ map (λ y. y.end) xs) → AreRising (map (λ y. y.end) xs)
+behind_first x [] rise = tt
+behind_first x (y ∷ ys) rise = rise.1
+
+filter_rises : (test : Timing → Bool) (xs : List Timing) → AllByRecursion DoesLast xs → AreRising (map (λ y. y.end) xs)
+    → AreRising (map (λ y. y.end) (filter test xs))
+filter_rises test [] last rise = tt
+filter_rises test (x ∷ xs) last rise = elim (cases_Bool (test x)) [
+  | inl is ↦ let rest = later_rise test x.end xs last.1 rise in rw is rest
+  | inr other ↦ let rest = filter_rises test xs last.1 (behind_first x xs rise) in rw other rest
+]
+
+-- ---- the segments of a timeline
+
+repeated_last : (count : ℕ) (x : Extent) → LastsTicks x → AllByRecursion Lasts (repeated count x)
+unfolding repeated
+repeated_last zero x is = tt
+repeated_last (suc count) x is = (Lasts-from_ticks x is, repeated_last count (repeat_of x) (LastsTicks-repeat x is))
+
+extents_last : (instant : Time) (members : List Member) → AreLasting members → AllByRecursion Lasts (extents instant members)
+extents_last instant [] lasting = tt
+extents_last instant (Closed x ∷ later) lasting = (lasting.0, extents_last instant later lasting.1)
+extents_last instant (Short x ∷ later) lasting = extents_last instant later lasting
+extents_last instant (Endless x ∷ later) lasting =
+    all_append Lasts (repeated (ended_by instant x) x) (extents instant later) (repeated_last (ended_by instant x) x lasting.0)
+    (extents_last instant later (subst AreLasting (sym lasting.1) tt))
+
+numbered_last : (n : ℕ) (xs : List Extent) → AllByRecursion Lasts xs → AllByRecursion DoesLast (numbered n xs)
+numbered_last n [] all = tt
+numbered_last n (x ∷ xs) all =
+    (record { start = all.0.start_is; end = all.0.end_is; lasts = IsAtMost-from_before x.start x.end all.0.ends }, numbered_last (n + 1) xs all.1)
+
+numbered_ends : (n : ℕ) (xs : List Extent) → map (λ y. y.end) (numbered n xs) ≡ map (λ y. y.end) xs
+numbered_ends n [] = refl
+numbered_ends n (x ∷ xs) = ap (λ (ts : List Time). x.end ∷ ts) (numbered_ends (n + 1) xs)
+
+-- they last, and their ends rise
+abbrev pub AreTimed : List Timing → Type 0
+AreTimed xs = All DoesLast xs × AreRising (map (λ y. y.end) xs)
+
+listed_timed : (window : Window) (timeline : SegmentTimeline) → IsSound timeline.members → AreTimed (listed_in window timeline)
+listed_timed window timeline sound =
+    let xs : List Extent = extents (instant_of window) timeline.members in
+    let last : AllByRecursion DoesLast (numbered timeline.first_number xs) =
+    numbered_last timeline.first_number xs (extents_last (instant_of window) timeline.members sound.lasting) in
+    let rise : AreRising (map (λ (y : Extent). y.end) xs) =
+    ends_rise timeline.members sound.lasting (no_step_from too_long None timeline.members sound.steady) (instant_of window) in (
+      All-filter (is_listed window) DoesLast (numbered timeline.first_number xs) (All-from_recursion DoesLast (numbered timeline.first_number xs) last),
+      filter_rises (is_listed window) (numbered timeline.first_number xs) last (subst AreRising (sym (numbered_ends timeline.first_number xs)) rise),
+    )
+
+-- ---- those of a presentation
+
+abbrev pub IsSoundIn : Content → Type 0
+IsSoundIn content = IsSound content.runs.members
+
+content_timed : (p : Presented) (s t : ℕ) → All IsSoundIn p.contents → (o : Option Content) → content_at p s t ≡ o
+    → AreTimed (option_map_or (λ content. listed_in (window_of p s) content.runs) o [])
+content_timed p s t sound None is = (All-nil DoesLast, tt)
+content_timed p s t sound (Some content) is =
+    listed_timed (window_of p s) content.runs (All-at IsSoundIn p.contents (s * length p.tracks + t) content sound is)
+
+pub period_timed : (p : Presented) (s t : ℕ) → All IsSoundIn p.contents → AreTimed (listed_at p s t)
+period_timed p s t sound = content_timed p s t sound (content_at p s t) refl
+
+runs_sound : (live : Bool) (timeline : Option (List SView)) (s : Segments) (end : End) (names : Names) (runs : SegmentTimeline)
+    → timeline_by timeline s live end names ≡ Ok runs → IsSound runs.members
+runs_sound live (Some timeline) s end names runs is = entries_sound (scale_of s) end live names runs (entries_of timeline) is
+runs_sound live None s end names runs is = duration_sound (scale_of s) end live names runs (unwrap_or s.duration 0) is
+
+pub presented_sound : (mpd : Values) (url : List ℕ) (now : Option ℤ) (p : Presented) → presented_of mpd url now ≡ Ok p
+    → All IsSoundIn p.contents
+presented_sound mpd url now p made =
+    let told = is_told mpd url now p made in
+    subst (λ (q : Presented). All IsSoundIn q.contents) told.is (all_have (λ runs. IsSound runs.members) mpd.facts.live (runs_sound mpd.facts.live) url mpd.periods told.tolds told.told)
