@@ -23,8 +23,10 @@ fn instant_of(now: &Option<Instant>) -> i128 {
     }
 }
 
-/// A job in one line: its fields in order, with 0 for no instant.
-fn shown(alloc: Global, job: &Job) -> Result<String, AllocError> {
+/// The texts of a job, and its numbers: its seed or its instant, 0 for none, and its digits.
+type Fields<'a> = ([&'a str; 4], [Option<i128>; 2]);
+
+fn fields_of(job: &Job) -> Fields<'_> {
     match job {
         Job::Hls {
             mpd,
@@ -32,122 +34,102 @@ fn shown(alloc: Global, job: &Job) -> Result<String, AllocError> {
             now,
             out,
             digits,
-        } => {
-            let (now, digits) = (instant_of(now), digits.count());
-            format!(in alloc;
-                "hls {} {} {now} {} {digits}",
-                mpd.as_str(),
-                base.as_str(),
-                out.as_str()
-            )
-        }
-        Job::Dash { master, base, out } => {
-            format!(in alloc;
-                "dash {} {} {}",
-                master.as_str(),
-                base.as_str(),
-                out.as_str()
-            )
-        }
+        } => (
+            ["hls", mpd.as_str(), base.as_str(), out.as_str()],
+            [Some(instant_of(now)), Some(i128::from(digits.count()))],
+        ),
+        Job::Dash { master, base, out } => (
+            ["dash", master.as_str(), base.as_str(), out.as_str()],
+            [None, None],
+        ),
         Job::Follow {
             name,
             base,
             out,
             digits,
-        } => {
-            let digits = digits.count();
-            format!(in alloc;
-                "follow {} {} {} {digits}",
-                name.as_str(),
-                base.as_str(),
-                out.as_str()
-            )
-        }
+        } => (
+            ["follow", name.as_str(), base.as_str(), out.as_str()],
+            [None, Some(i128::from(digits.count()))],
+        ),
         Job::Show {
             file,
             base,
             now,
             digits,
-        } => {
-            let (now, digits) = (instant_of(now), digits.count());
-            format!(in alloc; "show {} {} {now} {digits}", file.as_str(), base.as_str())
-        }
+        } => (
+            ["show", file.as_str(), base.as_str(), ""],
+            [Some(instant_of(now)), Some(i128::from(digits.count()))],
+        ),
         Job::Check {
             mpd,
             master,
             base,
             digits,
-        } => {
-            let digits = digits.count();
-            format!(in alloc;
-                "check {} {} {} {digits}",
-                mpd.as_str(),
-                master.as_str(),
-                base.as_str()
-            )
-        }
-        Job::Reload { old, new, base } => {
-            format!(in alloc;
-                "reload {} {} {}",
-                old.as_str(),
-                new.as_str(),
-                base.as_str()
-            )
-        }
-        Job::Make { seed, out, digits } => {
-            let digits = digits.count();
-            format!(in alloc; "make {seed} {} {digits}", out.as_str())
-        }
+        } => (
+            ["check", mpd.as_str(), master.as_str(), base.as_str()],
+            [None, Some(i128::from(digits.count()))],
+        ),
+        Job::Reload { old, new, base } => (
+            ["reload", old.as_str(), new.as_str(), base.as_str()],
+            [None, None],
+        ),
+        Job::Make { seed, out, digits } => (
+            ["make", out.as_str(), "", ""],
+            [Some(i128::from(*seed)), Some(i128::from(digits.count()))],
+        ),
         Job::HlsIndex {
             mpd,
             base,
             out,
             digits,
-        } => {
-            let digits = digits.count();
-            format!(in alloc;
-                "hls-index {} {} {} {digits}",
-                mpd.as_str(),
-                base.as_str(),
-                out.as_str()
-            )
-        }
-        Job::DashTimes { master, base, out } => {
-            format!(in alloc;
-                "dash-times {} {} {}",
-                master.as_str(),
-                base.as_str(),
-                out.as_str()
-            )
-        }
-        Job::Agree { mpd, base } => {
-            format!(in alloc; "agree {} {}", mpd.as_str(), base.as_str())
-        }
-        Job::FollowHls { master, base, out } => {
-            format!(in alloc;
-                "follow-hls {} {} {}",
-                master.as_str(),
-                base.as_str(),
-                out.as_str()
-            )
+        } => (
+            ["hls-index", mpd.as_str(), base.as_str(), out.as_str()],
+            [None, Some(i128::from(digits.count()))],
+        ),
+        Job::DashTimes { master, base, out } => (
+            ["dash-times", master.as_str(), base.as_str(), out.as_str()],
+            [None, None],
+        ),
+        Job::Agree { mpd, base } => (["agree", mpd.as_str(), base.as_str(), ""], [None, None]),
+        Job::FollowHls { master, base, out } => (
+            ["follow-hls", master.as_str(), base.as_str(), out.as_str()],
+            [None, None],
+        ),
+    }
+}
+
+/// A job in one line: its texts that aren't empty, and then its numbers.
+fn shown(alloc: Global, job: &Job) -> Result<String, AllocError> {
+    let (texts, numbers) = fields_of(job);
+    let mut line = String::new(alloc);
+    for text in texts {
+        if !text.is_empty() {
+            line.push_str(text)?;
+            line.push_str(" ")?;
         }
     }
+    for number in numbers {
+        if let Some(number) = number {
+            write!(line, "{number} ")?;
+        }
+    }
+    Ok(line)
 }
 
 #[test]
 fn words_are_read(rt: HostRuntime) -> Result<(), Fail> {
     let rows = [
-        ("hls m.mpd --base=b --digits=9", "hls m.mpd b 0 out 9"),
+        ("hls m.mpd --base=b --digits=9", "hls m.mpd b out 0 9"),
         (
             "hls --now 1970-01-01T00:00:01Z --base b m.mpd",
-            "hls m.mpd b 1000000000 out 6",
+            "hls m.mpd b out 1000000000 6",
         ),
-        ("dash m.m3u8 --base= --out=a/b", "dash m.m3u8  a/b"),
+        ("dash m.m3u8 --base= --out=a/b", "dash m.m3u8 a/b"),
         ("follow live.mpd --base=-b", "follow live.mpd -b out 6"),
         ("show --base=b -- -m", "show -m b 0 6"),
         ("check m.mpd --base=b -", "check m.mpd - b 6"),
         ("reload o n --base=b", "reload o n b"),
-        ("make --seed=4294967295 --out -", "make 4294967295 - 6"),
+        ("make --seed=4294967295 --out -", "make - 4294967295 6"),
         ("hls-index m.mpd --base=b", "hls-index m.mpd b out 6"),
         ("dash-times m --base=b --out=a", "dash-times m b a"),
         ("agree m.mpd --base=b", "agree m.mpd b"),
@@ -159,7 +141,7 @@ fn words_are_read(rt: HostRuntime) -> Result<(), Fail> {
     ];
     for (words, expected) in rows {
         let told = told(rt.alloc(), words)?;
-        assert_eq!(rt; told.as_str(), expected);
+        assert_eq!(rt; told.trim_end(), expected);
     }
     Ok(())
 }

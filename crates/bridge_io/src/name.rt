@@ -7,16 +7,19 @@ ghost use Rattle.bridge_io.specs.Answer.{Gives};
 use crate::{NoMemory, Text};
 use std::alloc::Global;
 use std::marker::Model;
+use thiserror::Error;
 
 /// How many bytes a name has at most.
 const MAX_LEN: usize = 255;
 
 /// Why a text gives no name.
-#[derive(Clone, Copy, Debug, PartialEq, Eq)]
+#[derive(Clone, Copy, Debug, PartialEq, Eq, Error)]
 pub enum NameFault {
     /// The text isn't a name.
+    #[error("no name of a file in a store")]
     Shape,
     /// Memory is wanting.
+    #[error("out of memory")]
     Memory,
 }
 

@@ -7,13 +7,16 @@ ghost use Rattle.bridge_io.specs.Outside.{Files, content_of, put, extended, Chan
 
 use crate::{Name, NoMemory};
 use std::alloc::AllocError;
+use thiserror::Error;
 
 /// Why a call on the outside failed.
-#[derive(Clone, Copy, Debug, PartialEq, Eq)]
+#[derive(Clone, Copy, Debug, PartialEq, Eq, Error)]
 pub enum Fail {
     /// The outside failed, and the object's count of faults rose.
+    #[error("a call on the outside failed")]
     Failed,
     /// Memory is wanting.
+    #[error("out of memory")]
     Memory,
 }
 

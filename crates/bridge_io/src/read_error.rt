@@ -3,17 +3,22 @@ ghost use Rattle.std.specs.Prelude.{◌≡◌};
 ghost use Rattle.bridge_io.specs.declared.read_error.Slurp.TheVariants.{Memory};
 
 use crate::{Fail, NoMemory, Place};
+use thiserror::Error;
 
 /// Why a file isn't there whole.
-#[derive(Clone, Copy, Debug, PartialEq, Eq)]
+#[derive(Clone, Copy, Debug, PartialEq, Eq, Error)]
 pub enum Slurp {
     /// The file has more bytes than the limit: the place of the first byte past it.
+    #[error("more bytes than the limit")]
     TooLong(Place),
     /// The store has no file of this name.
+    #[error("no such file")]
     Absent,
     /// A read failed.
+    #[error("a read failed")]
     Fault,
     /// Memory is wanting.
+    #[error("out of memory")]
     Memory,
 }
 

@@ -17,7 +17,7 @@ use Rattle.presentation.specs.Presented.{Presented, content_at, listed_at, liste
 use Rattle.presentation.specs.Printing.{IsAtEnd, IsCounted, IsNext, IsPrintedOf, PrintedRest, PrintedTiming, durations_of, ends_of, printed_timings, rest_of, with_durations}
 use Rattle.presentation.proofs.Grids.{All-at}
 use Rattle.presentation.proofs.Meant.{made_are_meant}
-use Rattle.dash_writer.proofs.Origins.{counted, have_addresses}
+use Rattle.presentation.proofs.OwnListed.{counted, have_addresses}
 use Rattle.comparison.specs.Comparing.{AreAddressed, entry_made, segment_made, segments_left}
 
 -- ---- one after another

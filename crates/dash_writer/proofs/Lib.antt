@@ -1,5 +1,4 @@
 pub mod Escaping
-pub mod Listable
 pub mod Neighbours
 pub mod Nodes
 pub mod Origins

@@ -1,5 +1,4 @@
 pub mod Elements
-pub mod Listable
 pub mod Lists
 pub mod Manifest
 pub mod Outline

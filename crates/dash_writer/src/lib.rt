@@ -4,12 +4,10 @@
 mod attribute;
 mod element;
 mod escape;
-mod laws;
 mod manifest;
 mod segments;
 mod sets;
 mod times;
 
 pub use file_pieces::OutFault;
-pub use laws::segments_can_be_listed;
 pub use manifest::write_mpd;

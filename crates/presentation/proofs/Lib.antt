@@ -28,3 +28,5 @@ pub mod Grids
 pub mod Telling
 pub mod Whole
 pub mod Static
+pub mod OwnListed
+pub mod Listable

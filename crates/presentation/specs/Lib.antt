@@ -13,3 +13,4 @@ pub mod Shared
 pub mod Meanings
 pub mod MeaningLaws
 pub mod Origins
+pub mod Listable

@@ -1,10 +1,13 @@
 //! Laws of the definitions. The functions do nothing: what they ensure is the law.
 
 ghost use Rattle.presentation.specs.Laws.{CountedAreListed, EndsAreCounted, VerifiedAreCounted, VerifiedHaveAddresses, EachHasLongest};
+ghost use Rattle.presentation.specs.Listable.{PlaylistsAreListable, VerifiedAreListable};
 ghost use Rattle.presentation.specs.MeaningLaws.{MadeAreMeant, VerifiedAreMeant, FinishedAreWhole, PresentedAreMeant, TextsAreMeant};
 ghost use Rattle.presentation.specs.Origins.{StaticAreFinished};
 ghost use Rattle.presentation.specs.PresentedLaws.{AreAlwaysInPace, PresentedAreInPace};
 ghost use Rattle.presentation.specs.PresentedLaws.{PresentedAreFew, PresentedAreFollowed, SectionsArePeriods};
+
+use timeline::closed_ends;
 
 /// Where `count` or `verify` answers Ok, `segments` and `extent` may be called for each track and section, and `verify`
 /// tells the longest duration of each track. Each listed segment then has an address. Where `check_ends` answers Ok, the
@@ -43,3 +46,12 @@ pub fn presentations_show_their_mpd()
     ensures pace { PresentedAreInPace }
     ensures always { AreAlwaysInPace }
 {}
+
+/// The segments of a presentation that came from playlists, or from a static MPD and was verified, can be gone over in one way:
+/// those of each track in each section go on to an end, and each listed one has an address.
+pub fn segments_can_be_listed()
+    ensures playlists { PlaylistsAreListable }
+    ensures verified { VerifiedAreListable }
+{
+    closed_ends();
+}

@@ -26,7 +26,7 @@ pub use extent::Extent;
 pub use fault::{PresentationFault, Spot};
 pub use laws::{
     answers_allow_listings, presentations_mean_what_they_list, presentations_show_their_mpd,
-    static_mpds_are_finished,
+    segments_can_be_listed, static_mpds_are_finished,
 };
 pub use longest::Longest;
 pub use parts::{Content, Parts};

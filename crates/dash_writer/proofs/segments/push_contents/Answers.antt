@@ -6,7 +6,7 @@ use Rattle.presentation.proofs.Printing.{all_listed}
 use Rattle.dash_writer.specs.Elements.{node}
 use Rattle.dash_writer.specs.Segments.{duration_of, initialization, segment_urls, timeline_elements}
 use Rattle.dash_writer.proofs.Nodes.{three_parts}
-use Rattle.dash_writer.proofs.Origins.{fits, have_addresses, reached}
+use Rattle.presentation.proofs.OwnListed.{fits, have_addresses, reached}
 use Rattle.dash_writer.proofs.segments.push_contents.Goals as goal
 
 pub push_timeline-requires-clause-window : goal.push_timeline-requires-clause-window

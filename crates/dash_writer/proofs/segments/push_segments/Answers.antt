@@ -3,7 +3,8 @@ use Rattle.file_pieces.proofs.Adding.{adds_same}
 use Rattle.presentation.specs.Presented.{content_at, listed_in, window_of}
 use Rattle.dash_writer.specs.Segments.{segment_list}
 use Rattle.dash_writer.specs.Written.{element_text, elements_text}
-use Rattle.dash_writer.proofs.Origins.{addressed_at, list_is}
+use Rattle.presentation.proofs.OwnListed.{addressed_at}
+use Rattle.dash_writer.proofs.Origins.{list_is}
 use Rattle.dash_writer.proofs.segments.push_segments.Goals as goal
 
 pub push_segment_list-requires : goal.push_segment_list-requires

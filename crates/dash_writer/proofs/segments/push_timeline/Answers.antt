@@ -7,7 +7,7 @@ use Rattle.presentation.proofs.Printing.{all_listed}
 use Rattle.dash_writer.specs.Elements.{node}
 use Rattle.dash_writer.specs.Segments.{duration_of, timeline_elements}
 use Rattle.dash_writer.specs.Written.{element_text}
-use Rattle.dash_writer.proofs.Origins.{counted}
+use Rattle.presentation.proofs.OwnListed.{counted}
 use Rattle.dash_writer.proofs.segments.push_timeline.Goals as goal
 
 pub push_times-requires : goal.push_times-requires

@@ -15,8 +15,8 @@ use Rattle.presentation.proofs.Addressed.{all_addressed}
 use Rattle.presentation.proofs.Allowed.{none_unaddressed}
 use Rattle.presentation.proofs.Ending.{all_ended}
 use Rattle.presentation.proofs.Filling.{steps_of}
-use Rattle.dash_writer.specs.Listable.{PlaylistsAreListable, VerifiedAreListable}
-use Rattle.dash_writer.proofs.Origins.{addressed_at, have_addresses}
+use Rattle.presentation.specs.Listable.{PlaylistsAreListable, VerifiedAreListable}
+use Rattle.presentation.proofs.OwnListed.{addressed_at, have_addresses}
 
 own_addressed : (p : Presented) (s t : ℕ) (o : Option Content) → content_at p s t ≡ o → All (λ (content : Content). IsAddressed content.runs) p.contents
     → IfSome o (λ content. All (HasAddress content.runs) (listed_at p s t))

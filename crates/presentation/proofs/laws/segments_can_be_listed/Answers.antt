@@ -1,5 +1,5 @@
-use Rattle.dash_writer.proofs.Listable.{playlists_are_listable, verified_are_listable}
-use Rattle.dash_writer.proofs.laws.segments_can_be_listed.Goals as goal
+use Rattle.presentation.proofs.Listable.{playlists_are_listable, verified_are_listable}
+use Rattle.presentation.proofs.laws.segments_can_be_listed.Goals as goal
 
 pub returns : goal.returns
 returns c = record {
