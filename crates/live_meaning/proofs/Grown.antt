@@ -10,15 +10,15 @@ use Rattle.live_meaning.specs.Grown.{media_from, GrownIsLawful}
 
 -- ---- segments by their numbers
 
-get_drop : (m : ℕ) (xs : List MediaSegment) (k : ℕ) → slice_get (drop m xs) k ≡ slice_get xs (m + k)
-get_drop zero xs k = let none : k ≡ 0 + k = omega arith in ap (λ n. slice_get xs n) none
-get_drop (suc m) [] k = refl
-get_drop (suc m) (x ∷ xs) k = let more : suc m + k ≡ suc (m + k) = omega arith in rw more (get_drop m xs k)
+pub get_drop : {X : Type 0} (m : ℕ) (xs : List X) (k : ℕ) → slice_get (drop m xs) k ≡ slice_get xs (m + k)
+get_drop {X} zero xs k = let none : k ≡ 0 + k = omega arith in ap (λ n. slice_get xs n) none
+get_drop {X} (suc m) [] k = refl
+get_drop {X} (suc m) (x ∷ xs) k = let more : suc m + k ≡ suc (m + k) = omega arith in rw more (get_drop m xs k)
 
-get_more : (xs ys : List MediaSegment) (k : ℕ) (x : MediaSegment) → slice_get xs k ≡ Some x → slice_get (xs ++ ys) k ≡ Some x
-get_more [] ys k x at = cc
-get_more (y ∷ xs) ys zero x at = at
-get_more (y ∷ xs) ys (suc k) x at = get_more xs ys k x at
+pub get_more : {X : Type 0} (xs ys : List X) (k : ℕ) (x : X) → slice_get xs k ≡ Some x → slice_get (xs ++ ys) k ≡ Some x
+get_more {X} [] ys k x at = cc
+get_more {X} (y ∷ xs) ys zero x at = at
+get_more {X} (y ∷ xs) ys (suc k) x at = get_more xs ys k x at
 
 -- the segment with a number is the one at this place of all
 at_place : (target first : ℕ) (ended : Bool) (all : List MediaSegment) (number : ℕ) (x : MediaSegment)

@@ -1,20 +1,21 @@
 -- A state with an update more is the state of the history with that update.
-use Rattle.std.proofs.Common.{◌≡◌, ℕ, ℤ, List, [], ◌∷◌, ◌++◌, map, length, Option, Some, None, Result, Ok, Err, refl, sym, ◌∙◌, ap, subst, arith, length-append}
-use Rattle.std.specs.Prelude.{option_map}
+use Rattle.std.proofs.Common.{◌≡◌, ℕ, ℤ, List, [], ◌∷◌, ◌++◌, length, Option, Some, None, Result, Ok, Err, refl, sym, ◌∙◌, ap, subst, arith, length-append}
+use Rattle.std.specs.Prelude.{option_map, slice_get, unwrap_or}
 use Rattle.std.specs.List.{fold}
+use Rattle.std.specs.Option.{option_map_or}
 use Rattle.std.specs.Result.{result_ok}
 use Rattle.std.proofs.lemmas.Option.{same_Some}
+use Rattle.std.proofs.lemmas.List.{append_assoc}
 use Rattle.std.proofs.lemmas.List.Sums.{fold-append}
 use Rattle.presentation.specs.declared.fault.PresentationFault.{PresentationFault}
-use Rattle.presentation.specs.Counting.{tracks_of}
 use Rattle.presentation.specs.Presented.{Presented}
 use Rattle.presentation.specs.Told.{presented_of}
 use Rattle.live_meaning.specs.Updates.{Terms, Update, Refresh, Reset, Tick, Values}
-use Rattle.live_meaning.specs.Histories.{Common, Whole, after, begun, begun_common, begun_past, begun_with, common_with, force_by, gone_on, whole_of}
+use Rattle.live_meaning.specs.Histories.{Common, Past, Whole, after, begun_common, begun_with, common_with, force_by, gone_on, no_past, past_of, whole_of}
 use Rattle.live_meaning.specs.States.{State, shown, state_of, state_with}
 use Rattle.live_meaning.specs.Refusals.{Refusal, begun_by, begun_of, first_refusal_of, next_of, next_with, refusal_of, update_refusal}
 use Rattle.live_meaning.specs.Laws.{AcceptedAreAccepted, HistoriesBegin, HistoriesGoOn, HistoriesRefuse, IsAccepted, Shows, with_accepted}
-use Rattle.live_meaning.proofs.Tracks.{AllWithin, all_stay_within, tracks_go_on}
+use Rattle.live_meaning.proofs.Tracks.{Each, IsWithin, each_after, each_begun, stays_within, tracks_go_on}
 
 -- ---- what gave a value
 
@@ -27,52 +28,78 @@ pub answered : {A E : Type 0} (r : Result A E) (a : A) → result_ok r ≡ Some 
 answered {A} {E} (Ok x) a is = ap (λ (y : A). Ok y) (same_Some _ _ is)
 answered {A} {E} (Err e) a is = absurd (cc)
 
--- ---- what holds of all that accepted updates leave
-
-pub record Sound (terms : Terms) (w : Whole) : Type 0 where
-  pub its_terms : w.common.terms ≡ terms
-  pub within : AllWithin w.pasts
-
-begun_within : (c : Common) (ts : List ℕ) → AllWithin (map (begun_past c) ts)
-begun_within c [] = tt
-begun_within c (t ∷ ts) = (omega arith, begun_within c ts)
-
-begins_sound : (terms : Terms) (u : Update) (w : Whole) → begun terms u ≡ Some w → Sound terms w
-begins_sound terms (Refresh mpd now) w is =
-    mapped (λ p. begun_with (begun_common terms mpd now p)) (result_ok (presented_of mpd terms.url (Some now))) w (Sound terms w) is
-    (λ p from same. subst (λ (v : Whole). Sound terms v) same (record { its_terms = refl; within = begun_within (begun_common terms mpd now p) (tracks_of p) }))
-begins_sound terms (Reset mpd now) w is = absurd (cc)
-begins_sound terms (Tick now) w is = absurd (cc)
-
-goes_on_sound : (terms : Terms) (w : Whole) (u : Update) (p : Presented) → Sound terms w → Sound terms (gone_on w u p)
-goes_on_sound terms w u p is = record { its_terms = is.its_terms; within = all_stay_within (common_with w.common u p) 0 w.pasts is.within }
-
-after_sound : (terms : Terms) (start : Option Whole) (u : Update) (w : Whole) → ((v : Whole) → start ≡ Some v → Sound terms v)
-    → after terms start u ≡ Some w → Sound terms w
-after_sound terms None u w before is = begins_sound terms u w is
-after_sound terms (Some v) u w before is = mapped (gone_on v u) (result_ok (force_by terms v.common.force u)) w (Sound terms w) is
-    (λ p from same. subst (λ (x : Whole). Sound terms x) same (goes_on_sound terms v u p (before v refl)))
-
-all_sound : (terms : Terms) (history : List Update) (start : Option Whole) (w : Whole) → ((v : Whole) → start ≡ Some v → Sound terms v)
-    → fold (after terms) start history ≡ Some w → Sound terms w
-all_sound terms [] start w before is = before w is
-all_sound terms (u ∷ history) start w before is =
-    all_sound terms history (after terms start u) w (λ v is_v. after_sound terms start u v before is_v) is
-
-pub sound : (terms : Terms) (history : List Update) (w : Whole) → whole_of terms history ≡ Some w → Sound terms w
-sound terms history w is = all_sound terms history None w (λ v never. absurd (cc)) is
-
--- ---- histories with an update more
-
-pub shown_goes_on : (w : Whole) (u : Update) (p : Presented) → AllWithin w.pasts → shown (gone_on w u p) ≡ state_with (shown w) u p
-unfolding state_with
-shown_goes_on w u p within =
-    let c : Common = common_with w.common u p in
-    ap (λ tracks. let s : State = record { common = c; tracks = tracks } in s) (tracks_go_on c 0 w.pasts within)
+-- ---- what holds of all that updates leave
 
 pub whole_goes_on : (terms : Terms) (history : List Update) (u : Update)
     → whole_of terms (history ++ u ∷ []) ≡ after terms (whole_of terms history) u
 whole_goes_on terms history u = fold-append (after terms) None history (u ∷ [])
+
+-- what the first MPD begins with, and each update behind others leaves, where these are given so
+module _ (terms : Terms) (H : Whole → Type 0) (IsGiven : List Update → Update → Type 0)
+    (begins : (earlier : List Update) (mpd : Values) (now : ℤ) (p : Presented) → whole_of terms earlier ≡ None → IsGiven earlier (Refresh mpd now)
+    → presented_of mpd terms.url (Some now) ≡ Ok p → H (begun_with (begun_common terms mpd now p)))
+    (goes_on : (earlier : List Update) (u : Update) (w : Whole) (p : Presented) → whole_of terms earlier ≡ Some w → IsGiven earlier u
+    → force_by terms w.common.force u ≡ Ok p → H w → H (gone_on w u p)) where
+  after_holds : (earlier : List Update) (start : Option Whole) (u : Update) (w : Whole) → whole_of terms earlier ≡ start → IsGiven earlier u
+      → ((v : Whole) → start ≡ Some v → H v) → after terms start u ≡ Some w → H w
+  after_holds earlier None (Refresh mpd now) w from given before is =
+      mapped (λ p. begun_with (begun_common terms mpd now p)) (result_ok (presented_of mpd terms.url (Some now))) w (H w) is
+      (λ p made same. subst H same (begins earlier mpd now p from given (answered _ p made)))
+  after_holds earlier None (Reset mpd now) w from given before is = absurd (cc)
+  after_holds earlier None (Tick now) w from given before is = absurd (cc)
+  after_holds earlier (Some v) u w from given before is =
+      mapped (gone_on v u) (result_ok (force_by terms v.common.force u)) w (H w) is
+      (λ p made same. subst H same (goes_on earlier u v p from given (answered _ p made) (before v refl)))
+
+  all_hold : (earlier later : List Update) (start : Option Whole) → whole_of terms earlier ≡ start
+      → ((front : List Update) (u : Update) (back : List Update) → earlier ++ later ≡ front ++ u ∷ back → IsGiven front u)
+      → ((v : Whole) → start ≡ Some v → H v) → (w : Whole) → fold (after terms) start later ≡ Some w → H w
+  all_hold earlier [] start from given before w is = before w is
+  all_hold earlier (u ∷ later) start from given before w is =
+      let moved : (earlier ++ u ∷ []) ++ later ≡ earlier ++ u ∷ later = append_assoc earlier (u ∷ []) later in
+      all_hold (earlier ++ u ∷ []) later (after terms start u) (whole_goes_on terms earlier u ∙ ap (λ o. after terms o u) from)
+      (λ front v back same. given front v back (sym moved ∙ same))
+      (λ v v_is. after_holds earlier start u v from (given earlier u later refl) before v_is) w is
+
+  pub holds : (history : List Update) → ((front : List Update) (u : Update) (back : List Update) → history ≡ front ++ u ∷ back → IsGiven front u)
+      → (w : Whole) → whole_of terms history ≡ Some w → H w
+  holds history given w is = all_hold [] history None refl given (λ v never. absurd (cc)) w is
+
+pub record Sound (terms : Terms) (w : Whole) : Type 0 where
+  pub its_terms : w.common.terms ≡ terms
+  pub within : Each IsWithin 0 w.pasts
+
+pub sound : (terms : Terms) (history : List Update) (w : Whole) → whole_of terms history ≡ Some w → Sound terms w
+sound terms history w is =
+    holds terms (Sound terms) (λ earlier u. Unit {0})
+    (λ earlier mpd now p from given made. let c = begun_common terms mpd now p in
+    record { its_terms = refl; within = each_begun c IsWithin (length p.tracks) (λ t less. omega arith) 0 (length p.tracks) (omega arith) })
+    (λ earlier u v p from given made its. let c = common_with v.common u p in
+    record { its_terms = its.its_terms; within = each_after c IsWithin IsWithin (stays_within c) 0 v.pasts its.within })
+    history (λ front u back same. tt) w is
+
+-- what holds of none and of a track's past holds of what there is of one
+of_pasts : (P : Past → Type 0) (o : Option Past) → P no_past → ((past : Past) → o ≡ Some past → P past) → P (unwrap_or o no_past)
+of_pasts P None none found = none
+of_pasts P (Some past) none found = found past refl
+
+of_whole : (P : Past → Type 0) (t : ℕ) (o : Option Whole) → P no_past
+    → ((w : Whole) → o ≡ Some w → (past : Past) → slice_get w.pasts t ≡ Some past → P past)
+    → P (option_map_or (λ w. unwrap_or (slice_get w.pasts t) no_past) o no_past)
+of_whole P t None none found = none
+of_whole P t (Some w) none found = of_pasts P (slice_get w.pasts t) none (found w refl)
+
+pub past_holds : (P : Past → Type 0) (terms : Terms) (history : List Update) (t : ℕ) → P no_past
+    → ((w : Whole) → whole_of terms history ≡ Some w → (past : Past) → slice_get w.pasts t ≡ Some past → P past) → P (past_of terms history t)
+past_holds P terms history t none found = of_whole P t (whole_of terms history) none found
+
+-- ---- histories with an update more
+
+pub shown_goes_on : (w : Whole) (u : Update) (p : Presented) → Each IsWithin 0 w.pasts → shown (gone_on w u p) ≡ state_with (shown w) u p
+unfolding state_with
+shown_goes_on w u p within =
+    let c : Common = common_with w.common u p in
+    ap (λ tracks. let s : State = record { common = c; tracks = tracks } in s) (tracks_go_on c 0 w.pasts within)
 
 first_update : Update → List Update → Update
 first_update u [] = u

@@ -1,35 +1,43 @@
--- Accepted updates of typed MPDs list their segments in order.
-use Rattle.std.proofs.Common.{◌≡◌, ℕ, zero, suc, ◌+◌, ◌-◌, ◌≤◌, ◌<◌, Bool, true, false, ◌||◌, not, ℤ, List, [], ◌∷◌, ◌++◌, map, length, Option, Some, None, Result, Ok, refl, sym, ◌∙◌, ap, subst, arith, length-append}
-use Rattle.std.specs.Prelude.{All, filter, option_map, slice_get}
-use Rattle.std.specs.List.{fold, list_any, range_with_len}
-use Rattle.std.specs.Option.{option_map_or}
-use Rattle.std.specs.Result.{result_ok}
-use Rattle.std.proofs.lemmas.List.{append_assoc, map-append}
-use Rattle.std.proofs.lemmas.Option.{same_Some, slice_get-map}
-use Rattle.exact_time.specs.Laws.{SumsAreFloors}
+-- What an accepted update leaves in force.
+use Rattle.std.proofs.Common.{◌≡◌, ℕ, zero, suc, ◌+◌, ◌*◌, ◌<◌, Bool, true, false, ◌==◌, ◌&&◌, ◌||◌, not, ℤ, List, [], ◌∷◌, ◌++◌, map, filter, length, get_or, bytes_eq, Option, Some, None, Ok, refl, sym, ◌∙◌, ap, subst, inl, inr, arith, length-append}
+use Rattle.std.specs.Prelude.{All, is_none, is_some, option_map, option_to_list, slice_get}
+use Rattle.std.specs.List.{find, list_any, position_or_len, range_with_len}
+use Rattle.std.specs.Option.{option_eq, option_map_or, option_or}
+use Rattle.std.proofs.Math.Nat.{mul-le-mul_left}
+use Rattle.std.proofs.lemmas.Bool.{and_parts, cases_Bool, cases_lt, eqb-true, le-ltb, lt-ltb}
+use Rattle.std.proofs.lemmas.List.{append_assoc, length-map, map-append}
+use Rattle.std.proofs.lemmas.List.Folds.{find-append, find_at, list_any_at}
+use Rattle.std.proofs.lemmas.List.FromFn.{get_or-map-range_with_len, get_or-range_with_len, length-range_with_len}
+use Rattle.std.proofs.lemmas.List.Sums.{prefix_len-le-length}
+use Rattle.std.proofs.lemmas.Option.{slice_get-get_or, slice_get-map}
+use Rattle.std.proofs.lemmas.Slice.Eq.{bytes_eq-Decides}
 use Rattle.mpd_rules.specs.Laws.{PeriodIdsDiffer, are_once, ids_of as ids_said}
-use Rattle.presentation.specs.declared.fault.PresentationFault.{PresentationFault}
 use Rattle.presentation.specs.declared.track.Section.{Section}
-use Rattle.presentation.specs.Counting.{count_faults, range_faults, sections_of}
-use Rattle.presentation.specs.Presented.{Presented, looked_at}
+use Rattle.presentation.specs.declared.track.Track.{Track as Described}
+use Rattle.presentation.specs.Counting.{sections_of}
+use Rattle.presentation.specs.Presented.{Presented, content_at, looked_at, start_of}
 use Rattle.presentation.specs.PresentedLaws.{SectionsArePeriods}
-use Rattle.presentation.specs.Rows.{Period, section_of}
+use Rattle.presentation.specs.Rows.{Period, Row, first_rows, in_order, section_of, track_of}
 use Rattle.presentation.specs.Told.{presented_of}
-use Rattle.presentation.specs.Verifying.{url_faults}
-use Rattle.presentation.proofs.Ending.{none_behind}
-use Rattle.presentation.proofs.Reached.{none_first}
-use Rattle.live_meaning.specs.Updates.{Refresh, Reset, Terms, Tick, Update, Values, is_reset, mpd_of, now_of}
+use Rattle.presentation.specs.declared.parts.Content.{Content}
+use Rattle.presentation.proofs.Ending.{all_filled}
+use Rattle.presentation.proofs.Filling.{length_in_order}
+use Rattle.presentation.proofs.FromMpd.{is_told}
+use Rattle.presentation.proofs.Grids.{found, in_row}
+use Rattle.presentation.proofs.Reached.{none_within}
+use Rattle.reload_law.specs.Rules.{same_part, same_range}
+use Rattle.url_parts.specs.declared.address.Part.{Part}
+use Rattle.url_parts.specs.declared.range.Range.{Range}
+use Rattle.live_meaning.specs.Updates.{Refresh, Reset, Terms, Tick, Update, Values}
 use Rattle.live_meaning.specs.Segments.{Segment, id_at, listed_of, place_of}
-use Rattle.live_meaning.specs.Known.{Known, goes_on, ids_of, is_new, known_at, known_with, periods_of}
-use Rattle.live_meaning.specs.Histories.{Common, Whole, after, begun_common, begun_with, common_with, force_by, gone_on, all_of, numbering_of, whole_of}
-use Rattle.live_meaning.specs.States.{State, shown, state_of}
-use Rattle.live_meaning.specs.Refusals.{Changed, NotDynamic, Presentation, Refusal, are_alike, clock_told, counts_listed, differs_at, ended_told, first_of, first_refusal_of, first_refusals_of, first_told_by, first_told_with, ids_in, is_changed, lack_ids, mpd_told, moved_told, older_than, refusal_behind, refusal_of, rewritten_told, segments_told, starts_otherwise, told_by, told_if, told_with, window_told}
-use Rattle.followed.specs.Order.{InOrder}
-use Rattle.followed.proofs.ListedInOrder.{kept_stay_in_order, sections_are_counted}
-use Rattle.live_meaning.specs.Laws.{AcceptedAreListedInOrder, AcceptedNeverDrift, SectionsNeverFall, AreTyped, IsAccepted, IsTyped}
-use Rattle.live_meaning.proofs.Histories.{mapped, answered, sound, whole_goes_on}
-use Rattle.live_meaning.proofs.Ids.{AreLast, get_behind, last_again, last_at_first, last_with_new, new_ids, new_in, placed_in}
-use Rattle.live_meaning.proofs.Orders.{all_are_in_order, periods_are_listed_in_order, sections_never_drift}
+use Rattle.live_meaning.specs.Known.{Attributes, Known, all_same, attributes_at, attributes_of, goes_on, has_id, ids_of, is_new, known_at, known_by, known_with, periods_of, same_attributes}
+use Rattle.live_meaning.specs.Histories.{Common, numbering_of}
+use Rattle.live_meaning.specs.States.{State}
+use Rattle.live_meaning.specs.Refusals.{Changed, are_alike, differs_at, ids_in, is_alike, is_changed, lack_ids, moved_by, moved_told, mpd_told, older_than, rewritten_told, starts_otherwise, told_if}
+use Rattle.live_meaning.specs.Laws.{HasRisingPeriods, IsTyped}
+use Rattle.live_meaning.proofs.Allowed.{IsAllowed, IsFirst, negated, none_each, told_none}
+use Rattle.live_meaning.proofs.Ids.{AreLast, get_behind, last_again, last_at_first, last_with_new, new_ids, new_in, placed_at, placed_in}
+use Rattle.live_meaning.proofs.Orders.{listed_have}
 use Rattle.live_meaning.proofs.Times.{IsSoundIn, period_timed, presented_sound}
 
 -- ---- ids of Periods
@@ -59,198 +67,263 @@ known_ids : (p : Presented) (ss : List ℕ) → ids_of (map (known_at p) ss) ≡
 known_ids p [] = refl
 known_ids p (s ∷ ss) = ap (λ (ids : List (List ℕ)). id_at p s ∷ ids) (known_ids p ss)
 
+ids_of_periods : (p : Presented) → ids_of (periods_of p) ≡ ids_in p
+ids_of_periods p = known_ids p (sections_of p) ∙ names_are [] p.sections
+
 known_grown : (known : List Known) (p : Presented) → ids_of (known_with known p) ≡ ids_of known ++ new_in (ids_of known) (ids_in p)
 known_grown known p =
     map-append (λ (k : Known). k.id) known (filter (is_new known) (periods_of p))
-    ∙ ap (λ (ids : List (List ℕ)). ids_of known ++ ids) (new_ids known (periods_of p) ∙ ap (new_in (ids_of known)) (known_ids p (sections_of p) ∙ names_are [] p.sections))
+    ∙ ap (λ (ids : List (List ℕ)). ids_of known ++ ids) (new_ids known (periods_of p) ∙ ap (new_in (ids_of known)) (ids_of_periods p))
 
 ids_are_said : (periods : List Period) → map (λ (section : Section). section.id) (map section_of periods) ≡ ids_said periods
 ids_are_said [] = refl
 ids_are_said (period ∷ periods) = ap (λ (ids : List (List ℕ)). (section_of period).id ∷ ids) (ids_are_said periods)
 
+-- ---- Periods as they were accepted first
+
+position_mapped : (known : List Known) (id : List ℕ) → position_or_len (bytes_eq id) (ids_of known) ≡ position_or_len (has_id id) known
+position_mapped [] id = refl
+position_mapped (k ∷ known) id =
+    elim (cases_Bool (bytes_eq id k.id)) [ inl is ↦ rw is refl | inr other ↦ rw other (ap (λ n. 1 + n) (position_mapped known id)) ]
+
+pub place_is : (ids : List (List ℕ)) (id : List ℕ) → place_of ids id ≡ position_or_len (bytes_eq id) ids
+place_is ids id = elim (cases_lt (position_or_len (bytes_eq id) ids) (length ids)) [
+  | inl less ↦ rw (lt-ltb _ _ less) refl
+  | inr le ↦ rw (le-ltb _ _ le) (omega (arith, prefix_len-le-length (λ x. not (bytes_eq id x)) ids))
+]
+
+-- what is known of an id stands at its place
+known_at_place : (known : List Known) (id : List ℕ) → slice_get known (place_of (ids_of known) id) ≡ known_by known id
+known_at_place known id = ap (slice_get known) (place_is (ids_of known) id ∙ position_mapped known id) ∙ sym (find_at (has_id id) known)
+
+known_once : (known : List Known) (j : ℕ) (k : Known) → are_once (ids_of known) ≡ true → slice_get known j ≡ Some k → known_by known k.id ≡ Some k
+known_once known j k once at =
+    let there = placed_at (ids_of known) j k.id once (slice_get-map (λ (k : Known). k.id) known j ∙ ap (option_map (λ (k : Known). k.id)) at) in
+    sym (known_at_place known k.id) ∙ ap (slice_get known) there ∙ at
+
+find_kept : (test keep : Known → Bool) (ks : List Known) → ((k : Known) → test k ≡ true → keep k ≡ true) → find test (filter keep ks) ≡ find test ks
+find_kept test keep [] all = refl
+find_kept test keep (k ∷ ks) all = elim (cases_Bool (test k)) [
+  | inl is ↦ rw (all k is, is) refl
+  | inr other ↦ elim (cases_Bool (keep k)) [
+    | inl kept ↦ rw (kept, other) (find_kept test keep ks all)
+    | inr gone ↦ rw (gone, other) (find_kept test keep ks all)
+  ]
+]
+
+stays_known : (known : List Known) (p : Presented) (id : List ℕ) (k : Known) → known_by known id ≡ Some k → known_by (known_with known p) id ≡ Some k
+stays_known known p id k is = find-append (has_id id) known (filter (is_new known) (periods_of p)) ∙ ap (λ o. option_or o (find (has_id id) (filter (is_new known) (periods_of p)))) is
+
+newly_known : (known : List Known) (p : Presented) (s : ℕ) → are_once (ids_in p) ≡ true → s < length p.sections
+    → known_by known (id_at p s) ≡ None → known_by (known_with known p) (id_at p s) ≡ Some (known_at p s)
+newly_known known p s once less none =
+    let id : List ℕ = id_at p s in
+    let many : s < length (periods_of p) = omega (arith, less, length-map (sections_of p) (known_at p), length-range_with_len 0 (length p.sections)) in
+    let at : slice_get (periods_of p) s ≡ Some (known_at p s) =
+    slice_get-get_or (periods_of p) s (known_at p s) many
+    ∙ ap (λ k. Some k) (get_or-map-range_with_len (known_at p) 0 (length p.sections) s s (known_at p s) less (omega arith)) in
+    find-append (has_id id) known (filter (is_new known) (periods_of p))
+    ∙ ap (λ o. option_or o (find (has_id id) (filter (is_new known) (periods_of p)))) none
+    ∙ find_kept (has_id id) (is_new known) (periods_of p)
+    (λ k is. ap (λ x. is_none (known_by known x)) (sym ((bytes_eq-Decides id k.id).0 is)) ∙ ap is_none none)
+    ∙ known_once (periods_of p) s (known_at p s) (ap are_once (ids_of_periods p) ∙ once) at
+
+-- what initializes each track
+abbrev pub maps_of : List Attributes → List Part
+maps_of attributes = map (λ a. a.initialization) attributes
+
+abbrev pub IsAsKnown : Known → Presented → ℕ → Type 0
+IsAsKnown k p s = (k.start ≡ start_of p s) × (maps_of k.attributes ≡ maps_of (attributes_at p s))
+
+abbrev pub IsKnownIn : List Known → Presented → ℕ → Type 0
+IsKnownIn known p s = (k : Known) × ((known_by known (id_at p s) ≡ Some k) × IsAsKnown k p s)
+
+-- where those that were known before are as they were
+known_in : (known : List Known) (p : Presented) (s : ℕ) → are_once (ids_in p) ≡ true → s < length p.sections
+    → (o : Option Known) → known_by known (id_at p s) ≡ o
+    → ((k : Known) → known_by known (id_at p s) ≡ Some k → IsAsKnown k p s) → IsKnownIn (known_with known p) p s
+known_in known p s once less None is old = (known_at p s, (newly_known known p s once less is, (refl, refl)))
+known_in known p s once less (Some k) is old = (k, (stays_known known p (id_at p s) k is, old k is))
+
 -- ---- the presentation in force
 
--- its Periods are the last ones that are known, each once, and its times are sound
-pub record IsInForce (known : List Known) (p : Presented) : Type 0 where
+-- Its Periods are the last ones that are known, each once, as they were accepted first; its times are sound, and it has
+-- something of each of the first tracks in each Period.
+pub record IsInForce (opened : Presented) (known : List Known) (p : Presented) : Type 0 where
   pub last : AreLast (ids_of known) (ids_in p)
   pub sound : All IsSoundIn p.contents
+  pub tracks : length p.tracks ≡ length opened.tracks
+  pub filled : length p.contents ≡ length p.sections * length p.tracks
+  pub same : (s : ℕ) → s < length p.sections → IsKnownIn known p s
 
-place_in : (known : List Known) (p : Presented) (is : IsInForce known p) (s : ℕ) → s < length p.sections
+place_in : (opened : Presented) (known : List Known) (p : Presented) (is : IsInForce opened known p) (s : ℕ) → s < length p.sections
     → place_of (ids_of known) (id_at p s) ≡ length is.last.front + s
-place_in known p is s less = placed_in (ids_of known) (ids_in p) is.last s (id_at p s) (id_there p.sections s less)
+place_in opened known p is s less = placed_in (ids_of known) (ids_in p) is.last s (id_at p s) (id_there p.sections s less)
 
-lists : (c : Common) → IsInForce c.known c.force → (t : ℕ) → InOrder None (listed_of (numbering_of c) c.force t)
-lists c is t =
-    periods_are_listed_in_order (numbering_of c) c.force t (record {
-      places =
-          λ s r less within. omega (arith, less, place_in c.known c.force is s (omega (arith, less, within)), place_in c.known c.force is r within);
-      last = λ s. (period_timed c.force s t is.sound).0;
-      rise = λ s. (period_timed c.force s t is.sound).1;
-    })
+pub rising : (c : Common) → IsInForce c.opened c.known c.force → (t : ℕ) → HasRisingPeriods (numbering_of c) c.force t
+rising c is t = record {
+  places = λ s r less within. omega (arith, less, place_in c.opened c.known c.force is s (omega (arith, less, within)), place_in c.opened c.known c.force is r within);
+  last = λ s. (period_timed c.force s t is.sound).0;
+  rise = λ s. (period_timed c.force s t is.sound).1;
+}
 
--- ---- what is so where nothing is refused
+presented_filled : (mpd : Values) (url : List ℕ) (now : Option ℤ) (p : Presented) → presented_of mpd url now ≡ Ok p
+    → length p.contents ≡ length p.sections * length p.tracks
+presented_filled mpd url now p made =
+    let told = is_told mpd url now p made in
+    let rows : List Row = first_rows mpd.periods in
+    let tracks : length (map track_of (in_order rows)) ≡ length rows = length-map (in_order rows) track_of ∙ length_in_order (λ row. row.description.kind) rows in
+    subst (λ (q : Presented). length q.contents ≡ length q.sections * length q.tracks) told.is
+    (length-map told.tolds _
+    ∙ all_filled url mpd.facts.live (is_some now) mpd.periods told.tolds told.none told.told
+    ∙ ap (λ n. n * length rows) (sym (length-map mpd.periods section_of))
+    ∙ ap (λ n. length (map section_of mpd.periods) * n) (sym tracks))
 
-none_at_first : (rs : List Refusal) → first_of rs ≡ None → rs ≡ []
-none_at_first [] none = refl
-none_at_first (r ∷ rs) none = absurd (cc)
+-- ---- later MPDs
 
-told_none : (b : Bool) (r : Refusal) → told_if b r ≡ [] → b ≡ false
-told_none true r none = absurd (cc)
-told_none false r none = refl
-
-is_live : (b : Bool) → not b ≡ false → b ≡ true
-is_live true is = refl
-is_live false is = absurd (cc)
-
-unchanged : (a b c d e f : Bool) → (a || b || not c || not d || not e || f) ≡ false → (c ≡ true) × (d ≡ true)
-unchanged false false true true e f is = (refl, refl)
+unchanged : (a b c d e f : Bool) → (a || b || not c || not d || not e || f) ≡ false → (c ≡ true) × (d ≡ true) × (e ≡ true) × (f ≡ false)
+unchanged false false true true true false is = (refl, refl, refl, refl)
+unchanged false false true true true true is = absurd (cc)
 unchanged true b c d e f is = absurd (cc)
 unchanged false true c d e f is = absurd (cc)
 unchanged false false false d e f is = absurd (cc)
 unchanged false false true false e f is = absurd (cc)
+unchanged false false true true false f is = absurd (cc)
 
-mpd_in_force : (s : State) (mpd : Values) (url : List ℕ) (now : ℤ) (p : Presented) → IsInForce s.common.known s.common.force
-    → mpd_told s (Some mpd) p ≡ []
-    → presented_of mpd url (Some now) ≡ Ok p → IsInForce (known_with s.common.known p) p
+alike_many : (ones others : List Described) → are_alike ones others ≡ true → length ones ≡ length others
+alike_many [] [] is = refl
+alike_many [] (other ∷ others) is = absurd (cc)
+alike_many (one ∷ ones) [] is = absurd (cc)
+alike_many (one ∷ ones) (other ∷ others) is = ap suc (alike_many ones others (and_parts (is_alike one other) (are_alike ones others) is).1)
+
+one_range : (a b : Option Range) → option_eq same_range a b ≡ true → a ≡ b
+one_range None None is = refl
+one_range None (Some b) is = absurd (cc)
+one_range (Some a) None is = absurd (cc)
+one_range (Some a) (Some b) is =
+    let both = and_parts (a.first == b.first) (a.count == b.count) is in
+    ap (λ n. let r : Range = record { first = n; count = a.count } in Some r) (eqb-true _ _ both.0)
+    ∙ ap (λ n. let r : Range = record { first = b.first; count = n } in Some r) (eqb-true _ _ both.1)
+
+one_part : (a b : Part) → same_part a b ≡ true → a ≡ b
+one_part a b is =
+    let both = and_parts (bytes_eq a.address b.address) (option_eq same_range a.range b.range) is in
+    ap (λ text. let part : Part = record { address = text; range = a.range } in part) ((bytes_eq-Decides a.address b.address).0 both.0)
+    ∙ ap (λ range. let part : Part = record { address = b.address; range = range } in part) (one_range a.range b.range both.1)
+
+same_maps : (ones others : List Attributes) → all_same ones others ≡ true → maps_of ones ≡ maps_of others
+same_maps [] [] is = refl
+same_maps [] (b ∷ others) is = absurd (cc)
+same_maps (a ∷ ones) [] is = absurd (cc)
+same_maps (a ∷ ones) (b ∷ others) is =
+    let both = and_parts (same_attributes a b) (all_same ones others) is in
+    let own = and_parts (a.timescale == b.timescale && a.time_offset == b.time_offset) (same_part a.initialization b.initialization) both.0 in
+    ap (λ part. part ∷ maps_of ones) (one_part _ _ own.1) ∙ ap (λ parts. b.initialization ∷ parts) (same_maps ones others both.1)
+
+not_any : (test : ℕ → Bool) (n s : ℕ) → list_any test (range_with_len 0 n) ≡ false → s < n → test s ≡ false
+not_any test n s none less = elim (cases_Bool (test s)) [
+  | inl is ↦
+      let here : get_or (range_with_len 0 n) s 0 ≡ s = get_or-range_with_len 0 n s 0 less ∙ omega arith in
+      let some = list_any_at test (range_with_len 0 n) s 0 (omega (arith, less, length-range_with_len 0 n)) (ap test here ∙ is) in absurd (cc)
+  | inr other ↦ other
+]
+
+-- a known Period has neither moved nor changed
+as_known : (c : Common) (p : Presented) (s : ℕ) (k : Known) → moved_told c p ≡ [] → list_any (differs_at c p) (sections_of p) ≡ false
+    → s < length p.sections → known_by c.known (id_at p s) ≡ Some k → IsAsKnown k p s
+as_known c p s k unmoved alike less is =
+    let start : moved_by c p s (Some k) ≡ [] =
+    ap (moved_by c p s) (sym is) ∙ none_within (λ s. moved_by c p s (known_by c.known (id_at p s))) (length p.sections) s unmoved less in
+    let same : not (all_same k.attributes (attributes_at p s)) ≡ false =
+    ap (λ o. option_map_or (λ (k : Known). not (all_same k.attributes (attributes_at p s))) o false) (sym is)
+    ∙ not_any (differs_at c p) (length p.sections) s alike less in
+    (eqb-true _ _ (negated (k.start == start_of p s) (told_none _ _ start)), same_maps k.attributes (attributes_at p s) (negated _ same))
+
+mpd_in_force : (s : State) (mpd : Values) (url : List ℕ) (now : ℤ) (p : Presented) → IsInForce s.common.opened s.common.known s.common.force
+    → mpd_told s (Some mpd) p ≡ [] → presented_of mpd url (Some now) ≡ Ok p → IsInForce s.common.opened (known_with s.common.known p) p
 mpd_in_force s mpd url now p is none made =
     let c : Common = s.common in
-    let older : List Refusal = older_than c.published mpd.facts.publish_time in
-    let changed : List Refusal = told_if (is_changed c mpd p) Changed in
-    let front : older ++ changed ≡ [] =
-    none_first (older ++ changed) (moved_told c p) (none_first (older ++ changed ++ moved_told c p) (rewritten_told c p 0 s.tracks) none) in
-    let same = told_none (is_changed c mpd p) Changed (none_behind older changed front) in
-    let both =
+    let each =
+    none_each (older_than c.published mpd.facts.publish_time) (told_if (is_changed c mpd p) Changed) (moved_told c p) (rewritten_told c p 0 s.tracks) none in
+    let kept =
     unchanged (starts_otherwise c mpd) (lack_ids mpd) (are_once (ids_in p)) (goes_on (ids_of c.known) (ids_in p)) (are_alike c.opened.tracks p.tracks)
-    (list_any (differs_at c p) (sections_of p)) same in
+    (list_any (differs_at c p) (sections_of p)) (told_none (is_changed c mpd p) Changed each.1) in
     record {
       last =
-          subst (λ (ids : List (List ℕ)). AreLast ids (ids_in p)) (sym (known_grown c.known p)) (last_with_new (ids_of c.known) (ids_in p) is.last.once both.0 both.1);
+          subst (λ (ids : List (List ℕ)). AreLast ids (ids_in p)) (sym (known_grown c.known p)) (last_with_new (ids_of c.known) (ids_in p) is.last.once kept.0 kept.1);
       sound = presented_sound mpd url (Some now) p made;
+      tracks = sym (alike_many c.opened.tracks p.tracks kept.2);
+      filled = presented_filled mpd url (Some now) p made;
+      same = λ r less. known_in c.known p r kept.0 less (known_by c.known (id_at p r)) refl (λ k is. as_known c p r k each.2 kept.3 less is);
     }
 
-told_nothing : (s : State) (u : Update) (p : Presented) → refusal_of s u ≡ None → force_by s.common.terms s.common.force u ≡ Ok p
-    → mpd_told s (mpd_of u) p ≡ []
-unfolding refusal_of
-told_nothing s u p none forced =
-    let by : List Refusal = told_by s u (force_by s.common.terms s.common.force u) in
-    let all : ended_told s.common ++ clock_told s.common (now_of u) ++ by ≡ [] =
-    none_at_first (ended_told s.common ++ clock_told s.common (now_of u) ++ by) none in
-    let none_by : by ≡ [] = none_behind (ended_told s.common ++ clock_told s.common (now_of u)) by all in
-    let none_with : told_with s u p ≡ [] = ap (λ (r : Result Presented PresentationFault). told_by s u r) (sym forced) ∙ none_by in
-    let ranges : List Refusal = map Presentation (range_faults p) in
-    let told : List Refusal = mpd_told s (mpd_of u) p in
-    none_behind ranges told (none_first (ranges ++ told) (segments_told (is_reset u) (common_with s.common u p) s.tracks) none_with)
-
-later_in_force : (s : State) (u : Update) (p : Presented) → IsInForce s.common.known s.common.force → refusal_of s u ≡ None
-    → force_by s.common.terms s.common.force u ≡ Ok p
-    → IsInForce (known_with s.common.known p) p
-later_in_force s (Refresh mpd now) p is none forced =
-    mpd_in_force s mpd s.common.terms.url now p is (told_nothing s (Refresh mpd now) p none forced) forced
-later_in_force s (Reset mpd now) p is none forced =
-    mpd_in_force s mpd s.common.terms.url now p is (told_nothing s (Reset mpd now) p none forced) forced
-later_in_force s (Tick now) p is none forced =
-    let same : looked_at now s.common.force ≡ p = (let h = forced in cc) in
-    let last : AreLast (ids_of s.common.known) (ids_in p) =
-    subst (λ (q : Presented). AreLast (ids_of s.common.known) (ids_in q)) same is.last in
+pub later_in_force : (s : State) (u : Update) (p : Presented) → IsAllowed s u p → IsInForce s.common.opened s.common.known s.common.force
+    → IsInForce s.common.opened (known_with s.common.known p) p
+later_in_force s (Refresh mpd now) p allowed is = mpd_in_force s mpd s.common.terms.url now p is allowed.mpd allowed.forced
+later_in_force s (Reset mpd now) p allowed is = mpd_in_force s mpd s.common.terms.url now p is allowed.mpd allowed.forced
+later_in_force s (Tick now) p allowed is =
+    let forced = allowed.forced in
+    let same : looked_at now s.common.force ≡ p = cc in
+    let at : IsInForce s.common.opened s.common.known p =
+    subst (λ (q : Presented). IsInForce s.common.opened s.common.known q) same (record { last = is.last; sound = is.sound; tracks = is.tracks; filled = is.filled; same = is.same }) in
     record {
       last =
-          subst (λ (ids : List (List ℕ)). AreLast ids (ids_in p)) (sym (known_grown s.common.known p)) (last_again (ids_of s.common.known) (ids_in p) last);
-      sound = subst (λ (q : Presented). All IsSoundIn q.contents) same is.sound;
+          subst (λ (ids : List (List ℕ)). AreLast ids (ids_in p)) (sym (known_grown s.common.known p)) (last_again (ids_of s.common.known) (ids_in p) at.last);
+      sound = at.sound;
+      tracks = at.tracks;
+      filled = at.filled;
+      same = λ r less. let own = at.same r less in (own.0, (stays_known s.common.known p (id_at p r) own.0 own.1.0, own.1.1));
     }
 
--- ---- sections
+-- ---- what is known of each listed segment
 
-first_least : (x : Segment) (xs : List Segment) (k : ℕ) (y : Segment) → InOrder None (x ∷ xs) → slice_get (x ∷ xs) k ≡ Some y
-    → x.section ≤ y.section
-first_least x xs k y order at =
-    let counted = ap (λ (ns : List ℕ). slice_get ns k) (sections_are_counted x xs order) in
-    let left =
-    slice_get-map (λ (z : Segment). x.section + (z.section - x.section)) (x ∷ xs) k
-    ∙ ap (option_map (λ (z : Segment). x.section + (z.section - x.section))) at in
-    let right = slice_get-map (λ (z : Segment). z.section) (x ∷ xs) k ∙ ap (option_map (λ (z : Segment). z.section)) at in
-    let same : x.section + (y.section - x.section) ≡ y.section = same_Some _ _ (sym left ∙ counted ∙ right) in
-    omega arith
+-- the start of the Period at a place, and what initializes a track there
+abbrev pub known_of : List Known → (t place : ℕ) → Option (ℕ × Option Part)
+known_of known t place = option_map (λ k. (k.start, slice_get (maps_of k.attributes) t)) (slice_get known place)
 
-rising_sections : (all : List Segment) (i j : ℕ) (x y : Segment) → InOrder None all → i ≤ j → slice_get all i ≡ Some x
-    → slice_get all j ≡ Some y → x.section ≤ y.section
-rising_sections [] i j x y order le at_x at_y = absurd (cc)
-rising_sections (z ∷ all) zero j x y order le at_x at_y =
-    subst (λ (s : Segment). s.section ≤ y.section) (same_Some _ _ at_x) (first_least z all j y order at_y)
-rising_sections (z ∷ all) (suc i) zero x y order le at_x at_y = absurd (omega arith)
-rising_sections (z ∷ all) (suc i) (suc j) x y order le at_x at_y =
-    rising_sections all i j x y (kept_stay_in_order 1 (z ∷ all) order) (omega arith) at_x at_y
+abbrev pub IsKnown : List Known → ℕ → Segment → Type 0
+IsKnown known t x = known_of known t x.value.place ≡ Some (x.value.period_start, Some x.value.map)
 
--- ---- histories
+own_map : (p : Presented) (s t : ℕ) (content : Content) → length p.contents ≡ length p.sections * length p.tracks → s < length p.sections
+    → t < length p.tracks → content_at p s t ≡ Some content → slice_get (maps_of (attributes_at p s)) t ≡ Some content.initialization
+own_map p s t content filled in_sections in_tracks at =
+    let own : ℕ → List Attributes = λ r. option_to_list (option_map attributes_of (content_at p s r)) in
+    let n : ℕ = length p.tracks in
+    let one : (r : ℕ) → r < n → length (own r) ≡ 1 =
+    λ r less. let there = found p.contents (s * n + r) (omega (arith, less, filled, mul-le-mul_left n in_sections)) in rw there.1 refl in
+    let here : get_or (range_with_len 0 n) t 0 ≡ t = get_or-range_with_len 0 n t 0 in_tracks ∙ omega arith in
+    let long : length (range_with_len 0 n) ≡ n = length-range_with_len 0 n in
+    let ranged : slice_get (range_with_len 0 n) t ≡ Some t = slice_get-get_or (range_with_len 0 n) t 0 (omega (arith, in_tracks, long)) ∙ ap (λ r. Some r) here in
+    let row = in_row own 1 (range_with_len 0 n) t 0 t
+    (λ j d within. one (get_or (range_with_len 0 n) j d) (omega (arith, within, long, get_or-range_with_len 0 n j d (omega (arith, within, long))))) ranged (omega arith) in
+    let place : t * 1 + 0 ≡ t = omega arith in
+    slice_get-map (λ (a : Attributes). a.initialization) (attributes_at p s) t
+    ∙ ap (λ k. option_map (λ (a : Attributes). a.initialization) (slice_get (attributes_at p s) k)) (sym place)
+    ∙ ap (option_map (λ (a : Attributes). a.initialization)) (row ∙ ap (λ o. slice_get (option_to_list (option_map attributes_of o)) 0) at)
 
-abbrev Holds : Whole → Type 0
-Holds w = IsInForce w.common.known w.common.force
+pub listed_known : (c : Common) (t : ℕ) → IsInForce c.opened c.known c.force → t < length c.opened.tracks
+    → All (IsKnown c.known t) (listed_of (numbering_of c) c.force t)
+listed_known c t is in_tracks =
+    listed_have (IsKnown c.known t) (numbering_of c) c.force t (λ s content less at.
+    let own = is.same s less in
+    let there = ap (option_map (λ (k : Known). (k.start, slice_get (maps_of k.attributes) t))) (known_at_place c.known (id_at c.force s) ∙ own.1.0) in
+    let maps = ap (λ parts. slice_get parts t) own.1.1.1 ∙ own_map c.force s t content is.filled less (omega (arith, in_tracks, is.tracks)) at in
+    λ j d within. there ∙ ap (λ n. Some (n, slice_get (maps_of own.0.attributes) t)) own.1.1.0 ∙ ap (λ o. Some (start_of c.force s, o)) maps)
+
+-- ---- the first MPD
 
 module _ (differ : PeriodIdsDiffer) (sections : SectionsArePeriods) where
-  first_in_force : (terms : Terms) (mpd : Values) (now : ℤ) (p : Presented) → IsTyped (Some mpd) → first_refusal_of terms mpd now ≡ None
-      → presented_of mpd terms.url (Some now) ≡ Ok p
-      → IsInForce (known_with [] p) p
-  unfolding first_refusal_of
-  first_in_force terms mpd now p typed none made =
-      let told : first_told_with mpd p ≡ [] =
-      ap (λ (r : Result Presented PresentationFault). first_told_by mpd r) (sym made)
-      ∙ none_at_first (first_refusals_of terms mpd now) none in
-      let counts : List Refusal = map Presentation (count_faults p) in
-      let still : List Refusal = told_if (not mpd.facts.live) NotDynamic in
-      let window : List Refusal = window_told (counts_listed p) in
-      let dynamic : still ≡ [] =
-      none_behind counts still (none_first (counts ++ still) window (none_first (counts ++ still ++ window) (map Presentation (url_faults p)) told)) in
-      let own = differ typed.0 mpd typed.1 (is_live mpd.facts.live (told_none (not mpd.facts.live) NotDynamic dynamic)) in
+  pub first_in_force : (terms : Terms) (mpd : Values) (now : ℤ) (p : Presented) → IsTyped (Some mpd) → IsFirst terms mpd now p
+      → IsInForce p (known_with [] p) p
+  first_in_force terms mpd now p typed first =
       let same : ids_in p ≡ ids_said mpd.periods =
-      ap (λ (ss : List Section). map (λ (section : Section). section.id) ss) (sections mpd terms.url (Some now) p made)
+      ap (λ (ss : List Section). map (λ (section : Section). section.id) ss) (sections mpd terms.url (Some now) p first.made)
       ∙ ids_are_said mpd.periods in
+      let once : are_once (ids_in p) ≡ true = ap are_once same ∙ (differ typed.0 mpd typed.1 first.live).once in
       record {
-        last =
-            subst (λ (ids : List (List ℕ)). AreLast ids (ids_in p)) (sym (known_grown [] p)) (last_at_first (ids_in p) (ap are_once same ∙ own.once));
-        sound = presented_sound mpd terms.url (Some now) p made;
+        last = subst (λ (ids : List (List ℕ)). AreLast ids (ids_in p)) (sym (known_grown [] p)) (last_at_first (ids_in p) once);
+        sound = presented_sound mpd terms.url (Some now) p first.made;
+        tracks = refl;
+        filled = presented_filled mpd terms.url (Some now) p first.made;
+        same = λ s less. known_in [] p s once less None refl (λ k never. absurd (cc));
       }
-
-  after_in_force : (terms : Terms) (earlier : List Update) (start : Option Whole) (u : Update) → whole_of terms earlier ≡ start
-      → refusal_behind terms (option_map shown start) u ≡ None → IsTyped (mpd_of u)
-      → ((v : Whole) → start ≡ Some v → Holds v) → (w : Whole) → after terms start u ≡ Some w → Holds w
-  after_in_force terms earlier None (Refresh mpd now) from none typed before w is =
-      mapped (λ p. begun_with (begun_common terms mpd now p)) (result_ok (presented_of mpd terms.url (Some now))) w (Holds w) is
-      (λ p made same. subst Holds same (first_in_force terms mpd now p typed none (answered _ p made)))
-  after_in_force terms earlier None (Reset mpd now) from none typed before w is = absurd (cc)
-  after_in_force terms earlier None (Tick now) from none typed before w is = absurd (cc)
-  after_in_force terms earlier (Some v) u from none typed before w is =
-      mapped (gone_on v u) (result_ok (force_by terms v.common.force u)) w (Holds w) is (λ p made same.
-      let its = sound terms earlier v from in
-      let forced = subst (λ (x : Terms). force_by x v.common.force u ≡ Ok p) (sym its.its_terms) (answered _ p made) in
-      subst Holds same (later_in_force (shown v) u p (before v refl) none forced))
-
-  all_in_force : (terms : Terms) (earlier later : List Update) (start : Option Whole) → whole_of terms earlier ≡ start
-      → IsAccepted terms (earlier ++ later) → AreTyped (earlier ++ later)
-      → ((v : Whole) → start ≡ Some v → Holds v) → (w : Whole) → fold (after terms) start later ≡ Some w → Holds w
-  unfolding state_of
-  all_in_force terms earlier [] start from accepted typed before w is = before w is
-  all_in_force terms earlier (u ∷ later) start from accepted typed before w is =
-      let moved : (earlier ++ u ∷ []) ++ later ≡ earlier ++ u ∷ later = append_assoc earlier (u ∷ []) later in
-      let next : whole_of terms (earlier ++ u ∷ []) ≡ after terms start u =
-      whole_goes_on terms earlier u ∙ ap (λ o. after terms o u) from in
-      let none : refusal_behind terms (option_map shown start) u ≡ None =
-      ap (λ o. refusal_behind terms (option_map shown o) u) (sym from) ∙ accepted earlier u later refl in
-      all_in_force terms (earlier ++ u ∷ []) later (after terms start u) next (λ front v back same. accepted front v back (sym moved ∙ same)) (λ front v back same. typed front v back (sym moved ∙ same))
-      (λ v v_is. after_in_force terms earlier start u from none (typed earlier u later refl) before v v_is)
-      w is
-
-  pub accepted_are_listed_in_order : AcceptedAreListedInOrder
-  accepted_are_listed_in_order terms history accepted typed earlier later w t split whole =
-      let same : (front : List Update) (u : Update) (back : List Update) → earlier ≡ front ++ u ∷ back → history ≡ front ++ u ∷ (back ++ later) =
-      λ front u back is. split ∙ ap (λ (us : List Update). us ++ later) is ∙ append_assoc front (u ∷ back) later in
-      lists w.common
-      (all_in_force terms [] earlier None refl (λ front u back is. accepted front u (back ++ later) (same front u back is)) (λ front u back is. typed front u (back ++ later) (same front u back is))
-      (λ v never. absurd (cc)) w whole)
-      t
-
-  pub accepted_never_drift : SumsAreFloors → AcceptedNeverDrift
-  accepted_never_drift floors terms history accepted typed t section k x xs end own at =
-      sections_never_drift floors terms history (accepted_are_listed_in_order terms history accepted typed) t section k x xs end own at
-
-  pub sections_never_fall : SectionsNeverFall
-  sections_never_fall terms history t i j x y accepted typed le at_x at_y =
-      rising_sections (all_of terms history t) i j x y (all_are_in_order terms history t (accepted_are_listed_in_order terms history accepted typed)) le at_x at_y

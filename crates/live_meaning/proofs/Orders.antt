@@ -1,60 +1,69 @@
--- All segments that were listed stand in order, where each update lists its own in order.
-use Rattle.std.proofs.Common.{◌≡◌, ℕ, ◌+◌, ◌≤◌, ◌<◌, zero, suc, Bool, true, false, cond, eqb, List, [], ◌∷◌, ◌++◌, map, Option, Some, None, refl, sym, ◌∙◌, ap, subst, inl, inr, arith}
-use Rattle.std.specs.Prelude.{All, flat_map, length, slice_get, unwrap_or}
+-- All segments that were listed stand in order, where each update lists its own in order, and those of one section lie in one Period.
+use Rattle.std.proofs.Common.{◌≡◌, ℕ, ◌+◌, ◌-◌, ◌≤◌, ◌<◌, zero, suc, ◌&&◌, ◌⊎◌, Bool, true, false, cond, eqb, List, [], ◌∷◌, ◌++◌, map, Option, Some, None, refl, sym, ◌∙◌, ap, subst, inl, inr, arith}
+use Rattle.std.specs.Prelude.{All, flat_map, length, option_map, slice_get}
 use Rattle.std.proofs.lemmas.List.{append-nil, append_assoc}
 use Rattle.exact_time.specs.Laws.{SumsAreFloors}
 use Rattle.std.specs.Option.{option_map_or}
-use Rattle.std.specs.List.{fold, range_with_len}
+use Rattle.std.specs.List.{range_with_len}
 use Rattle.std.specs.Result.{result_ok}
-use Rattle.std.proofs.lemmas.Bool.{cases_Bool, cases_lt, eqb-true, le-ltb}
-use Rattle.std.proofs.lemmas.List.Elements.{All-nil, All-cons, All-append, All-filter, All-head, All-tail, All-weaker}
+use Rattle.std.proofs.lemmas.Bool.{and_parts, cases_Bool, cases_lt, eqb-true, le-ltb}
+use Rattle.std.proofs.lemmas.List.Elements.{All-nil, All-cons, All-append, All-filter, All-head, All-map, All-tail, All-weaker, filter_passes}
+use Rattle.std.proofs.lemmas.Simd.{map-map}
 use Rattle.exact_time.specs.Time.{AreRising, Time, before}
 use Rattle.exact_time.proofs.TimeOrder.{before-true}
 use Rattle.timeline.specs.Expansions.{Timing}
-use Rattle.followed.specs.Durations.{Last, ends, last_behind, last_with}
+use Rattle.followed.specs.Durations.{Last, last_behind, last_with}
 use Rattle.followed.specs.Order.{Behind, BehindLast, InOrder, IsTimed}
 use Rattle.followed.proofs.ListedInOrder.{later_in_order, order-append, section_is_in_order, sections_are_in_order}
 use Rattle.followed.proofs.PrintedSections.{last_section, sections_sum}
 use Rattle.presentation.specs.declared.parts.Content.{Content}
 use Rattle.presentation.specs.Presented.{Presented, content_at, listed_at, start_of}
-use Rattle.presentation.specs.Counting.{sections_of, tracks_of}
-use Rattle.presentation.specs.Told.{presented_of}
+use Rattle.presentation.proofs.Grids.{All-at}
 use Rattle.live_meaning.specs.Segments.{Numbering, Segment, behind, id_at, is_later, listed_in_period, listed_of, place_behind, place_of, segment_with}
-use Rattle.live_meaning.specs.Updates.{Terms, Update, Refresh, Reset, Tick, is_reset, unit_of}
-use Rattle.live_meaning.specs.Histories.{Common, Past, Whole, after, all_of, begun, begun_common, begun_past, begun_with, common_with, force_by, gone_on, no_past, numbering_of, past_after, pasts_after, whole_of}
+use Rattle.live_meaning.specs.Updates.{Terms, Update, Refresh, is_reset, unit_of}
+use Rattle.live_meaning.specs.Histories.{Common, Whole, after, all_of, begun_common, begun_with, common_with, gone_on, numbering_of, whole_of}
 use Rattle.live_meaning.specs.Laws.{AllAreInOrder, DoesLast, PeriodsAreListedInOrder, IsListedInOrder, SectionsNeverDrift}
-use Rattle.live_meaning.proofs.Histories.{mapped, whole_goes_on}
-use Rattle.live_meaning.proofs.Tracks.{last_goes_on, place_goes_on}
+use Rattle.live_meaning.proofs.Histories.{holds, past_holds, whole_goes_on}
+use Rattle.live_meaning.proofs.Tracks.{Each, each_after, each_begun, last_goes_on, place_goes_on, track_at}
+
+-- ---- what holds of each segment of an update
+
+flat_have : (P : Segment → Type 0) (list : ℕ → List Segment) (a n : ℕ) → ((s : ℕ) → a ≤ s → s < a + n → All P (list s))
+    → All P (flat_map list (range_with_len a n))
+flat_have P list a zero each = All-nil P
+flat_have P list a (suc n) each =
+    All-append P (list a) (flat_map list (range_with_len (a + 1) n)) (each a (omega arith) (omega arith)) (flat_have P list (a + 1) n (λ s le less. each s (omega arith) (omega arith)))
+
+abbrev pub made_in : Numbering → Presented → (s : ℕ) → Content → Timing → Segment
+made_in n p s content x = segment_with n (place_of n.ids (id_at p s)) (start_of p s) content x
+
+made_of : (P : Segment → Type 0) (make : Content → Timing → Segment) (o : Option Content) (xs : List Timing)
+    → ((content : Content) → o ≡ Some content → All (λ x. P (make content x)) xs) → All P (option_map_or (λ content. map (make content) xs) o [])
+made_of P make None xs each = All-nil P
+made_of P make (Some content) xs each = All-map P (make content) xs (each content refl)
+
+pub period_have : (P : Segment → Type 0) (n : Numbering) (p : Presented) (t s : ℕ)
+    → ((content : Content) → content_at p s t ≡ Some content → All (λ x. P (made_in n p s content x)) (listed_at p s t))
+    → All P (listed_in_period n p t s)
+period_have P n p t s each = made_of P (made_in n p s) (content_at p s t) (listed_at p s t) each
+
+pub listed_have : (P : Segment → Type 0) (n : Numbering) (p : Presented) (t : ℕ)
+    → ((s : ℕ) (content : Content) → s < length p.sections → content_at p s t ≡ Some content → All (λ x. P (made_in n p s content x)) (listed_at p s t))
+    → All P (listed_of n p t)
+listed_have P n p t each =
+    flat_have P (listed_in_period n p t) 0 (length p.sections) (λ s le less. period_have P n p t s (λ content at. each s content (omega arith) at))
 
 -- ---- sections are places and resets
 
 abbrev pub IsNumbered : ℕ → Segment → Type 0
 IsNumbered resets x = x.section ≡ x.value.place + resets
 
-made_numbered : (n : Numbering) (place start : ℕ) (content : Content) (xs : List Timing)
-    → All (IsNumbered n.resets) (map (segment_with n place start content) xs)
-made_numbered n place start content [] = All-nil (IsNumbered n.resets)
-made_numbered n place start content (x ∷ xs) =
-    All-cons (IsNumbered n.resets) (segment_with n place start content x) (map (segment_with n place start content) xs) refl (made_numbered n place start content xs)
-
-period_numbered : (n : Numbering) (p : Presented) (t s : ℕ) → All (IsNumbered n.resets) (listed_in_period n p t s)
-period_numbered n p t s =
-    elim (content_at p s t) as (λ o. All (IsNumbered n.resets) (option_map_or (λ content. map (segment_with n (place_of n.ids (id_at p s)) (start_of p s) content) (listed_at p s t)) o [])) [
-      | None ↦ All-nil (IsNumbered n.resets)
-      | Some content ↦ made_numbered n (place_of n.ids (id_at p s)) (start_of p s) content (listed_at p s t)
-    ]
-
-all_numbered : (n : Numbering) (p : Presented) (t : ℕ) (ss : List ℕ) → All (IsNumbered n.resets) (flat_map (listed_in_period n p t) ss)
-all_numbered n p t [] = All-nil (IsNumbered n.resets)
-all_numbered n p t (s ∷ ss) =
-    All-append (IsNumbered n.resets) (listed_in_period n p t s) (flat_map (listed_in_period n p t) ss) (period_numbered n p t s) (all_numbered n p t ss)
-
 pub listed_numbered : (n : Numbering) (p : Presented) (t : ℕ) → All (IsNumbered n.resets) (listed_of n p t)
-listed_numbered n p t = all_numbered n p t (sections_of p)
+listed_numbered n p t = listed_have (IsNumbered n.resets) n p t (λ s content less at. λ j d within. refl)
 
 -- the last one's section is at most its place and the resets
 abbrev pub IsLastNumbered : ℕ → Option Last → ℕ → Type 0
-IsLastNumbered resets None place = Unit {0}
+IsLastNumbered resets None place = place ≡ 0
 IsLastNumbered resets (Some last) place = last.section ≤ place + resets
 
 -- ---- new ones are behind the last one
@@ -93,56 +102,114 @@ last_numbered last place resets (x ∷ xs) le numbered =
 
 more_resets : (last : Option Last) (place resets more : ℕ) → resets ≤ more → IsLastNumbered resets last place
     → IsLastNumbered more last place
-more_resets None place resets more le is = tt
+more_resets None place resets more le is = is
 more_resets (Some last) place resets more le is = omega arith
 
-behind_numbered : (last : Option Last) (place resets : ℕ) (xs : List Segment) → All (IsNumbered resets) xs
-    → All (IsNumbered resets) (behind last place xs)
-behind_numbered None place resets xs numbered = numbered
-behind_numbered (Some last) place resets xs numbered =
-    All-filter (λ x. is_later last place x.value.place x.end) (IsNumbered resets) xs numbered
+pub behind_have : (P : Segment → Type 0) (last : Option Last) (place : ℕ) (xs : List Segment) → All P xs → All P (behind last place xs)
+behind_have P None place xs all = all
+behind_have P (Some last) place xs all = All-filter (λ x. is_later last place x.value.place x.end) P xs all
 
--- ---- one track, and all of them
+-- ---- segments of one section lie in one Period
 
-pub record IsOrdered (resets : ℕ) (past : Past) : Type 0 where
-  pub order : InOrder None past.all
-  pub its_last : IsLastNumbered resets (last_behind None past.all) (place_behind 0 past.all)
+later_place : (last : Last) (place p : ℕ) (end : Time) → is_later last place p end ≡ true → place ≤ p
+later_place last place p end is = elim (cases_lt place p) [
+  | inl less ↦ omega arith
+  | inr le ↦ let same : (eqb place p && before last.end end) ≡ true = rw (le-ltb place p le) at is in omega (arith, eqb-true place p (and_parts _ _ same).0)
+]
 
-abbrev pub AllOrdered : ℕ → List Past → Type 0
-AllOrdered resets [] = Unit {0}
-AllOrdered resets (past ∷ pasts) = IsOrdered resets past × AllOrdered resets pasts
+behind_later : (last : Option Last) (place resets : ℕ) (xs : List Segment) → IsLastNumbered resets last place
+    → All (λ x. place ≤ x.value.place) (behind last place xs)
+behind_later None place resets xs is = λ j d within. omega arith
+behind_later (Some last) place resets xs is =
+    λ j d within. later_place last place _ _ (filter_passes (λ (x : Segment). is_later last place x.value.place x.end) xs j d within)
 
-abbrev pub ListsInOrder : Common → Type 0
-ListsInOrder c = (t : ℕ) → InOrder None (listed_of (numbering_of c) c.force t)
+abbrev IsUpTo : (resets place : ℕ) → Segment → Type 0
+IsUpTo resets place x = (x.value.place ≤ place) × (x.section ≤ x.value.place + resets)
 
-past_ordered : (c : Common) (former t : ℕ) (past : Past) → former ≤ c.resets → ListsInOrder c → IsOrdered former past
-    → IsOrdered c.resets (past_after c t past)
-past_ordered c former t past le lists is =
-    let last : Option Last = last_behind None past.all in
-    let place : ℕ = place_behind 0 past.all in
-    let listed : List Segment = listed_of (numbering_of c) c.force t in
-    let numbered : All (IsNumbered c.resets) listed = listed_numbered (numbering_of c) c.force t in
-    let its_last : IsLastNumbered c.resets last place = more_resets last place former c.resets le is.its_last in
-    let after : IsLastNumbered c.resets (last_behind last (behind last place listed)) (place_behind place (behind last place listed)) =
-    last_numbered last place c.resets (behind last place listed) its_last (behind_numbered last place c.resets listed numbered) in
+-- the last one's place is the greatest one
+abbrev EndsHighest : ℕ → List Segment → Type 0
+EndsHighest place xs = (place ≤ place_behind place xs) × All (λ x. x.value.place ≤ place_behind place xs) xs
+
+climbs : (l : Last) (place resets : ℕ) (xs : List Segment) → l.section ≡ place + resets → InOrder (Some l) xs → All (IsNumbered resets) xs
+    → EndsHighest place xs
+climbs l place resets [] same order numbered = (omega arith, All-nil _)
+climbs l place resets (x ∷ xs) same (timed, behind, order) numbered =
+    let here : x.section ≡ x.value.place + resets = All-head (IsNumbered resets) x xs numbered in
+    let rest = climbs (last_with (Some l) x) x.value.place resets xs (last_section (Some l) x ∙ here) order (All-tail (IsNumbered resets) x xs numbered) in
+    let more : place ≤ x.value.place = elim behind [ inl less ↦ omega (arith, less, here) | inr both ↦ omega (arith, both.0, here) ] in
+    (omega (arith, more, rest.0), All-cons (λ (y : Segment). y.value.place ≤ place_behind x.value.place xs) x xs rest.0 rest.1)
+
+ends_highest : (last : Option Last) (place resets : ℕ) (xs : List Segment) → All (λ x. place ≤ x.value.place) xs → InOrder last xs
+    → All (IsNumbered resets) xs → EndsHighest place xs
+ends_highest last place resets [] later order numbered = (omega arith, All-nil _)
+ends_highest last place resets (x ∷ xs) later (timed, behind, order) numbered =
+    let here : x.section ≡ x.value.place + resets = All-head (IsNumbered resets) x xs numbered in
+    let rest = climbs (last_with last x) x.value.place resets xs (last_section last x ∙ here) order (All-tail (IsNumbered resets) x xs numbered) in
+    (omega (arith, All-head (λ (y : Segment). place ≤ y.value.place) x xs later, rest.0), All-cons (λ (y : Segment). y.value.place ≤ place_behind x.value.place xs) x xs rest.0 rest.1)
+
+pub get_either : {X : Type 0} (xs ys : List X) (k : ℕ) (x : X) → slice_get (xs ++ ys) k ≡ Some x
+    → (slice_get xs k ≡ Some x) ⊎ (slice_get ys (k - length xs) ≡ Some x)
+get_either {X} [] ys k x at = let same : k ≡ k - 0 = omega arith in inr (ap (slice_get ys) (sym same) ∙ at)
+get_either {X} (y ∷ xs) ys zero x at = inl at
+get_either {X} (y ∷ xs) ys (suc k) x at = elim (get_either xs ys k x at) [
+  | inl there ↦ inl there
+  | inr later ↦ let same : suc k - length (y ∷ xs) ≡ k - length xs = omega arith in inr (ap (slice_get ys) same ∙ later)
+]
+
+abbrev HaveOnePlace : List Segment → Type 0
+HaveOnePlace xs = (i j : ℕ) (x y : Segment) → slice_get xs i ≡ Some x → slice_get xs j ≡ Some y → x.section ≡ y.section → x.value.place ≡ y.value.place
+
+one_place : (resets place : ℕ) (all new : List Segment) → All (IsUpTo resets place) all → All (λ x. place ≤ x.value.place) new
+    → All (IsNumbered resets) new → HaveOnePlace all → HaveOnePlace (all ++ new)
+one_place resets place all new up later numbered one i j x y at_x at_y same =
+    let old : (k : ℕ) (z : Segment) → slice_get all k ≡ Some z → IsUpTo resets place z = λ k z at. All-at (IsUpTo resets place) all k z up at in
+    let fresh : (k : ℕ) (z : Segment) → slice_get new k ≡ Some z → (place ≤ z.value.place) × IsNumbered resets z =
+    λ k z at. (All-at (λ z. place ≤ z.value.place) new k z later at, All-at (IsNumbered resets) new k z numbered at) in
+    elim (get_either all new i x at_x) [
+      | inl one_old ↦ elim (get_either all new j y at_y) [
+        | inl other_old ↦ one i j x y one_old other_old same
+        | inr other_new ↦ omega (arith, (old i x one_old).0, (old i x one_old).1, (fresh _ y other_new).0, (fresh _ y other_new).1)
+      ]
+      | inr one_new ↦ elim (get_either all new j y at_y) [
+        | inl other_old ↦ omega (arith, (old j y other_old).0, (old j y other_old).1, (fresh _ x one_new).0, (fresh _ x one_new).1)
+        | inr other_new ↦ omega (arith, (fresh _ x one_new).1, (fresh _ y other_new).1)
+      ]
+    ]
+
+-- ---- all segments of a track
+
+pub record IsOrdered (resets : ℕ) (all : List Segment) : Type 0 where
+  pub order : InOrder None all
+  pub its_last : IsLastNumbered resets (last_behind None all) (place_behind 0 all)
+  pub up_to : All (IsUpTo resets (place_behind 0 all)) all
+  pub one : HaveOnePlace all
+
+none_ordered : IsOrdered 0 []
+none_ordered = record { order = tt; its_last = refl; up_to = All-nil (IsUpTo 0 0); one = λ i j x y never. absurd (cc) }
+
+more_ordered : (former resets : ℕ) (all listed : List Segment) → former ≤ resets → All (IsNumbered resets) listed → InOrder None listed
+    → IsOrdered former all → IsOrdered resets (all ++ behind (last_behind None all) (place_behind 0 all) listed)
+more_ordered former resets all listed le numbered order is =
+    let last : Option Last = last_behind None all in
+    let place : ℕ = place_behind 0 all in
+    let new : List Segment = behind last place listed in
+    let its_last : IsLastNumbered resets last place = more_resets last place former resets le is.its_last in
+    let new_numbered : All (IsNumbered resets) new = behind_have (IsNumbered resets) last place listed numbered in
+    let new_order : InOrder last new = behind_in_order last place resets listed its_last numbered order in
+    let later : All (λ (x : Segment). place ≤ x.value.place) new = behind_later last place resets listed its_last in
+    let high : EndsHighest place new = ends_highest last place resets new later new_order new_numbered in
+    let up : All (IsUpTo resets place) all =
+    All-weaker (IsUpTo former place) (IsUpTo resets place) (λ x is. (is.0, omega (arith, le, is.1))) all is.up_to in
+    let all_up : All (IsUpTo resets (place_behind place new)) (all ++ new) =
+    All-append (IsUpTo resets (place_behind place new)) all new
+    (All-weaker (IsUpTo resets place) (IsUpTo resets (place_behind place new)) (λ x is. (omega (arith, is.0, high.0), is.1)) all up)
+    (λ j d within. (high.1 j d within, omega (arith, new_numbered j d within))) in
     record {
-      order =
-          order-append None past.all (behind last place listed) is.order (behind_in_order last place c.resets listed its_last numbered (lists t));
-      its_last = rw (last_goes_on None past.all (behind last place listed), place_goes_on 0 past.all (behind last place listed)) after;
+      order = order-append None all new is.order new_order;
+      its_last = rw (last_goes_on None all new, place_goes_on 0 all new) (last_numbered last place resets new its_last new_numbered);
+      up_to = subst (λ n. All (IsUpTo resets n) (all ++ new)) (sym (place_goes_on 0 all new)) all_up;
+      one = one_place resets place all new up later new_numbered is.one;
     }
-
-pasts_ordered : (c : Common) (former t : ℕ) (pasts : List Past) → former ≤ c.resets → ListsInOrder c → AllOrdered former pasts
-    → AllOrdered c.resets (pasts_after c t pasts)
-pasts_ordered c former t [] le lists is = tt
-pasts_ordered c former t (past ∷ pasts) le lists (here, later) =
-    (past_ordered c former t past le lists here, pasts_ordered c former (t + 1) pasts le lists later)
-
-begun_ordered : (c : Common) (ts : List ℕ) → ListsInOrder c → AllOrdered c.resets (map (begun_past c) ts)
-begun_ordered c [] lists = tt
-begun_ordered c (t ∷ ts) lists = (
-  record { order = lists t; its_last = last_numbered None 0 c.resets (listed_of (numbering_of c) c.force t) tt (listed_numbered (numbering_of c) c.force t) },
-  begun_ordered c ts lists,
-)
 
 -- ---- histories
 
@@ -150,47 +217,35 @@ resets_rise : (b : Bool) (n : ℕ) → n ≤ cond b (n + 1) n
 resets_rise true n = omega arith
 resets_rise false n = omega arith
 
+abbrev ListsInOrder : Common → Type 0
+ListsInOrder c = (t : ℕ) → InOrder None (listed_of (numbering_of c) c.force t)
+
 abbrev pub Ordered : Whole → Type 0
-Ordered w = AllOrdered w.common.resets w.pasts
+Ordered w = Each (λ t past. IsOrdered w.common.resets past.all) 0 w.pasts
 
-begins_ordered : (terms : Terms) (u : Update) (w : Whole) → begun terms u ≡ Some w → ListsInOrder w.common → Ordered w
-begins_ordered terms (Refresh mpd now) w is lists =
-    mapped (λ p. begun_with (begun_common terms mpd now p)) (result_ok (presented_of mpd terms.url (Some now))) w (Ordered w) is
-    (λ p from same. subst (λ (v : Whole). ListsInOrder v.common → Ordered v) same (begun_ordered (begun_common terms mpd now p) (tracks_of p)) lists)
-begins_ordered terms (Reset mpd now) w is lists = absurd (cc)
-begins_ordered terms (Tick now) w is lists = absurd (cc)
+pub all_ordered : (terms : Terms) (history : List Update) → IsListedInOrder terms history → (w : Whole) → whole_of terms history ≡ Some w → Ordered w
+all_ordered terms history lists w is =
+    holds terms Ordered (λ earlier u. (v : Whole) → whole_of terms (earlier ++ u ∷ []) ≡ Some v → ListsInOrder v.common)
+    (λ earlier mpd now p from given made.
+    let c : Common = begun_common terms mpd now p in
+    let u : Update = Refresh mpd now in
+    let own = given (begun_with c) (whole_goes_on terms earlier u ∙ ap (λ o. after terms o u) from ∙ ap (λ r. option_map (λ q. begun_with (begun_common terms mpd now q)) (result_ok r)) made) in
+    each_begun c (λ t past. IsOrdered 0 past.all) (length p.tracks)
+    (λ t less. more_ordered 0 0 [] (listed_of (numbering_of c) p t) (omega arith) (listed_numbered (numbering_of c) p t) (own t) none_ordered) 0 (length p.tracks) (omega arith))
+    (λ earlier u v p from given made its.
+    let c : Common = common_with v.common u p in
+    let own = given (gone_on v u p) (whole_goes_on terms earlier u ∙ ap (λ o. after terms o u) from ∙ ap (λ r. option_map (gone_on v u) (result_ok r)) made) in
+    each_after c (λ t past. IsOrdered v.common.resets past.all) (λ t past. IsOrdered c.resets past.all)
+    (λ t past. more_ordered v.common.resets c.resets past.all (listed_of (numbering_of c) p t) (resets_rise (is_reset u) v.common.resets) (listed_numbered (numbering_of c) p t) (own t)) 0 v.pasts its)
+    history (λ front u back same v v_is t. lists (front ++ u ∷ []) back v t (same ∙ sym (append_assoc front (u ∷ []) back)) v_is) w is
 
-after_ordered : (terms : Terms) (start : Option Whole) (u : Update) (w : Whole) → ((v : Whole) → start ≡ Some v → Ordered v)
-    → after terms start u ≡ Some w → ListsInOrder w.common → Ordered w
-after_ordered terms None u w before is lists = begins_ordered terms u w is lists
-after_ordered terms (Some v) u w before is lists = mapped (gone_on v u) (result_ok (force_by terms v.common.force u)) w (Ordered w) is
-    (λ p from same. subst (λ (x : Whole). ListsInOrder x.common → Ordered x) same
-    (λ its. pasts_ordered (common_with v.common u p) v.common.resets 0 v.pasts (resets_rise (is_reset u) v.common.resets) its (before v refl)) lists)
-
-all_ordered : (terms : Terms) (earlier later : List Update) (start : Option Whole) → whole_of terms earlier ≡ start
-    → IsListedInOrder terms (earlier ++ later) → ((v : Whole) → start ≡ Some v → Ordered v)
-    → (w : Whole) → fold (after terms) start later ≡ Some w → Ordered w
-all_ordered terms earlier [] start from lists before w is = before w is
-all_ordered terms earlier (u ∷ later) start from lists before w is =
-    let moved : (earlier ++ u ∷ []) ++ later ≡ earlier ++ u ∷ later = append_assoc earlier (u ∷ []) later in
-    let next : whole_of terms (earlier ++ u ∷ []) ≡ after terms start u = whole_goes_on terms earlier u ∙ ap (λ o. after terms o u) from in
-    all_ordered terms (earlier ++ u ∷ []) later (after terms start u) next (λ front back x t same. lists front back x t (sym moved ∙ same))
-    (λ v v_is. after_ordered terms start u v before v_is (λ t. lists (earlier ++ u ∷ []) later v t (sym moved) (next ∙ v_is)))
-    w is
-
-ordered_at : (resets t : ℕ) (pasts : List Past) → AllOrdered resets pasts → InOrder None (unwrap_or (slice_get pasts t) no_past).all
-ordered_at resets t [] is = tt
-ordered_at resets zero (past ∷ pasts) (here, later) = here.order
-ordered_at resets (suc t) (past ∷ pasts) (here, later) = ordered_at resets t pasts later
-
-past_in_order : (t : ℕ) (o : Option Whole) → ((w : Whole) → o ≡ Some w → Ordered w)
-    → InOrder None (option_map_or (λ w. unwrap_or (slice_get w.pasts t) no_past) o no_past).all
-past_in_order t None is = tt
-past_in_order t (Some w) is = ordered_at w.common.resets t w.pasts (is w refl)
+pub past_ordered : (terms : Terms) (history : List Update) (t : ℕ) → IsListedInOrder terms history → (resets : ℕ) × IsOrdered resets (all_of terms history t)
+past_ordered terms history t lists =
+    past_holds (λ past. (resets : ℕ) × IsOrdered resets past.all) terms history t (0, none_ordered)
+    (λ w is past at. (w.common.resets, track_at (λ t past. IsOrdered w.common.resets past.all) w.pasts t past (all_ordered terms history lists w is) at))
 
 pub all_are_in_order : AllAreInOrder
-all_are_in_order terms history t lists =
-    past_in_order t (whole_of terms history) (λ w is. all_ordered terms [] history None refl lists (λ v never. absurd (cc)) w is)
+all_are_in_order terms history t lists = (past_ordered terms history t lists).1.order
 
 pub sections_never_drift : SumsAreFloors → SectionsNeverDrift
 sections_never_drift floors terms history lists t section k x xs end own at =
@@ -218,49 +273,22 @@ module _ (number : ℕ → ℕ) (list : ℕ → List Segment) (limit : ℕ) (ris
   periods_in_order a (suc n) le =
       with_later a (flat_map list (range_with_len (a + 1) n)) (periods_in_order (a + 1) n (omega arith)) (above a (a + 1) n (omega arith) (omega arith))
 
-made_own : (n : Numbering) (place start : ℕ) (content : Content) (xs : List Timing)
-    → All (λ x. x.section ≡ place + n.resets) (map (segment_with n place start content) xs)
-made_own n place start content [] = All-nil (λ (x : Segment). x.section ≡ place + n.resets)
-made_own n place start content (x ∷ xs) =
-    All-cons (λ (y : Segment). y.section ≡ place + n.resets) (segment_with n place start content x) (map (segment_with n place start content) xs) refl (made_own n place start content xs)
+period_in : (n : Numbering) (place start : ℕ) (o : Option Content) (xs : List Timing) → All DoesLast xs → AreRising (map (λ x. x.end) xs)
+    → InOrder None (option_map_or (λ content. map (segment_with n place start content) xs) o [])
+period_in n place start None xs last rise = tt
+period_in n place start (Some content) xs last rise =
+    let make : Timing → Segment = segment_with n place start content in
+    section_is_in_order (place + n.resets) (map make xs)
+    (All-map IsTimed make xs (All-weaker DoesLast (λ x. IsTimed (make x)) (λ x is. record { start = is.start; end = is.end; lasts = is.lasts }) xs last))
+    (All-map (λ (x : Segment). x.section ≡ place + n.resets) make xs (λ j d within. refl))
+    (subst AreRising (sym (map-map (λ (x : Segment). x.end) make xs)) rise)
 
-made_timed : (n : Numbering) (place start : ℕ) (content : Content) (xs : List Timing) → All DoesLast xs
-    → All IsTimed (map (segment_with n place start content) xs)
-made_timed n place start content [] last = All-nil IsTimed
-made_timed n place start content (x ∷ xs) last =
-    let is : DoesLast x = All-head DoesLast x xs last in
-    All-cons IsTimed (segment_with n place start content x) (map (segment_with n place start content) xs) (record { start = is.start; end = is.end; lasts = is.lasts })
-    (made_timed n place start content xs (All-tail DoesLast x xs last))
-
-made_ends : (n : Numbering) (place start : ℕ) (content : Content) (xs : List Timing)
-    → ends (map (segment_with n place start content) xs) ≡ map (λ x. x.end) xs
-made_ends n place start content [] = refl
-made_ends n place start content (x ∷ xs) = ap (λ (ts : List Time). x.end ∷ ts) (made_ends n place start content xs)
-
-period_own : (n : Numbering) (p : Presented) (t s : ℕ)
+pub period_own : (n : Numbering) (p : Presented) (t s : ℕ)
     → All (λ x. x.section ≡ place_of n.ids (id_at p s) + n.resets) (listed_in_period n p t s)
 period_own n p t s =
-    elim (content_at p s t) as (λ o. All (λ (x : Segment). x.section ≡ place_of n.ids (id_at p s) + n.resets) (option_map_or (λ content. map (segment_with n (place_of n.ids (id_at p s)) (start_of p s) content) (listed_at p s t)) o [])) [
-      | None ↦ All-nil (λ (x : Segment). x.section ≡ place_of n.ids (id_at p s) + n.resets)
-      | Some content ↦ made_own n (place_of n.ids (id_at p s)) (start_of p s) content (listed_at p s t)
-    ]
-
-made_of : (n : Numbering) (place start : ℕ) (content : Content) (xs : List Timing) → All DoesLast xs → AreRising (map (λ x. x.end) xs)
-    → InOrder None (map (segment_with n place start content) xs)
-made_of n place start content xs last rise =
-    section_is_in_order (place + n.resets) (map (segment_with n place start content) xs) (made_timed n place start content xs last) (made_own n place start content xs)
-    (subst AreRising (sym (made_ends n place start content xs)) rise)
-
-period_of : (n : Numbering) (place start : ℕ) (o : Option Content) (xs : List Timing) → All DoesLast xs → AreRising (map (λ x. x.end) xs)
-    → InOrder None (option_map_or (λ content. map (segment_with n place start content) xs) o [])
-period_of n place start None xs last rise = tt
-period_of n place start (Some content) xs last rise = made_of n place start content xs last rise
-
-period_in_order : (n : Numbering) (p : Presented) (t s : ℕ) → All DoesLast (listed_at p s t)
-    → AreRising (map (λ x. x.end) (listed_at p s t)) → InOrder None (listed_in_period n p t s)
-period_in_order n p t s last rise = period_of n (place_of n.ids (id_at p s)) (start_of p s) (content_at p s t) (listed_at p s t) last rise
+    period_have (λ (x : Segment). x.section ≡ place_of n.ids (id_at p s) + n.resets) n p t s (λ content at. λ j d within. refl)
 
 pub periods_are_listed_in_order : PeriodsAreListedInOrder
 periods_are_listed_in_order n p t is =
     periods_in_order (λ s. place_of n.ids (id_at p s) + n.resets) (listed_in_period n p t) (length p.sections) (λ s r less within. omega (arith, is.places s r less within))
-    (λ s. period_own n p t s) (λ s. period_in_order n p t s (is.last s) (is.rise s)) 0 (length p.sections) (omega arith)
+    (λ s. period_own n p t s) (λ s. period_in n (place_of n.ids (id_at p s)) (start_of p s) (content_at p s t) (listed_at p s t) (is.last s) (is.rise s)) 0 (length p.sections) (omega arith)

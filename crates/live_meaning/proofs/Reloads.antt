@@ -26,7 +26,7 @@ use Rattle.live_meaning.specs.Playlists.{FollowedPlaylist, item_of, playlist_of,
 use Rattle.live_meaning.specs.Grown.{IsLater, media_from}
 use Rattle.live_meaning.specs.Laws.{ReloadsAreLawful, media_of, segment_of}
 use Rattle.live_meaning.proofs.Grown.{grown_is_lawful}
-use Rattle.live_meaning.proofs.Tracks.{length-told, past_at, stays_within, within_at}
+use Rattle.live_meaning.proofs.Tracks.{IsWithin, length-told, past_at, stays_within, track_at}
 use Rattle.live_meaning.proofs.Histories.{histories_refuse, mapped, sound, whole_goes_on}
 
 -- ---- nothing follows an end
@@ -101,6 +101,18 @@ three_targets_last digits target units le = elim (cases_lt 9 digits) [
       omega (arith, times, mul-le-mul_left (10 ^ (9 - digits)) le)
 ]
 
+-- ---- states
+
+twice : {A B C : Type 0} (f : B → C) (g : A → B) (o : Option A) → option_map f (option_map g o) ≡ option_map (λ x. f (g x)) o
+twice {A} {B} {C} f g None = refl
+twice {A} {B} {C} f g (Some x) = refl
+
+pub looked_up : (w : Whole) (t : ℕ)
+    → playlist_of (shown w) t ≡ option_map (λ past. playlist_with w.common (track_of (unit_of w.common.terms) past)) (slice_get w.pasts t)
+looked_up w t =
+    ap (λ (o : Option Track). option_map (playlist_with w.common) o) (slice_get-map (track_of (unit_of w.common.terms)) w.pasts t)
+    ∙ twice (playlist_with w.common) (track_of (unit_of w.common.terms)) (slice_get w.pasts t)
+
 -- ---- one track
 
 module _ (sentences : RulesAreSentences) (itself : ReloadsItself) where
@@ -140,18 +152,6 @@ module _ (sentences : RulesAreSentences) (itself : ReloadsItself) where
       ∙ ap (λ (m : Media). lawful (media_from c.target past.first false olds) m) new_is
       ∙ grown
 
-  -- ---- states
-
-  twice : {A B C : Type 0} (f : B → C) (g : A → B) (o : Option A) → option_map f (option_map g o) ≡ option_map (λ x. f (g x)) o
-  twice {A} {B} {C} f g None = refl
-  twice {A} {B} {C} f g (Some x) = refl
-
-  looked_up : (w : Whole) (t : ℕ)
-      → playlist_of (shown w) t ≡ option_map (λ past. playlist_with w.common (track_of (unit_of w.common.terms) past)) (slice_get w.pasts t)
-  looked_up w t =
-      ap (λ (o : Option Track). option_map (playlist_with w.common) o) (slice_get-map (track_of (unit_of w.common.terms)) w.pasts t)
-      ∙ twice (playlist_with w.common) (track_of (unit_of w.common.terms)) (slice_get w.pasts t)
-
   pub reloads_are_lawful : ReloadsAreLawful
   unfolding state_of
   reloads_are_lawful terms history u before later t old new shows shows_later old_is new_is =
@@ -174,4 +174,4 @@ module _ (sentences : RulesAreSentences) (itself : ReloadsItself) where
       ap (λ (s : State). is_finished s.common.force) shown_is ∙ goes_on before u refused in
       ap (λ (a : FollowedPlaylist). lawful (media_of a) (media_of new)) (sym made)
       ∙ ap (λ (b : FollowedPlaylist). lawful (media_of (playlist_with w.common (track_of unit past))) (media_of b)) (sym made_new)
-      ∙ update_is_lawful w u p (0 + t) past (within_at w.pasts t past (sound terms history w whole).within at) unended))))
+      ∙ update_is_lawful w u p (0 + t) past (track_at IsWithin w.pasts t past (sound terms history w whole).within at) unended))))

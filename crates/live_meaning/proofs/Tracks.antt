@@ -1,6 +1,7 @@
 -- What an update makes of a track's past is what it makes of what is kept of it.
 use Rattle.std.proofs.Common.{◌≡◌, ℕ, zero, suc, ◌+◌, ◌≤◌, List, [], ◌∷◌, ◌++◌, map, length, drop, Option, Some, None, refl, sym, ◌∙◌, ap, subst, arith, length-append}
-use Rattle.std.specs.Prelude.{Bool, option_map, slice_get}
+use Rattle.std.specs.Prelude.{Bool, ◌<◌, option_map, slice_get}
+use Rattle.std.specs.List.{range_with_len}
 use Rattle.std.proofs.lemmas.Option.{same_Some}
 use Rattle.std.proofs.lemmas.List.{drop-map, drop-drop, drop-append-le}
 use Rattle.followed.specs.Places.{next_first}
@@ -11,7 +12,7 @@ use Rattle.presentation.specs.Presented.{Following}
 use Rattle.live_meaning.specs.Updates.{unit_of}
 use Rattle.live_meaning.specs.Segments.{Kept, Segment, place_behind, segments_of}
 use Rattle.live_meaning.specs.Removal.{first_kept, is_available, removed_of}
-use Rattle.live_meaning.specs.Histories.{Common, Past, least_length, new_listed, past_after, pasts_after}
+use Rattle.live_meaning.specs.Histories.{Common, Past, begun_past, least_length, new_listed, past_after, pasts_after}
 use Rattle.live_meaning.specs.States.{Track, kept_and_new, removed_from, track_after, track_of, tracks_after}
 
 -- ---- segments with their durations
@@ -96,20 +97,35 @@ stays_within c t past within =
 
 -- ---- all tracks
 
-abbrev pub AllWithin : List Past → Type 0
-AllWithin [] = Unit {0}
-AllWithin (past ∷ pasts) = (past.first ≤ length past.all) × AllWithin pasts
+-- what holds of tracks, of which the first one has a place
+abbrev pub Each : (ℕ → Past → Type 0) → (t : ℕ) → List Past → Type 0
+Each P t [] = Unit {0}
+Each P t (past ∷ pasts) = P t past × Each P (t + 1) pasts
 
-pub tracks_go_on : (c : Common) (t : ℕ) (pasts : List Past) → AllWithin pasts
+abbrev pub IsWithin : ℕ → Past → Type 0
+IsWithin t past = past.first ≤ length past.all
+
+pub tracks_go_on : (c : Common) (t : ℕ) (pasts : List Past) → Each IsWithin t pasts
     → map (track_of (unit_of c.terms)) (pasts_after c t pasts) ≡ tracks_after c t (map (track_of (unit_of c.terms)) pasts)
 tracks_go_on c t [] within = refl
 tracks_go_on c t (past ∷ pasts) (here, later) =
     ap (λ (track : Track). track ∷ map (track_of (unit_of c.terms)) (pasts_after c (t + 1) pasts)) (track_goes_on c t past here)
     ∙ ap (λ (tracks : List Track). track_after c t (track_of (unit_of c.terms) past) ∷ tracks) (tracks_go_on c (t + 1) pasts later)
 
-pub all_stay_within : (c : Common) (t : ℕ) (pasts : List Past) → AllWithin pasts → AllWithin (pasts_after c t pasts)
-all_stay_within c t [] within = tt
-all_stay_within c t (past ∷ pasts) (here, later) = (stays_within c t past here, all_stay_within c (t + 1) pasts later)
+pub each_both : (P Q : ℕ → Past → Type 0) (t : ℕ) (pasts : List Past) → Each P t pasts → Each Q t pasts → Each (λ t past. P t past × Q t past) t pasts
+each_both P Q t [] ps qs = tt
+each_both P Q t (past ∷ pasts) (p, ps) (q, qs) = ((p, q), each_both P Q (t + 1) pasts ps qs)
+
+-- what an update makes of each, and what the first one begins
+pub each_after : (c : Common) (P Q : ℕ → Past → Type 0) → ((t : ℕ) (past : Past) → P t past → Q t (past_after c t past))
+    → (t : ℕ) (pasts : List Past) → Each P t pasts → Each Q t (pasts_after c t pasts)
+each_after c P Q goes t [] each = tt
+each_after c P Q goes t (past ∷ pasts) (here, later) = (goes t past here, each_after c P Q goes (t + 1) pasts later)
+
+pub each_begun : (c : Common) (P : ℕ → Past → Type 0) (n : ℕ) → ((t : ℕ) → t < n → P t (begun_past c t))
+    → (t count : ℕ) → t + count ≤ n → Each P t (map (begun_past c) (range_with_len t count))
+each_begun c P n begins t zero le = tt
+each_begun c P n begins t (suc count) le = (begins t (omega arith), each_begun c P n begins (t + 1) count (omega arith))
 
 -- the past of a track behind an update
 pub past_at : (c : Common) (from t : ℕ) (pasts : List Past)
@@ -120,7 +136,14 @@ past_at c from (suc t) (past ∷ pasts) =
     let same : from + 1 + t ≡ from + suc t = omega arith in
     past_at c (from + 1) t pasts ∙ ap (λ n. option_map (past_after c n) (slice_get pasts t)) same
 
-pub within_at : (pasts : List Past) (t : ℕ) (past : Past) → AllWithin pasts → slice_get pasts t ≡ Some past → past.first ≤ length past.all
-within_at [] t past within at = absurd (cc)
-within_at (one ∷ pasts) zero past (here, later) at = subst (λ (p : Past). p.first ≤ length p.all) (same_Some _ _ at) here
-within_at (one ∷ pasts) (suc t) past (here, later) at = within_at pasts t past later at
+each_at : (P : ℕ → Past → Type 0) (from : ℕ) (pasts : List Past) (t : ℕ) (past : Past) → Each P from pasts → slice_get pasts t ≡ Some past
+    → P (from + t) past
+each_at P from [] t past each at = absurd (cc)
+each_at P from (one ∷ pasts) zero past (here, later) at =
+    let same : from ≡ from + 0 = omega arith in
+    subst (λ (p : Past). P (from + 0) p) (same_Some _ _ at) (subst (λ n. P n one) same here)
+each_at P from (one ∷ pasts) (suc t) past (here, later) at =
+    let same : from + 1 + t ≡ from + suc t = omega arith in subst (λ n. P n past) same (each_at P (from + 1) pasts t past later at)
+
+pub track_at : (P : ℕ → Past → Type 0) (pasts : List Past) (t : ℕ) (past : Past) → Each P 0 pasts → slice_get pasts t ≡ Some past → P t past
+track_at P pasts t past each at = let same : 0 + t ≡ t = omega arith in subst (λ n. P n past) same (each_at P 0 pasts t past each at)

@@ -5,6 +5,7 @@ use Rattle.exact_time.specs.Time.{AreRising, IsAtMost, IsTime, Time, difference}
 use Rattle.exact_time.specs.Floor.{floor_in}
 use Rattle.hls_media.specs.declared.media.Media.{Media}
 use Rattle.hls_media.specs.declared.media.MediaSegment.{MediaSegment}
+use Rattle.hls_writer.specs.Finished.{rounded}
 use Rattle.hls_writer.specs.Playlists.{Item}
 use Rattle.reload_law.specs.Rules.{lawful}
 use Rattle.mpd_text.specs.Trees.{Element}
@@ -15,8 +16,8 @@ use Rattle.followed.specs.Durations.{durations, ends, is_in, told}
 use Rattle.followed.specs.Order.{InOrder}
 use Rattle.live_meaning.specs.Updates.{Update, Refresh, Terms, Values, mpd_of, unit_of}
 use Rattle.live_meaning.specs.Segments.{Numbering, Segment, id_at, listed_of, place_of}
-use Rattle.live_meaning.specs.Histories.{Whole, all_of, numbering_of, whole_of}
-use Rattle.live_meaning.specs.States.{State, state_of}
+use Rattle.live_meaning.specs.Histories.{Common, Whole, all_of, numbering_of, whole_of}
+use Rattle.live_meaning.specs.States.{State, Track, state_of}
 use Rattle.live_meaning.specs.Refusals.{Refusal, begun_of, next_of, refusal_of, update_refusal}
 use Rattle.live_meaning.specs.Playlists.{FollowedPlaylist, playlist_of}
 
@@ -120,6 +121,42 @@ abbrev pub SectionsNeverFall : Type 0
 SectionsNeverFall =
     (terms : Terms) (history : List Update) (t i j : ℕ) (x y : Segment) → IsAccepted terms history → AreTyped history → i ≤ j
     → slice_get (all_of terms history t) i ≡ Some x → slice_get (all_of terms history t) j ≡ Some y → x.section ≤ y.section
+
+-- ---- what is listed together, and what is kept
+
+-- two segments lie in one Period and have one map
+pub record LieTogether (x y : Segment) : Type 0 where
+  pub place : x.value.place ≡ y.value.place
+  pub start : x.value.period_start ≡ y.value.period_start
+  pub map : x.value.map ≡ y.value.map
+
+-- those that were ever listed of a track in one section do
+abbrev pub SectionsHaveOneMap : Type 0
+SectionsHaveOneMap =
+    (terms : Terms) (history : List Update) (t i j : ℕ) (x y : Segment) → IsAccepted terms history → AreTyped history
+    → slice_get (all_of terms history t) i ≡ Some x → slice_get (all_of terms history t) j ≡ Some y → x.section ≡ y.section → LieTogether x y
+
+-- each duration that was ever printed, to the nearest second, is at most the target duration (RFC 8216, 4.3.3.1)
+abbrev pub DurationsFitTarget : Type 0
+DurationsFitTarget = (terms : Terms) (history : List Update) (s : State) (t : ℕ) → Shows terms history s → AreTyped history
+    → All (λ duration. rounded (unit_of terms) duration ≤ s.common.target) (durations (told (unit_of terms) (all_of terms history t)))
+
+-- no playlist is ever empty
+abbrev pub NeverEmpty : Type 0
+NeverEmpty = (terms : Terms) (history : List Update) (s : State) (t : ℕ) (playlist : FollowedPlaylist) → Shows terms history s
+    → playlist_of s t ≡ Some playlist → 0 < length playlist.items
+
+-- Numbers grow with the updates: so many segments and Periods each brings at most.
+pub record IsSmall (c : Common) (track : Track) : Type 0 where
+  pub kept : length track.kept ≤ 20000
+  pub listed : track.first + length track.kept ≤ 20000 * c.accepted
+  pub known : length c.known ≤ 1000 * c.accepted
+  pub resets : c.resets < c.accepted
+  pub sections : All (λ k. k.segment.section < 1001 * c.accepted) track.kept
+
+abbrev pub NumbersStaySmall : Type 0
+NumbersStaySmall = (terms : Terms) (history : List Update) (s : State) (t : ℕ) (track : Track) → Shows terms history s
+    → slice_get s.tracks t ≡ Some track → (s.common.accepted ≤ length history) × IsSmall s.common track
 
 -- ---- each playlist may take the place of the one before it
 

@@ -1,4 +1,4 @@
-use Rattle.live_meaning.proofs.InForce.{accepted_are_listed_in_order, accepted_never_drift, sections_never_fall}
+use Rattle.live_meaning.proofs.Accepted.{accepted_are_listed_in_order, accepted_never_drift, sections_never_fall}
 use Rattle.live_meaning.proofs.laws.accepted_never_drift.Goals as goal
 
 pub returns-clause-order : goal.returns-clause-order

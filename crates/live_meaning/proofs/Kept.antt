@@ -1,0 +1,325 @@
+-- No playlist is ever empty, and numbers grow with the updates.
+use Rattle.std.proofs.Common.{◌≡◌, ℕ, zero, suc, ◌+◌, ◌*◌, ◌≤◌, ◌<◌, Bool, true, false, cond, eqb, ltb, not, ℤ, List, [], ◌∷◌, ◌++◌, map, length, drop, filter, get_or, bytes_eq, Option, Some, None, Ok, refl, sym, ◌∙◌, ap, subst, inl, inr, arith, length-append, length-drop}
+use Rattle.std.specs.Prelude.{All, IfSome, flat_map, is_none, if◌then◌else◌, option_map, slice_get, sum_by}
+use Rattle.std.specs.List.{fold, position_or_len, range_with_len}
+use Rattle.std.specs.Option.{option_map_or}
+use Rattle.std.specs.Result.{result_ok}
+use Rattle.std.proofs.Math.Nat.{mul-le-mul_left, one-le-pow}
+use Rattle.std.proofs.lemmas.Bool.{and_parts, cases_Bool, cases_lt, ltb-false}
+use Rattle.std.proofs.lemmas.Bool.Decides.{nat_tests}
+use Rattle.std.proofs.lemmas.List.{length-map, map-append}
+use Rattle.std.proofs.lemmas.List.Elements.{All-nil, All-append, All-cons, All-drop, All-head, All-tail, All-weaker, filter_passes}
+use Rattle.std.proofs.lemmas.List.FromFn.{length-range_with_len}
+use Rattle.std.proofs.lemmas.List.Sums.{count_by-le-length, length-filter, prefix_len-le-length, sum_by-cons}
+use Rattle.std.proofs.lemmas.Option.{slice_get-map}
+use Rattle.timeline.specs.declared.window.Window.{Window}
+use Rattle.timeline.specs.Expansions.{Timing}
+use Rattle.timeline.specs.Listed.{answered_count, expansion, is_listed, is_out_of_range}
+use Rattle.presentation.specs.declared.fault.PresentationFault.TheVariants.{NoSegments}
+use Rattle.presentation.specs.declared.parts.Content.{Content}
+use Rattle.presentation.specs.Counting.{count_faults, count_of_track, is_over, limit_faults, listed_count, number_in, sections_of, track_faults, tracks_of, section_faults, whole_track_faults}
+use Rattle.presentation.specs.Presented.{Following, Presented, content_at, is_finished, listed_at, listed_in, looked_at, start_of, whole_window, window_at, window_of}
+use Rattle.presentation.specs.PresentedLaws.{PresentedAreFew, PresentedAreFollowed}
+use Rattle.presentation.specs.Told.{presented_of}
+use Rattle.presentation.proofs.Ending.{none_behind}
+use Rattle.presentation.proofs.Reached.{none_first, none_within}
+use Rattle.followed.specs.Durations.{Last, duration_behind, durations, last_behind, last_with, told, told_behind}
+use Rattle.followed.proofs.KeptPlaces.{next_is_first}
+use Rattle.live_meaning.specs.Updates.{Refresh, Reset, Terms, Tick, Update, Values, is_reset, unit_of}
+use Rattle.live_meaning.specs.Segments.{Kept, Numbering, Segment, behind, id_at, listed_in_period, listed_of, place_behind, segments_of}
+use Rattle.live_meaning.specs.Known.{Known, ids_of, is_new, known_at, known_with, periods_of}
+use Rattle.live_meaning.specs.Removal.{is_available, removed_of}
+use Rattle.live_meaning.specs.Histories.{Common, Past, Whole, after, begun_common, begun_with, common_with, force_by, gone_on, least_length, new_listed, numbering_of, past_after, whole_of}
+use Rattle.live_meaning.specs.States.{State, Track, kept_and_new, removed_from, shown, state_of, track_of}
+use Rattle.live_meaning.specs.Refusals.{Refusal, Window as Windowed, count_kept, counts_kept, counts_listed, over_in_all, over_in_track, told_if}
+use Rattle.live_meaning.specs.Playlists.{FollowedPlaylist, item_of, playlist_of, playlist_with}
+use Rattle.live_meaning.specs.Laws.{IsAccepted, IsSmall, NeverEmpty, NumbersStaySmall}
+use Rattle.live_meaning.proofs.Allowed.{IsAllowed, IsFirst, accepted_hold, none_of_each, told_none}
+use Rattle.live_meaning.proofs.Histories.{Sound, mapped}
+use Rattle.live_meaning.proofs.InForce.{place_is}
+use Rattle.live_meaning.proofs.Orders.{behind_have, listed_have, made_in}
+use Rattle.live_meaning.proofs.Reloads.{looked_up}
+use Rattle.live_meaning.proofs.Tracks.{Each, each_after, each_begun, each_both, length-told, told-segments, track_at, track_goes_on}
+
+-- ---- how many segments are listed
+
+made_many : (make : Content → Timing → Segment) (list : Content → List Timing) (o : Option Content)
+    → length (option_map_or (λ content. map (make content) (option_map_or list o [])) o []) ≡ length (option_map_or list o [])
+made_many make list None = refl
+made_many make list (Some content) = length-map (list content) (make content)
+
+listed_many : (n : Numbering) (p : Presented) (t : ℕ) (ss : List ℕ)
+    → length (flat_map (listed_in_period n p t) ss) ≡ length (flat_map (λ s. listed_at p s t) ss)
+listed_many n p t [] = refl
+listed_many n p t (s ∷ ss) =
+    omega (
+      arith,
+      made_many (made_in n p s) (λ content. listed_in (window_of p s) content.runs) (content_at p s t),
+      listed_many n p t ss,
+      length-append (listed_in_period n p t s) (flat_map (listed_in_period n p t) ss),
+      length-append (listed_at p s t) (flat_map (λ s. listed_at p s t) ss),
+    )
+
+counted : (window : Window) (o : Option Content)
+    → number_in (option_map_or (λ content. answered_count content.runs window) o (Ok 0)) ≤ length (option_map_or (λ content. listed_in window content.runs) o [])
+counted window None = omega arith
+counted window (Some content) = elim (cases_Bool (is_out_of_range content.runs window)) [ inl out ↦ rw out (omega arith) | inr not_out ↦ rw not_out (omega arith) ]
+
+all_counted : (p : Presented) (t : ℕ) (ss : List ℕ) → sum_by (listed_count p t) ss ≤ length (flat_map (λ s. listed_at p s t) ss)
+all_counted p t [] = omega arith
+all_counted p t (s ∷ ss) =
+    omega (
+      arith,
+      counted (window_of p s) (content_at p s t),
+      all_counted p t ss,
+      sum_by-cons (listed_count p t) s ss,
+      length-append (listed_at p s t) (flat_map (λ s. listed_at p s t) ss),
+    )
+
+-- a track of a followed presentation
+some_listed : (p : Presented) (t : ℕ) → is_finished p ≡ false → count_faults p ≡ [] → t < length p.tracks → 0 < length (flat_map (λ s. listed_at p s t) (sections_of p))
+some_listed p t followed none less =
+    let tracks = none_first (flat_map (track_faults p) (tracks_of p)) (limit_faults (is_over p)) none in
+    let track = none_within (track_faults p) (length p.tracks) t tracks less in
+    let whole = none_behind (flat_map (section_faults p t) (sections_of p)) (whole_track_faults p t) track in
+    elim (cases_Bool (eqb (count_of_track p t) 0)) [
+      | inl nothing ↦ let never : NoSegments 0 t ∷ [] ≡ [] = rw (followed, nothing) at whole in absurd (cc)
+      | inr some ↦ let more : 0 < count_of_track p t = grind (arith, nat_tests) in omega (arith, all_counted p t (sections_of p), more)
+    ]
+
+-- none of the numbers of tracks is told
+few_at : (f : ℕ → ℕ) (a n t : ℕ) → over_in_track a (map f (range_with_len a n)) ≡ [] → a ≤ t → t < a + n → f t ≤ 20000
+few_at f a zero t none le less = absurd (omega arith)
+few_at f a (suc n) t none le less = elim (cases_lt a t) [
+  | inl later ↦ few_at f (a + 1) n t (none_behind (told_if (ltb 20000 (f a)) (Windowed a (f a))) (over_in_track (a + 1) (map f (range_with_len (a + 1) n))) none) (omega arith) (omega arith)
+  | inr first ↦
+      let same : a ≡ t = omega arith in
+      subst (λ k. f k ≤ 20000) same
+      (ltb-false _ _ (told_none (ltb 20000 (f a)) (Windowed a (f a)) (none_first (told_if (ltb 20000 (f a)) (Windowed a (f a))) (over_in_track (a + 1) (map f (range_with_len (a + 1) n))) none)))
+]
+
+-- ---- how many are removed
+
+position_within : (test : Segment → Bool) (xs ys : List Segment) → All (λ y. test y ≡ true) ys → position_or_len test (xs ++ ys) ≤ length xs
+position_within test [] [] all = omega arith
+position_within test [] (y ∷ ys) all = rw (All-head (λ (z : Segment). test z ≡ true) y ys all) (omega arith)
+position_within test (x ∷ xs) ys all = elim (cases_Bool (test x)) [
+  | inl is ↦ rw is (omega arith)
+  | inr other ↦ rw other (omega (arith, position_within test xs ys all))
+]
+
+removed_most : (f : Option Following) (units : ℕ) (kept new : List Kept) → IfSome f (λ f. All (λ x. is_available f x ≡ true) (segments_of new))
+    → removed_of f units (kept ++ new) ≤ length kept
+removed_most None units kept new all = omega arith
+removed_most (Some f) units kept new all =
+    let parts : segments_of (kept ++ new) ≡ segments_of kept ++ segments_of new = map-append (λ (k : Kept). k.segment) kept new in
+    omega (
+      arith,
+      position_within (is_available f) (segments_of kept) (segments_of new) all,
+      ap (position_or_len (is_available f)) parts,
+      length-map kept (λ (k : Kept). k.segment),
+    )
+
+listed_pass : (window : Window) (o : Option Content) → All (λ x. is_listed window x ≡ true) (option_map_or (λ content. listed_in window content.runs) o [])
+listed_pass window None = All-nil (λ x. is_listed window x ≡ true)
+listed_pass window (Some content) = filter_passes (is_listed window) (expansion content.runs window)
+
+-- what is listed is available
+listed_available : (n : Numbering) (p : Presented) (t : ℕ) (f : Following) → p.following ≡ Some f → All (λ x. is_available f x ≡ true) (listed_of n p t)
+listed_available n p t f is = listed_have (λ x. is_available f x ≡ true) n p t (λ s content less at. λ j d within.
+    let window : window_of p s ≡ window_at f (start_of p s) = ap (λ o. option_map_or (λ f. window_at f (start_of p s)) o whole_window) is in
+    let x : Timing = get_or (listed_at p s t) j d in
+    let pass : is_listed (window_at f (start_of p s)) x ≡ true =
+    ap (λ w. is_listed w x) (sym window) ∙ listed_pass (window_of p s) (content_at p s t) j d within in
+    (and_parts _ _ (and_parts _ _ pass).0).1)
+
+new_available : (n : Numbering) (p : Presented) (t u : ℕ) (last : Option Last) (place : ℕ) (o : Option Following) → p.following ≡ o
+    → IfSome o (λ f. All (λ x. is_available f x ≡ true) (segments_of (told_behind u last (behind last place (listed_of n p t)))))
+new_available n p t u last place None is = tt
+new_available n p t u last place (Some f) is =
+    subst (All (λ x. is_available f x ≡ true)) (sym (told-segments u last (behind last place (listed_of n p t))))
+    (behind_have (λ x. is_available f x ≡ true) last place (listed_of n p t) (listed_available n p t f is))
+
+-- ---- one track
+
+abbrev IsEarly : ℕ → Segment → Type 0
+IsEarly accepted x = x.section < 1001 * accepted
+
+listed_early : (c : Common) (t : ℕ) → length c.known ≤ 1000 * c.accepted → c.resets < c.accepted → All (IsEarly c.accepted) (listed_of (numbering_of c) c.force t)
+listed_early c t known resets = listed_have (IsEarly c.accepted) (numbering_of c) c.force t (λ s content less at.
+    let within = prefix_len-le-length (λ x. not (bytes_eq (id_at c.force s) x)) (ids_of c.known) in
+    let place = place_is (ids_of c.known) (id_at c.force s) in
+    λ j d inside. omega (arith, known, resets, place, within, length-map c.known (λ (k : Known). k.id)))
+
+pub record IsKept (accepted : ℕ) (past : Past) : Type 0 where
+  pub some : past.first < length past.all
+  pub first : past.first + 20000 ≤ 20000 * accepted
+  pub few : length past.all ≤ past.first + 20000
+  pub early : All (IsEarly accepted) past.all
+
+past_kept : (c : Common) (t accepted : ℕ) (past : Past) → c.accepted ≡ accepted + 1 → 0 < c.target → All (IsEarly c.accepted) (listed_of (numbering_of c) c.force t)
+    → count_kept c (kept_and_new c t (track_of (unit_of c.terms) past)) ≤ 20000 → IsKept accepted past → IsKept c.accepted (past_after c t past)
+past_kept c t accepted past one target early few is =
+    let u : ℕ = unit_of c.terms in
+    let new : List Segment = new_listed c t past.all in
+    let told_new : List Kept = told_behind u (last_behind None past.all) new in
+    let kept : List Kept = drop past.first (told u past.all) in
+    let all : List Segment = past.all ++ new in
+    let first : (past_after c t past).first ≡ past.first + removed_from c (kept ++ told_new) = ap (λ (track : Track). track.first) (track_goes_on c t past (omega (arith, is.some))) in
+    let removed : removed_from c (kept ++ told_new) ≤ length kept =
+    removed_most c.force.following (least_length c) kept told_new
+    (new_available (numbering_of c) c.force t u (last_behind None past.all) (place_behind 0 past.all) c.force.following refl) in
+    let next = next_is_first past.first (least_length c) (option_map is_available c.force.following) (durations (told u all)) (segments_of (told u all)) in
+    let enough : 0 < least_length c = omega (arith, mul-le-mul_left u target, one-le-pow c.terms.digits 10 (omega arith)) in
+    let many = length-append past.all new in
+    let held = length-drop past.first (told u past.all) in
+    let told_all = length-told u None past.all in
+    let both = length-append kept told_new in
+    let fresh = length-told u (last_behind None past.all) new in
+    record {
+      some = omega (arith, next.some enough (length-map (told u all) (λ (k : Kept). k.duration) ∙ sym (length-map (told u all) (λ (k : Kept). k.segment))) (omega (arith, is.some, many, ap length (told-segments u None all))), ap length (told-segments u None all));
+      first = omega (arith, first, removed, held, told_all, is.few, is.first, one);
+      few = omega (arith, first, few, both, fresh, held, told_all, many, is.some);
+      early =
+          All-append (IsEarly c.accepted) past.all new (All-weaker (IsEarly accepted) (IsEarly c.accepted) (λ x less. omega (arith, less, one)) past.all is.early)
+          (behind_have (IsEarly c.accepted) (last_behind None past.all) (place_behind 0 past.all) (listed_of (numbering_of c) c.force t) early);
+    }
+
+-- ---- histories
+
+pub record AreKept (w : Whole) : Type 0 where
+  pub target : 0 < w.common.target
+  pub sections : length w.common.force.sections ≤ 1000
+  pub known : length w.common.known ≤ 1000 * w.common.accepted
+  pub resets : w.common.resets < w.common.accepted
+  pub each : Each (λ t past. IsKept w.common.accepted past) 0 w.pasts
+
+few_known : (known : List Known) (p : Presented) → length (known_with known p) ≤ length known + length p.sections
+few_known known p =
+    omega (
+      arith,
+      length-append known (filter (is_new known) (periods_of p)),
+      length-filter (is_new known) (periods_of p),
+      count_by-le-length (is_new known) (periods_of p),
+      length-map (sections_of p) (known_at p),
+      length-range_with_len 0 (length p.sections),
+    )
+
+resets_most : (b : Bool) (n : ℕ) → cond b (n + 1) n ≤ n + 1
+resets_most true n = omega arith
+resets_most false n = omega arith
+
+is_followed : (live : Bool) (f : Following) → live ≡ true → is_none (if live then Some f else None) ≡ false
+is_followed true f is = refl
+is_followed false f is = absurd (cc)
+
+-- each update is counted once
+one_more : (terms : Terms) (start : Option Whole) (u : Update) (n : ℕ) → ((v : Whole) → start ≡ Some v → v.common.accepted ≤ n)
+    → (w : Whole) → after terms start u ≡ Some w → w.common.accepted ≤ n + 1
+one_more terms None (Refresh mpd now) n before w is =
+    mapped (λ p. begun_with (begun_common terms mpd now p)) (result_ok (presented_of mpd terms.url (Some now))) w (w.common.accepted ≤ n + 1) is
+    (λ p made same. omega (arith, ap (λ (w : Whole). w.common.accepted) same))
+one_more terms None (Reset mpd now) n before w is = absurd (cc)
+one_more terms None (Tick now) n before w is = absurd (cc)
+one_more terms (Some v) u n before w is =
+    mapped (gone_on v u) (result_ok (force_by terms v.common.force u)) w (w.common.accepted ≤ n + 1) is
+    (λ p made same. omega (arith, before v refl, ap (λ (w : Whole). w.common.accepted) same))
+
+counted_from : (terms : Terms) (history : List Update) (start : Option Whole) (n : ℕ) (w : Whole)
+    → ((v : Whole) → start ≡ Some v → v.common.accepted ≤ n) → fold (after terms) start history ≡ Some w → w.common.accepted ≤ n + length history
+counted_from terms [] start n w before is = omega (arith, before w is)
+counted_from terms (u ∷ history) start n w before is =
+    omega (arith, counted_from terms history (after terms start u) (n + 1) w (one_more terms start u n before) is)
+
+told_early : (accepted u : ℕ) (last : Option Last) (all : List Segment) → All (IsEarly accepted) all
+    → All (λ (k : Kept). k.segment.section < 1001 * accepted) (told_behind u last all)
+told_early accepted u last [] early = All-nil (λ (k : Kept). k.segment.section < 1001 * accepted)
+told_early accepted u last (x ∷ all) early =
+    All-cons (λ (k : Kept). k.segment.section < 1001 * accepted) (record { segment = x; duration = duration_behind u last x }) (told_behind u (Some (last_with last x)) all)
+    (All-head (IsEarly accepted) x all early) (told_early accepted u (Some (last_with last x)) all (All-tail (IsEarly accepted) x all early))
+
+module _ (few : PresentedAreFew) (followed : PresentedAreFollowed) where
+  begins_kept : (terms : Terms) (mpd : Values) (now : ℤ) (p : Presented) → Unit {0} → IsFirst terms mpd now p → AreKept (begun_with (begun_common terms mpd now p))
+  begins_kept terms mpd now p given first =
+      let c : Common = begun_common terms mpd now p in
+      let sections = (few mpd terms.url (Some now) p first.made).0 in
+      let live : is_finished p ≡ false = ap is_none (followed mpd terms.url (Some now) p first.made) ∙ is_followed mpd.facts.live _ first.live in
+      let window = none_first (over_in_track 0 (counts_listed p)) (over_in_all 0 0 (counts_listed p)) first.window in
+      record {
+        target = omega arith;
+        sections = sections;
+        known = omega (arith, few_known [] p, sections);
+        resets = omega arith;
+        each = each_begun c (λ t past. IsKept 1 past) (length p.tracks) (λ t less.
+            let many = listed_many (numbering_of c) p t (sections_of p) in
+            record {
+              some = omega (arith, many, some_listed p t live first.counts less);
+              first = omega arith;
+              few = omega (arith, many, few_at (λ t. length (flat_map (λ s. listed_at p s t) (sections_of p))) 0 (length p.tracks) t window (omega arith) (omega (arith, less)));
+              early = listed_early c t (omega (arith, few_known [] p, sections)) (omega arith);
+            }) 0 (length p.tracks) (omega arith);
+      }
+
+  later_few : (s : State) (u : Update) (p : Presented) → length s.common.force.sections ≤ 1000 → force_by s.common.terms s.common.force u ≡ Ok p
+      → length p.sections ≤ 1000
+  later_few s (Refresh mpd now) p is forced = (few mpd s.common.terms.url (Some now) p forced).0
+  later_few s (Reset mpd now) p is forced = (few mpd s.common.terms.url (Some now) p forced).0
+  later_few s (Tick now) p is forced = let same : looked_at now s.common.force ≡ p = cc in subst (λ (q : Presented). length q.sections ≤ 1000) same is
+
+  goes_on_kept : (terms : Terms) (w : Whole) (u : Update) (p : Presented) → Unit {0} → Sound terms w → IsAllowed (shown w) u p → AreKept w → AreKept (gone_on w u p)
+  goes_on_kept terms w u p given its allowed is =
+      let c : Common = common_with w.common u p in
+      let unit : ℕ = unit_of c.terms in
+      let sections = later_few (shown w) u p is.sections allowed.forced in
+      let known : length c.known ≤ 1000 * c.accepted = omega (arith, few_known w.common.known p, sections, is.known) in
+      let resets : c.resets < c.accepted = omega (arith, resets_most (is_reset u) w.common.resets, is.resets) in
+      let count : ℕ → Track → ℕ = λ t track. count_kept c (kept_and_new c t track) in
+      let own : ℕ → Track → List Refusal = λ t track. told_if (ltb 20000 (count t track)) (Windowed t (count t track)) in
+      let counts = counts_kept c 0 (shown w).tracks in
+      let window = none_of_each (λ t tracks. over_in_track t (counts_kept c t tracks)) own (λ t track tracks. refl) unit 0 w.pasts
+      (none_first (over_in_track 0 counts) (over_in_all 0 0 counts) allowed.window) in
+      record {
+        target = is.target;
+        sections = sections;
+        known = known;
+        resets = resets;
+        each = each_after c (λ t past. IsKept w.common.accepted past × (own t (track_of unit past) ≡ [])) (λ t past. IsKept c.accepted past)
+            (λ t past both. past_kept c t w.common.accepted past refl is.target (listed_early c t known resets) (ltb-false _ _ (told_none _ _ both.1)) both.0) 0 w.pasts
+            (each_both (λ t past. IsKept w.common.accepted past) (λ t past. own t (track_of unit past) ≡ []) 0 w.pasts is.each window);
+      }
+
+  pub accepted_kept : (terms : Terms) (history : List Update) → IsAccepted terms history → (w : Whole) → whole_of terms history ≡ Some w → AreKept w
+  accepted_kept terms history accepted w is =
+      accepted_hold terms (λ mpd. Unit {0}) AreKept (begins_kept terms) (goes_on_kept terms) history accepted (λ front u back same. tt) w is
+
+  pub never_empty : NeverEmpty
+  unfolding state_of
+  never_empty terms history s t playlist shows there =
+      mapped shown (whole_of terms history) s (0 < length playlist.items) shows.leaves (λ w whole shown_is.
+      let unit : ℕ = unit_of w.common.terms in
+      mapped (λ past. playlist_with w.common (track_of unit past)) (slice_get w.pasts t) playlist (0 < length playlist.items)
+      (sym (looked_up w t) ∙ ap (λ (s : State). playlist_of s t) shown_is ∙ there) (λ past at same.
+      let kept = track_at (λ t past. IsKept w.common.accepted past) w.pasts t past (accepted_kept terms history shows.accepted w whole).each at in
+      omega (arith, kept.some, ap (λ (p : FollowedPlaylist). length p.items) same, length-map (drop past.first (told unit past.all)) item_of, length-drop past.first (told unit past.all), length-told unit None past.all)))
+
+  pub numbers_stay_small : NumbersStaySmall
+  unfolding state_of
+  numbers_stay_small terms history s t track shows there =
+      let C : Type 0 = (s.common.accepted ≤ length history) × IsSmall s.common track in
+      mapped shown (whole_of terms history) s C shows.leaves (λ w whole shown_is.
+      let unit : ℕ = unit_of w.common.terms in
+      mapped (track_of unit) (slice_get w.pasts t) track C
+      (sym (slice_get-map (track_of unit) w.pasts t) ∙ ap (λ (s : State). slice_get s.tracks t) shown_is ∙ there) (λ past at same.
+      let are = accepted_kept terms history shows.accepted w whole in
+      let kept = track_at (λ t past. IsKept w.common.accepted past) w.pasts t past are.each at in
+      subst (λ (s : State). (s.common.accepted ≤ length history) × IsSmall s.common track) shown_is
+      (subst (λ (track : Track). (w.common.accepted ≤ length history) × IsSmall w.common track) same (
+        omega (arith, counted_from terms history None 0 w (λ v never. absurd (cc)) whole),
+        record {
+          kept = omega (arith, kept.few, length-drop past.first (told unit past.all), length-told unit None past.all);
+          listed = omega (arith, kept.first, kept.few, kept.some, length-drop past.first (told unit past.all), length-told unit None past.all);
+          known = are.known;
+          resets = are.resets;
+          sections = All-drop (λ (k : Kept). k.segment.section < 1001 * w.common.accepted) past.first (told unit past.all) (told_early w.common.accepted unit None past.all kept.early);
+        },
+      ))))

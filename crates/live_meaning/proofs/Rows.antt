@@ -1,0 +1,128 @@
+-- Worked runs: one track, whose segments go on to an open end from the start of its one Period on.
+use Rattle.std.specs.Prelude.{◌≡◌, refl, ℕ, ◌*◌, ◌^◌, ℤ, pos, List, [], ◌∷◌, ◌++◌, map, true, Option, Some, None}
+use Rattle.bridge_io.specs.declared.media.Kind.TheVariants.{Video}
+use Rattle.exact_time.specs.Floor.{floor_in, greatest_of}
+use Rattle.exact_time.specs.Time.{Time}
+use Rattle.timeline.specs.Ratios.{steps_within}
+use Rattle.url_parts.specs.declared.address.Part.{Part}
+use Rattle.timeline.specs.declared.names.Names.TheVariants.{Addresses}
+use Rattle.timeline.specs.Expansions.{Closed, Endless, Extent, Member, Timing, repeated}
+use Rattle.presentation.specs.declared.parts.Content.{Content}
+use Rattle.presentation.specs.declared.track.Section.{Section}
+use Rattle.presentation.specs.declared.track.Track.{Track as Described}
+use Rattle.presentation.specs.Presented.{Following, Presented}
+use Rattle.live_meaning.specs.Updates.{Refresh, Reset, Tick, Values}
+use Rattle.live_meaning.specs.Histories.{begun_common, begun_with, common_with}
+use Rattle.live_meaning.specs.States.{State, shown, state_with}
+use Rattle.live_meaning.specs.Refusals.{ClockBack, Ended, LongSegment, Moved, Older, Rewritten, Step, long_told, moved_told, older_than, refusal_of, rewritten_told, steps_told}
+
+abbrev second : ℕ → ℤ
+second n = pos (n * 10 ^ 9)
+
+abbrev at : ℕ → Time
+at n = record { ticks = pos n; scale = 1 }
+
+abbrev timing : (start end number : ℕ) → Timing
+timing start end number = record { start = at start; end = at end; number = number }
+
+abbrev part : Part
+part = record { address = []; range = None }
+
+abbrev lasting : ℕ → Extent
+lasting n = record { start = at 0; end = at n }
+
+abbrev content : List Member → Content
+content members =
+    record { initialization = part; runs = record { members = members; ticks = 1; origin = 0; offset = 0; first_number = 1; names = Addresses [] } }
+
+abbrev video : Described
+video = record { kind = Video; set = 0; language = None; codecs = None; bandwidth = 1000; size = None; frame_rate = None }
+
+abbrev period : (start : ℕ) → Section
+period start = record { id = 112 ∷ []; start = start; length = None }
+
+abbrev presented : (start : ℕ) → List Member → Option Following → Presented
+presented start members following =
+    record { tracks = video ∷ []; sections = period start ∷ []; contents = content members ∷ []; left_out = 0; following = following; places = [] }
+
+-- with segments of so many seconds and a depth, at an instant
+abbrev live : (lasts depth now : ℕ) → Presented
+live lasts depth now =
+    presented 0 (Endless (lasting lasts) ∷ []) (Some (record { instant = second now; availability_start = pos 0; depth = Some (depth * 10 ^ 9) }))
+
+-- thirteen segments of 2 s that never change
+abbrev finished : Presented
+finished = presented 0 (map Closed (repeated 13 (lasting 2))) None
+
+abbrev mpd : Values
+mpd = record {
+  facts = record { live = true; availability_start = Some (pos 0); publish_time = None; depth = None; max_segment = None };
+  left_out = 0;
+  periods = [];
+}
+
+-- the first MPD, and each update with what it leaves in force
+abbrev first : (depth now : ℕ) → State
+first depth now = shown (begun_with (begun_common (record { url = []; digits = 6 }) mpd (second now) (live 2 depth now)))
+
+abbrev tick : (depth now : ℕ) → State → State
+tick depth now s = state_with s (Tick (second now)) (live 2 depth now)
+
+abbrev reset : (depth now : ℕ) → State → State
+reset depth now s = state_with s (Reset mpd (second now)) (live 2 depth now)
+
+-- of each track the first kept segment's place, and the sections and numbers of the kept ones
+abbrev kept : State → List (ℕ × List (ℕ × ℕ))
+kept s = map (λ track. (track.first, map (λ k. (k.segment.section, k.segment.value.number)) track.kept)) s.tracks
+
+-- segments of one section with these numbers
+abbrev of : (section : ℕ) → List ℕ → List (ℕ × ℕ)
+of section numbers = map (λ n. (section, n)) numbers
+
+abbrev old : State
+old = first 12 20
+
+-- 12 s of depth, at 20 s and 24 s
+slides :
+    (old.common.target ≡ 3)
+    × (kept old ≡ (0, of 0 (5 ∷ 6 ∷ 7 ∷ 8 ∷ 9 ∷ 10 ∷ [])) ∷ [])
+    × (kept (tick 12 24 old) ≡ (2, of 0 (7 ∷ 8 ∷ 9 ∷ 10 ∷ 11 ∷ 12 ∷ [])) ∷ [])
+unfolding repeated steps_within floor_in greatest_of state_with
+slides = (refl, refl, refl)
+
+-- 4 s of depth, at 20 s, 24 s and 28 s: three target durations stay
+stays :
+    (kept (tick 4 24 (first 4 20)) ≡ (0, of 0 (9 ∷ 10 ∷ 11 ∷ 12 ∷ [])) ∷ [])
+    × (kept (tick 4 28 (tick 4 24 (first 4 20))) ≡ (1, of 0 (10 ∷ 11 ∷ 12 ∷ 13 ∷ 14 ∷ [])) ∷ [])
+unfolding repeated steps_within floor_in greatest_of state_with
+stays = (refl, refl)
+
+-- a change to segments of 3 s, of which the one from 15 s to 18 s stands against the kept one from 18 s to 20 s; segments of 5 s
+-- above a target of 3 s; an MPD a minute later, whose segments begin at 48 s
+refused :
+    (refusal_of old (Tick (second 19)) ≡ Some (ClockBack (second 20) (second 19)))
+    × (rewritten_told old.common (live 3 12 24) 0 old.tracks ≡ Rewritten 0 (Some (timing 18 20 10)) (timing 15 18 6) ∷ [])
+    × (long_told (common_with old.common (Refresh mpd (second 25)) (live 5 12 25)) 0 old.tracks ≡ LongSegment 3 5000000 ∷ [])
+    × (older_than (Some (second 5)) (Some (second 4)) ≡ Older (second 5) (second 4) ∷ [])
+    × (moved_told old.common (presented 1 (Endless (lasting 2) ∷ []) None) ≡ Moved 0 ∷ [])
+    × (steps_told (common_with old.common (Refresh mpd (second 60)) (live 2 12 60)) 0 old.tracks ≡ Step 0 (at 20) (at 48) ∷ [])
+unfolding refusal_of repeated steps_within floor_in greatest_of
+refused = (refl, refl, refl, refl, refl, refl)
+
+-- a static MPD at 28 s ends it
+abbrev last : State
+last = state_with (tick 12 24 old) (Refresh mpd (second 28)) finished
+
+ends :
+    (kept last ≡ (2, of 0 (7 ∷ 8 ∷ 9 ∷ 10 ∷ 11 ∷ 12 ∷ 13 ∷ [])) ∷ [])
+    × (refusal_of last (Tick (second 30)) ≡ Some Ended)
+unfolding refusal_of repeated steps_within floor_in greatest_of state_with
+ends = (refl, refl)
+
+-- Resets a minute later and at 30 s begin a section. One at 60 s counts once, so that an MPD at 62 s goes on in its section.
+begins_anew :
+    (kept (reset 12 60 old) ≡ (6, of 1 (25 ∷ 26 ∷ 27 ∷ 28 ∷ 29 ∷ 30 ∷ [])) ∷ [])
+    × (kept (reset 12 30 old) ≡ (5, (0, 10) ∷ of 1 (11 ∷ 12 ∷ 13 ∷ 14 ∷ 15 ∷ [])) ∷ [])
+    × (kept (state_with (reset 4 60 (first 4 20)) (Refresh mpd (second 62)) (live 2 4 62)) ≡ (0, of 0 (9 ∷ 10 ∷ []) ++ of 1 (29 ∷ 30 ∷ 31 ∷ [])) ∷ [])
+unfolding repeated steps_within floor_in greatest_of state_with
+begins_anew = (refl, refl, refl)
