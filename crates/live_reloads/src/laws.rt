@@ -1,0 +1,39 @@
+//! Laws of the definitions. The functions do nothing: what they ensure is the law.
+ghost use Rattle.live_reloads.specs.Laws.{FollowedTextsAreRead, FollowedTextsReload, ReadTextsReload};
+
+use live_meaning::{
+    accepted_never_drift, playlists_are_never_empty, reloads_are_lawful, sections_have_one_map,
+};
+use presentation::presentations_mean_what_they_list;
+use read_back::{
+    counted_segments_are_in_pace, parts_are_located, playlists_are_read_again,
+    read_trees_are_of_bytes, static_segments_are_in_pace,
+};
+use reload_law::rules_are_sentences;
+
+/// The text of each playlist of an accepted history of MPDs that were read is read as the playlist that it was written
+/// from, whatever the URL that it was got from.
+pub fn followed_texts_are_read()
+    ensures { FollowedTextsAreRead }
+{
+    accepted_never_drift();
+    sections_have_one_map();
+    playlists_are_never_empty();
+    presentations_mean_what_they_list();
+    counted_segments_are_in_pace();
+    static_segments_are_in_pace();
+    parts_are_located();
+    read_trees_are_of_bytes();
+    playlists_are_read_again();
+}
+
+/// Where an update is accepted after others, what the new text of each track is read as may take the place of what the
+/// former text is read as (RFC 8216, 6.2). So may what a reader of playlists gives, where it refuses neither.
+pub fn followed_texts_reload()
+    ensures texts { FollowedTextsReload }
+    ensures read { ReadTextsReload }
+{
+    followed_texts_are_read();
+    reloads_are_lawful();
+    rules_are_sentences();
+}
