@@ -45,10 +45,13 @@ abbrev presented : (start : ℕ) → List Member → Option Following → Presen
 presented start members following =
     record { tracks = video ∷ []; sections = period start ∷ []; contents = content members ∷ []; left_out = 0; following = following; places = [] }
 
--- with segments of so many seconds and a depth, at an instant
+-- with segments as long as the first one and a depth, at an instant
+abbrev live_by : Extent → (depth now : ℕ) → Presented
+live_by x depth now =
+    presented 0 (Endless x ∷ []) (Some (record { instant = second now; availability_start = pos 0; depth = Some (depth * 10 ^ 9) }))
+
 abbrev live : (lasts depth now : ℕ) → Presented
-live lasts depth now =
-    presented 0 (Endless (lasting lasts) ∷ []) (Some (record { instant = second now; availability_start = pos 0; depth = Some (depth * 10 ^ 9) }))
+live lasts depth now = live_by (lasting lasts) depth now
 
 -- thirteen segments of 2 s that never change
 abbrev finished : Presented
@@ -62,8 +65,11 @@ mpd = record {
 }
 
 -- the first MPD, and each update with what it leaves in force
+abbrev first_by : (digits : ℕ) → Presented → (now : ℕ) → State
+first_by digits p now = shown (begun_with (begun_common (record { url = []; digits = digits }) mpd (second now) p))
+
 abbrev first : (depth now : ℕ) → State
-first depth now = shown (begun_with (begun_common (record { url = []; digits = 6 }) mpd (second now) (live 2 depth now)))
+first depth now = first_by 6 (live 2 depth now) now
 
 abbrev tick : (depth now : ℕ) → State → State
 tick depth now s = state_with s (Tick (second now)) (live 2 depth now)
@@ -96,6 +102,20 @@ stays :
     × (kept (tick 4 28 (tick 4 24 (first 4 20))) ≡ (1, of 0 (10 ∷ 11 ∷ 12 ∷ 13 ∷ 14 ∷ [])) ∷ [])
 unfolding repeated steps_within floor_in greatest_of state_with
 stays = (refl, refl)
+
+-- Segments of five thirds of a second, in tenths. The third one is first at 22 s, and is printed as it was when two stood before it.
+abbrev thirds : Extent
+thirds = record { start = record { ticks = pos 0; scale = 3 }; end = record { ticks = pos 5; scale = 3 } }
+
+abbrev printed : State → List (List ℕ)
+printed s = map (λ track. map (λ k. k.duration) track.kept) s.tracks
+
+goes_on :
+    let begun = first_by 1 (live_by thirds 12 20) 20 in
+    (printed begun ≡ (16 ∷ 17 ∷ 17 ∷ 16 ∷ 17 ∷ 17 ∷ 16 ∷ 17 ∷ []) ∷ [])
+    × (printed (state_with begun (Tick (second 22)) (live_by thirds 12 22)) ≡ (17 ∷ 16 ∷ 17 ∷ 17 ∷ 16 ∷ 17 ∷ 17 ∷ []) ∷ [])
+unfolding repeated steps_within floor_in greatest_of state_with
+goes_on = (refl, refl)
 
 -- a change to segments of 3 s, of which the one from 15 s to 18 s stands against the kept one from 18 s to 20 s; segments of 5 s
 -- above a target of 3 s; an MPD a minute later, whose segments begin at 48 s
