@@ -110,18 +110,13 @@ module _ (P : ℕ → Type 0) (u : ℕ) (number : ℕ → ℕ) (list : ℕ → L
       subst (All P) (sym split) (All-append P (section_durations u (list a)) (durations (told_behind u (last_behind last (list a)) rest)) (each a (omega arith))
       (periods_told (last_behind last (list a)) (a + 1) n (omega arith) (λ s above within. elsewhere_behind last (number a) (number s) (list a) (own a) (rises a s (omega arith) within) (elsewhere s (omega arith) within))))
 
-printed_in : (u place start : ℕ) (n : Numbering) (content : Content) (xs : List Timing)
-    → All (λ d. d ≤ greatest (durations_of u xs)) (section_durations u (map (segment_with n place start content) xs))
-printed_in u place start n content [] = All-nil (λ d. d ≤ greatest (durations_of u []))
-printed_in u place start n content (x ∷ xs) =
-    let same = map-map (λ (y : Segment). y.end) (segment_with n place start content) xs in
-    subst (λ (ends : List Time). All (λ d. d ≤ greatest (durations_of u (x ∷ xs))) (printed u x.start (x.end ∷ ends))) (sym same)
-    (greatest_is (durations_of u (x ∷ xs)))
-
 printed_at : (u place start : ℕ) (n : Numbering) (o : Option Content) (xs : List Timing)
     → All (λ d. d ≤ greatest (durations_of u xs)) (section_durations u (option_map_or (λ content. map (segment_with n place start content) xs) o []))
 printed_at u place start n None xs = All-nil (λ d. d ≤ greatest (durations_of u xs))
-printed_at u place start n (Some content) xs = printed_in u place start n content xs
+printed_at u place start n (Some content) [] = All-nil (λ d. d ≤ greatest (durations_of u []))
+printed_at u place start n (Some content) (x ∷ xs) =
+    subst (λ (ends : List Time). All (λ d. d ≤ greatest (durations_of u (x ∷ xs))) (printed u x.start (x.end ∷ ends)))
+    (sym (map-map (λ (y : Segment). y.end) (segment_with n place start content) xs)) (greatest_is (durations_of u (x ∷ xs)))
 
 -- none is longer than the longest one
 first_longest : (c : Common) (u t : ℕ) → IsInForce c.opened c.known c.force → t < length c.force.tracks

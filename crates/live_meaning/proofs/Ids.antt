@@ -1,22 +1,18 @@
 -- The Periods in force are the last ones of those that are known.
-use Rattle.std.proofs.Common.{◌≡◌, ℕ, zero, suc, ◌+◌, Bool, true, false, ◌&&◌, ◌||◌, not, nat_lt, List, [], ◌∷◌, ◌++◌, length, drop, take, filter, Some, bytes_eq, refl, sym, ◌∙◌, ap, subst, inl, inr, arith}
+use Rattle.std.proofs.Common.{◌≡◌, ℕ, zero, suc, ◌+◌, Bool, true, false, ◌||◌, not, List, [], ◌∷◌, ◌++◌, length, drop, take, filter, Some, bytes_eq, refl, sym, ◌∙◌, ap, subst, inl, inr, arith}
 use Rattle.std.specs.Prelude.{is_none, slice_get}
 use Rattle.std.specs.List.{list_all, list_any, position_or_len, starts_with}
-use Rattle.std.proofs.lemmas.Bool.{cases_Bool}
-use Rattle.std.proofs.lemmas.Bool.Decides.{nat_tests}
-use Rattle.std.proofs.lemmas.List.{append_assoc, take-append-drop}
+use Rattle.std.proofs.lemmas.Bool.{and_parts, cases_Bool, cases_lt, le-ltb, lt-ltb}
+use Rattle.std.proofs.lemmas.List.{append-nil, append_assoc, take-append-drop}
 use Rattle.std.proofs.lemmas.List.Folds.{list_any-append}
-use Rattle.std.proofs.lemmas.Option.{same_Some, slice_get_within}
+use Rattle.std.proofs.lemmas.List.Sums.{prefix_len-le-length}
+use Rattle.std.proofs.lemmas.Option.{same_Some}
 use Rattle.std.proofs.lemmas.Slice.Eq.{bytes_eq-Decides, starts_is}
 use Rattle.mpd_rules.specs.Laws.{are_once}
 use Rattle.live_meaning.specs.Segments.{place_of}
 use Rattle.live_meaning.specs.Known.{Known, goes_on, goes_on_from, ids_of, is_new, known_by}
 
 -- ---- tests
-
-both : (a b : Bool) → (a && b) ≡ true → (a ≡ true) × (b ≡ true)
-both true b is = (refl, is)
-both false b is = absurd (cc)
 
 negated : (a : Bool) → not a ≡ true → a ≡ false
 negated true is = absurd (cc)
@@ -48,18 +44,20 @@ found_at : (ids : List (List ℕ)) (k : ℕ) (x : List ℕ) → are_once ids ≡
 found_at [] k x once at = absurd (cc)
 found_at (y ∷ ids) zero x once at = let there = (bytes_eq-Decides x y).1 (sym (same_Some _ _ at)) in rw there refl
 found_at (y ∷ ids) (suc k) x once at =
-    let split = both (not (list_any (bytes_eq y) ids)) (are_once ids) once in
+    let split = and_parts (not (list_any (bytes_eq y) ids)) (are_once ids) once in
     let apart = other y ids k x (negated (list_any (bytes_eq y) ids) split.0) at in
     let rest = found_at ids k x split.1 at in
     let more : 1 + k ≡ suc k = omega arith in
     rw (apart, rest) more
 
+pub place_is : (ids : List (List ℕ)) (id : List ℕ) → place_of ids id ≡ position_or_len (bytes_eq id) ids
+place_is ids id = elim (cases_lt (position_or_len (bytes_eq id) ids) (length ids)) [
+  | inl less ↦ rw (lt-ltb _ _ less) refl
+  | inr le ↦ rw (le-ltb _ _ le) (omega (arith, prefix_len-le-length (λ x. not (bytes_eq id x)) ids))
+]
+
 pub placed_at : (ids : List (List ℕ)) (k : ℕ) (x : List ℕ) → are_once ids ≡ true → slice_get ids k ≡ Some x → place_of ids x ≡ k
-placed_at ids k x once at =
-    let found = found_at ids k x once at in
-    let within = slice_get_within ids k x at in
-    let less : nat_lt (position_or_len (bytes_eq x) ids) (length ids) ≡ true = grind (arith, nat_tests) in
-    rw (less, found) refl
+placed_at ids k x once at = place_is ids x ∙ found_at ids k x once at
 
 turned : (a b : List ℕ) → bytes_eq a b ≡ false → bytes_eq b a ≡ false
 turned a b not_same = elim (cases_Bool (bytes_eq b a)) [
@@ -76,7 +74,7 @@ absent-head : (x : List ℕ) (xs ys : List (List ℕ)) → are_absent (x ∷ xs)
 unfolding are_absent
 absent-head x xs [] absent = (refl, refl)
 absent-head x xs (y ∷ ys) absent =
-    let split = both (not (bytes_eq y x || list_any (bytes_eq y) xs)) (are_absent (x ∷ xs) ys) absent in
+    let split = and_parts (not (bytes_eq y x || list_any (bytes_eq y) xs)) (are_absent (x ∷ xs) ys) absent in
     let apart = neither (bytes_eq y x) (list_any (bytes_eq y) xs) (negated _ split.0) in
     let rest = absent-head x xs ys split.1 in
     (rw (turned y x apart.0, rest.0) refl, rw (apart.1, rest.1) refl)
@@ -85,13 +83,13 @@ absent-head x xs (y ∷ ys) absent =
 once-append : (xs ys : List (List ℕ)) → are_once xs ≡ true → are_once ys ≡ true → are_absent xs ys ≡ true → are_once (xs ++ ys) ≡ true
 once-append [] ys first second absent = second
 once-append (x ∷ xs) ys first second absent =
-    let split = both (not (list_any (bytes_eq x) xs)) (are_once xs) first in
+    let split = and_parts (not (list_any (bytes_eq x) xs)) (are_once xs) first in
     let rest = absent-head x xs ys absent in
     rw (list_any-append (bytes_eq x) xs ys, negated _ split.0, rest.0, once-append xs ys split.1 second rest.1) refl
 
 once-behind : (xs ys : List (List ℕ)) → are_once (xs ++ ys) ≡ true → are_once ys ≡ true
 once-behind [] ys once = once
-once-behind (x ∷ xs) ys once = once-behind xs ys (both (not (list_any (bytes_eq x) (xs ++ ys))) (are_once (xs ++ ys)) once).1
+once-behind (x ∷ xs) ys once = once-behind xs ys (and_parts (not (list_any (bytes_eq x) (xs ++ ys))) (are_once (xs ++ ys)) once).1
 
 -- ---- what is new of some Periods
 
@@ -117,7 +115,7 @@ all_new : (ids xs : List (List ℕ)) → are_absent ids xs ≡ true → new_in i
 unfolding are_absent new_in
 all_new ids [] absent = refl
 all_new ids (x ∷ xs) absent =
-    let split = both (not (list_any (bytes_eq x) ids)) (are_absent ids xs) absent in
+    let split = and_parts (not (list_any (bytes_eq x) ids)) (are_absent ids xs) absent in
     rw split.0 (ap (λ (ys : List (List ℕ)). x ∷ ys) (all_new ids xs split.1))
 
 there : (front xs : List (List ℕ)) (x : List ℕ) → list_any (bytes_eq x) (front ++ x ∷ xs) ≡ true
@@ -161,7 +159,7 @@ unfolding are_absent
 go_on_from known ids k once own is =
     let rest : List (List ℕ) = drop k known in
     let fresh : List (List ℕ) = drop (length rest) ids in
-    let split = both (starts_with bytes_eq ids rest) (are_absent known fresh) is in
+    let split = and_parts (starts_with bytes_eq ids rest) (are_absent known fresh) is in
     let whole : ids ≡ rest ++ fresh = (starts_is bytes_eq-Decides ids rest (starts_with bytes_eq ids rest) refl).0 split.0 in
     let parts : take k known ++ rest ≡ known = take-append-drop k known in
     let none : new_in known rest ≡ [] = subst (λ (xs : List (List ℕ)). new_in xs rest ≡ []) parts (none_new (take k known) rest) in
@@ -183,15 +181,11 @@ pub last_with_new : (known ids : List (List ℕ)) → are_once known ≡ true �
     → AreLast (known ++ new_in known ids) ids
 last_with_new known ids once own is = let from = from_place known ids _ is in go_on_from known ids from.0 once own from.1
 
-append_none : (xs : List (List ℕ)) → xs ++ [] ≡ xs
-append_none [] = refl
-append_none (x ∷ xs) = ap (λ (ys : List (List ℕ)). x ∷ ys) (append_none xs)
-
 -- the same ids again
 pub last_again : (known ids : List (List ℕ)) → AreLast known ids → AreLast (known ++ new_in known ids) ids
 last_again known ids last =
     let none : new_in known ids ≡ [] = subst (λ (xs : List (List ℕ)). new_in xs ids ≡ []) (sym last.split) (none_new last.front ids) in
-    let same : known ++ new_in known ids ≡ known = ap (λ (xs : List (List ℕ)). known ++ xs) none ∙ append_none known in
+    let same : known ++ new_in known ids ≡ known = ap (λ (xs : List (List ℕ)). known ++ xs) none ∙ append-nil known in
     record { front = last.front; split = same ∙ last.split; once = ap are_once same ∙ last.once }
 
 none_absent : (xs : List (List ℕ)) → are_absent [] xs ≡ true

@@ -4,11 +4,10 @@ use Rattle.std.specs.Prelude.{All, is_none, is_some, option_map, option_to_list,
 use Rattle.std.specs.List.{find, list_any, position_or_len, range_with_len}
 use Rattle.std.specs.Option.{option_eq, option_map_or, option_or}
 use Rattle.std.proofs.Math.Nat.{mul-le-mul_left}
-use Rattle.std.proofs.lemmas.Bool.{and_parts, cases_Bool, cases_lt, eqb-true, le-ltb, lt-ltb}
+use Rattle.std.proofs.lemmas.Bool.{and_parts, cases_Bool, eqb-true}
 use Rattle.std.proofs.lemmas.List.{append_assoc, length-map, map-append}
 use Rattle.std.proofs.lemmas.List.Folds.{find-append, find_at, list_any_at}
 use Rattle.std.proofs.lemmas.List.FromFn.{get_or-map-range_with_len, get_or-range_with_len, length-range_with_len}
-use Rattle.std.proofs.lemmas.List.Sums.{prefix_len-le-length}
 use Rattle.std.proofs.lemmas.Option.{slice_get-get_or, slice_get-map}
 use Rattle.std.proofs.lemmas.Slice.Eq.{bytes_eq-Decides}
 use Rattle.mpd_rules.specs.Laws.{PeriodIdsDiffer, are_once, ids_of as ids_said}
@@ -36,7 +35,7 @@ use Rattle.live_meaning.specs.States.{State}
 use Rattle.live_meaning.specs.Refusals.{Changed, are_alike, differs_at, ids_in, is_alike, is_changed, lack_ids, moved_by, moved_told, mpd_told, older_than, rewritten_told, starts_otherwise, told_if}
 use Rattle.live_meaning.specs.Laws.{HasRisingPeriods, IsTyped}
 use Rattle.live_meaning.proofs.Allowed.{IsAllowed, IsFirst, negated, none_each, told_none}
-use Rattle.live_meaning.proofs.Ids.{AreLast, get_behind, last_again, last_at_first, last_with_new, new_ids, new_in, placed_at, placed_in}
+use Rattle.live_meaning.proofs.Ids.{AreLast, get_behind, last_again, last_at_first, last_with_new, new_ids, new_in, place_is, placed_at, placed_in}
 use Rattle.live_meaning.proofs.Orders.{listed_have}
 use Rattle.live_meaning.proofs.Times.{IsSoundIn, period_timed, presented_sound}
 
@@ -85,12 +84,6 @@ position_mapped : (known : List Known) (id : List ℕ) → position_or_len (byte
 position_mapped [] id = refl
 position_mapped (k ∷ known) id =
     elim (cases_Bool (bytes_eq id k.id)) [ inl is ↦ rw is refl | inr other ↦ rw other (ap (λ n. 1 + n) (position_mapped known id)) ]
-
-pub place_is : (ids : List (List ℕ)) (id : List ℕ) → place_of ids id ≡ position_or_len (bytes_eq id) ids
-place_is ids id = elim (cases_lt (position_or_len (bytes_eq id) ids) (length ids)) [
-  | inl less ↦ rw (lt-ltb _ _ less) refl
-  | inr le ↦ rw (le-ltb _ _ le) (omega (arith, prefix_len-le-length (λ x. not (bytes_eq id x)) ids))
-]
 
 -- what is known of an id stands at its place
 known_at_place : (known : List Known) (id : List ℕ) → slice_get known (place_of (ids_of known) id) ≡ known_by known id

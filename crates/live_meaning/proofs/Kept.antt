@@ -8,7 +8,7 @@ use Rattle.std.proofs.Math.Nat.{mul-le-mul_left, one-le-pow}
 use Rattle.std.proofs.lemmas.Bool.{and_parts, cases_Bool, cases_lt, ltb-false}
 use Rattle.std.proofs.lemmas.Bool.Decides.{nat_tests}
 use Rattle.std.proofs.lemmas.List.{length-map, map-append}
-use Rattle.std.proofs.lemmas.List.Elements.{All-nil, All-append, All-cons, All-drop, All-head, All-tail, All-weaker, filter_passes}
+use Rattle.std.proofs.lemmas.List.Elements.{All-nil, All-append, All-drop, All-head, All-weaker, filter_passes}
 use Rattle.std.proofs.lemmas.List.FromFn.{length-range_with_len}
 use Rattle.std.proofs.lemmas.List.Sums.{count_by-le-length, length-filter, prefix_len-le-length, sum_by-cons}
 use Rattle.std.proofs.lemmas.Option.{slice_get-map}
@@ -23,7 +23,7 @@ use Rattle.presentation.specs.PresentedLaws.{PresentedAreFew, PresentedAreFollow
 use Rattle.presentation.specs.Told.{presented_of}
 use Rattle.presentation.proofs.Ending.{none_behind}
 use Rattle.presentation.proofs.Reached.{none_first, none_within}
-use Rattle.followed.specs.Durations.{Last, duration_behind, durations, last_behind, last_with, told, told_behind}
+use Rattle.followed.specs.Durations.{Last, durations, last_behind, told, told_behind}
 use Rattle.followed.proofs.KeptPlaces.{next_is_first}
 use Rattle.live_meaning.specs.Updates.{Refresh, Reset, Terms, Tick, Update, Values, is_reset, unit_of}
 use Rattle.live_meaning.specs.Segments.{Kept, Numbering, Segment, behind, id_at, listed_in_period, listed_of, place_behind, segments_of}
@@ -36,10 +36,10 @@ use Rattle.live_meaning.specs.Playlists.{FollowedPlaylist, item_of, playlist_of,
 use Rattle.live_meaning.specs.Laws.{IsAccepted, IsSmall, NeverEmpty, NumbersStaySmall}
 use Rattle.live_meaning.proofs.Allowed.{IsAllowed, IsFirst, accepted_hold, none_of_each, told_none}
 use Rattle.live_meaning.proofs.Histories.{Sound, mapped}
-use Rattle.live_meaning.proofs.InForce.{place_is}
+use Rattle.live_meaning.proofs.Ids.{place_is}
 use Rattle.live_meaning.proofs.Orders.{behind_have, listed_have, made_in}
 use Rattle.live_meaning.proofs.Reloads.{looked_up}
-use Rattle.live_meaning.proofs.Tracks.{Each, each_after, each_begun, each_both, length-told, told-segments, track_at, track_goes_on}
+use Rattle.live_meaning.proofs.Tracks.{Each, each_after, each_begun, each_both, kept_segments, length-told, told-segments, track_at, track_goes_on}
 
 -- ---- how many segments are listed
 
@@ -231,13 +231,6 @@ counted_from terms [] start n w before is = omega (arith, before w is)
 counted_from terms (u ∷ history) start n w before is =
     omega (arith, counted_from terms history (after terms start u) (n + 1) w (one_more terms start u n before) is)
 
-told_early : (accepted u : ℕ) (last : Option Last) (all : List Segment) → All (IsEarly accepted) all
-    → All (λ (k : Kept). k.segment.section < 1001 * accepted) (told_behind u last all)
-told_early accepted u last [] early = All-nil (λ (k : Kept). k.segment.section < 1001 * accepted)
-told_early accepted u last (x ∷ all) early =
-    All-cons (λ (k : Kept). k.segment.section < 1001 * accepted) (record { segment = x; duration = duration_behind u last x }) (told_behind u (Some (last_with last x)) all)
-    (All-head (IsEarly accepted) x all early) (told_early accepted u (Some (last_with last x)) all (All-tail (IsEarly accepted) x all early))
-
 module _ (few : PresentedAreFew) (followed : PresentedAreFollowed) where
   begins_kept : (terms : Terms) (mpd : Values) (now : ℤ) (p : Presented) → Unit {0} → IsFirst terms mpd now p → AreKept (begun_with (begun_common terms mpd now p))
   begins_kept terms mpd now p given first =
@@ -320,6 +313,6 @@ module _ (few : PresentedAreFew) (followed : PresentedAreFollowed) where
           listed = omega (arith, kept.first, kept.few, kept.some, length-drop past.first (told unit past.all), length-told unit None past.all);
           known = are.known;
           resets = are.resets;
-          sections = All-drop (λ (k : Kept). k.segment.section < 1001 * w.common.accepted) past.first (told unit past.all) (told_early w.common.accepted unit None past.all kept.early);
+          sections = subst (All (IsEarly w.common.accepted)) (sym (kept_segments unit past.first past.all)) (All-drop (IsEarly w.common.accepted) past.first past.all kept.early);
         },
       ))))

@@ -1,5 +1,5 @@
 -- Each playlist of a followed track may take the place of the one before it.
-use Rattle.std.proofs.Common.{◌≡◌, ℕ, ◌+◌, ◌-◌, ◌*◌, ◌^◌, ◌≤◌, zero, suc, Bool, true, false, List, [], ◌∷◌, ◌++◌, map, length, drop, sum, Option, Some, None, Ok, refl, sym, ◌∙◌, ap, subst, inl, inr, arith}
+use Rattle.std.proofs.Common.{◌≡◌, ℕ, ◌+◌, ◌-◌, ◌*◌, ◌^◌, ◌≤◌, zero, suc, Bool, false, List, [], ◌∷◌, ◌++◌, map, length, drop, sum, Option, Some, None, Ok, refl, sym, ◌∙◌, ap, subst, inl, inr, arith}
 use Rattle.std.specs.Prelude.{option_map, slice_get, sum_by}
 use Rattle.std.specs.Result.{result_ok}
 use Rattle.std.proofs.lemmas.Bool.{cases_Bool, cases_lt}
@@ -21,7 +21,7 @@ use Rattle.live_meaning.specs.Segments.{Kept, Segment, segments_of}
 use Rattle.live_meaning.specs.Removal.{is_available}
 use Rattle.live_meaning.specs.Histories.{Common, Past, Whole, after, common_with, force_by, gone_on, least_length, new_listed, past_after, whole_of}
 use Rattle.live_meaning.specs.States.{State, Track, shown, state_of, track_of}
-use Rattle.live_meaning.specs.Refusals.{Ended, Refusal, refusal_of, told_if}
+use Rattle.live_meaning.specs.Refusals.{Ended, refusal_of}
 use Rattle.live_meaning.specs.Playlists.{FollowedPlaylist, item_of, playlist_of, playlist_with}
 use Rattle.live_meaning.specs.Grown.{IsLater, media_from}
 use Rattle.live_meaning.specs.Laws.{ReloadsAreLawful, media_of, segment_of}
@@ -30,10 +30,6 @@ use Rattle.live_meaning.proofs.Tracks.{IsWithin, length-told, past_at, stays_wit
 use Rattle.live_meaning.proofs.Histories.{histories_refuse, mapped, sound, whole_goes_on}
 
 -- ---- nothing follows an end
-
-not_told : (b : Bool) (r : Refusal) (rest : List Refusal) → slice_get (told_if b r ++ rest) 0 ≡ None → b ≡ false
-not_told true r rest none = absurd (cc)
-not_told false r rest none = refl
 
 goes_on : (s : State) (u : Update) → refusal_of s u ≡ None → is_finished s.common.force ≡ false
 unfolding refusal_of

@@ -1,5 +1,5 @@
 -- Worked runs: one track, whose segments go on to an open end from the start of its one Period on.
-use Rattle.std.specs.Prelude.{◌≡◌, refl, ℕ, ◌*◌, ◌^◌, ℤ, pos, List, [], ◌∷◌, ◌++◌, map, true, Option, Some, None}
+use Rattle.std.specs.Prelude.{◌≡◌, refl, ℕ, ◌*◌, ◌^◌, ℤ, pos, neg_ℤ, List, [], ◌∷◌, ◌++◌, map, true, false, Option, Some, None}
 use Rattle.bridge_io.specs.declared.media.Kind.TheVariants.{Video}
 use Rattle.exact_time.specs.Floor.{floor_in, greatest_of}
 use Rattle.exact_time.specs.Time.{Time}
@@ -11,10 +11,15 @@ use Rattle.presentation.specs.declared.parts.Content.{Content}
 use Rattle.presentation.specs.declared.track.Section.{Section}
 use Rattle.presentation.specs.declared.track.Track.{Track as Described}
 use Rattle.presentation.specs.Presented.{Following, Presented}
-use Rattle.live_meaning.specs.Updates.{Refresh, Reset, Tick, Values}
+use Rattle.live_meaning.specs.Updates.{Refresh, Reset, Terms, Tick, Values}
 use Rattle.live_meaning.specs.Histories.{begun_common, begun_with, common_with}
 use Rattle.live_meaning.specs.States.{State, shown, state_with}
-use Rattle.live_meaning.specs.Refusals.{ClockBack, Ended, LongSegment, Moved, Older, Rewritten, Step, long_told, moved_told, older_than, refusal_of, rewritten_told, steps_told}
+use Rattle.live_meaning.specs.Segments.{whole_nanos}
+use Rattle.live_meaning.specs.Known.{goes_on}
+use Rattle.live_meaning.specs.Removal.{target_of}
+use Rattle.live_meaning.specs.Refusals.{Changed, ClockBack, Ended, LongSegment, Moved, NotOpen, Older, Rewritten, Step, Window, long_told, makes_segments, moved_told, older_than, refusal_behind, refusal_of, rewritten_told, steps_told, window_told}
+use Rattle.followed.specs.Places.{last_place}
+use Rattle.hls_writer.specs.Finished.{rounded}
 
 abbrev second : ℕ → ℤ
 second n = pos (n * 10 ^ 9)
@@ -88,6 +93,28 @@ of section numbers = map (λ n. (section, n)) numbers
 abbrev old : State
 old = first 12 20
 
+-- a target of three seconds, of which nine are the last five of eight; known ids from a place on, and new ones behind them; a time that is
+-- rounded down; a track that would keep too many; 4.5 s above a target of 4 s, and a microsecond less that isn't
+small :
+    (target_of 1000000 2000000 None ≡ 3)
+    × (last_place 9000000 (2000000 ∷ 2000000 ∷ 2000000 ∷ 2000000 ∷ 2000000 ∷ 2000000 ∷ 2000000 ∷ 2000000 ∷ []) ≡ 3)
+    × (goes_on ((1 ∷ []) ∷ (2 ∷ []) ∷ []) ((2 ∷ []) ∷ (3 ∷ []) ∷ []) ≡ true)
+    × (goes_on ((1 ∷ []) ∷ (2 ∷ []) ∷ []) ((3 ∷ []) ∷ []) ≡ true)
+    × (goes_on ((1 ∷ []) ∷ (2 ∷ []) ∷ []) ((1 ∷ []) ∷ (3 ∷ []) ∷ []) ≡ false)
+    × (whole_nanos (record { ticks = pos 1; scale = 3 }) ≡ pos 333333333)
+    × (whole_nanos (record { ticks = neg_ℤ (pos 1); scale = 3 }) ≡ neg_ℤ (pos 333333334))
+    × (window_told (20001 ∷ []) ≡ Window 0 20001 ∷ [])
+    × (rounded 1000000 4500000 ≡ 5)
+    × (rounded 1000000 4499999 ≡ 4)
+small = (refl, refl, refl, refl, refl, refl, refl, refl, refl, refl)
+
+-- neither an instant nor a reset may come first; an update that is refused for what it changes makes no segment
+not_first : (terms : Terms) (now : ℤ) → (refusal_behind terms None (Tick now) ≡ Some NotOpen) × (refusal_behind terms None (Reset mpd now) ≡ Some NotOpen)
+not_first terms now = (refl, refl)
+
+makes_none : makes_segments (Some Changed) ≡ false
+makes_none = refl
+
 -- 12 s of depth, at 20 s and 24 s
 slides :
     (old.common.target ≡ 3)
@@ -110,12 +137,12 @@ thirds = record { start = record { ticks = pos 0; scale = 3 }; end = record { ti
 abbrev printed : State → List (List ℕ)
 printed s = map (λ track. map (λ k. k.duration) track.kept) s.tracks
 
-goes_on :
+thirds_go_on :
     let begun = first_by 1 (live_by thirds 12 20) 20 in
     (printed begun ≡ (16 ∷ 17 ∷ 17 ∷ 16 ∷ 17 ∷ 17 ∷ 16 ∷ 17 ∷ []) ∷ [])
     × (printed (state_with begun (Tick (second 22)) (live_by thirds 12 22)) ≡ (17 ∷ 16 ∷ 17 ∷ 17 ∷ 16 ∷ 17 ∷ 17 ∷ []) ∷ [])
 unfolding repeated steps_within floor_in greatest_of state_with
-goes_on = (refl, refl)
+thirds_go_on = (refl, refl)
 
 -- a change to segments of 3 s, of which the one from 15 s to 18 s stands against the kept one from 18 s to 20 s; segments of 5 s
 -- above a target of 3 s; an MPD a minute later, whose segments begin at 48 s

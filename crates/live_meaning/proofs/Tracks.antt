@@ -25,6 +25,9 @@ pub told-segments : (u : ℕ) (last : Option Last) (xs : List Segment) → segme
 told-segments u last [] = refl
 told-segments u last (x ∷ xs) = ap (λ (ys : List Segment). x ∷ ys) (told-segments u (Some (last_with last x)) xs)
 
+pub kept_segments : (u n : ℕ) (all : List Segment) → segments_of (drop n (told u all)) ≡ drop n all
+kept_segments u n all = sym (drop-map (λ (k : Kept). k.segment) n (told u all)) ∙ ap (λ (xs : List Segment). drop n xs) (told-segments u None all)
+
 pub last_goes_on : (last : Option Last) (all more : List Segment) → last_behind last (all ++ more) ≡ last_behind (last_behind last all) more
 last_goes_on last [] more = refl
 last_goes_on last (x ∷ all) more = last_goes_on (Some (last_with last x)) all more

@@ -15,7 +15,7 @@ use Rattle.presentation.specs.Presented.{Presented, listed_at}
 use Rattle.followed.specs.Durations.{durations, ends, is_in, told}
 use Rattle.followed.specs.Order.{InOrder}
 use Rattle.live_meaning.specs.Updates.{Update, Refresh, Terms, Values, mpd_of, unit_of}
-use Rattle.live_meaning.specs.Segments.{Numbering, Segment, id_at, listed_of, place_of}
+use Rattle.live_meaning.specs.Segments.{Numbering, Segment, id_at, listed_of, place_of, segments_of}
 use Rattle.live_meaning.specs.Histories.{Common, Whole, all_of, numbering_of, whole_of}
 use Rattle.live_meaning.specs.States.{State, Track, state_of}
 use Rattle.live_meaning.specs.Refusals.{Refusal, begun_of, next_of, refusal_of, update_refusal}
@@ -152,7 +152,7 @@ pub record IsSmall (c : Common) (track : Track) : Type 0 where
   pub listed : track.first + length track.kept ≤ 20000 * c.accepted
   pub known : length c.known ≤ 1000 * c.accepted
   pub resets : c.resets < c.accepted
-  pub sections : All (λ k. k.segment.section < 1001 * c.accepted) track.kept
+  pub sections : All (λ x. x.section < 1001 * c.accepted) (segments_of track.kept)
 
 abbrev pub NumbersStaySmall : Type 0
 NumbersStaySmall = (terms : Terms) (history : List Update) (s : State) (t : ℕ) (track : Track) → Shows terms history s

@@ -1,5 +1,5 @@
 -- Segments of accepted updates have addresses, and so have their maps.
-use Rattle.std.proofs.Common.{◌≡◌, ℕ, ◌+◌, ◌-◌, ◌^◌, ◌≤◌, ◌<◌, Bool, true, ℤ, List, [], ◌∷◌, map, filter, length, Option, Some, None, Result, Ok, Err, IfSome, refl, sym, ◌∙◌, ap, subst, inl, inr, arith}
+use Rattle.std.proofs.Common.{◌≡◌, ℕ, ◌+◌, ◌-◌, ◌^◌, ◌≤◌, ◌<◌, Bool, true, ℤ, List, [], ◌∷◌, ◌++◌, map, filter, length, Option, Some, None, Result, Ok, Err, IfSome, refl, sym, ◌∙◌, ap, subst, inl, inr, arith}
 use Rattle.std.specs.Prelude.{All, flat_map}
 use Rattle.std.specs.Option.{option_map_or}
 use Rattle.std.proofs.Math.Nat.{one-le-pow}
@@ -34,7 +34,7 @@ use Rattle.live_meaning.proofs.Orders.{behind_have, listed_have, made_in}
 use Rattle.live_meaning.proofs.Tracks.{Each, each_after, each_begun, each_both}
 use Rattle.read_back.specs.Origins.{AreInPace, AreLocated, AreShortInPace, CameFromMpd, InitializationsAreLocated, IsFound, IsLocated, PartsAreLocated, ReadingsAreOfBytes}
 use Rattle.url_parts.specs.Addresses.{IsAddress}
-use Rattle.live_reloads.specs.Laws.{AreRead, IsRead, IsReadIfAny}
+use Rattle.live_reloads.specs.Laws.{IsRead, IsReadIfAny}
 use Rattle.live_reloads.proofs.Targets.{longest_short, longest_told, target_short}
 
 -- ---- segments without a fault
@@ -173,5 +173,6 @@ module _ (meant : MadeAreMeant) (initializations : InitializationsAreLocated) (p
             (each_both (λ t past. All IsAddressed past.all) (λ t past. own t (track_of unit past) ≡ []) 0 w.pasts is.each none);
       }
 
-  pub accepted_addressed : (history : List Update) → IsAccepted terms history → AreRead history → (w : Whole) → whole_of terms history ≡ Some w → AreAddressed w
+  pub accepted_addressed : (history : List Update) → IsAccepted terms history
+      → ((front : List Update) (u : Update) (back : List Update) → history ≡ front ++ u ∷ back → IsReadIfAny (mpd_of u)) → (w : Whole) → whole_of terms history ≡ Some w → AreAddressed w
   accepted_addressed history accepted read w is = accepted_hold terms IsReadIfAny AreAddressed begins_addressed goes_on_addressed history accepted read w is

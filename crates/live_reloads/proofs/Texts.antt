@@ -1,10 +1,12 @@
 -- What is written of followed tracks is read again.
 use Rattle.std.proofs.Common.{◌≡◌, ℕ, suc, ◌+◌, ◌-◌, ◌*◌, ◌/◌, ◌%◌, ◌^◌, ◌≤◌, ◌<◌, leb, List, [], ◌∷◌, ◌++◌, map, length, drop, get_or, Option, Some, None, Ok, IfSome, refl, sym, ◌∙◌, ap, subst, inl, inr, arith, length-append}
 use Rattle.std.specs.Prelude.{All, option_map, slice_get, unwrap_or}
+use Rattle.std.specs.List.{fold}
 use Rattle.std.specs.Option.{option_map_or}
 use Rattle.std.proofs.lemmas.Bool.{cases_Bool}
-use Rattle.std.proofs.lemmas.List.{append_assoc, drop-map}
-use Rattle.std.proofs.lemmas.List.Elements.{All-cons, All-drop, All-head, All-map, All-nil, All-tail}
+use Rattle.std.proofs.lemmas.List.{get_or_append_left}
+use Rattle.std.proofs.lemmas.List.Sums.{fold-append}
+use Rattle.std.proofs.lemmas.List.Elements.{All-append, All-cons, All-drop, All-head, All-map, All-nil, All-tail}
 use Rattle.std.proofs.lemmas.Option.{slice_get-map}
 use Rattle.bridge_io.specs.Places.{place_of}
 use Rattle.url_parts.specs.declared.address.Part.{Part}
@@ -17,22 +19,25 @@ use Rattle.hls_media.specs.declared.media.Media.{Media}
 use Rattle.hls_writer.specs.Finished.{rounded}
 use Rattle.presentation.specs.MeaningLaws.{MadeAreMeant}
 use Rattle.presentation.specs.Presented.{is_finished}
+use Rattle.presentation.proofs.Grids.{All-at}
 use Rattle.reload_law.specs.Laws.{IsLawful, RulesAreSentences}
 use Rattle.followed.specs.Durations.{durations, told}
 use Rattle.live_meaning.specs.Updates.{Terms, Update, Values, mpd_of, unit_of}
 use Rattle.live_meaning.specs.Segments.{Kept, Segment, segments_of}
 use Rattle.live_meaning.specs.Histories.{Past, Whole, all_of, no_past, past_of, whole_of}
 use Rattle.live_meaning.specs.States.{State, Track, shown, state_of, track_of}
+use Rattle.live_meaning.specs.Refusals.{Refusal, update_refusal}
 use Rattle.live_meaning.specs.Playlists.{FollowedPlaylist, first_section, head_of, item_of, live_text, playlist_of, playlist_with}
-use Rattle.live_meaning.specs.Laws.{AreTyped, DurationsFitTarget, IsAccepted, IsTyped, NumbersStaySmall, ReloadsAreLawful, SectionsHaveOneMap, SectionsNeverFall, Shows, media_of, segment_of}
+use Rattle.live_meaning.specs.Laws.{AcceptedAreAccepted, AreTyped, DurationsFitTarget, IsAccepted, IsTyped, NumbersStaySmall, ReloadsAreLawful, SectionsHaveOneMap, SectionsNeverFall, Shows, accepted_of, media_of, segment_of, with_accepted}
 use Rattle.live_meaning.proofs.Grown.{get_drop}
+use Rattle.live_meaning.proofs.Ids.{get_behind}
 use Rattle.live_meaning.proofs.Histories.{mapped, sound}
 use Rattle.live_meaning.proofs.Reloads.{looked_up}
-use Rattle.live_meaning.proofs.Tracks.{told-segments, track_at}
+use Rattle.live_meaning.proofs.Tracks.{kept_segments, told-segments, track_at}
 use Rattle.read_back.specs.Origins.{AreInPace, AreShortInPace, InitializationsAreLocated, IsLocated, IsSomeBytes, PartsAreLocated, ReadingsAreOfBytes}
 use Rattle.read_back.specs.ReadMedia.{AreInOrder, FollowedAreRead, GoOn, IsReadableItem, IsReadablePart, IsReadableRange, IsShortNumber, ReadsAs}
 use Rattle.read_back.specs.ReadMedia as read
-use Rattle.live_reloads.specs.Laws.{FollowedTextsAreRead, FollowedTextsReload, IsFollowed, IsReadIfAny, ReadTextsReload}
+use Rattle.live_reloads.specs.Laws.{AreRead, FollowedTextsAreRead, FollowedTextsReload, IsFollowed, IsReadIfAny, ReadTextsReload}
 use Rattle.live_reloads.proofs.Located.{IsAddressed, accepted_addressed}
 
 -- ---- items that are read as they were written
@@ -104,14 +109,20 @@ segments_are digits (k ∷ ks) follow =
 
 -- ---- playlists
 
-first_short : (accepted : ℕ) (ks : List Kept) → All (λ k. k.segment.section < 1001 * accepted) ks → accepted ≤ 10_000_000
+first_short : (accepted : ℕ) (ks : List Kept) → All (λ x. x.section < 1001 * accepted) (segments_of ks) → accepted ≤ 10_000_000
     → IsShortNumber (first_section ks)
 first_short accepted [] early few = omega arith
-first_short accepted (k ∷ ks) early few = omega (arith, few, All-head (λ (k : Kept). k.segment.section < 1001 * accepted) k ks early)
+first_short accepted (k ∷ ks) early few = omega (arith, few, All-head (λ (x : Segment). x.section < 1001 * accepted) k.segment (segments_of ks) early)
 
 typed_if_read : (o : Option Values) → IsReadIfAny o → IsTyped o
 typed_if_read None read = tt
 typed_if_read (Some mpd) read = (read.tree, read.typed)
+
+each_read : (history : List Update) → AreRead history → (front : List Update) (u : Update) (back : List Update) → history ≡ front ++ u ∷ back
+    → IsReadIfAny (mpd_of u)
+each_read history read front u back same =
+    let here : slice_get (front ++ u ∷ back) (length front) ≡ Some u = ap (slice_get (front ++ u ∷ back)) (omega arith) ∙ get_behind front (u ∷ back) 0 in
+    All-at (λ u. IsReadIfAny (mpd_of u)) (front ++ u ∷ back) (length front) u (subst AreRead same read) here
 
 module _ (never_fall : SectionsNeverFall) (one_map : SectionsHaveOneMap) (fit : DurationsFitTarget) (small : NumbersStaySmall)
     (meant : MadeAreMeant) (initializations : InitializationsAreLocated) (parts : PartsAreLocated) (readings : ReadingsAreOfBytes)
@@ -122,7 +133,8 @@ module _ (never_fall : SectionsNeverFall) (one_map : SectionsHaveOneMap) (fit : 
   unfolding state_of AllFollow Follows
   past_is_read terms history w t past url followed accepted whole at =
       let shows : Shows terms history (shown w) = record { accepted = accepted; leaves = ap (option_map shown) whole } in
-      let typed : AreTyped history = λ front u back same. typed_if_read (mpd_of u) (followed.read front u back same) in
+      let read = each_read history followed.read in
+      let typed : AreTyped history = λ front u back same. typed_if_read (mpd_of u) (read front u back same) in
       let its_terms : w.common.terms ≡ terms = (sound terms history w whole).its_terms in
       let digits : ℕ = w.common.terms.digits in
       let track : Track = track_of (10 ^ digits) past in
@@ -131,14 +143,14 @@ module _ (never_fall : SectionsNeverFall) (one_map : SectionsHaveOneMap) (fit : 
       let all : all_of terms history t ≡ past.all = ap (λ (p : Past). p.all) own in
       let follow : AllFollow (segments_of track.kept) = λ i j x y le at_x at_y.
       let there : (k : ℕ) → slice_get (segments_of track.kept) k ≡ slice_get (all_of terms history t) (past.first + k) = λ k.
-      ap (λ xs. slice_get xs k) (sym (drop-map (λ (k : Kept). k.segment) past.first (told (10 ^ digits) past.all)) ∙ ap (drop past.first) (told-segments (10 ^ digits) None past.all ∙ sym all))
+      ap (λ xs. slice_get xs k) (kept_segments (10 ^ digits) past.first past.all ∙ ap (λ (xs : List Segment). drop past.first xs) (sym all))
       ∙ get_drop past.first (all_of terms history t) k in
       let x_at = sym (there i) ∙ at_x in
       let y_at = sym (there j) ∙ at_y in (
         never_fall terms history t (past.first + i) (past.first + j) x y accepted typed (omega arith) x_at y_at,
         λ same. sym (one_map terms history t (past.first + i) (past.first + j) x y accepted typed x_at y_at same).map,
       ) in
-      let addressed = accepted_addressed meant initializations parts readings paced short terms followed.url history accepted followed.read w whole in
+      let addressed = accepted_addressed meant initializations parts readings paced short terms followed.url history accepted read w whole in
       let located : All IsAddressed past.all = track_at (λ t past. All IsAddressed past.all) w.pasts t past addressed.each at in
       let fits : All (λ d. rounded (10 ^ digits) d ≤ w.common.target) (durations (told (10 ^ digits) past.all)) =
       subst (λ (xs : List Segment). All (λ d. rounded (10 ^ digits) d ≤ w.common.target) (durations (told (10 ^ digits) xs))) all
@@ -168,12 +180,36 @@ module _ (never_fall : SectionsNeverFall) (one_map : SectionsHaveOneMap) (fit : 
 
 -- ---- reloads
 
-front_followed : (terms : Terms) (history : List Update) (u : Update) → IsFollowed terms (history ++ u ∷ []) → IsFollowed terms history
-front_followed terms history u is = record {
+-- what holds of each of some updates holds of those that are accepted, which are no more
+abbrev accepted_behind : Terms → List Update → List Update → List Update
+accepted_behind terms history updates = fold (λ history u. with_accepted terms history u (update_refusal terms history u)) history updates
+
+module _ (P : Update → Type 0) (terms : Terms) where
+  one_accepted : (history : List Update) (u : Update) (refusal : Option Refusal) → All P history → P u
+      → All P (with_accepted terms history u refusal) × (length (with_accepted terms history u refusal) ≤ length history + 1)
+  one_accepted history u None all is =
+      (All-append P history (u ∷ []) all (All-cons P u [] is (All-nil P)), omega (arith, length-append history (u ∷ [])))
+  one_accepted history u (Some refusal) all is = (all, omega arith)
+
+  all_accepted : (updates history : List Update) → All P history → All P updates
+      → All P (accepted_behind terms history updates) × (length (accepted_behind terms history updates) ≤ length history + length updates)
+  all_accepted [] history all each = (all, omega arith)
+  all_accepted (u ∷ updates) history all each =
+      let one = one_accepted history u (update_refusal terms history u) all (All-head P u updates each) in
+      let rest = all_accepted updates (with_accepted terms history u (update_refusal terms history u)) one.0 (All-tail P u updates each) in
+      (rest.0, omega (arith, rest.1, one.1))
+
+accepted_followed : (terms : Terms) (updates : List Update) → IsFollowed terms updates → IsFollowed terms (accepted_of terms updates)
+accepted_followed terms updates is =
+    let kept = all_accepted (λ u. IsReadIfAny (mpd_of u)) terms updates [] (All-nil _) is.read in
+    record { url = is.url; digits = is.digits; read = kept.0; few = omega (arith, is.few, kept.1) }
+
+front_followed : (terms : Terms) (updates : List Update) (u : Update) → IsFollowed terms (updates ++ u ∷ []) → IsFollowed terms updates
+front_followed terms updates u is = record {
   url = is.url;
   digits = is.digits;
-  read = λ front v back same. is.read front v (back ++ u ∷ []) (ap (λ (us : List Update). us ++ u ∷ []) same ∙ append_assoc front (v ∷ back) (u ∷ []));
-  few = omega (arith, is.few, length-append history (u ∷ []));
+  read = λ k d within. subst (λ v. IsReadIfAny (mpd_of v)) (get_or_append_left updates (u ∷ []) d k within) (is.read k d (omega (arith, within, length-append updates (u ∷ []))));
+  few = omega (arith, is.few, length-append updates (u ∷ []));
 }
 
 -- what a reader gives of a text is what it is read as
@@ -191,19 +227,28 @@ lines_given text url media given lines told is found =
 only_meaning : (text url : List ℕ) (media given : Media) → ReadsAs text url media → read_media text url ≡ Ok given → media ≡ given
 only_meaning text url media given is found = lines_given text url media given is.0 is.1.0 is.1.1 found
 
-module _ (texts : FollowedTextsAreRead) (reload : ReloadsAreLawful) (sentences : RulesAreSentences) where
+module _ (texts : FollowedTextsAreRead) (reload : ReloadsAreLawful) (sentences : RulesAreSentences) (accepted : AcceptedAreAccepted) where
   pub followed_texts_reload : FollowedTextsReload
-  followed_texts_reload terms history u t old new url is = record {
-    before = media_of old;
-    after = media_of new;
-    old_is = texts terms history is.before t old url (front_followed terms history u is.followed) is.shows is.old_is;
-    new_is = texts terms (history ++ u ∷ []) is.after t new url is.followed is.shows_more is.new_is;
-    lawful =
-        (sentences (media_of old) (media_of new)).0 (reload terms history u is.before is.after t old new is.shows is.shows_more is.old_is is.new_is);
-  }
+  followed_texts_reload terms updates u t old new url is =
+      let history : List Update = accepted_of terms updates in
+      let more : List Update = accepted_of terms (updates ++ u ∷ []) in
+      let shows : Shows terms history is.before = record { accepted = accepted terms updates; leaves = is.leaves } in
+      let shows_more : Shows terms more is.after = record { accepted = accepted terms (updates ++ u ∷ []); leaves = is.leaves_more } in
+      let grown : more ≡ history ++ u ∷ [] =
+      fold-append (λ history u. with_accepted terms history u (update_refusal terms history u)) [] updates (u ∷ [])
+      ∙ ap (with_accepted terms history u) is.accepted in
+      record {
+        before = media_of old;
+        after = media_of new;
+        old_is =
+            texts terms history is.before t old url (accepted_followed terms updates (front_followed terms updates u is.followed)) shows is.old_is;
+        new_is = texts terms more is.after t new url (accepted_followed terms (updates ++ u ∷ []) is.followed) shows_more is.new_is;
+        lawful =
+            (sentences (media_of old) (media_of new)).0 (reload terms history u is.before is.after t old new shows (subst (λ (us : List Update). Shows terms us is.after) grown shows_more) is.old_is is.new_is);
+      }
 
   pub read_texts_reload : ReadTextsReload
-  read_texts_reload terms history u t old new url before after is old_read new_read =
-      let own = followed_texts_reload terms history u t old new url is in
+  read_texts_reload terms updates u t old new url before after is old_read new_read =
+      let own = followed_texts_reload terms updates u t old new url is in
       subst (λ (m : Media). IsLawful m after) (only_meaning (live_text old) url own.before before own.old_is old_read)
       (subst (λ (m : Media). IsLawful own.before m) (only_meaning (live_text new) url own.after after own.new_is new_read) own.lawful)

@@ -1,5 +1,5 @@
 -- What is read of the written playlists of a followed presentation.
-use Rattle.std.specs.Prelude.{◌≡◌, ℕ, ◌≤◌, List, [], ◌∷◌, ◌++◌, length, Option, Some, None, Ok}
+use Rattle.std.specs.Prelude.{◌≡◌, ℕ, ◌≤◌, All, List, [], ◌∷◌, ◌++◌, length, Option, Some, None, Ok}
 use Rattle.url_parts.specs.Addresses.{IsAddress}
 use Rattle.mpd_text.specs.Trees.{Element}
 use Rattle.mpd_text.specs.Meaning.{reading_of}
@@ -8,9 +8,10 @@ use Rattle.hls_media.specs.Media.{media_of as read_media}
 use Rattle.hls_media.specs.declared.media.Media.{Media}
 use Rattle.reload_law.specs.Laws.{IsLawful}
 use Rattle.live_meaning.specs.Updates.{Terms, Update, Values, mpd_of}
-use Rattle.live_meaning.specs.States.{State}
+use Rattle.live_meaning.specs.States.{State, state_of}
+use Rattle.live_meaning.specs.Refusals.{update_refusal}
 use Rattle.live_meaning.specs.Playlists.{FollowedPlaylist, live_text, playlist_of}
-use Rattle.live_meaning.specs.Laws.{Shows, media_of}
+use Rattle.live_meaning.specs.Laws.{Shows, accepted_of, media_of}
 use Rattle.read_back.specs.Origins.{IsOfBytes}
 use Rattle.read_back.specs.ReadMedia.{ReadsAs}
 
@@ -28,19 +29,19 @@ abbrev pub IsReadIfAny : Option Values → Type 0
 IsReadIfAny None = Unit {0}
 IsReadIfAny (Some mpd) = IsRead mpd
 
-abbrev pub AreRead : (history : List Update) → Type 0
-AreRead history = (earlier : List Update) (u : Update) (later : List Update) → history ≡ earlier ++ u ∷ later → IsReadIfAny (mpd_of u)
+abbrev pub AreRead : List Update → Type 0
+AreRead updates = All (λ u. IsReadIfAny (mpd_of u)) updates
 
 -- MPDs from an address, with at most 9 decimals of a second and at most 10,000,000 updates
-pub record IsFollowed (terms : Terms) (history : List Update) : Type 0 where
+pub record IsFollowed (terms : Terms) (updates : List Update) : Type 0 where
   pub url : IsAddress terms.url
   pub digits : terms.digits ≤ 9
-  pub read : AreRead history
-  pub few : length history ≤ 10_000_000
+  pub read : AreRead updates
+  pub few : length updates ≤ 10_000_000
 
 -- ---- laws
 
--- each text is read as its playlist
+-- each text is read as the playlist of an accepted history
 abbrev pub FollowedTextsAreRead : Type 0
 FollowedTextsAreRead = (terms : Terms) (history : List Update) (s : State) (t : ℕ) (playlist : FollowedPlaylist) (url : List ℕ)
     → IsFollowed terms history → Shows terms history s → playlist_of s t ≡ Some playlist → ReadsAs (live_text playlist) url (media_of playlist)
@@ -53,24 +54,26 @@ pub record Reloads (old new url : List ℕ) : Type 0 where
   pub new_is : ReadsAs new url after
   pub lawful : IsLawful before after
 
--- the playlists of a track, before and behind an update
-pub record IsUpdate (terms : Terms) (history : List Update) (u : Update) (t : ℕ) (old new : FollowedPlaylist) : Type 0 where
-  pub followed : IsFollowed terms (history ++ u ∷ [])
+-- Some updates come one after another, of which those are accepted that may follow the accepted ones before, and then one that is
+-- accepted: the playlists of a track before and behind that one.
+pub record IsUpdate (terms : Terms) (updates : List Update) (u : Update) (t : ℕ) (old new : FollowedPlaylist) : Type 0 where
+  pub followed : IsFollowed terms (updates ++ u ∷ [])
+  pub accepted : update_refusal terms (accepted_of terms updates) u ≡ None
   pub before : State
+  pub leaves : state_of terms (accepted_of terms updates) ≡ Some before
   pub after : State
-  pub shows : Shows terms history before
-  pub shows_more : Shows terms (history ++ u ∷ []) after
+  pub leaves_more : state_of terms (accepted_of terms (updates ++ u ∷ [])) ≡ Some after
   pub old_is : playlist_of before t ≡ Some old
   pub new_is : playlist_of after t ≡ Some new
 
--- where the update is accepted, the new text lawfully reloads the former one
+-- the new text lawfully reloads the former one
 abbrev pub FollowedTextsReload : Type 0
-FollowedTextsReload = (terms : Terms) (history : List Update) (u : Update) (t : ℕ) (old new : FollowedPlaylist) (url : List ℕ)
-    → IsUpdate terms history u t old new → Reloads (live_text old) (live_text new) url
+FollowedTextsReload = (terms : Terms) (updates : List Update) (u : Update) (t : ℕ) (old new : FollowedPlaylist) (url : List ℕ)
+    → IsUpdate terms updates u t old new → Reloads (live_text old) (live_text new) url
 
 -- so does what a reader gives that refuses neither
 abbrev pub ReadTextsReload : Type 0
 ReadTextsReload =
-    (terms : Terms) (history : List Update) (u : Update) (t : ℕ) (old new : FollowedPlaylist) (url : List ℕ) (before after : Media)
-    → IsUpdate terms history u t old new → read_media (live_text old) url ≡ Ok before → read_media (live_text new) url ≡ Ok after
+    (terms : Terms) (updates : List Update) (u : Update) (t : ℕ) (old new : FollowedPlaylist) (url : List ℕ) (before after : Media)
+    → IsUpdate terms updates u t old new → read_media (live_text old) url ≡ Ok before → read_media (live_text new) url ≡ Ok after
     → IsLawful before after

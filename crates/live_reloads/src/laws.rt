@@ -2,7 +2,8 @@
 ghost use Rattle.live_reloads.specs.Laws.{FollowedTextsAreRead, FollowedTextsReload, ReadTextsReload};
 
 use live_meaning::{
-    accepted_never_drift, playlists_are_never_empty, reloads_are_lawful, sections_have_one_map,
+    accepted_never_drift, histories_go_on, playlists_are_never_empty, reloads_are_lawful,
+    sections_have_one_map,
 };
 use presentation::presentations_mean_what_they_list;
 use read_back::{
@@ -34,6 +35,7 @@ pub fn followed_texts_reload()
     ensures read { ReadTextsReload }
 {
     followed_texts_are_read();
+    histories_go_on();
     reloads_are_lawful();
     rules_are_sentences();
 }
