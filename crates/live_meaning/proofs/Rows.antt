@@ -86,6 +86,10 @@ reset depth now s = state_with s (Reset mpd (second now)) (live 2 depth now)
 abbrev kept : State → List (ℕ × List (ℕ × ℕ))
 kept s = map (λ track. (track.first, map (λ k. (k.segment.section, k.segment.value.number)) track.kept)) s.tracks
 
+-- when the kept ones begin
+abbrev dates : State → List (List ℤ)
+dates s = map (λ track. map (λ k. k.segment.value.date) track.kept) s.tracks
+
 -- segments of one section with these numbers
 abbrev of : (section : ℕ) → List ℕ → List (ℕ × ℕ)
 of section numbers = map (λ n. (section, n)) numbers
@@ -120,8 +124,9 @@ slides :
     (old.common.target ≡ 3)
     × (kept old ≡ (0, of 0 (5 ∷ 6 ∷ 7 ∷ 8 ∷ 9 ∷ 10 ∷ [])) ∷ [])
     × (kept (tick 12 24 old) ≡ (2, of 0 (7 ∷ 8 ∷ 9 ∷ 10 ∷ 11 ∷ 12 ∷ [])) ∷ [])
+    × (dates (tick 12 24 old) ≡ map second (12 ∷ 14 ∷ 16 ∷ 18 ∷ 20 ∷ 22 ∷ []) ∷ [])
 unfolding repeated steps_within floor_in greatest_of state_with
-slides = (refl, refl, refl)
+slides = (refl, refl, refl, refl)
 
 -- 4 s of depth, at 20 s, 24 s and 28 s: three target durations stay
 stays :
@@ -169,7 +174,8 @@ ends = (refl, refl)
 -- Resets a minute later and at 30 s begin a section. One at 60 s counts once, so that an MPD at 62 s goes on in its section.
 begins_anew :
     (kept (reset 12 60 old) ≡ (6, of 1 (25 ∷ 26 ∷ 27 ∷ 28 ∷ 29 ∷ 30 ∷ [])) ∷ [])
+    × (dates (reset 12 60 old) ≡ map second (48 ∷ 50 ∷ 52 ∷ 54 ∷ 56 ∷ 58 ∷ []) ∷ [])
     × (kept (reset 12 30 old) ≡ (5, (0, 10) ∷ of 1 (11 ∷ 12 ∷ 13 ∷ 14 ∷ 15 ∷ [])) ∷ [])
     × (kept (state_with (reset 4 60 (first 4 20)) (Refresh mpd (second 62)) (live 2 4 62)) ≡ (0, of 0 (9 ∷ 10 ∷ []) ++ of 1 (29 ∷ 30 ∷ 31 ∷ [])) ∷ [])
 unfolding repeated steps_within floor_in greatest_of state_with
-begins_anew = (refl, refl, refl)
+begins_anew = (refl, refl, refl, refl)
