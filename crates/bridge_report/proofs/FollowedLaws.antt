@@ -10,7 +10,7 @@ use Rattle.bridge_report.specs.Laws.{Mirrors, MirrorsHaveOneCourse, accepted_in,
 
 module _ {S X : Type 0} (f : Followed S X) where
   files_along-by : (refusal : Option (List ℕ)) (s : S) (x : X) (more less : List X)
-      → files_along f s (unless_refused refusal (x ∷ more) less) ≡ unless_refused refusal (f.files s x) [] ++ files_along f (unless_refused refusal (f.after s x) s) (unless_refused refusal more less)
+      → files_along f s (unless_refused refusal (x ∷ more) less) ≡ unless_refused refusal (f.files (f.after s x)) [] ++ files_along f (unless_refused refusal (f.after s x) s) (unless_refused refusal more less)
   files_along-by None s x more less = refl
   files_along-by (Some told) s x more less = refl
 
@@ -25,15 +25,16 @@ module _ {S X : Type 0} (f : Followed S X) where
   files_of_accepted s i a [] fault (suc n) = refl
   files_of_accepted s i a (x ∷ xs) fault zero = refl
   files_of_accepted s i a (x ∷ xs) fault (suc n) =
-      ap (λ files. unless_refused (f.refusal s x) (f.files s x) [] ++ files) (files_of_accepted (next_of f s x) (i + 1) _ xs fault n
+      ap (λ files. unless_refused (f.refusal s x) (f.files (f.after s x)) [] ++ files) (files_of_accepted (next_of f s x) (i + 1) _ xs fault n
       ∙ ap (files_along f (next_of f s x)) (sym (accepted_next (f.refusal s x) s x (take n xs))))
       ∙ sym (files_along-by (f.refusal s x) s x (accepted_in f (f.after s x) (take n xs)) (accepted_in f s (take n xs)))
 
   rewritten_along : (name : List ℕ) (text : S → List ℕ) → IsRewritten f name text → (s : S) (x : X) (more : List X) (files : Files)
       → put_all (files_along f s (x ∷ more)) files name ≡ Some (text (state_after f s (x ∷ more)))
-  rewritten_along name text each s x [] files = ap (λ all. all name) (put_all-both (f.files s x) [] files) ∙ each s x files
+  rewritten_along name text each s x [] files = ap (λ all. all name) (put_all-both (f.files (f.after s x)) [] files) ∙ each s x files
   rewritten_along name text each s x (y ∷ more) files =
-      ap (λ all. all name) (put_all-both (f.files s x) (files_along f (f.after s x) (y ∷ more)) files) ∙ rewritten_along name text each (f.after s x) y more (put_all (f.files s x) files)
+      ap (λ all. all name) (put_all-both (f.files (f.after s x)) (files_along f (f.after s x) (y ∷ more)) files)
+      ∙ rewritten_along name text each (f.after s x) y more (put_all (f.files (f.after s x)) files)
 
   pub file_of_accepted : (name : List ℕ) (text : S → List ℕ) → IsRewritten f name text
       → (s : S) (i a : ℕ) (xs : List X) (fault : Option (List ℕ)) (n : ℕ) (x : X) (more : List X) (first last : Files)
@@ -74,10 +75,10 @@ module _ {S T X : Type 0} (f : Followed S X) (g : Followed T X) (left : S → T)
   unfolding course_from
   one_course s i a [] fault = refl
   one_course s i a (x ∷ xs) fault = let m = mirrors s x in
-      let step : step_of f s i x ≡ step_of g (left s) i x = ap (λ r. stepped r (f.files s x) (f.appended s x) (f.makes s x) i) m.refusal
+      let step : step_of f s i x ≡ step_of g (left s) i x = ap (λ r. stepped r (f.files (f.after s x)) (f.appended s x) (f.makes s x) i) m.refusal
       ∙ ap (λ fs. stepped (g.refusal (left s) x) fs (f.appended s x) (f.makes s x) i) m.files
-      ∙ ap (λ n. stepped (g.refusal (left s) x) (g.files (left s) x) n (f.makes s x) i) m.appended
-      ∙ ap (λ n. stepped (g.refusal (left s) x) (g.files (left s) x) (g.appended (left s) x) n i) m.makes in
+      ∙ ap (λ n. stepped (g.refusal (left s) x) (g.files (g.after (left s) x)) n (f.makes s x) i) m.appended
+      ∙ ap (λ n. stepped (g.refusal (left s) x) (g.files (g.after (left s) x)) (g.appended (left s) x) n i) m.makes in
       let rest : course_from f (next_of f s x) (i + 1) (accepted_with f s x a) xs fault ≡ course_from g (next_of g (left s) x) (i + 1) (accepted_with g (left s) x a) xs fault =
       one_course (next_of f s x) (i + 1) (accepted_with f s x a) xs fault
       ∙ ap (λ t. course_from g t (i + 1) (accepted_with f s x a) xs fault) (next_mirrored s x)

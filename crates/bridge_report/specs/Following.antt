@@ -6,12 +6,12 @@ use Rattle.bridge_runs.specs.Courses.{Step, End, Course}
 use Rattle.bridge_runs.specs.Steps.{with_step, only_end}
 
 -- What is followed, as its layers tell it: of type S is what the accepted frames left, of type X a frame. `refusal` tells
--- why a frame may not follow, in the report's words. `files` are those that are written when it is accepted, `appended` is the
--- number in its line, and `makes` how many segments are made for it, or at most where it is refused.
+-- why a frame may not follow, in the report's words. `files` are those that are written of what an accepted one leaves,
+-- `appended` is the number in its line, and `makes` how many segments are made for it, or at most where it is refused.
 pub record Followed (S X : Type 0) : Type 0 where
   pub refusal : S → X → Option (List ℕ)
   pub after : S → X → S
-  pub files : S → X → List (List ℕ × List ℕ)
+  pub files : S → List (List ℕ × List ℕ)
   pub appended : S → X → ℕ
   pub makes : S → X → ℕ
 
@@ -47,7 +47,7 @@ line_by frame appended (Some refusal) = refused_frame frame refusal
 -- the step of a frame: a refused one writes no file
 abbrev pub step_of : {S X : Type 0} → Followed S X → S → (frame : ℕ) → X → Step
 step_of f s i x = record {
-  files = unless_refused (f.refusal s x) (f.files s x) [];
+  files = unless_refused (f.refusal s x) (f.files (f.after s x)) [];
   lines = line_by i (f.appended s x) (f.refusal s x);
   least = unless_refused (f.refusal s x) (f.makes s x) 0;
   most = f.makes s x;

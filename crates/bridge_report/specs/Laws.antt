@@ -33,16 +33,16 @@ state_after f s (x ∷ xs) = state_after f (f.after s x) xs
 
 abbrev pub files_along : {S X : Type 0} → Followed S X → S → List X → List (List ℕ × List ℕ)
 files_along f s [] = []
-files_along f s (x ∷ xs) = f.files s x ++ files_along f (f.after s x) xs
+files_along f s (x ∷ xs) = f.files (f.after s x) ++ files_along f (f.after s x) xs
 
 -- the steps of some first frames write the files of those that are accepted among them
 abbrev pub FilesAreOfAccepted : Type 0 → Type 0 → Type 0
 FilesAreOfAccepted S X = (f : Followed S X) (s : S) (i a : ℕ) (xs : List X) (fault : Option (List ℕ)) (n : ℕ) →
     files_to n (course_from f s i a xs fault) ≡ files_along f s (accepted_in f s (take n xs))
 
--- a file that is written for each frame from what it leaves
+-- a file that is written again of whatever an accepted frame leaves
 abbrev pub IsRewritten : {S X : Type 0} → Followed S X → (name : List ℕ) → (text : S → List ℕ) → Type 0
-IsRewritten {S} {X} f name text = (s : S) (x : X) (files : Files) → put_all (f.files s x) files name ≡ Some (text (f.after s x))
+IsRewritten {S} {X} f name text = (s : S) (x : X) (files : Files) → put_all (f.files (f.after s x)) files name ≡ Some (text (f.after s x))
 
 -- where some frame was accepted, such a file has the text of what the accepted frames left
 abbrev pub FileIsOfAccepted : Type 0 → Type 0 → Type 0
@@ -57,7 +57,7 @@ FileIsOfAccepted S X = (f : Followed S X) (name : List ℕ) (text : S → List �
 pub record Mirrors {S T X : Type 0} (f : Followed S X) (g : Followed T X) (left : S → T) (s : S) (x : X) : Type 0 where
   pub refusal : f.refusal s x ≡ g.refusal (left s) x
   pub after : left (f.after s x) ≡ g.after (left s) x
-  pub files : f.files s x ≡ g.files (left s) x
+  pub files : f.files (f.after s x) ≡ g.files (g.after (left s) x)
   pub appended : f.appended s x ≡ g.appended (left s) x
   pub makes : f.makes s x ≡ g.makes (left s) x
 

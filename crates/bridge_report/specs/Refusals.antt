@@ -1,6 +1,8 @@
 -- Why a job's input is refused, and the line of the report that tells it.
 use Rattle.std.specs.Prelude.{ℕ, List, [], ◌++◌, codes, decimal, Option, Some, None}
 use Rattle.bridge_io.specs.Slurped.{Unread, Long, Missing}
+use Rattle.bridge_jobs.specs.declared.frame.FrameFault.{FrameFault}
+use Rattle.bridge_jobs.specs.declared.frame.FrameFault.TheVariants as frame
 use Rattle.mpd_text.specs.declared.fault.TextFault.{TextFault}
 use Rattle.mpd_text.specs.declared.fault.TextFault.TheVariants as text
 use Rattle.mpd_profile.specs.declared.fault.RuleFault.{RuleFault}
@@ -21,7 +23,7 @@ use Rattle.bridge_report.specs.declared.refusal.Refusal.{Refusal}
 use Rattle.bridge_report.specs.declared.refusal.Refusal.TheVariants as refusal
 use Rattle.bridge_report.specs.declared.refusal.Stop.{Stop}
 use Rattle.bridge_report.specs.declared.refusal.Stop.TheVariants as stop
-use Rattle.bridge_report.specs.Words.{text_words, rule_words, presentation_words, media_words, master_words, hls_words}
+use Rattle.bridge_report.specs.Words.{text_words, rule_words, presentation_words, media_words, master_words, hls_words, frame_words, update_words}
 
 -- ---- where
 
@@ -111,6 +113,14 @@ master_spot (master.NoTracks place) = Some (At place)
 master_spot (master.Limit place) = Some (At place)
 master_spot master.Memory = None
 
+-- counted in the stream
+abbrev pub frame_spot : FrameFault → Option Spot
+frame_spot (frame.Header place) = Some (At place)
+frame_spot (frame.Cut place) = Some (At place)
+frame_spot (frame.TooMany place) = Some (At place)
+frame_spot frame.Fault = None
+frame_spot frame.Memory = None
+
 abbrev pub spot_of : Refusal → Option Spot
 spot_of refusal.Base = None
 spot_of (refusal.TooLong place) = Some (At place)
@@ -125,6 +135,9 @@ spot_of refusal.OutsideBase = None
 spot_of refusal.TooManySegments = None
 spot_of (refusal.Hls fault) = None
 spot_of refusal.NotStatic = None
+spot_of (refusal.Frame fault) = frame_spot fault
+spot_of refusal.NotOpen = None
+spot_of (refusal.Session fault) = None
 
 abbrev pub spot_text : Option Spot → List ℕ
 spot_text None = []
@@ -148,6 +161,9 @@ words_of refusal.OutsideBase = codes "job 2 OutsideBase"
 words_of refusal.TooManySegments = codes "job 3 Limit"
 words_of (refusal.Hls fault) = hls_words fault
 words_of refusal.NotStatic = codes "job 4 NotStatic"
+words_of (refusal.Frame fault) = frame_words fault
+words_of refusal.NotOpen = codes "frame 4 NotOpen"
+words_of (refusal.Session fault) = update_words fault
 
 -- what is told of a refusal, whatever is refused: its words, and where it stands, if that is told
 unfoldable pub refusal_text : Refusal → List ℕ

@@ -1,9 +1,13 @@
 -- The words of the report for each fault: the layer's word, the number and the name.
 use Rattle.std.specs.Prelude.{ℕ, List, [], codes}
+use Rattle.bridge_jobs.specs.declared.frame.FrameFault.{FrameFault}
+use Rattle.bridge_jobs.specs.declared.frame.FrameFault.TheVariants as frame
 use Rattle.mpd_text.specs.declared.fault.TextFault.{TextFault}
 use Rattle.mpd_text.specs.declared.fault.TextFault.TheVariants as text
 use Rattle.mpd_profile.specs.declared.fault.RuleFault.{RuleFault}
 use Rattle.mpd_profile.specs.declared.fault.RuleFault.TheVariants as rules
+use Rattle.bridge_report.specs.declared.update_fault.UpdateFault.{UpdateFault}
+use Rattle.bridge_report.specs.declared.update_fault.UpdateFault.TheVariants as update
 use Rattle.hls_lines.specs.declared.fault.LineFault.{LineFault}
 use Rattle.hls_lines.specs.declared.fault.LineFault.TheVariants as line
 use Rattle.hls_master.specs.declared.fault.MasterFault.{MasterFault}
@@ -21,7 +25,7 @@ use Rattle.timeline.specs.declared.fault.TimeFault.TheVariants as times
 use Rattle.presentation.specs.declared.fault.PresentationFault.{PresentationFault}
 use Rattle.presentation.specs.declared.fault.PresentationFault.TheVariants as presentation
 
--- want of memory is no refusal, and has no words
+-- a fault of the outside and want of memory are no refusals, and have no words
 
 abbrev pub text_words : TextFault → List ℕ
 text_words (text.NotUtf8 place) = codes "text 1 NotUtf8"
@@ -137,3 +141,23 @@ hls_words hls.SectionsDiffer = codes "hls 5 SectionsDiffer"
 hls_words hls.Limit = codes "hls 6 Limit"
 hls_words hls.NoTracks = codes "hls 7 NoTracks"
 hls_words hls.Memory = []
+
+abbrev pub frame_words : FrameFault → List ℕ
+frame_words (frame.Header place) = codes "frame 1 Header"
+frame_words (frame.Cut place) = codes "frame 2 Cut"
+frame_words (frame.TooMany place) = codes "frame 3 TooMany"
+frame_words frame.Fault = []
+frame_words frame.Memory = []
+
+abbrev pub update_words : UpdateFault → List ℕ
+update_words update.ClockBack = codes "session 1 ClockBack"
+update_words update.Older = codes "session 2 Older"
+update_words update.Changed = codes "session 3 Changed"
+update_words update.Moved = codes "session 4 Moved"
+update_words update.Rewritten = codes "session 5 Rewritten"
+update_words update.Step = codes "session 6 Step"
+update_words update.LongSegment = codes "session 7 LongSegment"
+update_words update.NotDynamic = codes "session 8 NotDynamic"
+update_words update.Ended = codes "session 9 Ended"
+update_words update.Window = codes "session 10 Window"
+update_words update.Uneven = codes "session 13 Uneven"

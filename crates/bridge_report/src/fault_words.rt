@@ -2,6 +2,8 @@
 ghost use Rattle.std.specs.Prelude.{◌≡◌};
 ghost use Rattle.bridge_report.specs.Words as spec;
 
+use crate::update_fault::UpdateFault;
+use bridge_jobs::FrameFault;
 use hls_lines::LineFault;
 use hls_master::MasterFault;
 use hls_media::MediaFault;
@@ -181,5 +183,36 @@ pub fn hls_words(fault: HlsFault) -> &'static str
         HlsFault::Limit => "hls 6 Limit",
         HlsFault::NoTracks => "hls 7 NoTracks",
         HlsFault::Memory => "",
+    }
+}
+
+/// Those of a stream's fault. A fault of the input and want of memory have none.
+pub fn frame_words(fault: FrameFault) -> &'static str
+    ensures { result.now ≡ spec.frame_words fault }
+{
+    match fault {
+        FrameFault::Header(_) => "frame 1 Header",
+        FrameFault::Cut(_) => "frame 2 Cut",
+        FrameFault::TooMany(_) => "frame 3 TooMany",
+        FrameFault::Fault | FrameFault::Memory => "",
+    }
+}
+
+/// Those of a rule of a followed presentation.
+pub fn update_words(fault: UpdateFault) -> &'static str
+    ensures { result.now ≡ spec.update_words fault }
+{
+    match fault {
+        UpdateFault::ClockBack => "session 1 ClockBack",
+        UpdateFault::Older => "session 2 Older",
+        UpdateFault::Changed => "session 3 Changed",
+        UpdateFault::Moved => "session 4 Moved",
+        UpdateFault::Rewritten => "session 5 Rewritten",
+        UpdateFault::Step => "session 6 Step",
+        UpdateFault::LongSegment => "session 7 LongSegment",
+        UpdateFault::NotDynamic => "session 8 NotDynamic",
+        UpdateFault::Ended => "session 9 Ended",
+        UpdateFault::Window => "session 10 Window",
+        UpdateFault::Uneven => "session 13 Uneven",
     }
 }

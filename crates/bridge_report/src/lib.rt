@@ -9,6 +9,7 @@ mod lines;
 mod reading;
 mod refusal;
 mod spot;
+mod update_fault;
 
 pub use base::{file_url, folder_url};
 pub use ending::{halted, refused};
@@ -19,3 +20,4 @@ pub use lines::{frame_accepted, frame_refused, stream_done, tell_line};
 pub use reading::{Halt, content_of, media_at};
 pub use refusal::{Refusal, Stop, refusal_line, refusal_text};
 pub use spot::Spot;
+pub use update_fault::UpdateFault;

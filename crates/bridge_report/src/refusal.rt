@@ -3,10 +3,13 @@ ghost use Rattle.std.specs.Prelude.{◌≡◌, ◌++◌, IfOk};
 ghost use Rattle.bridge_report.specs.Refusals as spec;
 
 use crate::fault_words::{
-    hls_words, master_words, media_words, presentation_words, rule_words, text_words,
+    frame_words, hls_words, master_words, media_words, presentation_words, rule_words, text_words,
+    update_words,
 };
 use crate::spot::Spot;
+use crate::update_fault::UpdateFault;
 use bridge_io::{NoMemory, Place, Text};
+use bridge_jobs::FrameFault;
 use hls_lines::LineFault;
 use hls_master::MasterFault;
 use hls_media::MediaFault;
@@ -45,6 +48,12 @@ pub enum Refusal {
     Hls(HlsFault),
     /// The MPD is live, where a static one is wanted (ISO/IEC 23009-1, 5.3.1.2).
     NotStatic,
+    /// The stream of frames isn't whole. A fault of the input and want of memory are no refusals.
+    Frame(FrameFault),
+    /// The frame is a tick or a reset, and no MPD was accepted before.
+    NotOpen,
+    /// The frame breaks a rule of a followed presentation.
+    Session(UpdateFault),
 }
 
 /// Why the input of a job isn't read.
@@ -146,6 +155,9 @@ fn words(refusal: Refusal) -> &'static str
         Refusal::TooManySegments => "job 3 Limit",
         Refusal::Hls(fault) => hls_words(fault),
         Refusal::NotStatic => "job 4 NotStatic",
+        Refusal::Frame(fault) => frame_words(fault),
+        Refusal::NotOpen => "frame 4 NotOpen",
+        Refusal::Session(fault) => update_words(fault),
     }
 }
 
@@ -160,13 +172,16 @@ fn spot(refusal: Refusal) -> Option<Spot>
         | Refusal::OutsideBase
         | Refusal::TooManySegments
         | Refusal::Hls(_)
-        | Refusal::NotStatic => None,
+        | Refusal::NotStatic
+        | Refusal::NotOpen
+        | Refusal::Session(_) => None,
         Refusal::TooLong(place) => Some(Spot::At(place)),
         Refusal::Text(fault) => text_spot(fault),
         Refusal::Rules(fault) => rule_spot(fault),
         Refusal::Presentation(fault) => presentation_spot(fault),
         Refusal::Media(fault) => media_spot(fault),
         Refusal::Master(fault) => master_spot(fault),
+        Refusal::Frame(fault) => frame_spot(fault),
     }
 }
 
@@ -280,5 +295,17 @@ fn master_spot(fault: MasterFault) -> Option<Spot>
         | MasterFault::NoTracks(place)
         | MasterFault::Limit(place) => Some(Spot::At(place)),
         MasterFault::Memory => None,
+    }
+}
+
+/// A place that is counted in the stream.
+fn frame_spot(fault: FrameFault) -> Option<Spot>
+    ensures { result ≡ spec.frame_spot fault }
+{
+    match fault {
+        FrameFault::Header(place) | FrameFault::Cut(place) | FrameFault::TooMany(place) => {
+            Some(Spot::At(place))
+        }
+        FrameFault::Fault | FrameFault::Memory => None,
     }
 }
