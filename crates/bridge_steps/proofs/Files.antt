@@ -7,23 +7,18 @@ use Rattle.std.proofs.lemmas.List.FromFn.{length-map-range_with_len, get_or-map-
 use Rattle.std.proofs.lemmas.Option.{slice_get-get_or, slice_get_within}
 use Rattle.bridge_io.specs.Outside.{Files, put, Changes}
 use Rattle.bridge_io.specs.InOrder.{put_all, MayBegin, AreBegun, put_next, begun_at}
-use Rattle.presentation.specs.Presented.{Presented}
-use Rattle.bridge_steps.specs.Playlists.{track_file, track_files}
 
--- the playlist of a track stands at the track's place
-pub track_at : (out : List ℕ) (digits : ℕ) (p : Presented) (t : ℕ) → t < length p.tracks
-    → slice_get (track_files out digits p) t ≡ Some (track_file out digits p t)
-track_at out digits p t within =
-    let f = track_file out digits p in let n = length p.tracks in
-    let inside : t < length (map f (range_with_len 0 n)) = omega (arith, length-map-range_with_len f 0 n) in
-    let here : 0 + t ≡ t = omega arith in
-    slice_get-get_or (map f (range_with_len 0 n)) t (f 0) inside ∙ ap Some (get_or-map-range_with_len f 0 n t t (f 0) within here)
+module _ (f : ℕ → List ℕ × List ℕ) (n t : ℕ) where
+  -- the file of a track stands at the track's place
+  pub track_at : t < n → slice_get (map f (range_with_len 0 n)) t ≡ Some (f t)
+  track_at within =
+      let inside : t < length (map f (range_with_len 0 n)) = omega (arith, length-map-range_with_len f 0 n) in
+      let here : 0 + t ≡ t = omega arith in
+      slice_get-get_or (map f (range_with_len 0 n)) t (f 0) inside ∙ ap Some (get_or-map-range_with_len f 0 n t t (f 0) within here)
 
--- all of them are as many as there are tracks
-pub all_tracks : (out : List ℕ) (digits : ℕ) (p : Presented) (t : ℕ) → length p.tracks ≤ t
-    → take t (track_files out digits p) ≡ track_files out digits p
-all_tracks out digits p t past = let n = length-map-range_with_len (track_file out digits p) 0 (length p.tracks) in
-    take_all t (track_files out digits p) (omega (arith, n))
+  -- all of them are as many as there are tracks
+  pub all_tracks : n ≤ t → take t (map f (range_with_len 0 n)) ≡ map f (range_with_len 0 n)
+  all_tracks past = take_all t (map f (range_with_len 0 n)) (omega (arith, length-map-range_with_len f 0 n))
 
 module _ {X : Type 0} where
   pub at_front : (xs ys : List X) (k : ℕ) (x : X) → slice_get xs k ≡ Some x → slice_get (xs ++ ys) k ≡ Some x

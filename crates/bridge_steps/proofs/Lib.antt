@@ -1,4 +1,7 @@
 pub mod Files
+pub mod FrameSteps
+pub mod Grown
+pub mod Rest
 pub mod Beginning
 pub mod Begun
 pub mod Static

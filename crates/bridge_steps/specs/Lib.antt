@@ -1,4 +1,6 @@
 pub mod Done
 pub mod Endings
+pub mod Follow
 pub mod Manifests
 pub mod Playlists
+pub mod Streams

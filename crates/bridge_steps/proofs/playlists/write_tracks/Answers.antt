@@ -13,7 +13,7 @@ returns-in_err-write_track-clause-err g c =
     on_err c.from_residual.result
     (begun_at (track_files out ready.digits p) l.track (track_file out ready.digits p l.track) (files c.args.store.now) (files l.store)
     (files c.write_track.new.store)
-    (track_at out ready.digits p l.track within) l.invariant.put c.in_err-write_track.ensures.err)
+    (track_at (track_file out ready.digits p) (length p.tracks) l.track within) l.invariant.put c.in_err-write_track.ensures.err)
 
 pub loop-track-preserved : goal.loop-track-preserved
 loop-track-preserved g c =
@@ -24,7 +24,7 @@ loop-track-preserved g c =
       put =
           put_next (track_files out ready.digits p) l.track (track_file out ready.digits p l.track) (files c.args.store.now)
           (files l.store) (files c.write_track.new.store)
-          (track_at out ready.digits p l.track within) l.invariant.put c.in_ok-write_track.ensures.ok;
+          (track_at (track_file out ready.digits p) (length p.tracks) l.track within) l.invariant.put c.in_ok-write_track.ensures.ok;
       never_falls = omega (arith, l.invariant.never_falls, c.in_ok-write_track.ensures.cause.never_falls);
       reads = c.in_ok-write_track.ensures.reads ∙ l.invariant.reads;
     }
@@ -34,4 +34,4 @@ returns-clause-ok g c =
     let ready = c.args.ready.now in let p = ready.presentation in let out = c.args.out.now in let l = c.loop-track in
     let past : length p.tracks ≤ l.track = omega (arith, ap length c.tracks.ensures) in
     subst (λ taken. Changes (put_all taken) (g.F.Store.files c.args.store.now) (g.F.Store.files l.store))
-    (all_tracks out ready.digits p l.track past) l.invariant.put
+    (all_tracks (track_file out ready.digits p) (length p.tracks) l.track past) l.invariant.put

@@ -1,0 +1,71 @@
+-- The run of what is followed: a step for each frame of a stream, and an end.
+use Rattle.std.specs.Prelude.{◌≡◌, ℕ, ◌+◌, ◌≤◌, List, codes, Option, None, option_map}
+use Rattle.bridge_io.specs.Outside.{Files, Appends}
+use Rattle.bridge_jobs.specs.Frames.{IsFramePos, start}
+use Rattle.bridge_jobs.specs.declared.frame.FramePos.{FramePos}
+use Rattle.bridge_jobs.specs.declared.frame.FrameFault.{FrameFault}
+use Rattle.bridge_jobs.specs.declared.frame.FrameFault.TheVariants as fault
+use Rattle.bridge_runs.specs.declared.ending.Ending.{Ending}
+use Rattle.bridge_runs.specs.declared.ending.Ending.TheVariants as ending
+use Rattle.bridge_runs.specs.Courses.{Course, World}
+use Rattle.bridge_report.specs.Following.{Followed, course_from}
+use Rattle.bridge_report.specs.Outcomes.{IsRefusal}
+use Rattle.bridge_report.specs.Refusals.{refusal_line}
+use Rattle.bridge_report.specs.declared.refusal.Refusal.TheVariants as refusal
+use Rattle.bridge_steps.specs.declared.run.Following.{Following}
+use Rattle.bridge_steps.specs.Streams.{Stream}
+
+-- a frame is accepted: what it leaves, the number in its line, and how many segments are made
+pub record Accepts {S X : Type 0} (f : Followed S X) (s : S) (x : X) (s' : S) (n m m' : ℕ) : Type 0 where
+  pub accepted : f.refusal s x ≡ None
+  pub after : s' ≡ f.after s x
+  pub appended : n ≡ f.appended s x
+  pub made : m' ≡ m + f.makes s x
+
+-- ---- the course
+
+-- a stream that isn't whole is refused as no file
+abbrev pub fault_line : FrameFault → List ℕ
+fault_line fault = refusal_line (codes "-") (refusal.Frame fault)
+
+-- after some frames, of which some are accepted, the course of the stream that is left
+abbrev pub course_of : {S X : Type 0} → Followed S X → S → (frames accepted : ℕ) → Stream X → Course
+course_of f s i a stream = course_from f s i a stream.0 (option_map fault_line stream.1)
+
+-- the course of a stream of bytes, where this was left before
+abbrev pub follow_course : {S X : Type 0} → Followed S X → (stream : FramePos → List ℕ → Stream X) → S → (bytes : List ℕ) → Course
+follow_course f stream s bytes = course_of f s 0 0 (stream start bytes)
+
+-- what is left of it, where a run has come so far and these bytes are left
+abbrev pub rest_course : {S X : Type 0} → Followed S X → (stream : FramePos → List ℕ → Stream X) → Following S → (bytes : List ℕ) → Course
+rest_course f stream run bytes = course_of f run.live run.at.frames run.accepted (stream run.at bytes)
+
+-- a run that goes on, by how many frames were accepted
+pub record IsGoing {S : Type 0} (accepted_of : S → ℕ) (run : Following S) : Type 0 where
+  pub at : IsFramePos run.at
+  pub count : accepted_of run.live ≡ run.accepted
+  pub few : run.accepted ≤ run.at.frames
+
+-- ---- how it ends where no frame is read
+
+abbrev pub IsBroken : FrameFault → Ending → Type 0
+IsBroken fault.Fault told = told ≡ ending.ReadFault
+IsBroken fault.Memory told = told ≡ ending.Memory
+IsBroken f told = IsRefusal (fault_line f) told
+
+-- some lines were told, or a front of one
+abbrev pub Grows : (before after : Option (List ℕ)) → Type 0
+Grows before after = (lines : List ℕ) × Appends lines before after
+
+-- what a run meets, in the order of its record
+abbrev pub world_of : (files : Option Files) (report : Option (List ℕ)) (input_faults read_faults write_faults report_faults made : ℕ)
+    → World
+world_of files report input_faults read_faults write_faults report_faults made = record {
+  files = files;
+  report = report;
+  input_faults = input_faults;
+  read_faults = read_faults;
+  write_faults = write_faults;
+  report_faults = report_faults;
+  made = made;
+}

@@ -1,0 +1,83 @@
+// What is followed.
+ghost use Rattle.std.specs.Prelude.{◌≡◌, ℕ, ◌+◌, ◌<◌, ◌≤◌, List, Option, Some, IfOk, IfErr, IfSome, OnOk, OnErr};
+ghost use Rattle.bridge_io.specs.Fault.{HasCause};
+ghost use Rattle.bridge_io.specs.InOrder.{put_all, AreBegun};
+ghost use Rattle.bridge_io.specs.Outside.{Changes};
+ghost use Rattle.file_pieces.specs.declared.fault.OutFault.TheVariants.{WriteFault};
+ghost use Rattle.bridge_jobs.specs.Frames.{IsFramePos, most_frames};
+ghost use Rattle.bridge_jobs.specs.declared.frame.FramePos.{FramePos};
+ghost use Rattle.bridge_jobs.specs.declared.frame.FrameFault.TheVariants.{Fault};
+ghost use Rattle.bridge_report.specs.Following.{Followed};
+ghost use Rattle.bridge_report.specs.Refusals.{refusal_text, refused_in};
+ghost use Rattle.bridge_steps.specs.Follow.{Accepts};
+ghost use Rattle.bridge_steps.specs.Streams.{Stream, ReadsFirst};
+
+use bridge_io::{Ledger, Source, Steps, Store};
+use bridge_jobs::{FrameFault, FramePos};
+use bridge_report::Stop;
+use hls_writer::OutFault;
+use std::alloc::Global;
+
+/// What is followed: a stream of frames, each of which is accepted or refused, and the files of what the accepted ones leave.
+pub trait Follow {
+    /// A frame of the stream.
+    type Frame: Drop;
+
+    /// What the accepted frames left.
+    type Live: Drop;
+
+    /// Why frames are refused, what they leave, and which files are written of that.
+    ghost told: { Self → Followed Self.Live Self.Frame };
+
+    /// How many frames were accepted.
+    ghost accepted: { Self → Self.Live → ℕ };
+
+    /// The stream of the bytes that begin at a place.
+    ghost stream: { Self → FramePos → List ℕ → Stream Self.Frame };
+
+    /// What is known of a frame that is read.
+    ghost is_read: { Self → Self.Frame → Type 0 };
+
+    /// Reads the next frame of the stream, and moves the place behind it. There is none exactly where the stream ends at a
+    /// frame's end.
+    fn next<I: Source>(
+        &self,
+        alloc: Global,
+        input: &mut I,
+        at: &mut FramePos,
+    ) -> Result<Option<Self::Frame>, FrameFault>
+        requires { IsFramePos at.old }
+        ensures frame { ReadsFirst (stream self.now) at.old at.new result (I.remaining input.old) (I.remaining input.new) }
+        ensures kept { IsFramePos at.new }
+        ensures counts { IfOk result (λ frame. IfSome frame (λ f. at.new.frames ≡ at.old.frames + 1)) }
+        ensures read { IfOk result (λ frame. IfSome frame (λ f. is_read self.now f)) }
+        ensures cause { HasCause Fault (I.faults input.old) (I.faults input.new) result };
+
+    /// Takes a frame, and answers how many segments it appended; or why it is refused, and then nothing is changed.
+    fn accept<L: Ledger>(
+        &self,
+        alloc: Global,
+        live: &mut Self::Live,
+        frame: &Self::Frame,
+        steps: &mut Steps<L>,
+    ) -> Result<u64, Stop>
+        requires few { accepted self.now live.old < most_frames }
+        requires read { is_read self.now frame.now }
+        ensures accepted { IfOk result (λ n. Accepts (told self.now) live.old frame.now live.new n steps.old steps.new) }
+        ensures refused { IfErr result (λ stop. IfSome (refused_in stop) (λ r. (told self.now).refusal live.old frame.now ≡ Some (refusal_text r))) }
+        ensures same { OnErr result (live.new ≡ live.old) }
+        ensures made { OnErr result ((steps.old ≤ steps.new) × (steps.new ≤ steps.old + (told self.now).makes live.old frame.now)) }
+        ensures counts { OnOk result (accepted self.now live.new ≡ accepted self.now live.old + 1) };
+
+    /// Writes the files of what the accepted frames left.
+    fn publish<F: Store>(
+        &self,
+        alloc: Global,
+        live: &Self::Live,
+        store: &mut F,
+    ) -> Result<(), OutFault>
+        ensures ok { OnOk result (Changes (put_all ((told self.now).files live.now)) (F.files store.old) (F.files store.new)) }
+        ensures err { OnErr result (AreBegun ((told self.now).files live.now) (F.files store.old) (F.files store.new)) }
+        ensures cause { HasCause WriteFault (F.write_faults store.old) (F.write_faults store.new) result }
+        ensures reads { F.read_faults store.new ≡ F.read_faults store.old };
+}

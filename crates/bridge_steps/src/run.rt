@@ -1,0 +1,222 @@
+// The run of what is followed.
+ghost use Rattle.std.specs.Prelude.{◌≡◌, ◌⊎◌, ◌+◌, ◌<◌, ◌≤◌, List, ℕ, Some, MatchResult, OnOk, IfOk, IfErr};
+ghost use Rattle.std.specs.Option.{ForSome};
+ghost use Rattle.bridge_io.specs.InOrder.{put_all};
+ghost use Rattle.bridge_io.specs.Outside.{Changes, Appends};
+ghost use Rattle.bridge_jobs.specs.Frames.{most_frames};
+ghost use Rattle.bridge_runs.specs.Runs.{NeverFalls};
+ghost use Rattle.bridge_runs.specs.Steps.{Work, Leads, IsCaused, StepIsDone, Stops, Halts, IsCutOff};
+ghost use Rattle.bridge_runs.specs.declared.ending.Ending.TheVariants as ending;
+ghost use Rattle.bridge_report.specs.Following.{step_of, next_of, accepted_with, accepted_line, refused_frame};
+ghost use Rattle.bridge_report.specs.Refusals as refusals;
+ghost use Rattle.bridge_steps.specs.Follow.{follow_course, rest_course, IsGoing, IsBroken, Grows, world_of};
+
+use crate::frames::Follow;
+use bridge_io::{Ledger, NoMemory, Sink, Source, Steps, Store, Text};
+use bridge_jobs::{FrameFault, FramePos};
+use bridge_report::{
+    Refusal, Stop, frame_accepted, frame_refused, refusal_text, refused, stream_done, tell_line,
+};
+use bridge_runs::Ending;
+use hls_writer::OutFault;
+use std::alloc::Global;
+
+/// How far a run has come.
+#[derive(Drop)]
+pub struct Following<S> {
+    /// Where the next frame may begin.
+    pub at: FramePos,
+    /// What the accepted frames left.
+    pub live: S,
+    /// How many frames were accepted.
+    pub accepted: u64,
+}
+
+/// Works off the frames of the input one after another, and answers how that ends. The files of an accepted frame are written,
+/// and then its line is told; a refused frame has a line alone. [`Ending::ReadFault`] comes only where the source's count of
+/// faults rose, and the store is never read.
+pub fn follow<T: Follow, I: Source, F: Store, P: Sink, L: Ledger>(
+    alloc: Global,
+    followed: &T,
+    live: T::Live,
+    input: &mut I,
+    store: &mut F,
+    report: &mut P,
+    steps: &mut Steps<L>,
+) -> Ending
+    requires { T.accepted followed.now live ≡ 0 }
+    ensures work { ForSome (I.remaining input.old) (λ bytes. Work (follow_course (T.told followed.now) (T.stream followed.now) live bytes) result
+        (world_of (F.files store.old) (P.written report.old) (I.faults input.old) (F.read_faults store.old) (F.write_faults store.old) (P.faults report.old) steps.old)
+        (world_of (F.files store.new) (P.written report.new) (I.faults input.new) (F.read_faults store.new) (F.write_faults store.new) (P.faults report.new) steps.new)) }
+    ensures caused { IsCaused result
+        (world_of (F.files store.old) (P.written report.old) (I.faults input.old) (F.read_faults store.old) (F.write_faults store.old) (P.faults report.old) steps.old)
+        (world_of (F.files store.new) (P.written report.new) (I.faults input.new) (F.read_faults store.new) (F.write_faults store.new) (P.faults report.new) steps.new) }
+    ensures told { Grows (P.written report.old) (P.written report.new) }
+    ensures reads { F.read_faults store.new ≡ F.read_faults store.old }
+{
+    let mut run = Following {
+        at: FramePos::START,
+        live,
+        accepted: 0,
+    };
+    loop {
+        match follow_next(alloc, followed, &mut run, input, store, report, steps) {
+            Ok(()) => {}
+            Err(told) => return told,
+        }
+    }
+}
+
+/// Works off the next frame, or answers how the work ends.
+fn follow_next<T: Follow, I: Source, F: Store, P: Sink, L: Ledger>(
+    alloc: Global,
+    followed: &T,
+    run: &mut Following<T::Live>,
+    input: &mut I,
+    store: &mut F,
+    report: &mut P,
+    steps: &mut Steps<L>,
+) -> Result<(), Ending>
+    requires { IsGoing (T.accepted followed.now) run.old }
+    ensures next { (bytes : List ℕ) → I.remaining input.old ≡ Some bytes →
+        let course = rest_course (T.told followed.now) (T.stream followed.now) in
+        let before = world_of (F.files store.old) (P.written report.old) (I.faults input.old) (F.read_faults store.old) (F.write_faults store.old) (P.faults report.old) steps.old in
+        let after = world_of (F.files store.new) (P.written report.new) (I.faults input.new) (F.read_faults store.new) (F.write_faults store.new) (P.faults report.new) steps.new in
+        MatchResult result
+        (λ _. (rest : List ℕ) × (I.remaining input.new ≡ Some rest) × Leads (course run.old bytes) (course run.new rest) before after)
+        (λ told. Work (course run.old bytes) told before after) }
+    ensures going { OnOk result (IsGoing (T.accepted followed.now) run.new) }
+    ensures counts { OnOk result (run.new.at.frames ≡ run.old.at.frames + 1) }
+    ensures caused { IfErr result (λ told. IsCaused told
+        (world_of (F.files store.old) (P.written report.old) (I.faults input.old) (F.read_faults store.old) (F.write_faults store.old) (P.faults report.old) steps.old)
+        (world_of (F.files store.new) (P.written report.new) (I.faults input.new) (F.read_faults store.new) (F.write_faults store.new) (P.faults report.new) steps.new)) }
+    ensures never_falls { NeverFalls
+        (world_of (F.files store.old) (P.written report.old) (I.faults input.old) (F.read_faults store.old) (F.write_faults store.old) (P.faults report.old) steps.old)
+        (world_of (F.files store.new) (P.written report.new) (I.faults input.new) (F.read_faults store.new) (F.write_faults store.new) (P.faults report.new) steps.new) }
+    ensures told { Grows (P.written report.old) (P.written report.new) }
+    ensures reads { F.read_faults store.new ≡ F.read_faults store.old }
+{
+    let index = run.at.frames;
+    let accepted = run.accepted;
+    match followed.next(alloc, input, &mut run.at) {
+        Ok(Some(frame)) => {
+            let live = &mut run.live;
+            match follow_frame(
+                alloc, followed, live, index, accepted, &frame, store, report, steps,
+            ) {
+                Ok(accepted) => {
+                    run.accepted = accepted;
+                    Ok(())
+                }
+                Err(told) => Err(told),
+            }
+        }
+        Ok(None) => Err(stream_done(alloc, index, accepted)),
+        Err(fault) => Err(broken(alloc, fault)),
+    }
+}
+
+/// How the work ends where no frame is read.
+fn broken(alloc: Global, fault: FrameFault) -> Ending
+    ensures { IsBroken fault result }
+{
+    match fault {
+        FrameFault::Fault => Ending::ReadFault,
+        FrameFault::Memory => Ending::Memory,
+        _ => refused(alloc, "-", Refusal::Frame(fault)),
+    }
+}
+
+/// Works off a frame, and answers how many were accepted so far. Where it is accepted, the files are written; in either
+/// case a line is told.
+fn follow_frame<T: Follow, F: Store, P: Sink, L: Ledger>(
+    alloc: Global,
+    followed: &T,
+    live: &mut T::Live,
+    index: u64,
+    accepted: u64,
+    frame: &T::Frame,
+    store: &mut F,
+    report: &mut P,
+    steps: &mut Steps<L>,
+) -> Result<u64, Ending>
+    requires count { T.accepted followed.now live.old ≡ accepted }
+    requires few { accepted < most_frames }
+    requires read { T.is_read followed.now frame.now }
+    ensures done { IfOk result (λ n. StepIsDone (step_of (T.told followed.now) live.old index frame.now)
+        (world_of (F.files store.old) (P.written report.old) 0 (F.read_faults store.old) (F.write_faults store.old) (P.faults report.old) steps.old)
+        (world_of (F.files store.new) (P.written report.new) 0 (F.read_faults store.new) (F.write_faults store.new) (P.faults report.new) steps.new)) }
+    ensures next { IfOk result (λ n. (live.new ≡ next_of (T.told followed.now) live.old frame.now)
+        × (n ≡ accepted_with (T.told followed.now) live.old frame.now accepted)) }
+    ensures count { IfOk result (λ n. (T.accepted followed.now live.new ≡ n) × (n ≤ accepted + 1)) }
+    ensures stops { IfErr result (λ told. Stops (step_of (T.told followed.now) live.old index frame.now) told
+        (world_of (F.files store.old) (P.written report.old) 0 (F.read_faults store.old) (F.write_faults store.old) (P.faults report.old) steps.old)
+        (world_of (F.files store.new) (P.written report.new) 0 (F.read_faults store.new) (F.write_faults store.new) (P.faults report.new) steps.new)) }
+    ensures counts { (F.write_faults store.old ≤ F.write_faults store.new) × (P.faults report.old ≤ P.faults report.new) }
+    ensures reads { F.read_faults store.new ≡ F.read_faults store.old }
+{
+    match followed.accept(alloc, live, frame, steps) {
+        Ok(appended) => match publish(alloc, followed, live, index, appended, store, report) {
+            Ok(()) => Ok(accepted + 1),
+            Err(told) => Err(told),
+        },
+        Err(Stop::Refused(refusal)) => match tell_refusal(alloc, index, refusal, report) {
+            Ok(()) => Ok(accepted),
+            Err(told) => Err(told),
+        },
+        Err(Stop::Memory) => Err(Ending::Memory),
+    }
+}
+
+/// Writes the files of what the accepted frames left, and tells the line of the last one.
+fn publish<T: Follow, F: Store, P: Sink>(
+    alloc: Global,
+    followed: &T,
+    live: &T::Live,
+    index: u64,
+    appended: u64,
+    store: &mut F,
+    report: &mut P,
+) -> Result<(), Ending>
+    ensures files { OnOk result (Changes (put_all ((T.told followed.now).files live.now)) (F.files store.old) (F.files store.new)) }
+    ensures line { OnOk result (Appends (accepted_line index appended) (P.written report.old) (P.written report.new)) }
+    ensures err { IfErr result (λ told. Halts ((T.told followed.now).files live.now) (accepted_line index appended) told
+        (record { files = F.files store.old; report = P.written report.old; write_faults = F.write_faults store.old; report_faults = P.faults report.old })
+        (record { files = F.files store.new; report = P.written report.new; write_faults = F.write_faults store.new; report_faults = P.faults report.new })) }
+    ensures counts { (F.write_faults store.old ≤ F.write_faults store.new) × (P.faults report.old ≤ P.faults report.new) }
+    ensures reads { F.read_faults store.new ≡ F.read_faults store.old }
+{
+    let Ok(line) = frame_accepted(alloc, index, appended) else {
+        return Err(Ending::Memory);
+    };
+    match followed.publish(alloc, live, store) {
+        Ok(()) => tell_line(&line, report),
+        Err(OutFault::WriteFault) => Err(Ending::WriteFault),
+        Err(OutFault::Memory) => Err(Ending::Memory),
+    }
+}
+
+/// Tells the line of a refused frame.
+fn tell_refusal<P: Sink>(
+    alloc: Global,
+    index: u64,
+    refusal: Refusal,
+    report: &mut P,
+) -> Result<(), Ending>
+    ensures line { OnOk result (Appends (refused_frame index (refusals.refusal_text refusal)) (P.written report.old) (P.written report.new)) }
+    ensures err { IfErr result (λ told. ((told ≡ ending.Memory) × (P.written report.new ≡ P.written report.old))
+        ⊎ IsCutOff (refused_frame index (refusals.refusal_text refusal)) told (P.faults report.old) (P.faults report.new) (P.written report.old) (P.written report.new)) }
+    ensures counts { P.faults report.old ≤ P.faults report.new }
+{
+    match refused_text(alloc, index, refusal) {
+        Ok(line) => tell_line(&line, report),
+        Err(NoMemory) => Err(Ending::Memory),
+    }
+}
+
+fn refused_text(alloc: Global, index: u64, refusal: Refusal) -> Result<Text, NoMemory>
+    ensures { IfOk result (λ line. line ≡ refused_frame index (refusals.refusal_text refusal)) }
+{
+    let why = refusal_text(alloc, refusal)?;
+    frame_refused(alloc, index, why.as_str())
+}
