@@ -5,7 +5,7 @@ use Rattle.std.specs.List.{position, position_from}
 use Rattle.std.proofs.lemmas.Bool.{cases_Bool}
 use Rattle.std.proofs.lemmas.Bool.Decides.{nat_tests}
 use Rattle.std.proofs.lemmas.Iterator.Adapters.{position_from-zero}
-use Rattle.std.proofs.lemmas.List.{append_assoc, append-nil, get_or-drop, drop-drop}
+use Rattle.std.proofs.lemmas.List.{append-nil, get_or-drop, drop-drop}
 use Rattle.std.proofs.lemmas.List.Quantifiers.{position-Some}
 use Rattle.byte_scan.specs.ByteSet.{is_member}
 use Rattle.mpd_text.specs.Escapes.{escape_all, escape_of}
@@ -33,7 +33,8 @@ unfolding escape_all
 first_at [] place d within before = absurd (omega arith)
 first_at (b ∷ text) zero d within before = refl
 first_at (b ∷ text) (suc place) d within before =
-    ap (λ t. t ++ escape_all text) (stays b (before 0 (omega arith))) ∙ ap (λ t. b ∷ t) (first_at text place d (omega arith) (λ k below. before (suc k) (omega arith)))
+    ap (λ t. t ++ escape_all text) (stays b (before 0 (omega arith)))
+    ∙ ap (λ t. b ∷ t) (first_at text place d (omega arith) (λ k below. before (suc k) (omega arith)))
 
 -- the first one stands at a place
 pub first_escaped : (text : List ℕ) (place d : ℕ) → position (is_member four) text ≡ Some place
@@ -41,38 +42,42 @@ pub first_escaped : (text : List ℕ) (place d : ℕ) → position (is_member fo
 first_escaped text place d first = let found = position-Some (is_member four) text place d first in
     let next : place + 1 ≡ suc place = omega arith in rw next (first_at text place d found.0 found.2)
 
-pub found_at : (text : List ℕ) (place : ℕ) → position (is_member four) text ≡ Some place → (place < length text) × (is_member four (get_or (drop place text) 0 0) ≡ true)
+pub found_at : (text : List ℕ) (place : ℕ) → position (is_member four) text ≡ Some place
+    → (place < length text) × (is_member four (get_or (drop place text) 0 0) ≡ true)
 found_at text place first = let found = position-Some (is_member four) text place 0 first in
     let there : place + 0 ≡ place = omega arith in
     (found.0, ap (is_member four) (get_or-drop place text 0 0 ∙ ap (λ k. get_or text k 0) there) ∙ found.1)
 
--- what is added up to the first one goes on to the whole
-pub goes_on : (done text front back : List ℕ) (place : ℕ) (whole : List ℕ) → position (is_member four) text ≡ Some place → front ≡ take place text → back ≡ drop place text
-    → done ++ escape_all text ≡ whole → done ++ (front ++ (escape_of (get_or back 0 0) ++ [])) ++ escape_all (drop 1 back) ≡ whole
-goes_on done text front back place whole first before behind goes =
+-- up to the first one, and behind it
+pub first_parts : (text front back : List ℕ) (place : ℕ) → position (is_member four) text ≡ Some place → front ≡ take place text → back
+    ≡ drop place text
+    → escape_all text ≡ front ++ (escape_of (get_or back 0 0) ++ []) ++ escape_all (drop 1 back)
+first_parts text front back place first before behind =
     let there : place + 0 ≡ place = omega arith in
-    let byte : get_or back 0 0 ≡ get_or text place 0 = ap (λ xs. get_or xs 0 0) behind ∙ get_or-drop place text 0 0 ∙ ap (λ k. get_or text k 0) there in
+    let byte : get_or back 0 0 ≡ get_or text place 0 = ap (λ xs. get_or xs 0 0) behind ∙ get_or-drop place text 0 0
+    ∙ ap (λ k. get_or text k 0) there in
     let rest : drop 1 back ≡ drop (place + 1) text = ap (drop 1) behind ∙ drop-drop 1 place text in
-    ap (λ b. done ++ (front ++ (escape_of b ++ [])) ++ escape_all (drop 1 back)) byte
-    ∙ ap (λ xs. done ++ (xs ++ (escape_of (get_or text place 0) ++ [])) ++ escape_all (drop 1 back)) before
-    ∙ ap (λ xs. done ++ (take place text ++ (escape_of (get_or text place 0) ++ [])) ++ escape_all xs) rest
-    ∙ ap (λ xs. done ++ (take place text ++ xs) ++ escape_all (drop (place + 1) text)) (append-nil (escape_of (get_or text place 0)))
-    ∙ append_assoc done (take place text ++ escape_of (get_or text place 0)) (escape_all (drop (place + 1) text))
-    ∙ ap (λ t. done ++ t) (sym (first_escaped text place 0 first)) ∙ goes
+    first_escaped text place 0 first ∙ sym (
+    ap (λ b. front ++ (escape_of b ++ []) ++ escape_all (drop 1 back)) byte
+    ∙ ap (λ xs. xs ++ (escape_of (get_or text place 0) ++ []) ++ escape_all (drop 1 back)) before
+    ∙ ap (λ xs. take place text ++ (escape_of (get_or text place 0) ++ []) ++ escape_all xs) rest
+    ∙ ap (λ xs. take place text ++ xs ++ escape_all (drop (place + 1) text)) (append-nil (escape_of (get_or text place 0))))
 
 -- ---- numbers
 
 digit_stays : (b : ℕ) → 48 ≤ b → b ≤ 57 → escape_of b ≡ b ∷ []
 digit_stays b low high = byte_stays b (grind arith) (grind arith) (grind arith) (grind arith)
 
-digits_stay : (k n : ℕ) (behind : List ℕ) → escape_all behind ≡ behind → escape_all (digits_onto k 10 false n behind) ≡ digits_onto k 10 false n behind
+digits_stay : (k n : ℕ) (behind : List ℕ) → escape_all behind ≡ behind → escape_all (digits_onto k 10 false n behind)
+    ≡ digits_onto k 10 false n behind
 unfolding escape_all
 digits_stay zero n behind stay = stay
 digits_stay (suc k) n behind stay =
     let glyph = digit_glyph false (n % 10) in
     let low : 48 ≤ glyph = grind (arith, nat_tests) in
     let high : glyph ≤ 57 = grind (arith, nat_tests) in
-    let one : escape_all (glyph ∷ behind) ≡ glyph ∷ behind = ap (λ t. t ++ escape_all behind) (digit_stays glyph low high) ∙ ap (λ t. glyph ∷ t) stay in
+    let one : escape_all (glyph ∷ behind) ≡ glyph ∷ behind = ap (λ t. t ++ escape_all behind) (digit_stays glyph low high)
+    ∙ ap (λ t. glyph ∷ t) stay in
     elim (cases_Bool (n / 10 == 0)) [ inl last ↦ rw last one | inr more ↦ rw more (digits_stay k (n / 10) (glyph ∷ behind) one) ]
 
 -- however large a number is, what is written of it stays
@@ -81,7 +86,8 @@ unfolding digits escape_all
 decimal_stays n = digits_stay 64 n [] refl
 
 -- two numbers with a byte between them
-pub numbers_stay : (a mark b : ℕ) → escape_of mark ≡ mark ∷ [] → decimal a ++ (mark ∷ (decimal b ++ [])) ≡ escape_all (decimal a ++ mark ∷ decimal b)
+pub numbers_stay : (a mark b : ℕ) → escape_of mark ≡ mark ∷ [] → decimal a ++ (mark ∷ (decimal b ++ []))
+    ≡ escape_all (decimal a ++ mark ∷ decimal b)
 unfolding escape_all
 numbers_stay a mark b stays =
     ap (λ t. decimal a ++ (mark ∷ t)) (append-nil (decimal b))

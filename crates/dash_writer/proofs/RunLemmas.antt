@@ -1,8 +1,8 @@
 -- Runs of segments one after another.
-use Rattle.std.proofs.Common.{◌≡◌, ℕ, suc, ◌+◌, ◌==◌, ◌<◌, ◌^◌, true, false, List, [], ◌∷◌, ◌++◌, replicate, Option, None, refl, sym, ap, ◌∙◌, arith, inl, inr}
+use Rattle.std.proofs.Common.{◌≡◌, ℕ, suc, ◌+◌, ◌==◌, ◌<◌, ◌^◌, true, false, List, [], ◌∷◌, ◌++◌, replicate, Option, None, refl, ap, ◌∙◌, arith, inl, inr}
 use Rattle.std.proofs.lemmas.Bool.{cases_Bool, eqb-true}
 use Rattle.std.proofs.lemmas.Bool.Decides.{nat_tests}
-use Rattle.std.proofs.lemmas.List.{append_assoc, length-replicate}
+use Rattle.std.proofs.lemmas.List.{length-replicate}
 use Rattle.dash_writer.specs.Runs.{longest_runs}
 use Rattle.dash_writer.specs.Segments.{s_element, s_elements, same_duration}
 use Rattle.dash_writer.specs.SegmentRuns.{ended, gone_on, runs_left}
@@ -18,29 +18,32 @@ other_way : (one other : ℕ) → (other == one) ≡ false → same_duration one
 other_way one other isnt = grind (arith, nat_tests)
 
 -- the elements where the first run is known
-first_is : (time : Option ℕ) (n duration : ℕ) (runs : List (List ℕ)) → s_elements time ((duration ∷ replicate n duration) ∷ runs) ≡ s_element time duration n ∷ s_elements None runs
+first_is : (time : Option ℕ) (n duration : ℕ) (runs : List (List ℕ)) → s_elements time ((duration ∷ replicate n duration) ∷ runs)
+    ≡ s_element time duration n ∷ s_elements None runs
 first_is time n duration runs = ap (λ k. s_element time duration k ∷ s_elements None runs) (length-replicate n duration)
 
 -- a further segment
-pub run_goes_on : (run : SegmentRun) (duration : ℕ) (durations : List ℕ)
+run_goes_on : (run : SegmentRun) (duration : ℕ) (durations : List ℕ)
     → runs_left run (duration ∷ durations) ≡ ended run duration ++ runs_left (gone_on run duration) durations
 run_goes_on run duration durations = elim (cases_Bool (duration == run.duration)) [
   | inl is ↦ let same : duration ≡ run.duration = eqb-true duration run.duration is in
-      rw is (rw same (ap (λ ds. s_elements run.time (longest_runs same_duration (run.duration ∷ ds))) (replicate-more run.repeats run.duration durations)))
-  | inr isnt ↦ rw isnt (ap (s_elements run.time) (repeats_apart same_duration run.repeats run.duration duration durations (same_as_itself run.duration) (other_way run.duration duration isnt))
+      rw is (rw same (ap (λ ds. s_elements run.time (longest_runs same_duration (run.duration ∷ ds)))
+      (replicate-more run.repeats run.duration durations)))
+  | inr isnt ↦ rw isnt (ap (s_elements run.time) (repeats_apart same_duration run.repeats run.duration duration durations
+      (same_as_itself run.duration) (other_way run.duration duration isnt))
       ∙ first_is run.time run.repeats run.duration (longest_runs same_duration (duration ∷ durations)))
 ]
 
 -- no further segment
 pub run_ends : (run : SegmentRun) → runs_left run [] ≡ s_element run.time run.duration run.repeats ∷ []
-run_ends run = ap (s_elements run.time) (repeats_alone same_duration run.repeats run.duration (same_as_itself run.duration)) ∙ first_is run.time run.repeats run.duration []
+run_ends run = ap (s_elements run.time) (repeats_alone same_duration run.repeats run.duration (same_as_itself run.duration))
+    ∙ first_is run.time run.repeats run.duration []
 
--- what is added so far goes on to the whole
-pub runs_go_on : (run : SegmentRun) (duration : ℕ) (durations done whole : List ℕ) → done ++ elements_text (runs_left run (duration ∷ durations)) ≡ whole
-    → done ++ elements_text (ended run duration) ++ elements_text (runs_left (gone_on run duration) durations) ≡ whole
-runs_go_on run duration durations done whole goes =
-    append_assoc done (elements_text (ended run duration)) (elements_text (runs_left (gone_on run duration) durations))
-    ∙ ap (λ t. done ++ t) (sym (elements-append (ended run duration) (runs_left (gone_on run duration) durations)) ∙ ap elements_text (sym (run_goes_on run duration durations))) ∙ goes
+pub more_runs : (run : SegmentRun) (duration : ℕ) (durations : List ℕ)
+    → elements_text (runs_left run (duration ∷ durations)) ≡ elements_text (ended run duration) ++ elements_text
+    (runs_left (gone_on run duration) durations)
+more_runs run duration durations = ap elements_text (run_goes_on run duration durations)
+    ∙ elements-append (ended run duration) (runs_left (gone_on run duration) durations)
 
 -- and there is room for the number of its repeats
 pub room_left : (run : SegmentRun) (duration left : ℕ) → run.repeats + suc left < 2 ^ 64 → (gone_on run duration).repeats + left < 2 ^ 64
@@ -51,5 +54,6 @@ room_left run duration left room = elim (cases_Bool (duration == run.duration)) 
 
 -- a run has an element
 pub some_runs : (run : SegmentRun) (durations : List ℕ) → is_childless (runs_left run durations) ≡ false
-some_runs run durations = let first = begins same_duration run.duration (longest_runs same_duration (replicate run.repeats run.duration ++ durations)) in
+some_runs run durations = let first = begins same_duration run.duration
+    (longest_runs same_duration (replicate run.repeats run.duration ++ durations)) in
     rw first.2 refl

@@ -1,4 +1,6 @@
 pub mod Elements
+pub mod Escaped
+pub mod Given
 pub mod Lists
 pub mod Manifest
 pub mod Outline
@@ -7,4 +9,3 @@ pub mod SegmentRuns
 pub mod Segments
 pub mod Values
 pub mod Written
-pub mod Escaped

@@ -6,7 +6,7 @@ use Rattle.presentation.specs.declared.track.Section.{Section}
 use Rattle.presentation.specs.declared.track.Track.{Track}
 use Rattle.presentation.specs.Presented.{Presented, content_at, listed_in, window_of}
 use Rattle.dash_writer.specs.Elements.{Attribute, Element}
-use Rattle.dash_writer.specs.Outline.{Outline, outline_text, period_element, period_elements, root_element, set_element, set_elements, sets_of, track_element, track_elements}
+use Rattle.dash_writer.specs.Outline.{Outline, heads_from, outline_text, period_element, period_elements, root_element, set_element, set_elements, sets_of, track_element, track_elements}
 use Rattle.dash_writer.specs.Segments.{segment_list}
 
 -- ---- tracks (5.3.3 and 5.3.5)
@@ -52,8 +52,7 @@ period_attributes place section =
 
 -- those of the sections from a place on
 abbrev pub all_period_attributes : (place : ℕ) → List Section → List (List Attribute)
-all_period_attributes place [] = []
-all_period_attributes place (section ∷ sections) = period_attributes place section ∷ all_period_attributes (place + 1) sections
+all_period_attributes place sections = heads_from period_attributes place sections
 
 -- when a section ends, in nanoseconds, of which fewer than 10^19 can be written
 abbrev pub end_of : Section → Option ℕ
@@ -63,14 +62,18 @@ end_of section = option_map (λ length. min (10 ^ 19 - 1) (section.start + lengt
 abbrev pub last_end : List Section → Option ℕ
 last_end sections = option_and_then end_of (slice_get sections (length sections - 1))
 
-abbrev pub root_attributes : List Section → List Attribute
-root_attributes sections =
+-- the attributes of a finished MPD that ends at a time
+abbrev pub finished_root : (end : Option ℕ) → List Attribute
+finished_root end =
     (codes "xmlns", Some (codes "urn:mpeg:dash:schema:mpd:2011"))
     ∷ (codes "profiles", Some (codes "urn:mpeg:dash:profile:full:2011"))
     ∷ (codes "type", Some (codes "static"))
     ∷ (codes "minBufferTime", Some (codes "PT2S"))
-    ∷ (codes "mediaPresentationDuration", option_map duration_text (last_end sections))
+    ∷ (codes "mediaPresentationDuration", option_map duration_text end)
     ∷ []
+
+abbrev pub root_attributes : List Section → List Attribute
+root_attributes sections = finished_root (last_end sections)
 
 -- the outline of a presentation's MPD
 abbrev pub outline_of : Presented → Outline

@@ -73,6 +73,11 @@ sets_of lists tracks = set_elements lists 0 (longest_runs stand_together tracks)
 
 -- ---- Periods (5.3.2), and the whole (5.3.1)
 
+-- the attributes of Periods from a place on, each by its place
+abbrev pub heads_from : {P : Type 0} → (head : ℕ → P → List Attribute) → (place : ℕ) → List P → List (List Attribute)
+heads_from head place [] = []
+heads_from head place (period ∷ periods) = head place period ∷ heads_from head (place + 1) periods
+
 -- Period: the one at a place
 abbrev pub period_element : Outline → (place : ℕ) → List Attribute → Element
 period_element o place attributes = node (codes "Period") attributes (sets_of (o.lists place) o.tracks)

@@ -31,7 +31,8 @@ pub(crate) fn push_start<F: Store>(
     childless: bool,
 ) -> Result<(), Fail>
     ensures { let shows = shown F.files F.read_faults F.write_faults in
-        Adds (start_text (tag_of name.now (all_told attributes.now)) childless) writer.old writer.new (shows store.old) (shows store.new) result }
+        Adds (start_text (tag_of name.now (all_told attributes.now)) childless)
+        writer.old writer.new (shows store.old) (shows store.new) result }
 {
     push_opening(writer, store, name, attributes)?;
     push_pieces(writer, store, &[Piece::Text(tag_end(childless))])

@@ -5,6 +5,7 @@ mod attribute;
 mod element;
 mod escape;
 mod manifest;
+mod outline;
 mod segments;
 mod sets;
 mod times;

@@ -4,16 +4,16 @@ ghost use Rattle.bridge_io.specs.declared.outside.Fail.TheVariants.{Memory};
 ghost use Rattle.file_pieces.specs.Adding.{Adds, shown};
 ghost use Rattle.timeline.specs.Listed.{IsDone, IsMade, IsReached, IsWindowOf};
 ghost use Rattle.presentation.specs.Laws.{HasAddress};
-ghost use Rattle.presentation.specs.Origins.{CameFromPlaylists, IsAddressed};
+ghost use Rattle.presentation.specs.Origins.{IsAddressed};
 ghost use Rattle.presentation.specs.Presented.{listed_in};
-ghost use Rattle.dash_writer.specs.Elements.{node, tag_of};
+ghost use Rattle.dash_writer.specs.Elements.{node};
 ghost use Rattle.dash_writer.specs.Manifest.{CanBeListed, segment_lists};
 ghost use Rattle.dash_writer.specs.SegmentRuns.{runs_left};
 ghost use Rattle.dash_writer.specs.Segments as spec;
 ghost use Rattle.dash_writer.specs.Values.{range_text};
-ghost use Rattle.dash_writer.specs.Written.{element_text, elements_text, start_text, value_text};
+ghost use Rattle.dash_writer.specs.Written.{all_told, element_text, elements_text, value_text};
 
-use crate::attribute::Value;
+use crate::attribute::{Attribute, Value};
 use crate::element::{push_end, push_leaf, push_start};
 use crate::sets::TrackLists;
 use crate::times::{SegmentRun, push_runs};
@@ -23,12 +23,12 @@ use std::alloc::Global;
 use timeline::{ListFault, Listing, Runs, Segment, TimeWalk, Window};
 use url_parts::{Part, Range};
 
-impl TrackLists for Presentation {
+impl<L: Ledger> TrackLists<Steps<L>> for Presentation {
     ghost lists = { segment_lists };
 
     ghost can_list = { CanBeListed };
 
-    fn push_list<F: Store, L: Ledger>(
+    fn push_list<F: Store>(
         &self,
         alloc: Global,
         section: usize,
@@ -37,32 +37,14 @@ impl TrackLists for Presentation {
         store: &mut F,
         steps: &mut Steps<L>,
     ) -> Result<(), Fail> {
-        push_segments(alloc, self, section, track, writer, store, steps)
+        let runs = self.runs(section, track);
+        let part = self.initialization(section, track);
+        let window = self.window(section);
+        push_segment_list(alloc, runs, part, &window, writer, store, steps)
     }
 }
 
-/// Adds the SegmentList of a track in a section (ISO/IEC 23009-1, 5.3.9.3).
-fn push_segments<F: Store, L: Ledger>(
-    alloc: Global,
-    presentation: &Presentation,
-    section: usize,
-    track: usize,
-    writer: &mut FileWriter<'_>,
-    store: &mut F,
-    steps: &mut Steps<L>,
-) -> Result<(), Fail>
-    requires origin { CameFromPlaylists presentation.now }
-    requires section { section < length presentation.now.sections }
-    requires track { track < length presentation.now.tracks }
-    ensures { let shows = shown F.files F.read_faults F.write_faults in
-        Adds (elements_text (segment_lists presentation.now section track)) writer.old writer.new (shows store.old) (shows store.new) result }
-{
-    let runs = presentation.runs(section, track);
-    let part = presentation.initialization(section, track);
-    let window = presentation.window(section);
-    push_segment_list(alloc, runs, part, &window, writer, store, steps)
-}
-
+/// Adds a SegmentList (ISO/IEC 23009-1, 5.3.9.3).
 fn push_segment_list<F: Store, L: Ledger>(
     alloc: Global,
     runs: &Runs,
@@ -74,29 +56,19 @@ fn push_segment_list<F: Store, L: Ledger>(
 ) -> Result<(), Fail>
     requires { IsAddressed runs.now }
     ensures { let shows = shown F.files F.read_faults F.write_faults in
-        Adds (element_text (spec.segment_list runs.now part.now (listed_in window.now runs.now))) writer.old writer.new (shows store.old) (shows store.new) result }
+        Adds (element_text (spec.segment_list runs.now part.now (listed_in window.now runs.now)))
+        writer.old writer.new (shows store.old) (shows store.new) result }
 {
-    push_list_start(runs, writer, store)?;
+    push_start(writer, store, "SegmentList", &list_attributes(runs), false)?;
     push_contents(alloc, runs, part, window, writer, store, steps)?;
     push_end(writer, store, "SegmentList", false)
 }
 
-fn push_list_start<F: Store>(
-    runs: &Runs,
-    writer: &mut FileWriter<'_>,
-    store: &mut F,
-) -> Result<(), Fail>
-    ensures { let shows = shown F.files F.read_faults F.write_faults in
-        Adds (start_text (tag_of (codes "SegmentList") (spec.list_attributes runs.now)) false) writer.old writer.new (shows store.old) (shows store.new) result }
+fn list_attributes<'a>(runs: &Runs) -> [Attribute<'a>; 1]
+    ensures { all_told result ≡ spec.list_attributes runs.now }
 {
-    let scale = Value::Number(u64::from(runs.offset().scale));
-    push_start(
-        writer,
-        store,
-        "SegmentList",
-        &[("timescale", Some(scale))],
-        false,
-    )
+    let ticks = Value::Number(u64::from(runs.offset().scale));
+    [("timescale", Some(ticks))]
 }
 
 /// Adds what stands in a SegmentList.
@@ -111,7 +83,8 @@ fn push_contents<F: Store, L: Ledger>(
 ) -> Result<(), Fail>
     requires { IsAddressed runs.now }
     ensures { let shows = shown F.files F.read_faults F.write_faults in
-        Adds (elements_text (spec.list_contents runs.now part.now (listed_in window.now runs.now))) writer.old writer.new (shows store.old) (shows store.new) result }
+        Adds (elements_text (spec.list_contents runs.now part.now (listed_in window.now runs.now)))
+        writer.old writer.new (shows store.old) (shows store.new) result }
 {
     push_initialization(part, writer, store)?;
     push_timeline(runs, window, writer, store)?;
@@ -151,7 +124,8 @@ fn push_timeline<F: Store>(
     requires reached { IsReached runs.now window.now }
     ensures { let shows = shown F.files F.read_faults F.write_faults in
         let durations = map spec.duration_of (listed_in window.now runs.now) in
-        Adds (element_text (node (codes "SegmentTimeline") [] (spec.timeline_elements durations))) writer.old writer.new (shows store.old) (shows store.new) result }
+        Adds (element_text (node (codes "SegmentTimeline") [] (spec.timeline_elements durations)))
+        writer.old writer.new (shows store.old) (shows store.new) result }
 {
     let _ = runs.count(window).unwrap_or(0); // which fits a number
     let mut walk = runs.walk(&runs.seek(window), window);
@@ -188,7 +162,8 @@ fn push_urls<F: Store, L: Ledger>(
 ) -> Result<(), Fail>
     requires { All (HasAddress listing.timeline) listing.left }
     ensures { let shows = shown F.files F.read_faults F.write_faults in
-        Adds (elements_text (spec.segment_urls listing.entry.timeline listing.entry.left)) writer.old writer.new (shows store.old) (shows store.new) result }
+        Adds (elements_text (spec.segment_urls listing.entry.timeline listing.entry.left))
+        writer.old writer.new (shows store.old) (shows store.new) result }
 {
     while let Some(segment) = next_segment(alloc, &mut listing, steps)? {
         push_url(&segment, writer, store)?;

@@ -1,21 +1,21 @@
-// The tracks of a section: AdaptationSets with their Representations.
-ghost use Rattle.std.specs.Prelude.{◌≡◌, ℕ, ◌+◌, ◌<◌, ◌≤◌, ◌^◌, List, ◌∷◌, false, length, take, drop, codes, decimal, option_map, option_and_then};
+// The tracks of a Period: AdaptationSets with their Representations.
+ghost use Rattle.std.specs.Prelude.{◌≡◌, ℕ, ◌+◌, ◌<◌, ◌≤◌, ◌^◌, List, ◌∷◌, false, length, take, drop, decimal, option_map, option_and_then};
 ghost use Rattle.file_pieces.specs.Adding.{Adds, shown};
 ghost use Rattle.presentation.specs.Rows.{is_of, same_language};
-ghost use Rattle.dash_writer.specs.Elements.{Element, tag_of};
+ghost use Rattle.dash_writer.specs.Elements.{Element};
 ghost use Rattle.dash_writer.specs.Outline as spec;
 ghost use Rattle.dash_writer.specs.Runs.{longest_runs};
 ghost use Rattle.dash_writer.specs.Values.{known_rate};
-ghost use Rattle.dash_writer.specs.Written.{element_text, elements_text, is_childless, start_text, value_text};
+ghost use Rattle.dash_writer.specs.Written.{all_told, element_text, elements_text, is_childless, value_text};
 
-use crate::attribute::Value;
+use crate::attribute::{Attribute, Value};
 use crate::element::{push_end, push_start};
-use bridge_io::{Fail, FileWriter, Kind, Ledger, Ratio, Size, Steps, Store, Text};
+use bridge_io::{Fail, FileWriter, Kind, Ratio, Size, Store, Text};
 use presentation::Track;
 use std::alloc::Global;
 
-/// What tracks have in Periods.
-pub(crate) trait TrackLists {
+/// What tracks have in Periods. `S` counts what is made.
+pub(crate) trait TrackLists<S> {
     /// The elements of a Period's track, by their places.
     ghost lists: { Self → ℕ → ℕ → List Element };
 
@@ -23,33 +23,34 @@ pub(crate) trait TrackLists {
     ghost can_list: { Self → ℕ → ℕ → Type 0 };
 
     /// Adds what the track at a place has in the Period at a place.
-    fn push_list<F: Store, L: Ledger>(
+    fn push_list<F: Store>(
         &self,
         alloc: Global,
         section: usize,
         track: usize,
         writer: &mut FileWriter<'_>,
         store: &mut F,
-        steps: &mut Steps<L>,
+        steps: &mut S,
     ) -> Result<(), Fail>
         requires { can_list self.now section track }
         ensures { let shows = shown F.files F.read_faults F.write_faults in
             Adds (elements_text (lists self.now section track)) writer.old writer.new (shows store.old) (shows store.new) result };
 }
 
-/// Adds the AdaptationSets of the section at a place (ISO/IEC 23009-1, 5.3.3).
-pub(crate) fn push_sets<T: TrackLists, F: Store, L: Ledger>(
+/// Adds the AdaptationSets of the Period at a place (ISO/IEC 23009-1, 5.3.3).
+pub(crate) fn push_sets<S, T: TrackLists<S>, F: Store>(
     alloc: Global,
     lists: &T,
     section: usize,
     tracks: &[Track],
     writer: &mut FileWriter<'_>,
     store: &mut F,
-    steps: &mut Steps<L>,
+    steps: &mut S,
 ) -> Result<(), Fail>
     requires { spec.AreListed (T.can_list lists.now section) (T.lists lists.now section) 0 (length tracks.now) }
     ensures { let shows = shown F.files F.read_faults F.write_faults in
-        Adds (elements_text (spec.sets_of (T.lists lists.now section) tracks.now)) writer.old writer.new (shows store.old) (shows store.new) result }
+        Adds (elements_text (spec.sets_of (T.lists lists.now section) tracks.now))
+        writer.old writer.new (shows store.old) (shows store.new) result }
 {
     let mut rest = tracks;
     while let Some((first, others)) = rest.split_first() {
@@ -102,7 +103,7 @@ fn is_same_language(one: &Option<Text>, other: &Option<Text>) -> bool
 }
 
 /// Adds the AdaptationSet of tracks from a place on.
-fn push_set<T: TrackLists, F: Store, L: Ledger>(
+fn push_set<S, T: TrackLists<S>, F: Store>(
     alloc: Global,
     lists: &T,
     section: usize,
@@ -110,35 +111,34 @@ fn push_set<T: TrackLists, F: Store, L: Ledger>(
     set: &[Track],
     writer: &mut FileWriter<'_>,
     store: &mut F,
-    steps: &mut Steps<L>,
+    steps: &mut S,
 ) -> Result<(), Fail>
     requires listed { spec.AreListed (T.can_list lists.now section) (T.lists lists.now section) place (length set.now) }
     requires places { place + length set.now < 2 ^ 64 }
     ensures { let shows = shown F.files F.read_faults F.write_faults in
-        Adds (elements_text (spec.set_element (T.lists lists.now section) place set.now)) writer.old writer.new (shows store.old) (shows store.new) result }
+        Adds (elements_text (spec.set_element (T.lists lists.now section) place set.now))
+        writer.old writer.new (shows store.old) (shows store.new) result }
 {
-    let Some((track, _)) = set.split_first() else {
+    let Some((first, _)) = set.split_first() else {
         return Ok(());
     };
-    push_set_start(track, writer, store)?;
-    push_representations(alloc, lists, section, place, set, writer, store, steps)?;
+    let attributes = set_attributes(first);
+    push_start(writer, store, "AdaptationSet", &attributes, false)?;
+    for (index, track) in set.iter().enumerate() {
+        let place = place + index;
+        push_track(alloc, lists, section, place, track, writer, store, steps)?;
+    }
     push_end(writer, store, "AdaptationSet", false)
 }
 
-/// Adds what stands before the Representations of a set with this first track.
-fn push_set_start<F: Store>(
-    track: &Track,
-    writer: &mut FileWriter<'_>,
-    store: &mut F,
-) -> Result<(), Fail>
-    ensures { let shows = shown F.files F.read_faults F.write_faults in
-        Adds (start_text (tag_of (codes "AdaptationSet") (spec.set_attributes track.now)) false) writer.old writer.new (shows store.old) (shows store.new) result }
+/// The attributes of the AdaptationSet that a track stands in.
+fn set_attributes(track: &Track) -> [Attribute<'_>; 2]
+    ensures { all_told result ≡ spec.set_attributes track.now }
 {
-    let attributes = [
+    [
         ("mimeType", Some(Value::Text(mime_type(track.kind)))),
         ("lang", text(&track.language)),
-    ];
-    push_start(writer, store, "AdaptationSet", &attributes, false)
+    ]
 }
 
 fn mime_type<'a>(kind: Kind) -> &'a str
@@ -161,34 +161,8 @@ fn text(known: &Option<Text>) -> Option<Value<'_>>
     }
 }
 
-/// Adds the Representations of tracks from a place on (5.3.5).
-fn push_representations<T: TrackLists, F: Store, L: Ledger>(
-    alloc: Global,
-    lists: &T,
-    section: usize,
-    place: usize,
-    tracks: &[Track],
-    writer: &mut FileWriter<'_>,
-    store: &mut F,
-    steps: &mut Steps<L>,
-) -> Result<(), Fail>
-    requires listed { spec.AreListed (T.can_list lists.now section) (T.lists lists.now section) place (length tracks.now) }
-    requires places { place + length tracks.now < 2 ^ 64 }
-    ensures { let shows = shown F.files F.read_faults F.write_faults in
-        Adds (elements_text (spec.track_elements (T.lists lists.now section) place tracks.now)) writer.old writer.new (shows store.old) (shows store.new) result }
-{
-    let mut rest = tracks;
-    let mut place = place;
-    while let Some((track, others)) = rest.split_first() {
-        push_representation(alloc, lists, section, place, track, writer, store, steps)?;
-        place += 1;
-        rest = others;
-    }
-    Ok(())
-}
-
-/// Adds the Representation of the track at a place.
-fn push_representation<T: TrackLists, F: Store, L: Ledger>(
+/// Adds the Representation of the track at a place (5.3.5).
+fn push_track<S, T: TrackLists<S>, F: Store>(
     alloc: Global,
     lists: &T,
     section: usize,
@@ -196,37 +170,32 @@ fn push_representation<T: TrackLists, F: Store, L: Ledger>(
     track: &Track,
     writer: &mut FileWriter<'_>,
     store: &mut F,
-    steps: &mut Steps<L>,
+    steps: &mut S,
 ) -> Result<(), Fail>
     requires can { T.can_list lists.now section place }
     requires some { is_childless (T.lists lists.now section place) ≡ false }
     ensures { let shows = shown F.files F.read_faults F.write_faults in
-        Adds (element_text (spec.track_element (T.lists lists.now section) place track.now)) writer.old writer.new (shows store.old) (shows store.new) result }
+        Adds (element_text (spec.track_element (T.lists lists.now section) place track.now))
+        writer.old writer.new (shows store.old) (shows store.new) result }
 {
-    push_track_start(place, track, writer, store)?;
+    let attributes = track_attributes(place, track);
+    push_start(writer, store, "Representation", &attributes, false)?;
     lists.push_list(alloc, section, place, writer, store, steps)?;
     push_end(writer, store, "Representation", false)
 }
 
-/// Adds what stands before the segments of the track at a place.
-fn push_track_start<F: Store>(
-    place: usize,
-    track: &Track,
-    writer: &mut FileWriter<'_>,
-    store: &mut F,
-) -> Result<(), Fail>
-    ensures { let shows = shown F.files F.read_faults F.write_faults in
-        Adds (start_text (tag_of (codes "Representation") (spec.representation_attributes place track.now)) false) writer.old writer.new (shows store.old) (shows store.new) result }
+/// The attributes of the Representation of the track at a place.
+fn track_attributes(place: usize, track: &Track) -> [Attribute<'_>; 6]
+    ensures { all_told result ≡ spec.representation_attributes place track.now }
 {
-    let attributes = [
+    [
         ("id", Some(Value::Id(place))),
         ("bandwidth", Some(Value::Number(track.bandwidth))),
         ("codecs", text(&track.codecs)),
         ("width", width(track.size)),
         ("height", height(track.size)),
         ("frameRate", frame_rate(track.frame_rate)),
-    ];
-    push_start(writer, store, "Representation", &attributes, false)
+    ]
 }
 
 fn width<'a>(size: Option<Size>) -> Option<Value<'a>>

@@ -60,7 +60,8 @@ impl SegmentRun {
 
     fn push_to<F: Store>(self, writer: &mut FileWriter<'_>, store: &mut F) -> Result<(), Fail>
         ensures { let shows = shown F.files F.read_faults F.write_faults in
-            Adds (element_text (spec.s_element self.time self.duration self.repeats)) writer.old writer.new (shows store.old) (shows store.new) result }
+            Adds (element_text (spec.s_element self.time self.duration self.repeats))
+            writer.old writer.new (shows store.old) (shows store.new) result }
     {
         push_leaf(
             writer,
@@ -98,7 +99,8 @@ pub(crate) fn push_runs<F: Store>(
 ) -> Result<(), Fail>
     requires { first.repeats + length walk < 2 ^ 64 }
     ensures { let shows = shown F.files F.read_faults F.write_faults in
-        Adds (elements_text (runs_left first (map spec.duration_of walk.entry))) writer.old writer.new (shows store.old) (shows store.new) result }
+        Adds (elements_text (runs_left first (map spec.duration_of walk.entry)))
+        writer.old writer.new (shows store.old) (shows store.new) result }
 {
     let mut run = first;
     for span in walk {

@@ -1,20 +1,20 @@
-use Rattle.std.proofs.Common.{◌≡◌, ℕ, ◌-◌, ◌≤◌, List, ◌++◌, length, Ok}
-use Rattle.file_pieces.specs.Adding.{Adds, shown}
+use Rattle.std.proofs.Common.{ℕ, ◌-◌, ◌≤◌, List, length}
+use Rattle.file_pieces.specs.Adding.{shown}
 use Rattle.dash_writer.specs.Outline.{set_elements, sets_of, stand_together}
 use Rattle.dash_writer.specs.Runs.{longest_runs}
 use Rattle.dash_writer.specs.Written.{elements_text}
+use Rattle.dash_writer.proofs.Progress.{Progress}
 use Rattle.dash_writer.proofs.sets.push_sets.Given as goal
 
--- what is added so far goes on to the whole
 abbrev pub invariant-loop-first : goal.invariant-loop-first
 invariant-loop-first g l =
     let shows = shown g.F.Store.files g.F.Store.read_faults g.F.Store.write_faults in
     let lists = g.T.TrackLists.lists l.lists l.section in
     record {
       within : length l.rest ≤ length l.tracks;
-      done : (done : List ℕ)
-          × (done ++ elements_text (set_elements lists (length l.tracks - length l.rest) (longest_runs stand_together l.rest)) ≡ elements_text (sets_of lists l.tracks))
-          × Adds {T = Unit {0}} done l.initial.writer l.writer (shows l.initial.store) (shows l.store) (Ok tt);
+      so_far : Progress (elements_text (sets_of lists l.tracks))
+          (elements_text (set_elements lists (length l.tracks - length l.rest) (longest_runs stand_together l.rest)))
+          l.initial.writer l.writer (shows l.initial.store) (shows l.store);
     }
 
 abbrev pub decreases-loop-first : goal.decreases-loop-first

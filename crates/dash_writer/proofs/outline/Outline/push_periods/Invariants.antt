@@ -1,0 +1,15 @@
+use Rattle.std.proofs.Common.{drop}
+use Rattle.file_pieces.specs.Adding.{shown}
+use Rattle.dash_writer.specs.Given.{outline_of}
+use Rattle.dash_writer.specs.Outline.{heads_from, period_elements}
+use Rattle.dash_writer.specs.Written.{elements_text}
+use Rattle.dash_writer.proofs.Progress.{Progress}
+use Rattle.dash_writer.proofs.outline.Outline.push_periods.Given as goal
+
+abbrev pub invariant-loop-place : goal.invariant-loop-place
+invariant-loop-place g l =
+    let shows = shown g.F.Store.files g.F.Store.read_faults g.F.Store.write_faults in
+    let head = g.P.Period.head in let o = outline_of head g.T.TrackLists.lists l.self in
+    Progress (elements_text (period_elements o 0 o.periods)) (elements_text
+    (period_elements o l.place (heads_from head l.place (drop l.place l.self.periods.now))))
+    l.initial.writer l.writer (shows l.initial.store) (shows l.store)

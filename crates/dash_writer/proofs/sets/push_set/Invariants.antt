@@ -1,0 +1,14 @@
+use Rattle.std.proofs.Common.{◌+◌, drop}
+use Rattle.file_pieces.specs.Adding.{shown}
+use Rattle.dash_writer.specs.Outline.{track_elements}
+use Rattle.dash_writer.specs.Written.{elements_text}
+use Rattle.dash_writer.proofs.Progress.{Progress}
+use Rattle.dash_writer.proofs.sets.push_set.Given as goal
+
+abbrev pub invariant-loop-index : goal.invariant-loop-index
+invariant-loop-index g l =
+    let shows = shown g.F.Store.files g.F.Store.read_faults g.F.Store.write_faults in
+    let lists = g.T.TrackLists.lists l.lists l.section in
+    Progress (elements_text (track_elements lists l.place l.set))
+    (elements_text (track_elements lists (l.place + l.index) (drop l.index l.set)))
+    l.initial.writer l.writer (shows l.initial.store) (shows l.store)
