@@ -1,0 +1,9 @@
+pub mod Found
+pub mod Kept
+pub mod Laws
+pub mod Located
+pub mod Meanings
+pub mod Presented
+pub mod Refusals
+pub mod Rows
+pub mod Segments

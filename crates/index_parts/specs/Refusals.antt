@@ -1,0 +1,41 @@
+-- Why files with an index inside are refused.
+use Rattle.std.specs.Prelude.{List, [], ◌∷◌, Option, Some, None, Result, Ok, Err, IsErrOf}
+use Rattle.bridge_io.specs.declared.place.Place.{Place}
+use Rattle.url_parts.specs.declared.fault.UrlFault.{UrlFault}
+use Rattle.url_parts.specs.declared.fault.UrlFault.TheVariants as url
+use Rattle.timeline.specs.declared.fault.TimeFault.{TimeFault}
+use Rattle.timeline.specs.declared.fault.TimeFault.TheVariants as times
+use Rattle.presentation.specs.Told.{at_times, at_url}
+use Rattle.index_parts.specs.declared.fault.IndexFault.{IndexFault}
+use Rattle.index_parts.specs.declared.fault.IndexFault.TheVariants.{Presentation, Fault, Memory}
+
+-- a read that failed and want of memory tell nothing of the files
+abbrev pub refusal : IndexFault → Option IndexFault
+refusal Memory = None
+refusal Fault = None
+refusal fault = Some fault
+
+-- no read failed
+abbrev pub IsNoFault : {X : Type 0} → Result X IndexFault → Type 0
+IsNoFault result = IsErrOf result Fault → ⊥
+
+-- the first of some faults, and a value where there is none
+abbrev pub unless_any : {X E : Type 0} → List E → X → Result X E
+unless_any [] x = Ok x
+unless_any (fault ∷ faults) x = Err fault
+
+-- a fault of an address, or of times, of the Representation at a place
+abbrev pub url_fault : Place → UrlFault → IndexFault
+url_fault place fault = Presentation (at_url place fault)
+
+abbrev pub times_fault : Place → TimeFault → IndexFault
+times_fault place fault = Presentation (at_times place fault)
+
+-- the same, where want of memory isn't told of the Representation
+abbrev pub url_told : Place → UrlFault → IndexFault
+url_told place url.Memory = Memory
+url_told place fault = url_fault place fault
+
+abbrev pub times_told : Place → TimeFault → IndexFault
+times_told place times.Memory = Memory
+times_told place fault = times_fault place fault

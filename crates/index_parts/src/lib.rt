@@ -1,0 +1,15 @@
+//! The presentation of an MPD whose media files have an index inside (ISO/IEC 23009-1, 5.3.9.2; ISO/IEC 14496-12, 8.16.3).
+//!
+//! Of a media file only the bytes of its index are read. Each of its references is a segment.
+#![tactic(auto)]
+
+mod fault;
+mod index;
+mod laws;
+mod located;
+mod parts;
+mod segments;
+
+pub use fault::{FileFault, IndexFault};
+pub use laws::segments_tile;
+pub use parts::index_parts;
