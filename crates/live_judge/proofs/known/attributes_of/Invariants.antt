@@ -1,0 +1,11 @@
+use Rattle.std.proofs.Common.{◌≡◌, ◌++◌, length, map}
+use Rattle.std.specs.Prelude.{flat_map}
+use Rattle.live_meaning.specs.Known.{attributes_at}
+use Rattle.presentation.proofs.Counts.{from_on}
+use Rattle.live_judge.specs.Known.{attributes_shown}
+use Rattle.live_judge.proofs.Sameness.{one_of}
+use Rattle.live_judge.proofs.known.attributes_of.Given as goal
+
+abbrev pub invariant-loop-track : goal.invariant-loop-track
+invariant-loop-track l =
+    map attributes_shown l.all.items ++ flat_map (one_of l.force l.section) (from_on l.track (length l.force.tracks)) ≡ attributes_at l.force l.section

@@ -1,0 +1,53 @@
+-- An update that comes to a session, and what it would leave.
+use Rattle.std.specs.Prelude.{◌≡◌, ℕ, ◌<◌, ◌≤◌, ℤ, int_lt, false, length, slice_get, Some}
+use Rattle.mpd_rules.specs.Views.{segments_mpd}
+use Rattle.presentation.specs.Presented.{Presented, looked_at}
+use Rattle.presentation.specs.Printing.{IsCounted}
+use Rattle.live_meaning.specs.Updates.{Update, Refresh, Reset, Tick}
+use Rattle.live_meaning.specs.Known.{ids_of}
+use Rattle.live_meaning.specs.Histories.{Common, availability_start_of, common_with}
+use Rattle.live_meaning.specs.States.{Track}
+use Rattle.live_meaning.specs.Refusals.{ids_in}
+use Rattle.live_judge.specs.declared.coming.Coming.{Coming}
+use Rattle.live_judge.specs.declared.coming.Coming.TheVariants as comes
+use Rattle.live_judge.specs.declared.coming.Next.{Next}
+use Rattle.live_judge.specs.declared.track_next.TrackNext.{TrackNext}
+use Rattle.live_judge.specs.Known.{StandsAt}
+use Rattle.live_judge.specs.Shown.{common_shown, track_shown}
+use Rattle.live_judge.specs.Sound.{IsLive, StartsAt}
+
+abbrev pub update_of : Coming → ℤ → Update
+update_of (comes.Refresh mpd) now = Refresh (segments_mpd mpd.now) now
+update_of (comes.Reset mpd) now = Reset (segments_mpd mpd.now) now
+update_of comes.Tick now = Tick now
+
+-- ---- an update whose presentation is judged
+
+abbrev pub p_of : Next → Presented
+p_of n = looked_at n.now n.force.now
+
+abbrev pub coming_of : Next → Common
+coming_of n = common_with (common_shown n.standing.now) (update_of n.coming n.now) (p_of n)
+
+-- it doesn't go back in time, its open ends break no limit, and its Periods go on behind the known ones
+pub record IsNext (n : Next) : Type 0 where
+  pub live : IsLive n.standing.now n.tracks.now
+  pub forward : int_lt n.now (n.standing.now).instant ≡ false
+  pub counted : (s t : ℕ) → s < length (p_of n).sections → t < length (p_of n).tracks → IsCounted (p_of n) s t
+  pub alike : length (p_of n).tracks ≡ length n.tracks.now
+  pub few : length (p_of n).sections ≤ 1000
+  pub within : n.place ≤ length (n.standing.now).known
+  pub stands : StandsAt (ids_of (coming_of n).known) (ids_in (p_of n)) n.place
+  pub follows : StartsAt (availability_start_of (n.standing.now).opened) (p_of n)
+
+-- ---- one track of it
+
+abbrev pub c_of : TrackNext → Common
+c_of l = coming_of l.next.now
+
+abbrev pub t_of : TrackNext → Track
+t_of l = track_shown l.track.now
+
+pub record IsTrackNext (l : TrackNext) : Type 0 where
+  pub next : IsNext l.next.now
+  pub there : slice_get (l.next.now).tracks.now l.index ≡ Some l.track.now

@@ -1,0 +1,27 @@
+-- The Periods that were seen, as they are kept.
+use Rattle.std.specs.Prelude.{◌≡◌, ℕ, ◌≤◌, Bool, true, false, List, length, map, drop, slice_get, bytes_eq, Option, Some}
+use Rattle.std.specs.Option.{option_map_or}
+use Rattle.mpd_rules.specs.Laws.{are_once}
+use Rattle.live_meaning.specs.Known.{Attributes, Known}
+use Rattle.live_judge.specs.declared.known.KeptAttributes.{KeptAttributes}
+use Rattle.live_judge.specs.declared.known.KnownPeriod.{KnownPeriod}
+
+abbrev pub attributes_shown : KeptAttributes → Attributes
+attributes_shown a = record { timescale = a.timescale; time_offset = a.time_offset; initialization = a.initialization }
+
+abbrev pub known_shown : KnownPeriod → Known
+known_shown k = record { id = k.id; start = k.start; attributes = map attributes_shown k.attributes.items }
+
+-- each of some ids is found at its place
+abbrev pub IsIndex : (places : List ℕ → Option ℕ) → (ids : List (List ℕ)) → Type 0
+IsIndex places ids = (place : ℕ) (id : List ℕ) → slice_get ids place ≡ Some id → places id ≡ Some place
+
+-- an id stands at a place
+abbrev pub is_there : (ids : List (List ℕ)) → (place : ℕ) → (id : List ℕ) → Bool
+is_there ids place id = option_map_or (λ own. bytes_eq own id) (slice_get ids place) false
+
+-- the ids in force are the known ones from a place on, and no known one stands twice
+pub record StandsAt (known ids : List (List ℕ)) (place : ℕ) : Type 0 where
+  pub once : are_once known ≡ true
+  pub within : place ≤ length known
+  pub behind : drop place known ≡ ids

@@ -1,0 +1,69 @@
+-- What holds of each state that accepted updates of typed MPDs leave, and of what shows one.
+use Rattle.std.specs.Prelude.{◌≡◌, ◌⊎◌, ℕ, ◌+◌, ◌*◌, ◌<◌, ◌≤◌, ℤ, pos, ◌-ℤ◌, true, List, [], ◌∷◌, length, slice_get, All, IfSome, Some, option_map}
+use Rattle.exact_time.specs.Time.{IsAtMost, before, nanoseconds, seconds}
+use Rattle.presentation.specs.Presented.{Presented}
+use Rattle.live_meaning.specs.Segments.{Segment, segments_of}
+use Rattle.live_meaning.specs.Known.{Known, ids_of}
+use Rattle.live_meaning.specs.Histories.{Common, availability_start_of}
+use Rattle.live_meaning.specs.States.{State, Track}
+use Rattle.live_meaning.specs.Refusals.{ids_in}
+use Rattle.live_judge.specs.declared.standing.Standing.{Standing}
+use Rattle.live_judge.specs.declared.track.LiveTrack.{LiveTrack}
+use Rattle.live_judge.specs.Known.{StandsAt}
+use Rattle.live_judge.specs.Shown.{in_force, state_shown}
+
+-- ---- segments
+
+-- a segment's Period is known, and begins where the segment was dated from; the segment has ended, and behind the Period's start
+pub record IsSegmentOf (c : Common) (x : Segment) : Type 0 where
+  pub starts : option_map (λ (k : Known). k.start) (slice_get c.known x.value.place) ≡ Some x.value.period_start
+  pub section : x.section ≤ x.value.place + c.resets
+  pub listed : before (seconds 0) x.end ≡ true
+  pub ended : IsAtMost x.end (nanoseconds ((c.instant -ℤ availability_start_of c.opened) -ℤ pos x.value.period_start))
+
+-- no segment stands in an earlier Period than one before it, or in the same one with a lower section number
+abbrev pub DoesFollow : Segment → Segment → Type 0
+DoesFollow x y = (x.value.place < y.value.place) ⊎ ((x.value.place ≡ y.value.place) × (x.section ≤ y.section))
+
+abbrev pub AreOrdered : List Segment → Type 0
+AreOrdered [] = Unit {0}
+AreOrdered (x ∷ xs) = All (DoesFollow x) xs × AreOrdered xs
+
+-- ---- a state
+
+-- all of a track's segments stand before its last one
+pub record IsSoundTrack (c : Common) (track : Track) : Type 0 where
+  pub segments : All (IsSegmentOf c) (segments_of track.kept)
+  pub ordered : AreOrdered (segments_of track.kept)
+  pub section : IfSome track.last (λ last. last.section ≤ track.place + c.resets)
+  pub begun : IfSome track.last (λ last. IsAtMost last.first last.end)
+  pub behind : IfSome track.last (λ last. All (λ (x : Segment). (x.value.place < track.place) ⊎ ((x.value.place ≡ track.place) × (x.section ≤ last.section))) (segments_of track.kept))
+
+abbrev pub StartsAt : ℤ → Presented → Type 0
+StartsAt start p = IfSome p.following (λ f. f.availability_start ≡ start)
+
+pub record IsSound (s : State) : Type 0 where
+  pub place : ℕ
+  pub stands : StandsAt (ids_of s.common.known) (ids_in s.common.force) place
+  pub follows : StartsAt (availability_start_of s.common.opened) s.common.force
+  pub opened : length s.common.opened.tracks ≡ length s.tracks
+  pub alike : length s.common.force.tracks ≡ length s.tracks
+  pub few : length s.common.force.sections ≤ 1000
+  pub tracks : All (IsSoundTrack s.common) s.tracks
+
+-- ---- what shows one
+
+-- what is written and what isn't stand side by side, and a segment is always kept
+pub record IsPaired (track : LiveTrack) : Type 0 where
+  pub paired : length track.items.items ≡ length track.facts.items
+  pub some : 0 < length track.facts.items
+  pub few : length track.facts.items ≤ 20000
+
+pub record IsLive (s : Standing) (tracks : List LiveTrack) : Type 0 where
+  pub sound : IsSound (state_shown s tracks)
+  pub stands : StandsAt (ids_of s.known) (ids_in (in_force s)) s.place
+  pub starts : s.availability_start ≡ availability_start_of s.opened
+  pub resets : s.resets ≤ s.accepted
+  pub periods : length s.known ≤ 1000 * s.accepted
+  pub accepted : s.accepted ≤ 10000000
+  pub paired : All IsPaired tracks

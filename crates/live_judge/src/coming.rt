@@ -1,0 +1,81 @@
+// An update that comes to a session.
+ghost use Rattle.std.specs.Prelude.{◌≡◌, ◌<◌, length, pos, slice_get, Some};
+
+use crate::{LiveTrack, Standing, TrackNext};
+use iso_time::Instant;
+use mpd_rules::Mpd;
+use presentation::Presentation;
+
+/// What comes: a new version of the MPD; the same behind versions that were missed; or an instant alone.
+#[derive(Clone, Copy)]
+pub enum Coming<'a> {
+    /// A new version of the MPD.
+    Refresh(&'a Mpd),
+    /// A version of the MPD behind some that were missed, so that a new section begins in all tracks.
+    Reset(&'a Mpd),
+    /// An instant alone.
+    Tick,
+}
+
+impl<'a> Coming<'a> {
+    ghost use Rattle.std.specs.Prelude.{option_map};
+    ghost use Rattle.mpd_rules.specs.Views.{segments_mpd};
+    ghost use Rattle.live_meaning.specs.Updates.{is_reset, mpd_of};
+    ghost use Rattle.live_judge.specs.Coming.{update_of};
+
+    /// Its MPD.
+    pub fn mpd(&self) -> Option<&'a Mpd>
+        ensures { option_map (λ mpd. segments_mpd mpd.now) result ≡ mpd_of (update_of self.entry.now (pos 0)) }
+    {
+        match self {
+            Coming::Refresh(mpd) | Coming::Reset(mpd) => Some(*mpd),
+            Coming::Tick => None,
+        }
+    }
+
+    /// Whether a new section begins in all tracks.
+    pub fn is_reset(&self) -> bool
+        ensures { result ≡ is_reset (update_of self.entry.now (pos 0)) }
+    {
+        matches!(self, Coming::Reset(_))
+    }
+}
+
+/// An update whose presentation is judged, beside what it comes to.
+#[derive(Clone, Copy)]
+pub struct Next<'a> {
+    /// What stands beside the tracks.
+    pub standing: &'a Standing,
+    /// The tracks.
+    pub tracks: &'a [LiveTrack],
+    /// What comes.
+    pub coming: Coming<'a>,
+    /// The presentation that would be in force, at any instant.
+    pub force: &'a Presentation,
+    /// When it comes.
+    pub now: Instant,
+    /// The place of the first Period of the presentation. The others have the next ones.
+    pub place: usize,
+}
+
+impl<'a> Next<'a> {
+    ghost use Rattle.live_judge.specs.Coming.{IsNext, IsTrackNext};
+
+    /// What comes to a track.
+    ///
+    /// Requires that the track is in range.
+    pub fn of(&self, track: usize) -> TrackNext<'_>
+        requires next { IsNext self.now }
+        requires track { track < length self.now.tracks.now }
+        ensures is { IsTrackNext result }
+        ensures next { result.next.now ≡ self.entry.now }
+        ensures index { result.index ≡ track }
+        ensures there { slice_get self.entry.now.tracks.now track ≡ Some result.track.now }
+    {
+        TrackNext {
+            next: self,
+            track: &self.tracks[track],
+            index: track,
+        }
+    }
+}

@@ -1,0 +1,22 @@
+//! The rules by which an update of a followed presentation is judged on what a session keeps: in their order, with the
+//! values that they tell, and without memory.
+#![tactic(auto)]
+
+mod changed;
+mod coming;
+mod fault;
+mod known;
+mod removal;
+mod standing;
+mod steps;
+mod track;
+mod track_next;
+
+pub use changed::place_of;
+pub use coming::{Coming, Next};
+pub use fault::RefreshFault;
+pub use known::{KeptAttributes, KnownPeriod, KnownPeriods, periods_from};
+pub use removal::removed_of;
+pub use standing::Standing;
+pub use track::{Fact, LastKept, LiveTrack};
+pub use track_next::TrackNext;

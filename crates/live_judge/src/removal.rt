@@ -1,0 +1,110 @@
+// Which kept segments an update removes (after RFC 8216, 6.2.2).
+ghost use Rattle.std.specs.Prelude.{◌≡◌, ◌+◌, ◌*◌, ◌<◌, ◌^◌, false, length, not};
+ghost use Rattle.std.specs.List.{position_or_len};
+ghost use Rattle.exact_time.specs.Tick.{time_of};
+ghost use Rattle.exact_time.specs.Time.{before, nanoseconds};
+ghost use Rattle.followed.specs.Durations.{durations};
+ghost use Rattle.followed.specs.Places.{last_place};
+ghost use Rattle.presentation.specs.Presented.{is_finished, looked_at, window_from};
+ghost use Rattle.timeline.specs.Listed.{is_after};
+ghost use Rattle.live_meaning.specs.Histories.{least_length};
+ghost use Rattle.live_meaning.specs.Removal.{removed_of};
+ghost use Rattle.live_judge.specs.Coming.{IsNext, coming_of};
+ghost use Rattle.live_judge.specs.Removal.{is_still_available, kept_in};
+
+use crate::standing::is_finished;
+use crate::{Fact, LiveTrack, Next};
+use exact_time::Tick;
+use hls_writer::MediaItem;
+use iso_time::Instant;
+use presentation::Presentation;
+
+/// How many kept segments are removed from the front, so that those behind them last at least so many units: those that are
+/// no longer available at an instant, as far as that goes. It takes no memory.
+///
+/// Requires that the two buffers stand side by side.
+pub fn removed_of(track: &LiveTrack, force: &Presentation, now: Instant, least: u128) -> usize
+    requires { length track.now.items.items ≡ length track.now.facts.items }
+    ensures { result ≡ removed_of (looked_at now force.now).following least (kept_in track.now) }
+{
+    if is_finished(force, now) {
+        return 0;
+    }
+    unavailable(track, force, now).min(last_place(track, least))
+}
+
+/// The place of the first segment that is still available, or behind all of them.
+fn unavailable(track: &LiveTrack, force: &Presentation, now: Instant) -> usize
+    ensures { result ≡ position_or_len (is_still_available (looked_at now force.now)) track.now.facts.items }
+{
+    for place in 0..track.facts.len() {
+        if is_available(track.facts.get(place).unwrap(), force, now) {
+            return place;
+        }
+    }
+    track.facts.len()
+}
+
+fn is_available(fact: &Fact, force: &Presentation, now: Instant) -> bool
+    ensures { result ≡ is_still_available (looked_at now force.now) fact.now }
+{
+    is_after(
+        force.window_from(fact.period_start, now).after,
+        fact.span.end,
+    )
+}
+
+fn is_after(after: Option<i128>, end: Tick) -> bool
+    ensures { result ≡ is_after after (time_of end) }
+{
+    match after {
+        Some(after) => is_before(after, end),
+        None => true,
+    }
+}
+
+/// Farther from 0 than any tick, in nanoseconds.
+const FAR: i128 = 1 << 94;
+
+/// Whether so many nanoseconds are before a time.
+fn is_before(nanos: i128, end: Tick) -> bool
+    ensures { result ≡ before (nanoseconds nanos) (time_of end) }
+{
+    if nanos >= FAR {
+        return false;
+    }
+    if nanos <= -FAR {
+        return true;
+    }
+    nanos * i128::from(end.scale) < end.n * 1_000_000_000
+}
+
+/// The last place from which the printed durations sum to at least so many units, or 0 where there is none.
+fn last_place(track: &LiveTrack, least: u128) -> usize
+    requires { length track.now.items.items ≡ length track.now.facts.items }
+    ensures { result ≡ last_place least (durations (kept_in track.now)) }
+{
+    let mut place = track.facts.len();
+    let mut sum: u128 = 0;
+    while place > 0 && sum < least {
+        place -= 1;
+        sum += u128::from(duration_of(track.get(place).0));
+    }
+    place
+}
+
+fn duration_of(item: &MediaItem) -> u64
+    ensures { result ≡ item.now.duration }
+{
+    item.duration
+}
+
+impl Next<'_> {
+    /// Three target durations in units: what is left of a track at least where segments are removed.
+    pub fn least_length(&self) -> u128
+        requires { IsNext self.now }
+        ensures { result ≡ least_length (coming_of self.entry.now) }
+    {
+        3 * u128::from(self.standing.target) * u128::from(self.standing.digits.unit())
+    }
+}
