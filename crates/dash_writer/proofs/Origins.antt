@@ -1,5 +1,5 @@
 -- What a presentation from playlists tells of a track in a section.
-use Rattle.std.proofs.Common.{◌≡◌, ℕ, ◌+◌, ◌*◌, ◌<◌, true, false, List, length, Option, None, Some, option_map, option_to_list, refl, ap, ◌∙◌, mul_comm}
+use Rattle.std.proofs.Common.{◌≡◌, ℕ, ◌+◌, ◌*◌, ◌<◌, true, false, length, Option, None, Some, option_map, option_to_list, refl, ap, ◌∙◌, mul_comm}
 use Rattle.std.specs.Prelude.{is_some}
 use Rattle.std.proofs.lemmas.Nat.{mul-add-lt}
 use Rattle.url_parts.specs.declared.address.Part.{Part}

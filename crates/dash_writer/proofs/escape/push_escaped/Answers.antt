@@ -1,4 +1,4 @@
-use Rattle.std.proofs.Common.{drop, sym, ap, ◌∙◌, arith}
+use Rattle.std.proofs.Common.{drop, sym, ◌∙◌, arith}
 use Rattle.std.proofs.lemmas.List.{append-nil, take_rest}
 use Rattle.mpd_text.specs.Escapes.{escape_all}
 use Rattle.file_pieces.proofs.Adding.{adds_same}

@@ -1,4 +1,4 @@
-use Rattle.std.proofs.Common.{ℕ, ◌-◌, ◌≤◌, List, length}
+use Rattle.std.proofs.Common.{◌-◌, ◌≤◌, length}
 use Rattle.file_pieces.specs.Adding.{shown}
 use Rattle.dash_writer.specs.Outline.{set_elements, sets_of, stand_together}
 use Rattle.dash_writer.specs.Runs.{longest_runs}
