@@ -13,7 +13,8 @@ pub ends_behind : (first : ℕ) (rs : List Reference) → first ≤ end_from fir
 ends_behind first [] = omega arith
 ends_behind first (r ∷ rs) = (let later = ends_behind (first + r.size) rs in omega arith)
 
-pub next_within : (first bound : ℕ) (r : Reference) (rs all : List Reference) → all ≡ r ∷ rs → end_from first all ≤ bound → first + r.size ≤ bound
+pub next_within : (first bound : ℕ) (r : Reference) (rs all : List Reference) → all ≡ r ∷ rs → end_from first all ≤ bound
+    → first + r.size ≤ bound
 next_within first bound r rs all is within =
     let later = ends_behind (first + r.size) rs in
     let same : end_from first all ≡ end_from (first + r.size) rs = ap (end_from first) is in

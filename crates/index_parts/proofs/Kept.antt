@@ -25,9 +25,11 @@ longer false xs y = omega (arith, length-append xs (y ∷ []))
 
 shorter : (g : Gathering) (tracks : List Listed) → length (keep_all g tracks).contents ≤ length g.contents + length tracks
 shorter g [] = omega arith
-shorter g (track ∷ tracks) = omega (arith, shorter (keep g track) tracks, longer (nat_lt 500000 (counted_with g track)) g.contents track.content)
+shorter g (track ∷ tracks) =
+    omega (arith, shorter (keep g track) tracks, longer (nat_lt 500000 (counted_with g track)) g.contents track.content)
 
-kept_within : (g : Gathering) (tracks : List Listed) → g.segments + total tracks ≤ 500000 → (keep_all g tracks).contents ≡ g.contents ++ contents_in tracks
+kept_within : (g : Gathering) (tracks : List Listed) → g.segments + total tracks ≤ 500000
+    → (keep_all g tracks).contents ≡ g.contents ++ contents_in tracks
 kept_within g [] few = sym (append-nil g.contents)
 kept_within g (track ∷ tracks) few =
     let sum : total (track ∷ tracks) ≡ track.segments + total tracks = sum_by-cons (λ (track : Listed). track.segments) track tracks in
@@ -37,10 +39,12 @@ kept_within g (track ∷ tracks) few =
 
 beyond_by : (g : Gathering) (track : Listed) (tracks : List Listed) → (500000 < counted_with g track) ⊎ (counted_with g track ≤ 500000)
     → g.segments ≤ 500000 → 500000 < g.segments + total (track ∷ tracks)
-    → (counted_with g track ≤ 500000 → 500000 < counted_with g track + total tracks → length (keep_all (keep g track) tracks).contents < length (keep g track).contents + length tracks)
+    → (counted_with g track ≤ 500000 → 500000 < counted_with g track + total tracks
+    → length (keep_all (keep g track) tracks).contents < length (keep g track).contents + length tracks)
     → length (keep_all (keep g track) tracks).contents < length g.contents + length (track ∷ tracks)
 beyond_by g track tracks (inl over) few many later =
-    let none : length (keep g track).contents ≡ length g.contents = ap length (leaves (counted_with g track) g.contents (g.contents ++ track.content ∷ []) over) in
+    let none : length (keep g track).contents ≡ length g.contents =
+    ap length (leaves (counted_with g track) g.contents (g.contents ++ track.content ∷ []) over) in
     let rest = shorter (keep g track) tracks in
     omega (arith, none, rest)
 beyond_by g track tracks (inr within) few many later =
@@ -53,11 +57,14 @@ beyond_by g track tracks (inr within) few many later =
 kept_beyond : (g : Gathering) (tracks : List Listed) → g.segments ≤ 500000 → 500000 < g.segments + total tracks
     → length (keep_all g tracks).contents < length g.contents + length tracks
 kept_beyond g [] few many = absurd (omega arith)
-kept_beyond g (track ∷ tracks) few many = beyond_by g track tracks (cases_lt 500000 (counted_with g track)) few many (kept_beyond (keep g track) tracks)
+kept_beyond g (track ∷ tracks) few many =
+    beyond_by g track tracks (cases_lt 500000 (counted_with g track)) few many (kept_beyond (keep g track) tracks)
 
-finished_by : (tracks : List Listed) → (500000 < total tracks) ⊎ (total tracks ≤ 500000) → all_kept (length tracks) (keep_all none_kept tracks).contents ≡ few_segments tracks
+finished_by : (tracks : List Listed) → (500000 < total tracks) ⊎ (total tracks ≤ 500000)
+    → all_kept (length tracks) (keep_all none_kept tracks).contents ≡ few_segments tracks
 finished_by tracks (inl many) =
-    let short : length (keep_all none_kept tracks).contents < length {A = Content} [] + length tracks = kept_beyond none_kept tracks (omega arith) (omega (arith, many)) in
+    let short : length (keep_all none_kept tracks).contents < length {A = Content} [] + length tracks =
+    kept_beyond none_kept tracks (omega arith) (omega (arith, many)) in
     let differ : (length (keep_all none_kept tracks).contents == length tracks) ≡ false = ne_eqb _ _ (λ same. omega (arith, short, same)) in
     rw (differ, lt-ltb 500000 (total tracks) many) refl
 finished_by tracks (inr few) =

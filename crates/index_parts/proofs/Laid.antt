@@ -19,6 +19,7 @@ lasting : (spans : List Span) → list_any (λ span. lasts_no_time (extent_of sp
 lasting [] = refl
 lasting (span ∷ spans) = rw (lasting spans) refl
 
-pub spans_told : (spans : List Span) (scale : Scale) (parts : List Part) (ticks : ℕ) (xs : List Extent) → map extent_of spans ≡ xs → scale.ticks ≡ ticks → scale.offset ≡ 0 → scale.start_number ≡ 1
+pub spans_told : (spans : List Span) (scale : Scale) (parts : List Part) (ticks : ℕ) (xs : List Extent) → map extent_of spans ≡ xs
+    → scale.ticks ≡ ticks → scale.offset ≡ 0 → scale.start_number ≡ 1
     → timeline_of_spans spans scale (Addresses parts) ≡ timeline_of ticks parts xs
 spans_told spans scale parts ticks xs is same offset first = rw (lasting spans, members spans, is, same, offset, first) refl

@@ -9,7 +9,8 @@ use Rattle.presentation.proofs.Grids.{by_kind_made}
 use Rattle.presentation.proofs.Joining.{seen_twice}
 use Rattle.index_parts.specs.Rows.{shown}
 
-pub same_tracks : (rows : List (TrackRow (Keyed FileIndex))) → map track_of (in_order (map (track_with shown) rows)) ≡ map track_of (in_order rows)
+pub same_tracks : (rows : List (TrackRow (Keyed FileIndex)))
+    → map track_of (in_order (map (track_with shown) rows)) ≡ map track_of (in_order rows)
 same_tracks rows =
     ap (map track_of) (by_kind_made (track_with shown) (λ row. row.description.kind) rows)
     ∙ sym (seen_twice track_of (track_with shown) (in_order rows))

@@ -39,8 +39,10 @@ module _ (url folder : List ℕ) (files : Files) where
 
   -- ---- kinds one after another
 
-  kind_step : (kind : Kind) (g : Gathering) (row : Row) (rows : List Row) (b : Bool) → ((g : Gathering) → kind_kept url folder files kind g rows ≡ kept_of g (of kind rows))
-      → and_then (if b then kept_with url folder files g row else Ok g) (λ next. kind_kept url folder files kind next rows) ≡ kept_of g (cond b (row ∷ of kind rows) (of kind rows))
+  kind_step : (kind : Kind) (g : Gathering) (row : Row) (rows : List Row) (b : Bool)
+      → ((g : Gathering) → kind_kept url folder files kind g rows ≡ kept_of g (of kind rows))
+      → and_then (if b then kept_with url folder files g row else Ok g) (λ next. kind_kept url folder files kind next rows)
+      ≡ kept_of g (cond b (row ∷ of kind rows) (of kind rows))
   kind_step kind g row rows true later = then_same (kept_with url folder files g row) _ _ later
   kind_step kind g row rows false later = later g
 
@@ -57,7 +59,9 @@ module _ (url folder : List ℕ) (files : Files) where
   kinds_in_order : (rows : List Row) → all_gathered url folder files rows ≡ kept_of none_kept (in_order rows)
   unfolding all_gathered
   kinds_in_order rows =
-      ap (λ r. and_then r (λ video. and_then (kind_kept url folder files Audio video rows) (λ audio. kind_kept url folder files Text audio rows))) (kind_filtered Video none_kept rows)
+      ap (λ r. and_then r (λ video.
+      and_then (kind_kept url folder files Audio video rows) (λ audio. kind_kept url folder files Text audio rows)))
+      (kind_filtered Video none_kept rows)
       ∙ then_same (kept_of none_kept (of Video rows)) _ _ (λ video.
       ap (λ r. and_then r (λ audio. kind_kept url folder files Text audio rows)) (kind_filtered Audio video rows)
       ∙ then_same (kept_of video (of Audio rows)) _ _ (λ audio. kind_filtered Text audio rows)
@@ -67,17 +71,21 @@ module _ (url folder : List ℕ) (files : Files) where
   -- ---- what all have
 
   moved : (g : Gathering) (track : Listed) (r : Result (List Listed) IndexFault)
-      → and_then r (λ tracks. Ok (keep_all (keep g track) tracks)) ≡ and_then (and_then r (λ later. Ok (track ∷ later))) (λ tracks. Ok (keep_all g tracks))
+      → and_then r (λ tracks. Ok (keep_all (keep g track) tracks))
+      ≡ and_then (and_then r (λ later. Ok (track ∷ later))) (λ tracks. Ok (keep_all g tracks))
   moved g track (Ok tracks) = refl
   moved g track (Err e) = refl
 
-  all_step : (g : Gathering) (rows : List Row) (r : Result Listed IndexFault) → ((g : Gathering) → kept_of g rows ≡ and_then (all_parts url folder files rows) (λ tracks. Ok (keep_all g tracks)))
+  all_step : (g : Gathering) (rows : List Row) (r : Result Listed IndexFault)
+      → ((g : Gathering) → kept_of g rows ≡ and_then (all_parts url folder files rows) (λ tracks. Ok (keep_all g tracks)))
       → and_then (and_then r (λ track. Ok (keep g track))) (λ next. kept_of next rows)
-      ≡ and_then (and_then r (λ one. and_then (all_parts url folder files rows) (λ later. Ok (one ∷ later)))) (λ tracks. Ok (keep_all g tracks))
+      ≡ and_then (and_then r (λ one. and_then (all_parts url folder files rows) (λ later. Ok (one ∷ later))))
+      (λ tracks. Ok (keep_all g tracks))
   all_step g rows (Ok track) later = later (keep g track) ∙ moved g track (all_parts url folder files rows)
   all_step g rows (Err e) later = refl
 
-  all_of_them : (g : Gathering) (rows : List Row) → kept_of g rows ≡ and_then (all_parts url folder files rows) (λ tracks. Ok (keep_all g tracks))
+  all_of_them : (g : Gathering) (rows : List Row)
+      → kept_of g rows ≡ and_then (all_parts url folder files rows) (λ tracks. Ok (keep_all g tracks))
   unfolding kept_with
   all_of_them g [] = refl
   all_of_them g (row ∷ rows) = all_step g rows (track_parts url folder files row) (λ g. all_of_them g rows)
@@ -104,9 +112,11 @@ module _ (url folder : List ℕ) (files : Files) where
 
     with_tracks : length tracks ≡ length (in_order period.tracks)
         → and_then (all_gathered url folder files period.tracks) (presented_of left_out period tracks)
-        ≡ and_then (and_then (all_parts url folder files (in_order period.tracks)) few_segments) (λ contents. Ok (presented_with left_out period tracks contents))
+        ≡ and_then (and_then (all_parts url folder files (in_order period.tracks)) few_segments)
+        (λ contents. Ok (presented_with left_out period tracks contents))
     with_tracks many =
-        ap (λ r. and_then r (presented_of left_out period tracks)) (kinds_in_order period.tracks ∙ all_of_them none_kept (in_order period.tracks))
+        ap (λ r. and_then r (presented_of left_out period tracks))
+        (kinds_in_order period.tracks ∙ all_of_them none_kept (in_order period.tracks))
         ∙ with_all (in_order period.tracks) (all_parts url folder files (in_order period.tracks)) many refl
 
   if_few : (b : Bool) (tracks : List Track) (f g : List Track → Result Presented IndexFault) → f tracks ≡ g tracks
@@ -114,7 +124,8 @@ module _ (url folder : List ℕ) (files : Files) where
   if_few true tracks f g same = refl
   if_few false tracks f g same = same
 
-  pub as_presented : (left_out : ℕ) (period : Period) → presented_kept url folder files left_out period ≡ presented_in url folder files left_out period
+  pub as_presented : (left_out : ℕ) (period : Period)
+      → presented_kept url folder files left_out period ≡ presented_in url folder files left_out period
   unfolding presented_kept presented_in
   as_presented left_out period =
       let tracks : List Track = map track_of (in_order period.tracks) in

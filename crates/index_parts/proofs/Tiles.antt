@@ -29,13 +29,17 @@ use Rattle.index_parts.proofs.Ends.{passed_value}
 
 -- ---- one behind another
 
-parts_tile : (address : List ℕ) (first : ℕ) (rs : List Reference) → Tile first (end_from first rs) (map bytes_of (parts_from address first rs))
+parts_tile : (address : List ℕ) (first : ℕ) (rs : List Reference)
+    → Tile first (end_from first rs) (map bytes_of (parts_from address first rs))
 parts_tile address first [] = refl
 parts_tile address first (r ∷ rs) = (refl, parts_tile address (first + r.size) rs)
 
-parts_own : (address : List ℕ) (first : ℕ) (rs : List Reference) → All (λ (part : Part). part.address ≡ address) (parts_from address first rs)
+parts_own : (address : List ℕ) (first : ℕ) (rs : List Reference)
+    → All (λ (part : Part). part.address ≡ address) (parts_from address first rs)
 parts_own address first [] = All-nil (λ (part : Part). part.address ≡ address)
-parts_own address first (r ∷ rs) = All-cons (λ (part : Part). part.address ≡ address) (part_of address first r) (parts_from address (first + r.size) rs) refl (parts_own address (first + r.size) rs)
+parts_own address first (r ∷ rs) =
+    All-cons (λ (part : Part). part.address ≡ address) (part_of address first r) (parts_from address (first + r.size) rs) refl
+    (parts_own address (first + r.size) rs)
 
 last_as : (timescale start : ℕ) (rs : List Reference) → LastAs timescale start rs (extents_from timescale start rs)
 last_as timescale start [] = tt
@@ -60,26 +64,34 @@ is_located url folder row l is =
     let n = steps_of (if_named (local_name_of folder a.value)) _ l i.then in
     let r = steps_of (unless_long (told_in row).range) _ l n.then in
     let same : located_with row.description (told_in row) a.value i.value n.value ≡ l = (let h = r.then in cc) in
-    subst (IsLocated url folder row) same (record { addressed = ok_under (url_fault row.description.place) (chain url row.description.bases) a.value a.first; named = named_so (local_name_of folder a.value) n.value n.first; range = refl })
+    subst (IsLocated url folder row) same (record {
+      addressed = ok_under (url_fault row.description.place) (chain url row.description.bases) a.value a.first;
+      named = named_so (local_name_of folder a.value) n.value n.first;
+      range = refl;
+    })
 
 record IsRead (l : Located) (files : Files) (bytes : List ℕ) : Type 0 where
   whole : List ℕ
   there : files l.file ≡ Some whole
   part : take l.index.count (drop l.index.first whole) ≡ bytes
 
-part_is : (l : Located) (files : Files) (o : Option (List ℕ)) (bytes : List ℕ) → files l.file ≡ o → part_read l.index.first l.index.count o ≡ Ok bytes → IsRead l files bytes
+part_is : (l : Located) (files : Files) (o : Option (List ℕ)) (bytes : List ℕ) → files l.file ≡ o
+    → part_read l.index.first l.index.count o ≡ Ok bytes → IsRead l files bytes
 part_is l files None bytes there is = absurd (cc)
 part_is l files (Some whole) bytes there is = record { whole = whole; there = there; part = cc }
 
 is_read : (l : Located) (files : Files) (bytes : List ℕ) → read_of l files ≡ Ok bytes → IsRead l files bytes
 unfolding read_of
-is_read l files bytes is = part_is l files (files l.file) bytes refl (ok_under (λ fault. File l.file Absent) (part_read l.index.first l.index.count (files l.file)) bytes is)
+is_read l files bytes is =
+    part_is l files (files l.file) bytes refl (ok_under (λ fault. File l.file Absent)
+    (part_read l.index.first l.index.count (files l.file)) bytes is)
 
 there_so : (o : Option Index) (index : Index) → if_there o ≡ Ok index → o ≡ Some index
 there_so None index is = absurd (cc)
 there_so (Some found) index is = (let same : found ≡ index = cc in ap Some same)
 
-has_scale : (timescale at : ℕ) (later : List FileFault) (x index : Index) → unless_any ((if timescale == 0 then Scale at ∷ [] else []) ++ later) x ≡ Ok index → 0 < timescale
+has_scale : (timescale at : ℕ) (later : List FileFault) (x index : Index)
+    → unless_any ((if timescale == 0 then Scale at ∷ [] else []) ++ later) x ≡ Ok index → 0 < timescale
 has_scale zero at later x index is = absurd (cc)
 has_scale (suc n) at later x index is = omega arith
 
@@ -95,28 +107,38 @@ is_found left index is =
     let same : f.value ≡ index = sym (passed_value (index_faults f.value) f.value index f.then) in
     subst (IsFound left) same (record {
       first = ok_under Boxes (index_of left) o.value o.first ∙ ap Ok (there_so o.value f.value o.then);
-      scaled = has_scale f.value.timescale f.value.at (empty_faults f.value ++ (flat_map reference_faults f.value.references ++ range_faults f.value)) f.value index f.then;
+      scaled = has_scale f.value.timescale f.value.at
+          (empty_faults f.value ++ (flat_map reference_faults f.value.references ++ range_faults f.value)) f.value index f.then;
     })
 
 timed_so : (fault : Option TimeFault) (timeline runs : SegmentTimeline) → unless_fault fault timeline ≡ Ok runs → timeline ≡ runs
 timed_so None timeline runs is = cc
 timed_so (Some fault) timeline runs is = absurd (cc)
 
-runs_are : (address : List ℕ) (index : Index) (runs : SegmentTimeline) → runs_of address index ≡ Ok runs → timeline_with (ticks_of index) (parts_in address index) (extents_in index) ≡ runs
+runs_are : (address : List ℕ) (index : Index) (runs : SegmentTimeline) → runs_of address index ≡ Ok runs
+    → timeline_with (ticks_of index) (parts_in address index) (extents_in index) ≡ runs
 unfolding runs_of
-runs_are address index runs is = timed_so (fault_of (parts_in address index) (extents_in index)) (timeline_with (ticks_of index) (parts_in address index) (extents_in index)) runs is
+runs_are address index runs is =
+    timed_so (fault_of (parts_in address index) (extents_in index)) (timeline_with (ticks_of index) (parts_in address index)
+    (extents_in index)) runs is
 
 abbrev listed_with : Located → Index → SegmentTimeline → Listed
-listed_with l index runs = record { content = record { initialization = l.initialization; runs = runs }; segments = length index.references }
+listed_with l index runs = record {
+  content = record { initialization = l.initialization; runs = runs };
+  segments = length index.references;
+}
 
-is_listed : (l : Located) (index : Index) (listed : Listed) → listed_by l index ≡ Ok listed → listed_with l index (timeline_with (ticks_of index) (parts_in l.address index) (extents_in index)) ≡ listed
+is_listed : (l : Located) (index : Index) (listed : Listed) → listed_by l index ≡ Ok listed
+    → listed_with l index (timeline_with (ticks_of index) (parts_in l.address index) (extents_in index)) ≡ listed
 unfolding listed_by
 is_listed l index listed is =
     let s = steps_of (told_as (times_fault l.place) (runs_of l.address index)) _ listed is in
     let same : listed_with l index s.value ≡ listed = (let h = s.then in cc) in
-    ap (listed_with l index) (runs_are l.address index s.value (ok_under (times_fault l.place) (runs_of l.address index) s.value s.first)) ∙ same
+    ap (listed_with l index) (runs_are l.address index s.value
+    (ok_under (times_fault l.place) (runs_of l.address index) s.value s.first)) ∙ same
 
-indexed : (url folder : List ℕ) (files : Files) (row : Row) (l : Located) (bytes : List ℕ) (index : Index) → IsLocated url folder row l → IsRead l files bytes
+indexed : (url folder : List ℕ) (files : Files) (row : Row) (l : Located) (bytes : List ℕ) (index : Index) → IsLocated url folder row l
+    → IsRead l files bytes
     → IsFound (record { at = l.index.first; bytes = bytes }) index
     → IsIndexed url folder files row (listed_with l index (timeline_with (ticks_of index) (parts_in l.address index) (extents_in index)))
 indexed url folder files row l bytes index located read found =
@@ -137,7 +159,8 @@ indexed url folder files row l bytes index located read found =
       many = refl;
       own = parts_own l.address index.first index.references;
       tile = parts_tile l.address index.first index.references;
-      lasting = subst (λ timescale. LastAs timescale 0 index.references (extents_in index)) ticks (last_as (ticks_of index) 0 index.references);
+      lasting = subst (λ timescale. LastAs timescale 0 index.references (extents_in index)) ticks
+          (last_as (ticks_of index) 0 index.references);
     }
 
 pub tiled : SegmentsTile
@@ -147,5 +170,7 @@ tiled url folder files row listed is =
     let b = steps_of (read_of l.value files) _ listed l.then in
     let i = steps_of (told_as (File l.value.file) (index_in (record { at = l.value.index.first; bytes = b.value }))) _ listed b.then in
     subst (IsIndexed url folder files row) (is_listed l.value i.value listed i.then)
-    (indexed url folder files row l.value b.value i.value (is_located url folder row l.value l.first) (is_read l.value files b.value b.first)
-    (is_found (record { at = l.value.index.first; bytes = b.value }) i.value (ok_under (File l.value.file) (index_in (record { at = l.value.index.first; bytes = b.value })) i.value i.first)))
+    (indexed url folder files row l.value b.value i.value (is_located url folder row l.value l.first)
+    (is_read l.value files b.value b.first)
+    (is_found (record { at = l.value.index.first; bytes = b.value }) i.value
+    (ok_under (File l.value.file) (index_in (record { at = l.value.index.first; bytes = b.value })) i.value i.first)))

@@ -40,7 +40,8 @@ kept_if url folder files kind g row = if is_of kind row.description.kind then ke
 -- those of a kind, one after another
 abbrev pub kind_kept : (url folder : List ℕ) → Files → Kind → Gathering → List Row → Result Gathering IndexFault
 kind_kept url folder files kind g [] = Ok g
-kind_kept url folder files kind g (row ∷ rows) = and_then (kept_if url folder files kind g row) (λ next. kind_kept url folder files kind next rows)
+kind_kept url folder files kind g (row ∷ rows) =
+    and_then (kept_if url folder files kind g row) (λ next. kind_kept url folder files kind next rows)
 
 -- video, then audio, then text
 unfoldable pub all_gathered : (url folder : List ℕ) → Files → List Row → Result Gathering IndexFault

@@ -43,7 +43,8 @@ pub record IsIndexed (url folder : List ℕ) (files : Files) (row : Row) (listed
   pub addressed : chain url row.description.bases ≡ Ok address
   pub named : local_name_of folder address ≡ Some file
   pub there : files file ≡ Some bytes
-  pub found : let range = (told_in row).range in index_of (record { at = range.first; bytes = take range.count (drop range.first bytes) }) ≡ Ok (Some index)
+  pub found : let range = (told_in row).range in
+      index_of (record { at = range.first; bytes = take range.count (drop range.first bytes) }) ≡ Ok (Some index)
   pub names : listed.content.runs.names ≡ Addresses parts
   pub members : listed.content.runs.members ≡ map Closed extents
   pub many : listed.segments ≡ length index.references

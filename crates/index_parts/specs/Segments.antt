@@ -47,12 +47,20 @@ extents_in index = extents_from (ticks_of index) 0 index.references
 
 -- segments with these times and files, numbered from 1
 abbrev pub timeline_with : (ticks : ℕ) → List Part → List Extent → SegmentTimeline
-timeline_with ticks parts xs = record { members = map Closed xs; ticks = ticks; origin = 0; offset = 0; first_number = 1; names = Addresses parts }
+timeline_with ticks parts xs = record {
+  members = map Closed xs;
+  ticks = ticks;
+  origin = 0;
+  offset = 0;
+  first_number = 1;
+  names = Addresses parts;
+}
 
 -- the first fault of times that are given one by one
 abbrev pub fault_of : List Part → List Extent → Option TimeFault
 fault_of parts xs = or_fault (fault_if (list_any lasts_no_time xs) ZeroDuration)
-    (or_fault (segment_fault span_breaks_limits None (map Closed xs)) (fault_if (not (are_paired (Some (length parts)) (map Closed xs))) ListLength))
+    (or_fault (segment_fault span_breaks_limits None (map Closed xs))
+    (fault_if (not (are_paired (Some (length parts)) (map Closed xs))) ListLength))
 
 abbrev pub timeline_of : (ticks : ℕ) → List Part → List Extent → Result SegmentTimeline TimeFault
 timeline_of ticks parts xs = unless_fault (fault_of parts xs) (timeline_with ticks parts xs)

@@ -66,7 +66,8 @@ impl Setting<'_> {
         view: &IndexedRep<'_>,
         store: &mut F,
     ) -> Result<Listed, IndexFault>
-        ensures listed { ForSome (F.files store.old) (λ files. Gives (λ listed. listed) refusal result (spec.track_parts self.now.url.now self.now.folder.now files (row_of view.now))) }
+        ensures listed { ForSome (F.files store.old) (λ files. Gives (λ listed. listed) refusal result
+            (spec.track_parts self.now.url.now self.now.folder.now files (row_of view.now))) }
         ensures ended { IfOk result (λ listed. IsEnded listed.content) }
         ensures cause { HasCause Fault (F.read_faults store.old) (F.read_faults store.new) result }
         ensures files { F.files store.new ≡ F.files store.old }
@@ -79,7 +80,8 @@ impl Setting<'_> {
     /// What the MPD tells of a Representation's file.
     #[tactic(auto, unfolding(crate::specs::Located::located_of))]
     fn locate(&self, alloc: Global, view: &IndexedRep<'_>) -> Result<Located, IndexFault>
-        ensures located { Gives (λ located. located) refusal result (spec.located_of self.now.url.now self.now.folder.now (row_of view.now)) }
+        ensures located { Gives (λ located. located) refusal result
+            (spec.located_of self.now.url.now self.now.folder.now (row_of view.now)) }
         ensures small { IfOk result (λ located. located.index.count ≤ 8388608) }
         ensures bounded { IfOk result (λ located. located.index.first + located.index.count ≤ 2 ^ 63) }
         ensures no_fault { IsNoFault result }
@@ -192,7 +194,8 @@ fn deepest(alloc: Global, url: &Base, references: BaseWalk<'_>) -> Result<Base, 
 
 /// The initialization part of a Representation.
 fn initialization_of(alloc: Global, view: &IndexedRep<'_>, base: &Base) -> Result<Part, IndexFault>
-    ensures part { Gives (λ part. part) refusal result (spec.initialization_of (row_of view.now).description base.now (told_in (row_of view.now))) }
+    ensures part { Gives (λ part. part) refusal result
+        (spec.initialization_of (row_of view.now).description base.now (told_in (row_of view.now))) }
     ensures no_fault { IsNoFault result }
 {
     match initialization_by(alloc, view, base) {

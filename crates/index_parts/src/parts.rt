@@ -51,7 +51,8 @@ pub fn index_parts<F: Store>(
     folder: &Base,
     store: &mut F,
 ) -> Result<Presentation, IndexFault>
-    ensures presented { ForSome (F.files store.old) (λ files. Gives (λ presentation. presentation) refusal result (spec.indexed_of base.now folder.now files (index_mpd mpd.now))) }
+    ensures presented { ForSome (F.files store.old) (λ files. Gives (λ presentation. presentation) refusal result
+        (spec.indexed_of base.now folder.now files (index_mpd mpd.now))) }
     ensures cause { HasCause Fault (F.read_faults store.old) (F.read_faults store.new) result }
     ensures files { F.files store.new ≡ F.files store.old }
     ensures writes { F.write_faults store.new ≡ F.write_faults store.old }
@@ -88,7 +89,8 @@ impl Setting<'_> {
         left_out: u64,
         store: &mut F,
     ) -> Result<Presentation, IndexFault>
-        ensures presented { ForSome (F.files store.old) (λ files. Gives (λ presentation. presentation) refusal result (kept.presented_kept self.now.url.now self.now.folder.now files left_out (period_of period.now))) }
+        ensures presented { ForSome (F.files store.old) (λ files. Gives (λ presentation. presentation) refusal result
+            (kept.presented_kept self.now.url.now self.now.folder.now files left_out (period_of period.now))) }
         ensures cause { HasCause Fault (F.read_faults store.old) (F.read_faults store.new) result }
         ensures files { F.files store.new ≡ F.files store.old }
         ensures writes { F.write_faults store.new ≡ F.write_faults store.old }
@@ -106,7 +108,8 @@ impl Setting<'_> {
         period: &IndexedPeriod<'_>,
         store: &mut F,
     ) -> Result<Gathering, IndexFault>
-        ensures gathered { ForSome (F.files store.old) (λ files. Gives (λ gathering. gathering) refusal result (kept.all_gathered self.now.url.now self.now.folder.now files (period_of period.now).tracks)) }
+        ensures gathered { ForSome (F.files store.old) (λ files. Gives (λ gathering. gathering) refusal result
+            (kept.all_gathered self.now.url.now self.now.folder.now files (period_of period.now).tracks)) }
         ensures ended { IfOk result (λ gathering. All IsEnded gathering.contents) }
         ensures cause { HasCause Fault (F.read_faults store.old) (F.read_faults store.new) result }
         ensures files { F.files store.new ≡ F.files store.old }
@@ -131,7 +134,8 @@ impl Setting<'_> {
         store: &mut F,
     ) -> Result<Gathering, IndexFault>
         requires { All IsEnded former.contents }
-        ensures gathered { ForSome (F.files store.old) (λ files. Gives (λ gathering. gathering) refusal result (kept.kind_kept self.now.url.now self.now.folder.now files kind former (rows_left walk.entry))) }
+        ensures gathered { ForSome (F.files store.old) (λ files. Gives (λ gathering. gathering) refusal result
+            (kept.kind_kept self.now.url.now self.now.folder.now files kind former (rows_left walk.entry))) }
         ensures ended { IfOk result (λ gathering. All IsEnded gathering.contents) }
         ensures cause { HasCause Fault (F.read_faults store.old) (F.read_faults store.new) result }
         ensures files { F.files store.new ≡ F.files store.old }
@@ -154,7 +158,8 @@ impl Setting<'_> {
         store: &mut F,
     ) -> Result<Gathering, IndexFault>
         requires { All IsEnded former.contents }
-        ensures gathered { ForSome (F.files store.old) (λ files. Gives (λ gathering. gathering) refusal result (kept.kept_if self.now.url.now self.now.folder.now files kind former (row_of view.now))) }
+        ensures gathered { ForSome (F.files store.old) (λ files. Gives (λ gathering. gathering) refusal result
+            (kept.kept_if self.now.url.now self.now.folder.now files kind former (row_of view.now))) }
         ensures ended { IfOk result (λ gathering. All IsEnded gathering.contents) }
         ensures cause { HasCause Fault (F.read_faults store.old) (F.read_faults store.new) result }
         ensures files { F.files store.new ≡ F.files store.old }
@@ -177,7 +182,8 @@ impl Setting<'_> {
         store: &mut F,
     ) -> Result<Gathering, IndexFault>
         requires { All IsEnded former.contents }
-        ensures gathered { ForSome (F.files store.old) (λ files. Gives (λ gathering. gathering) refusal result (kept.kept_with self.now.url.now self.now.folder.now files former (row_of view.now))) }
+        ensures gathered { ForSome (F.files store.old) (λ files. Gives (λ gathering. gathering) refusal result
+            (kept.kept_with self.now.url.now self.now.folder.now files former (row_of view.now))) }
         ensures ended { IfOk result (λ gathering. All IsEnded gathering.contents) }
         ensures cause { HasCause Fault (F.read_faults store.old) (F.read_faults store.new) result }
         ensures files { F.files store.new ≡ F.files store.old }
@@ -213,7 +219,8 @@ impl Gathering {
         left_out: u64,
     ) -> Result<Presentation, IndexFault>
         requires { All IsEnded self.contents }
-        ensures presented { Gives (λ presentation. presentation) refusal result (kept.presented_of left_out (period_of period.now) tracks self) }
+        ensures presented { Gives (λ presentation. presentation) refusal result
+            (kept.presented_of left_out (period_of period.now) tracks self) }
         ensures no_fault { IsNoFault result }
     {
         // Contents that aren't kept are too many.

@@ -15,6 +15,7 @@ returns-in-Some-clause-presented g c = λ files told.
     let base = c.args.base.now in
     let folder = c.args.folder.now in
     let made = rw c.left_out.ensures at (c.present.ensures.presented files told) in
-    subst (λ periods. Gives (λ (p : Presented). p) refusal c.present.result (presented_by base folder files c.args.mpd.now.values.left_out periods)) (sym periods)
+    subst (λ periods. Gives (λ (p : Presented). p) refusal c.present.result
+    (presented_by base folder files c.args.mpd.now.values.left_out periods)) (sym periods)
     (subst (λ told. Gives (λ (p : Presented). p) refusal c.present.result told)
     (as_presented base folder files c.args.mpd.now.values.left_out (period_of c.in-Some.period)) made)

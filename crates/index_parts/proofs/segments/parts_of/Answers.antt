@@ -7,5 +7,7 @@ overflow_cast-first c = (let within = ends_behind c.args.index.now.first c.args.
 
 pub overflow_add-first : goal.overflow_add-first
 overflow_add-first c =
-    let within = next_within c.loop-reference.first (2 ^ 63) c.in-Some.reference c.next.new.self c.loop-reference.reference-iterator c.in-Some.ensures.steps c.loop-reference.invariant.room in
+    let within =
+    next_within c.loop-reference.first (2 ^ 63) c.in-Some.reference c.next.new.self c.loop-reference.reference-iterator
+    c.in-Some.ensures.steps c.loop-reference.invariant.room in
     grind (arith, within)
