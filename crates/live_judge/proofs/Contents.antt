@@ -28,7 +28,7 @@ all_pass : (test : Timing → Bool) (xs : List Timing) → ((x : Timing) → tes
 all_pass test [] all = refl
 all_pass test (x ∷ xs) all = rw (all x) (ap (λ (ys : List Timing). x ∷ ys) (all_pass test xs all))
 
-here_by_end : (l : Last) (k place : ℕ) → k ≡ place → (end : Time) → is_later l place k end ≡ before l.end end
+pub here_by_end : (l : Last) (k place : ℕ) → k ≡ place → (end : Time) → is_later l place k end ≡ before l.end end
 here_by_end l k place same end =
     let none : nat_lt place k ≡ false = grind (arith, nat_tests, same) in
     let one : (place == k) ≡ true = grind (arith, nat_tests, same) in

@@ -1,9 +1,9 @@
 -- The first refusal of lists in order.
-use Rattle.std.proofs.Common.{◌≡◌, ℕ, ◌+◌, ◌<◌, List, [], ◌∷◌, ◌++◌, drop, length, Some, sym, ◌∙◌, ap, subst, arith}
+use Rattle.std.proofs.Common.{◌≡◌, ℕ, zero, suc, ◌+◌, ◌<◌, List, [], ◌∷◌, ◌++◌, drop, length, Some, refl, sym, ◌∙◌, ap, subst, arith}
 use Rattle.std.specs.Prelude.{IsSome, None, flat_map, is_some, slice_get, true}
 use Rattle.std.specs.List.{range_with_len}
 use Rattle.std.proofs.lemmas.List.{drop_all, drop_more}
-use Rattle.std.proofs.lemmas.Option.{get_or_from_slice_get, slice_get_within}
+use Rattle.std.proofs.lemmas.Option.{get_or_from_slice_get, same_Some, slice_get_within}
 use Rattle.presentation.proofs.Counts.{from_on, from_on-end, from_on-first, from_on-start}
 use Rattle.live_meaning.specs.Refusals.{Refusal}
 use Rattle.live_judge.specs.declared.fault.RefreshFault.{RefreshFault}
@@ -57,7 +57,7 @@ module _ (f : ℕ → LiveTrack → List Refusal) (tracks : List LiveTrack) wher
   abbrev pub IsNoneYet : ℕ → Type 0
   IsNoneYet i = each f 0 tracks ≡ each f i (drop i tracks)
 
-  rest_at : (i : ℕ) (x : LiveTrack) → slice_get tracks i ≡ Some x → drop i tracks ≡ x ∷ drop (i + 1) tracks
+  pub rest_at : (i : ℕ) (x : LiveTrack) → slice_get tracks i ≡ Some x → drop i tracks ≡ x ∷ drop (i + 1) tracks
   rest_at i x at = drop_more tracks i x (slice_get_within tracks i x at) ∙ ap (λ y. y ∷ drop (i + 1) tracks) (get_or_from_slice_get tracks i x x at)
 
   pub at_track : (i : ℕ) (x : LiveTrack) → slice_get tracks i ≡ Some x → IsNoneYet i
@@ -78,3 +78,26 @@ module _ (f : ℕ → LiveTrack → List Refusal) (tracks : List LiveTrack) wher
   unfolding each
   none_left i end before =
       before ∙ ap (λ xs. each f i xs) (ap (λ j. drop j tracks) end ∙ drop_all (length tracks) tracks (omega arith))
+
+-- ---- none of all
+
+nil_left : (xs ys : List Refusal) → xs ++ ys ≡ [] → xs ≡ []
+nil_left [] ys none = refl
+nil_left (x ∷ xs) ys none = absurd (cc)
+
+nil_right : (xs ys : List Refusal) → xs ++ ys ≡ [] → ys ≡ []
+nil_right [] ys none = none
+nil_right (x ∷ xs) ys none = absurd (cc)
+
+none_of_each : (f : ℕ → LiveTrack → List Refusal) (t : ℕ) (xs : List LiveTrack) (i : ℕ) (x : LiveTrack) → slice_get xs i ≡ Some x → each f t xs ≡ [] → f (t + i) x ≡ []
+unfolding each
+none_of_each f t [] i x at none = absurd (cc)
+none_of_each f t (y ∷ xs) zero x at none =
+    let first : t + 0 ≡ t = omega arith in
+    ap (λ j. f j x) first ∙ ap (λ z. f t z) (sym (same_Some y x at)) ∙ nil_left (f t y) (each f (t + 1) xs) none
+none_of_each f t (y ∷ xs) (suc i) x at none =
+    let next : t + suc i ≡ t + 1 + i = omega arith in
+    ap (λ j. f j x) next ∙ none_of_each f (t + 1) xs i x at (nil_right (f t y) (each f (t + 1) xs) none)
+
+pub none_at : (f : ℕ → LiveTrack → List Refusal) (xs : List LiveTrack) (i : ℕ) (x : LiveTrack) → slice_get xs i ≡ Some x → each f 0 xs ≡ [] → f i x ≡ []
+none_at f xs i x at none = (let same : 0 + i ≡ i = omega arith in ap (λ j. f j x) (sym same)) ∙ none_of_each f 0 xs i x at none

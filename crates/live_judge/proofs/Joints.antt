@@ -49,7 +49,7 @@ step_told t l (x ∷ xs) number times first =
 abbrev pub even_at : (place : ℕ) → ℕ → LiveTrack → List Refusal
 even_at place t x = told_if (not (place == (track_shown x).place)) (Uneven t place (track_shown x).place)
 
-is_self : (n : ℕ) → (n == n) ≡ true
+pub is_self : (n : ℕ) → (n == n) ≡ true
 is_self n = elim (cases_Bool (n == n)) [ inl is ↦ is | inr other ↦ absurd (grind (arith, nat_tests, other)) ]
 
 pub even_none : (place t n : ℕ) → n ≡ place → told_if (not (place == n)) (Uneven t place n) ≡ []

@@ -18,3 +18,10 @@ pub mod Joints
 pub mod Periods
 pub mod Tracks
 pub mod Beginnings
+pub mod Longs
+pub mod RunDurations
+pub mod NewDurations
+pub mod Totals
+pub mod LongRules
+pub mod KeptCounts
+pub mod Rooms

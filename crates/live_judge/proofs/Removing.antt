@@ -20,10 +20,10 @@ use Rattle.live_meaning.specs.Segments.{Kept, Segment, segments_of}
 use Rattle.live_meaning.specs.Removal.{is_available, removed_of}
 use Rattle.followed.specs.Durations.{durations}
 
-sum-cons : (n : ℕ) (ns : List ℕ) → sum (n ∷ ns) ≡ n + sum ns
+pub sum-cons : (n : ℕ) (ns : List ℕ) → sum (n ∷ ns) ≡ n + sum ns
 sum-cons n ns = sum_by-cons (λ m. m) n ns
 
-sum-append : (ns ms : List ℕ) → sum (ns ++ ms) ≡ sum ns + sum ms
+pub sum-append : (ns ms : List ℕ) → sum (ns ++ ms) ≡ sum ns + sum ms
 sum-append ns ms = sum_by-append (λ m. m) ns ms
 
 last_within : (enough : ℕ) (ns : List ℕ) → last_place enough ns ≤ length ns

@@ -1,13 +1,13 @@
 -- An update that comes to a session, and what it would leave.
-use Rattle.std.specs.Prelude.{◌≡◌, ℕ, ◌<◌, ◌≤◌, ℤ, int_lt, false, length, slice_get, Some}
+use Rattle.std.specs.Prelude.{◌≡◌, ℕ, ◌<◌, ◌≤◌, ℤ, int_lt, Bool, false, List, [], ◌++◌, length, map, slice_get, Some}
 use Rattle.mpd_rules.specs.Views.{segments_mpd}
 use Rattle.presentation.specs.Presented.{Presented, looked_at}
 use Rattle.presentation.specs.Printing.{IsCounted}
-use Rattle.live_meaning.specs.Updates.{Update, Refresh, Reset, Tick}
+use Rattle.live_meaning.specs.Updates.{Update, Refresh, Reset, Tick, is_reset}
 use Rattle.live_meaning.specs.Known.{ids_of}
 use Rattle.live_meaning.specs.Histories.{Common, availability_start_of, common_with}
 use Rattle.live_meaning.specs.States.{Track}
-use Rattle.live_meaning.specs.Refusals.{ids_in}
+use Rattle.live_meaning.specs.Refusals.{Refusal, counts_kept, ids_in, joint_told, long_told, window_told}
 use Rattle.live_judge.specs.declared.coming.Coming.{Coming}
 use Rattle.live_judge.specs.declared.coming.Coming.TheVariants as comes
 use Rattle.live_judge.specs.declared.coming.Next.{Next}
@@ -20,6 +20,10 @@ abbrev pub update_of : Coming → ℤ → Update
 update_of (comes.Refresh mpd) now = Refresh (segments_mpd mpd.now) now
 update_of (comes.Reset mpd) now = Reset (segments_mpd mpd.now) now
 update_of comes.Tick now = Tick now
+
+-- the refusals by the segments' times
+abbrev pub timed_told : (is_reset : Bool) → Common → List Track → List Refusal
+timed_told is_reset c tracks = joint_told is_reset c tracks ++ long_told c 0 tracks ++ window_told (counts_kept c 0 tracks)
 
 -- ---- an update whose presentation is judged
 
@@ -51,3 +55,7 @@ t_of l = track_shown l.track.now
 pub record IsTrackNext (l : TrackNext) : Type 0 where
   pub next : IsNext l.next.now
   pub there : slice_get (l.next.now).tracks.now l.index ≡ Some l.track.now
+
+-- no gap or overlap behind a last segment is told
+abbrev pub IsJoined : Next → Type 0
+IsJoined n = joint_told (is_reset (update_of n.coming n.now)) (coming_of n) (map track_shown n.tracks.now) ≡ []

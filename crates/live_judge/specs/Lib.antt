@@ -6,3 +6,6 @@ pub mod New
 pub mod Changed
 pub mod Coming
 pub mod Removal
+pub mod Seconds
+pub mod Long
+pub mod Times

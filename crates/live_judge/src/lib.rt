@@ -6,9 +6,12 @@ mod changed;
 mod coming;
 mod fault;
 mod known;
+mod long;
 mod removal;
+mod room;
 mod standing;
 mod steps;
+mod times;
 mod track;
 mod track_next;
 

@@ -8,12 +8,14 @@ ghost use Rattle.followed.specs.Places.{last_place};
 ghost use Rattle.presentation.specs.Presented.{is_finished, looked_at, window_from};
 ghost use Rattle.timeline.specs.Listed.{is_after};
 ghost use Rattle.live_meaning.specs.Histories.{least_length};
+ghost use Rattle.live_meaning.specs.Refusals.{count_kept};
 ghost use Rattle.live_meaning.specs.Removal.{removed_of};
-ghost use Rattle.live_judge.specs.Coming.{IsNext, coming_of};
+ghost use Rattle.live_meaning.specs.States.{kept_and_new, removed_from};
+ghost use Rattle.live_judge.specs.Coming.{IsJoined, IsNext, IsTrackNext, c_of, coming_of, t_of};
 ghost use Rattle.live_judge.specs.Removal.{is_still_available, kept_in};
 
 use crate::standing::is_finished;
-use crate::{Fact, LiveTrack, Next};
+use crate::{Fact, LiveTrack, Next, TrackNext};
 use exact_time::Tick;
 use hls_writer::MediaItem;
 use iso_time::Instant;
@@ -106,5 +108,30 @@ impl Next<'_> {
         ensures { result ≡ least_length (coming_of self.entry.now) }
     {
         3 * u128::from(self.standing.target) * u128::from(self.standing.digits.unit())
+    }
+}
+
+impl TrackNext<'_> {
+    /// How many kept segments the update removes from the front. It takes no memory.
+    ///
+    /// Requires that no gap or overlap behind a last segment is told, as `Next::judge` sees to.
+    pub fn removed(&self) -> usize
+        requires next { IsTrackNext self.now }
+        requires joined { IsJoined self.now.next.now }
+        ensures { result ≡ removed_from (c_of self.entry.now) (kept_and_new (c_of self.entry.now) self.entry.now.index (t_of self.entry.now)) }
+    {
+        let least = self.next.least_length().saturating_sub(self.total());
+        removed_of(self.track, self.next.force, self.next.now, least)
+    }
+
+    /// How many segments are kept with the new ones.
+    pub(crate) fn kept_count(&self) -> u128
+        requires next { IsTrackNext self.now }
+        requires joined { IsJoined self.now.next.now }
+        ensures kept { result ≡ count_kept (c_of self.entry.now) (kept_and_new (c_of self.entry.now) self.entry.now.index (t_of self.entry.now)) }
+        ensures bounded { result < 2 ^ 127 + 2 ^ 64 }
+    {
+        let all = self.track.facts.len() as u128 + self.new_count();
+        all.saturating_sub(self.removed() as u128)
     }
 }

@@ -3,15 +3,25 @@ ghost use Rattle.std.specs.Prelude.{◌≡◌, [], length, map};
 ghost use Rattle.live_meaning.specs.Updates.{is_reset};
 ghost use Rattle.live_meaning.specs.Refusals as rules;
 ghost use Rattle.live_meaning.specs.States.{new_of};
-ghost use Rattle.live_judge.specs.Coming.{IsNext, IsTrackNext, c_of, coming_of, t_of, update_of};
+ghost use Rattle.live_judge.specs.Coming.{IsNext, IsTrackNext, c_of, coming_of, t_of, timed_told, update_of};
 ghost use Rattle.live_judge.specs.Faults.{Judges};
 ghost use Rattle.live_judge.specs.Shown.{track_shown};
 
 use crate::{Next, RefreshFault, TrackNext};
 
 impl<'a> Next<'a> {
+    /// Judges the times of the new segments, and how many are kept with them.
+    pub fn check_times(&self) -> Result<(), RefreshFault>
+        requires { IsNext self.now }
+        ensures { Judges result (timed_told (is_reset (update_of self.entry.now.coming self.entry.now.now)) (coming_of self.entry.now) (map track_shown self.entry.now.tracks.now)) }
+    {
+        self.check_joints()?;
+        self.check_long()?;
+        self.check_room()
+    }
+
     /// A gap or an overlap behind a last segment; before a reset, tracks that end in different Periods.
-    pub fn check_joints(&self) -> Result<(), RefreshFault>
+    fn check_joints(&self) -> Result<(), RefreshFault>
         requires { IsNext self.now }
         ensures { Judges result (rules.joint_told (is_reset (update_of self.entry.now.coming self.entry.now.now)) (coming_of self.entry.now) (map track_shown self.entry.now.tracks.now)) }
     {

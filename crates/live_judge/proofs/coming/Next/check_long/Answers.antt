@@ -1,0 +1,28 @@
+use Rattle.std.proofs.Common.{List, ◌∙◌, sym, subst, refl, arith}
+use Rattle.std.proofs.lemmas.Result.{err_from_is_err_and}
+use Rattle.live_meaning.specs.Refusals.{Refusal}
+use Rattle.live_judge.specs.Coming.{coming_of}
+use Rattle.live_judge.specs.Faults.{Tells}
+use Rattle.live_judge.proofs.Firsts.{first_next, none_left, none_next}
+use Rattle.live_judge.proofs.LongRules.{long_at, long_for, long_each}
+use Rattle.live_judge.proofs.coming.Next.check_long.Goals as goal
+
+pub loop-track-init : goal.loop-track-init
+loop-track-init c = refl
+
+pub loop-track-preserved : goal.loop-track-preserved
+loop-track-preserved c =
+    none_next (long_at (coming_of c.args.self.now)) c.args.self.now.tracks.now c.loop-track.track c.of.result.track.now c.of.ensures.there c.loop-track.invariant
+    (sym (long_for c.of.result c.args.self.now c.loop-track.track c.of.ensures.next c.of.ensures.index) ∙ c.in_ok-check_long.ensures)
+
+pub returns-in_err-check_long : goal.returns-in_err-check_long
+returns-in_err-check_long c =
+    let p = err_from_is_err_and c.from_residual.result c.from_residual.ensures.1 in
+    let tells = subst (λ (xs : List Refusal). Tells c.in_err-check_long.field-0.0 xs) (long_for c.of.result c.args.self.now c.loop-track.track c.of.ensures.next c.of.ensures.index) c.in_err-check_long.ensures in
+    rw (p.1, p.2) (subst (λ (xs : List Refusal). Tells c.in_err-check_long.field-0.0 xs) (sym (long_each (coming_of c.args.self.now) 0 c.args.self.now.tracks.now))
+    (first_next (long_at (coming_of c.args.self.now)) c.args.self.now.tracks.now c.loop-track.track c.of.result.track.now c.in_err-check_long.field-0.0 c.of.ensures.there c.loop-track.invariant tells))
+
+pub returns : goal.returns
+returns c =
+    long_each (coming_of c.args.self.now) 0 c.args.self.now.tracks.now
+    ∙ none_left (long_at (coming_of c.args.self.now)) c.args.self.now.tracks.now c.loop-track.track (omega arith) c.loop-track.invariant

@@ -1,0 +1,55 @@
+// How many segments are kept.
+ghost use Rattle.std.specs.Prelude.{◌≡◌, [], map};
+ghost use Rattle.live_meaning.specs.Refusals.{counts_kept, over_in_all, over_in_track, window_told};
+ghost use Rattle.live_judge.specs.Coming.{IsJoined, IsNext, coming_of};
+ghost use Rattle.live_judge.specs.Faults.{Judges};
+ghost use Rattle.live_judge.specs.Shown.{track_shown};
+
+use crate::{Next, RefreshFault};
+
+/// How many segments of a track are kept at most.
+const TRACK_LIMIT: u128 = 20_000;
+
+/// How many segments of all tracks are kept at most.
+const LIMIT: u128 = 500_000;
+
+impl Next<'_> {
+    /// More segments than may be kept of a track, or of all tracks.
+    pub(crate) fn check_room(&self) -> Result<(), RefreshFault>
+        requires next { IsNext self.now }
+        requires joined { IsJoined self.now }
+        ensures { Judges result (window_told (counts_kept (coming_of self.entry.now) 0 (map track_shown self.entry.now.tracks.now))) }
+    {
+        self.check_each()?;
+        self.check_all()
+    }
+
+    fn check_each(&self) -> Result<(), RefreshFault>
+        requires next { IsNext self.now }
+        requires joined { IsJoined self.now }
+        ensures { Judges result (over_in_track 0 (counts_kept (coming_of self.entry.now) 0 (map track_shown self.entry.now.tracks.now))) }
+    {
+        for track in 0..self.tracks.len() {
+            let count = self.of(track).kept_count();
+            if count > TRACK_LIMIT {
+                return Err(RefreshFault::Window { track, count });
+            }
+        }
+        Ok(())
+    }
+
+    fn check_all(&self) -> Result<(), RefreshFault>
+        requires next { IsNext self.now }
+        requires joined { IsJoined self.now }
+        ensures { Judges result (over_in_all 0 0 (counts_kept (coming_of self.entry.now) 0 (map track_shown self.entry.now.tracks.now))) }
+    {
+        let mut count: u128 = 0;
+        for track in 0..self.tracks.len() {
+            count += self.of(track).kept_count();
+            if count > LIMIT {
+                return Err(RefreshFault::Window { track, count });
+            }
+        }
+        Ok(())
+    }
+}
