@@ -25,3 +25,4 @@ pub mod Totals
 pub mod LongRules
 pub mod KeptCounts
 pub mod Rooms
+pub mod Listing

@@ -1,17 +1,21 @@
 -- An update that comes to a session, and what it would leave.
-use Rattle.std.specs.Prelude.{◌≡◌, ℕ, ◌<◌, ◌≤◌, ℤ, int_lt, Bool, false, List, [], ◌++◌, length, map, slice_get, Some}
+use Rattle.std.specs.Prelude.{◌≡◌, ℕ, ◌<◌, ◌≤◌, ℤ, int_lt, Bool, false, List, [], ◌++◌, length, map, slice_get, Option, Some, Ok, unwrap_or}
 use Rattle.mpd_rules.specs.Views.{segments_mpd}
 use Rattle.presentation.specs.Presented.{Presented, looked_at}
+use Rattle.presentation.specs.Counting.{range_faults}
 use Rattle.presentation.specs.Printing.{IsCounted}
-use Rattle.live_meaning.specs.Updates.{Update, Refresh, Reset, Tick, is_reset}
+use Rattle.presentation.specs.Told.{presented_of}
+use Rattle.live_meaning.specs.Updates.{Update, Values, Refresh, Reset, Tick, is_reset}
 use Rattle.live_meaning.specs.Known.{ids_of}
 use Rattle.live_meaning.specs.Histories.{Common, availability_start_of, common_with}
 use Rattle.live_meaning.specs.States.{Track}
-use Rattle.live_meaning.specs.Refusals.{Refusal, counts_kept, ids_in, joint_told, long_told, window_told}
+use Rattle.live_meaning.specs.Refusals.{Presentation, Refusal, counts_kept, ids_in, joint_told, long_told, window_told}
 use Rattle.live_judge.specs.declared.coming.Coming.{Coming}
 use Rattle.live_judge.specs.declared.coming.Coming.TheVariants as comes
 use Rattle.live_judge.specs.declared.coming.Next.{Next}
 use Rattle.live_judge.specs.declared.track_next.TrackNext.{TrackNext}
+use Rattle.live_judge.specs.declared.standing.Standing.{Standing}
+use Rattle.live_judge.specs.Changed.{listed_told}
 use Rattle.live_judge.specs.Known.{StandsAt}
 use Rattle.live_judge.specs.Shown.{common_shown, track_shown}
 use Rattle.live_judge.specs.Sound.{IsLive, StartsAt}
@@ -20,6 +24,16 @@ abbrev pub update_of : Coming → ℤ → Update
 update_of (comes.Refresh mpd) now = Refresh (segments_mpd mpd.now) now
 update_of (comes.Reset mpd) now = Reset (segments_mpd mpd.now) now
 update_of comes.Tick now = Tick now
+
+-- where the presentation comes from that would be in force: from the MPD, or it is in force already
+abbrev pub Comes : Standing → Coming → Presented → ℤ → Type 0
+Comes s (comes.Refresh mpd) force now = presented_of (segments_mpd mpd.now) s.base (Some now) ≡ Ok force
+Comes s (comes.Reset mpd) force now = presented_of (segments_mpd mpd.now) s.base (Some now) ≡ Ok force
+Comes s comes.Tick force now = force ≡ unwrap_or s.newest s.opened
+
+-- the refusals of what an update lists, by open ends and by its MPD but for kept segments
+abbrev pub ended_and_listed_told : Common → Option Values → Presented → List Refusal
+ended_and_listed_told c mpd p = map Presentation (range_faults p) ++ listed_told c mpd p
 
 -- the refusals by the segments' times
 abbrev pub timed_told : (is_reset : Bool) → Common → List Track → List Refusal
