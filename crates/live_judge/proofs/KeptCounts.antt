@@ -1,5 +1,5 @@
 -- What is removed with the new segments, and how many are kept.
-use Rattle.std.proofs.Common.{◌≡◌, ℕ, ◌+◌, ◌-◌, ◌^◌, ◌≤◌, ◌<◌, true, List, [], ◌++◌, length, sum, Option, Some, None, sym, ◌∙◌, ap, arith, length-append}
+use Rattle.std.proofs.Common.{◌≡◌, ℕ, ◌+◌, ◌-◌, ◌^◌, ◌<◌, true, List, [], length, sum, Option, Some, None, sym, ◌∙◌, ap, arith, length-append}
 use Rattle.std.specs.Prelude.{All, get_or, slice_get}
 use Rattle.std.specs.Option.{option_map_or}
 use Rattle.std.proofs.lemmas.Bool.{and_parts}
@@ -10,9 +10,8 @@ use Rattle.timeline.specs.Listed.{expansion, is_listed}
 use Rattle.presentation.specs.declared.parts.Content.{Content}
 use Rattle.presentation.specs.Presented.{Following, Presented, content_at, listed_at, listed_in, start_of, whole_window, window_at, window_of}
 use Rattle.presentation.proofs.Grids.{All-at}
-use Rattle.followed.specs.Durations.{durations}
 use Rattle.live_meaning.specs.Updates.{unit_of}
-use Rattle.live_meaning.specs.Segments.{Kept, Numbering, Segment, listed_of, segments_of}
+use Rattle.live_meaning.specs.Segments.{Numbering, Segment, listed_of, segments_of}
 use Rattle.live_meaning.specs.Histories.{least_length, numbering_of}
 use Rattle.live_meaning.specs.Removal.{is_available, removed_of}
 use Rattle.live_meaning.specs.Refusals.{count_kept}

@@ -1,12 +1,11 @@
 -- Which durations are longer than a target duration.
-use Rattle.std.proofs.Common.{◌≡◌, ℕ, ◌+◌, ◌*◌, ◌/◌, ◌%◌, ◌<◌, ◌≤◌, max, Bool, true, false, leb, nat_lt, List, [], ◌∷◌, Some, refl, sym, ◌∙◌, ap, subst, inl, inr, arith}
+use Rattle.std.proofs.Common.{◌≡◌, ℕ, ◌+◌, ◌*◌, ◌/◌, ◌%◌, ◌<◌, ◌≤◌, Bool, true, false, leb, nat_lt, List, [], ◌∷◌, Some, refl, sym, ◌∙◌, ap, subst, inl, inr, arith}
 use Rattle.std.specs.Prelude.{All, filter, slice_get, None, nat_le, if◌then◌else◌}
 use Rattle.std.proofs.Math.Nat.{mul-le-mul_left}
 use Rattle.std.proofs.lemmas.Bool.{cases_Bool, cases_lt, leb-true, leb-false}
 use Rattle.std.proofs.lemmas.Bool.Decides.{nat_tests}
-use Rattle.std.proofs.lemmas.List.Elements.{All-head, All-tail}
-use Rattle.exact_time.specs.Equal.{greatest, summed_up}
-use Rattle.hls_writer.specs.Finished.{rounded}
+use Rattle.std.proofs.lemmas.List.Elements.{All-head}
+use Rattle.exact_time.specs.Equal.{greatest}
 use Rattle.live_judge.specs.Long.{is_long}
 use Rattle.live_judge.specs.declared.times.NewRun.{NewRun}
 use Rattle.live_judge.specs.Times.{IsRun}

@@ -1,12 +1,12 @@
 -- The printed durations of what is new in a section.
-use Rattle.std.proofs.Common.{◌≡◌, ℕ, zero, suc, ◌+◌, ◌-◌, ◌^◌, ◌<◌, ◌≤◌, ◌==◌, ◌&&◌, cond, Bool, true, false, List, [], ◌∷◌, ◌++◌, length, map, Option, Some, None, refl, sym, ◌∙◌, ap, subst, inl, inr, arith}
+use Rattle.std.proofs.Common.{◌≡◌, ℕ, zero, suc, ◌+◌, ◌-◌, ◌<◌, ◌≤◌, ◌==◌, ◌&&◌, cond, Bool, true, false, List, [], ◌∷◌, length, map, Option, Some, None, refl, sym, ◌∙◌, ap, subst, inl, inr, arith}
 use Rattle.std.specs.Prelude.{All, IfSome, filter, flat_map, option_map, slice_get}
 use Rattle.std.specs.Option.{option_map_or}
 use Rattle.std.proofs.lemmas.Bool.{cases_Bool, cases_lt}
 use Rattle.std.proofs.lemmas.Bool.Decides.{nat_tests}
 use Rattle.std.proofs.lemmas.List.Elements.{filter_agree}
 use Rattle.std.proofs.lemmas.Option.{same_Some, slice_get-map}
-use Rattle.exact_time.specs.Time.{Time, IsAtMost, before, difference}
+use Rattle.exact_time.specs.Time.{IsAtMost, before, difference}
 use Rattle.exact_time.specs.Tick.{time_of}
 use Rattle.exact_time.specs.Floor.{floor_in}
 use Rattle.exact_time.specs.Rounding.{rounding_behind}
@@ -29,7 +29,6 @@ use Rattle.live_meaning.specs.Histories.{numbering_of}
 use Rattle.live_meaning.specs.States.{new_of}
 use Rattle.live_meaning.specs.Refusals.{Refusal, Step, joint_told, step_behind, told_if}
 use Rattle.live_judge.specs.declared.track.LastKept.{LastKept}
-use Rattle.live_judge.specs.declared.track.LiveTrack.{LiveTrack}
 use Rattle.live_judge.specs.declared.track_next.TrackNext.{TrackNext}
 use Rattle.live_judge.specs.Coming.{IsJoined, IsTrackNext, c_of, coming_of, p_of, t_of, update_of}
 use Rattle.live_judge.specs.New.{IsFirstNew, durations_in}

@@ -1,12 +1,12 @@
 -- Sums of printed durations, which stop at the last value of a counter.
-use Rattle.std.proofs.Common.{◌≡◌, ℕ, zero, suc, ◌+◌, ◌-◌, ◌^◌, ◌<◌, ◌≤◌, min, cond, Bool, true, false, List, [], ◌∷◌, ◌++◌, length, sum, Option, Some, refl, sym, ◌∙◌, ap, subst, arith, length-append}
+use Rattle.std.proofs.Common.{◌≡◌, ℕ, zero, suc, ◌+◌, ◌-◌, ◌^◌, ◌<◌, ◌≤◌, cond, Bool, true, false, List, [], ◌∷◌, ◌++◌, length, sum, Option, Some, refl, ◌∙◌, ap, subst, arith, length-append}
 use Rattle.std.specs.Prelude.{IfSome, flat_map, option_map, slice_get}
 use Rattle.exact_time.specs.Tick.{time_of}
 use Rattle.presentation.specs.Counting.{sections_of}
 use Rattle.presentation.proofs.Counts.{from_on, from_on-end, from_on-first, from_on-start}
 use Rattle.followed.specs.Durations.{Last}
 use Rattle.live_meaning.specs.Updates.{is_reset}
-use Rattle.live_meaning.specs.Segments.{Kept, id_at}
+use Rattle.live_meaning.specs.Segments.{id_at}
 use Rattle.live_meaning.specs.Known.{ids_of}
 use Rattle.live_meaning.specs.Refusals.{ids_in}
 use Rattle.live_meaning.specs.States.{new_durations}
@@ -17,7 +17,7 @@ use Rattle.live_judge.specs.Coming.{IsTrackNext, c_of, coming_of, p_of, t_of, up
 use Rattle.live_judge.specs.New.{durations_in}
 use Rattle.live_judge.specs.Removal.{kept_in}
 use Rattle.live_judge.specs.Seconds.{capped}
-use Rattle.live_judge.specs.Shown.{last_from, last_kept}
+use Rattle.live_judge.specs.Shown.{last_from}
 use Rattle.live_judge.specs.Times.{IsNextRun, IsRun, left_of}
 use Rattle.live_judge.proofs.Keeping.{length-kepts}
 use Rattle.live_judge.proofs.New.{durations_are}

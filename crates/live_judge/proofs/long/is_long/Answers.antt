@@ -1,4 +1,3 @@
-use Rattle.std.proofs.Common.{◌∙◌, ap, leb, ◌*◌, ◌+◌}
 use Rattle.live_judge.proofs.Longs.{long_is}
 use Rattle.live_judge.proofs.long.is_long.Goals as goal
 

@@ -1,4 +1,4 @@
-use Rattle.std.proofs.Common.{refl, sym, ◌∙◌, arith}
+use Rattle.std.proofs.Common.{refl, ◌∙◌, arith}
 use Rattle.live_judge.specs.Coming.{coming_of}
 use Rattle.live_judge.proofs.Firsts.{none_left, none_next}
 use Rattle.live_judge.proofs.Rooms.{count_at, count_for, first_over, over_at, over_each, within_limit}

@@ -32,14 +32,20 @@ pub returns-clause-next : goal.returns-clause-next
 returns-clause-next c =
     let q = looked_at c.args.now c.args.force.now in
     let is = listed c.presentations_show_their_mpd.ensures.few c.presentations_show_their_mpd.ensures.followed c.args.standing.now c.args.tracks.now c.requires.live
-    c.args.coming c.args.force.now c.args.now c.in_ok-place.place c.requires.comes c.in_ok-place.ensures.place in
-    (record {
-      live = c.requires.live;
-      forward = c.requires.forward;
-      counted = λ s t in_sections in_tracks. c.answers_allow_listings.ensures.ends q c.in_ok-check_ends.field-0 s t (sym c.in_ok-check_ends.ensures) in_sections in_tracks;
-      alike = is.alike;
-      few = is.few;
-      within = is.within;
-      stands = is.stands;
-      follows = is.follows;
-    }, refl, refl, refl, refl, refl)
+    c.args.coming c.args.force.now c.args.now c.in_ok-place.place c.requires.comes c.in_ok-place.ensures.place in (
+      record {
+        live = c.requires.live;
+        forward = c.requires.forward;
+        counted = λ s t in_sections in_tracks. c.answers_allow_listings.ensures.ends q c.in_ok-check_ends.field-0 s t (sym c.in_ok-check_ends.ensures) in_sections in_tracks;
+        alike = is.alike;
+        few = is.few;
+        within = is.within;
+        stands = is.stands;
+        follows = is.follows;
+      },
+      refl,
+      refl,
+      refl,
+      refl,
+      refl,
+    )

@@ -1,4 +1,4 @@
-use Rattle.std.proofs.Common.{rules, Fits, arith, sum}
+use Rattle.std.proofs.Common.{arith, sum}
 use Rattle.live_meaning.specs.Histories.{least_length}
 use Rattle.live_meaning.specs.States.{new_durations}
 use Rattle.live_judge.specs.Coming.{c_of, t_of}

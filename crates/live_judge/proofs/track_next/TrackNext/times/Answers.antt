@@ -1,4 +1,4 @@
-use Rattle.std.proofs.Common.{◌∙◌, ap, sym, arith}
+use Rattle.std.proofs.Common.{◌∙◌, ap, arith}
 use Rattle.exact_time.specs.Tick.{time_of}
 use Rattle.exact_time.specs.Rounding.{rounding_behind}
 use Rattle.presentation.specs.Kept.{durations_behind}
