@@ -26,3 +26,8 @@ pub mod LongRules
 pub mod KeptCounts
 pub mod Rooms
 pub mod Listing
+pub mod Passing
+pub mod Timed
+pub mod Holding
+pub mod Blocks
+pub mod Rewriting

@@ -5,16 +5,16 @@ use Rattle.presentation.specs.Presented.{Presented, looked_at}
 use Rattle.presentation.specs.Counting.{range_faults}
 use Rattle.presentation.specs.Printing.{IsCounted}
 use Rattle.presentation.specs.Told.{presented_of}
-use Rattle.live_meaning.specs.Updates.{Update, Values, Refresh, Reset, Tick, is_reset}
+use Rattle.live_meaning.specs.Updates.{Update, Values, Refresh, Reset, Tick, is_reset, mpd_of}
 use Rattle.live_meaning.specs.Known.{ids_of}
 use Rattle.live_meaning.specs.Histories.{Common, availability_start_of, common_with}
-use Rattle.live_meaning.specs.States.{Track}
-use Rattle.live_meaning.specs.Refusals.{Presentation, Refusal, counts_kept, ids_in, joint_told, long_told, window_told}
+use Rattle.live_meaning.specs.States.{State, Track}
+use Rattle.live_meaning.specs.Refusals.{Presentation, Refusal, counts_kept, ids_in, joint_told, long_told, mpd_told, window_told}
 use Rattle.live_judge.specs.declared.coming.Coming.{Coming}
 use Rattle.live_judge.specs.declared.coming.Coming.TheVariants as comes
 use Rattle.live_judge.specs.declared.coming.Next.{Next}
-use Rattle.live_judge.specs.declared.track_next.TrackNext.{TrackNext}
 use Rattle.live_judge.specs.declared.standing.Standing.{Standing}
+use Rattle.live_judge.specs.declared.track_next.TrackNext.{TrackNext}
 use Rattle.live_judge.specs.Changed.{listed_told}
 use Rattle.live_judge.specs.Known.{StandsAt}
 use Rattle.live_judge.specs.Shown.{common_shown, track_shown}
@@ -38,6 +38,10 @@ ended_and_listed_told c mpd p = map Presentation (range_faults p) ++ listed_told
 -- the refusals by the segments' times
 abbrev pub timed_told : (is_reset : Bool) → Common → List Track → List Refusal
 timed_told is_reset c tracks = joint_told is_reset c tracks ++ long_told c 0 tracks ++ window_told (counts_kept c 0 tracks)
+
+-- the refusals before those of addresses
+abbrev pub told_before : State → Update → Presented → List Refusal
+told_before s u p = map Presentation (range_faults p) ++ mpd_told s (mpd_of u) p ++ timed_told (is_reset u) (common_with s.common u p) s.tracks
 
 -- ---- an update whose presentation is judged
 

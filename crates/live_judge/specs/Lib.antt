@@ -9,3 +9,5 @@ pub mod Removal
 pub mod Seconds
 pub mod Long
 pub mod Times
+pub mod Blocks
+pub mod Rewriting

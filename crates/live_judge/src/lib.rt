@@ -2,12 +2,14 @@
 //! values that they tell, and without memory.
 #![tactic(auto)]
 
+mod block;
 mod changed;
 mod coming;
 mod fault;
 mod known;
 mod long;
 mod removal;
+mod rewritten;
 mod room;
 mod standing;
 mod steps;

@@ -1,0 +1,14 @@
+use Rattle.std.proofs.Common.{◌≤◌, ◌+◌, length}
+use Rattle.live_meaning.specs.Refusals.{rewritten_in}
+use Rattle.live_judge.specs.Blocks.{StandBefore, segments_in}
+use Rattle.live_judge.specs.Coming.{p_of, t_of}
+use Rattle.live_judge.specs.Shown.{common_shown}
+use Rattle.live_judge.proofs.Firsts.{IsNoneBefore}
+use Rattle.live_judge.proofs.track_next.TrackNext.check_rewritten.Given as goal
+
+abbrev pub invariant-loop-section : goal.invariant-loop-section
+invariant-loop-section l = record {
+  within : l.from ≤ length l.self.track.now.facts.items;
+  before : StandBefore (l.self.next.now.place + l.section) (segments_in l.self.track.now) l.from;
+  none : IsNoneBefore (rewritten_in (common_shown l.self.next.now.standing.now) (p_of l.self.next.now) l.self.index (t_of l.self)) (length (p_of l.self.next.now).sections) l.section;
+}
