@@ -31,3 +31,4 @@ pub mod Timed
 pub mod Holding
 pub mod Blocks
 pub mod Rewriting
+pub mod Judging

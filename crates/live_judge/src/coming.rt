@@ -62,19 +62,17 @@ pub struct Next<'a> {
 impl<'a> Next<'a> {
     ghost use Rattle.std.specs.Prelude.{false, int_lt, IfOk};
     ghost use Rattle.presentation.specs.Presented.{looked_at};
-    ghost use Rattle.live_meaning.specs.Updates.{mpd_of};
-    ghost use Rattle.live_judge.specs.Changed.{IsPlaceBy};
-    ghost use Rattle.live_judge.specs.Coming.{Comes, IsNext, IsTrackNext, ended_and_listed_told, update_of};
+    ghost use Rattle.live_judge.specs.Coming.{Comes, IsNext, IsTrackNext, told_before, update_of};
     ghost use Rattle.live_judge.specs.Faults.{Judges};
-    ghost use Rattle.live_judge.specs.Shown.{common_shown};
+    ghost use Rattle.live_judge.specs.Shown.{state_shown};
     ghost use Rattle.live_judge.specs.Sound.{IsLive};
 
-    /// Judges what an update lists: its segments up to open ends by limits, and its MPD but for kept segments. The first
-    /// refusal is told. It takes no memory.
+    /// Judges an update by all rules but those on when it comes, which [`Standing::check_now`] tries, and on the addresses
+    /// of new segments. The first refusal is told. It takes no memory.
     ///
-    /// Requires that [`Standing::check_now`] answered Ok, and that the presentation is that of the MPD at the instant, or
-    /// the one in force.
-    pub fn listed(
+    /// Requires that `check_now` answered Ok, and that the presentation is that of the MPD at the instant, or the one in
+    /// force.
+    pub fn judge(
         standing: &'a Standing,
         tracks: &'a [LiveTrack],
         coming: Coming<'a>,
@@ -84,23 +82,25 @@ impl<'a> Next<'a> {
         requires live { IsLive standing.now tracks.now }
         requires forward { int_lt now standing.now.instant ≡ false }
         requires comes { Comes standing.now coming force.now now }
-        ensures judged { Judges result (ended_and_listed_told (common_shown standing.now) (mpd_of (update_of coming.entry now)) (looked_at now force.now)) }
+        ensures judged { Judges result (told_before (state_shown standing.now tracks.now) (update_of coming.entry now) (looked_at now force.now)) }
         ensures next { IfOk result (λ next. IsNext next × (next.standing.now ≡ standing.now) × (next.tracks.now ≡ tracks.now)
             × (next.coming ≡ coming.entry) × (next.force.now ≡ force.now) × (next.now ≡ now)) }
-        ensures place { IfOk result (λ next. IsPlaceBy (mpd_of (update_of coming.entry now)) (common_shown standing.now) standing.now.place (looked_at now force.now) next.place) }
     {
         answers_allow_listings();
         presentations_show_their_mpd();
         force.check_ends(now)?;
         let place = place_of(standing, coming, force)?;
-        Ok(Next {
+        let next = Next {
             standing,
             tracks,
             coming,
             force,
             now,
             place,
-        })
+        };
+        next.check_kept()?;
+        next.check_times()?;
+        Ok(next)
     }
 
     /// What comes to a track.

@@ -1,5 +1,5 @@
 // Kept segments that a new MPD has with other times.
-ghost use Rattle.std.specs.Prelude.{◌≡◌, ◌+◌, ◌<◌, ◌≤◌, None, flat_map, length, map, option_map};
+ghost use Rattle.std.specs.Prelude.{◌≡◌, ◌+◌, ◌<◌, ◌≤◌, None, flat_map, is_some, length, map, option_map, true};
 ghost use Rattle.exact_time.specs.Tick.{time_of};
 ghost use Rattle.presentation.specs.Counting.{sections_of};
 ghost use Rattle.timeline.specs.Listed.{IsReached, IsWindowOf, expansion, listed, listed_from, timing_of};
@@ -36,10 +36,10 @@ pub(crate) struct Ended<'a> {
 impl Next<'_> {
     /// Kept segments that the update's MPD has with other times. It takes no memory, and goes over no more new segments than
     /// are kept of a Period's last section, and one.
-    pub fn check_kept(&self) -> Result<(), RefreshFault>
+    pub(crate) fn check_kept(&self) -> Result<(), RefreshFault>
         requires next { IsNext self.now }
         requires comes { Comes self.now.standing.now self.now.coming self.now.force.now self.now.now }
-        requires unmoved { AreUnmoved self.now.standing.now.known (p_of self.now) self.now.place }
+        requires unmoved { is_some (mpd_of (update_of self.now.coming self.now.now)) ≡ true → AreUnmoved self.now.standing.now.known (p_of self.now) self.now.place }
         ensures { Judges result (kept_told (common_shown self.entry.now.standing.now) (mpd_of (update_of self.entry.now.coming self.entry.now.now)) (p_of self.entry.now) (map track_shown self.entry.now.tracks.now)) }
     {
         if self.coming.mpd().is_none() {

@@ -11,7 +11,7 @@ use crate::{Next, RefreshFault, TrackNext};
 
 impl<'a> Next<'a> {
     /// Judges the times of the new segments, and how many are kept with them.
-    pub fn check_times(&self) -> Result<(), RefreshFault>
+    pub(crate) fn check_times(&self) -> Result<(), RefreshFault>
         requires { IsNext self.now }
         ensures { Judges result (timed_told (is_reset (update_of self.entry.now.coming self.entry.now.now)) (coming_of self.entry.now) (map track_shown self.entry.now.tracks.now)) }
     {
