@@ -32,3 +32,4 @@ pub mod Holding
 pub mod Blocks
 pub mod Rewriting
 pub mod Judging
+pub mod FirstStates

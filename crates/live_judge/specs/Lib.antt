@@ -11,3 +11,4 @@ pub mod Long
 pub mod Times
 pub mod Blocks
 pub mod Rewriting
+pub mod FirstStates

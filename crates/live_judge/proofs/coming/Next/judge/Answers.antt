@@ -1,13 +1,11 @@
-use Rattle.std.proofs.Common.{◌≡◌, pos, refl, sym, ◌∙◌, ap, subst, List, Option}
+use Rattle.std.proofs.Common.{pos, refl, sym, ◌∙◌, ap, subst, List, Option}
 use Rattle.std.specs.Prelude.{is_some}
 use Rattle.std.proofs.lemmas.Result.{err_from_is_err_and}
 use Rattle.presentation.specs.Counting.{range_faults}
-use Rattle.presentation.specs.Presented.{Presented, looked_at}
-use Rattle.live_meaning.specs.Updates.{Update, Values, mpd_of}
+use Rattle.presentation.specs.Presented.{looked_at}
+use Rattle.live_meaning.specs.Updates.{Values, mpd_of}
 use Rattle.live_meaning.specs.Refusals.{Refusal}
-use Rattle.live_meaning.specs.States.{State}
-use Rattle.live_judge.specs.declared.coming.Next.{Next}
-use Rattle.live_judge.specs.Changed.{IsPlaceBy, listed_told}
+use Rattle.live_judge.specs.Changed.{listed_told}
 use Rattle.live_judge.specs.Coming.{update_of}
 use Rattle.live_judge.specs.Faults.{Tells, of_presentation}
 use Rattle.live_judge.specs.Shown.{common_shown, state_shown}
