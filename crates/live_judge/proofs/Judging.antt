@@ -3,7 +3,7 @@ use Rattle.std.proofs.Common.{◌≡◌, ℕ, pos, true, false, Ok, List, [], �
 use Rattle.std.specs.Prelude.{int_lt, is_some}
 use Rattle.std.proofs.lemmas.List.{append_assoc}
 use Rattle.presentation.specs.Counting.{range_faults}
-use Rattle.presentation.specs.Presented.{Presented}
+use Rattle.presentation.specs.Presented.{Presented, is_finished}
 use Rattle.live_meaning.specs.Updates.{Update, Values, is_reset, mpd_of}
 use Rattle.live_meaning.specs.Histories.{Common, common_with}
 use Rattle.live_meaning.specs.Refusals.{Presentation, Refusal, mpd_told}
@@ -16,7 +16,7 @@ use Rattle.presentation.specs.Laws.{EndsAreCounted}
 use Rattle.presentation.specs.PresentedLaws.{PresentedAreFew, PresentedAreFollowed}
 use Rattle.live_judge.specs.declared.coming.Next.{Next}
 use Rattle.live_judge.specs.Coming.{Comes, IsNext, p_of, update_of}
-use Rattle.live_judge.specs.Shown.{common_shown}
+use Rattle.live_judge.specs.Shown.{common_shown, in_force}
 use Rattle.live_judge.specs.Sound.{IsLive}
 use Rattle.live_judge.proofs.Listing.{listed as listed_there}
 use Rattle.live_judge.specs.Faults.{Tells}
@@ -63,13 +63,14 @@ unmoved_there None c former p place is some = absurd (cc)
 unmoved_there (Some mpd) c former p place is some = is.unmoved
 
 -- what is judged is what it should be
-pub next_is : PresentedAreFew → PresentedAreFollowed → EndsAreCounted → (n : Next) (done : Unit {0}) → IsLive n.standing.now n.tracks.now → int_lt n.now (n.standing.now).instant ≡ false
-    → Comes n.standing.now n.coming n.force.now n.now → Ok done ≡ unless_any (range_faults (p_of n)) tt
+pub next_is : PresentedAreFew → PresentedAreFollowed → EndsAreCounted → (n : Next) (done : Unit {0}) → IsLive n.standing.now n.tracks.now
+    → is_finished (in_force n.standing.now) ≡ false → int_lt n.now (n.standing.now).instant ≡ false → Comes n.standing.now n.coming n.force.now n.now → Ok done ≡ unless_any (range_faults (p_of n)) tt
     → IsPlaceBy (mpd_of (update_of n.coming (pos 0))) (common_shown n.standing.now) (n.standing.now).place n.force.now n.place → IsNext n
-next_is few followed ends n done live forward comes far place =
+next_is few followed ends n done live unended forward comes far place =
     let is = listed_there few followed n.standing.now n.tracks.now live n.coming n.force.now n.now n.place comes place in
     record {
       live = live;
+      unended = unended;
       forward = forward;
       counted = λ s t in_sections in_tracks. ends (p_of n) done s t (sym far) in_sections in_tracks;
       alike = is.alike;

@@ -32,4 +32,9 @@ pub mod Holding
 pub mod Blocks
 pub mod Rewriting
 pub mod Judging
+pub mod Reaching
+pub mod Forced
+pub mod ListedSound
 pub mod FirstStates
+pub mod SoundGoesOn
+pub mod GoingOn

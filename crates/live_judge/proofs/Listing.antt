@@ -75,7 +75,7 @@ far_told p fault later is = first_far (range_faults p) fault later (ranges_told 
 same_start : (start own : ℤ) → (int_lt start own || int_lt own start) ≡ false → start ≡ own
 same_start start own is = grind (arith, ints, is)
 
-starts_by : (o : Option ℤ) (live : Bool) (depth : Option ℕ) (at now own : ℤ) → option_map_or (λ start. int_lt start own || int_lt own start) o live ≡ false
+pub starts_by : (o : Option ℤ) (live : Bool) (depth : Option ℕ) (at now own : ℤ) → option_map_or (λ start. int_lt start own || int_lt own start) o live ≡ false
     → IfSome (option_map (at_instant now) (if live then Some (record { instant = at; availability_start = unwrap_or o (pos 0); depth = depth }) else None))
     (λ f. f.availability_start ≡ own)
 starts_by o false depth at now own is = tt

@@ -46,16 +46,21 @@ start_is None a b is same = absurd (cc)
 start_is (Some k) a b is same = sym (same_Some k.start a is) ∙ same
 
 -- what has ended by an instant is listed up to a later one
+pub later_ended : (now instant own : ℤ) (start : ℕ) (end : Time) → int_lt now instant ≡ false
+    → IsAtMost end (nanoseconds ((instant -ℤ own) -ℤ pos start)) → IsAtMost end (nanoseconds ((now -ℤ own) -ℤ pos start))
+later_ended now instant own start end forward ended =
+    let a = (instant -ℤ own) -ℤ pos start in
+    let z = (now -ℤ own) -ℤ pos start in
+    let later : IsAtMost (nanoseconds a) (nanoseconds z) = grind (arith, ints, nat_tests) in
+    IsAtMost-trans end (nanoseconds a) (nanoseconds z) (omega arith) ended later
+
 until_reaches : (o : Option Following) (now instant start_at : ℤ) (start : ℕ) (end : Time) → int_lt now instant ≡ false
     → IfSome (option_map (at_instant now) o) (λ f. f.availability_start ≡ start_at) → IsAtMost end (nanoseconds ((instant -ℤ start_at) -ℤ pos start))
     → is_until (option_map_or (λ f. window_at f start) (option_map (at_instant now) o) whole_window).until end ≡ true
 until_reaches None now instant start_at start end forward follows ended = refl
 until_reaches (Some g) now instant start_at start end forward follows ended =
-    let a = (instant -ℤ start_at) -ℤ pos start in
-    let z = (now -ℤ start_at) -ℤ pos start in
-    let later : IsAtMost (nanoseconds a) (nanoseconds z) = grind (arith, ints, nat_tests) in
     ap (λ s. is_until (Some ((now -ℤ s) -ℤ pos start)) end) follows
-    ∙ at_most-from end (nanoseconds z) (IsAtMost-trans end (nanoseconds a) (nanoseconds z) (omega arith) ended later)
+    ∙ at_most-from end (nanoseconds ((now -ℤ start_at) -ℤ pos start)) (later_ended now instant start_at start end forward ended)
 
 module _ (l : TrackNext) (is : IsTrackNext l) where
   abbrev known : List Known
@@ -115,7 +120,7 @@ module _ (l : TrackNext) (is : IsTrackNext l) where
         let start : x.value.period_start ≡ start_of (p_of l.next.now) s =
         start_is (slice_get known ((l.next.now).place + s)) x.value.period_start (start_of (p_of l.next.now) s) (ap (λ n. option_map (λ (k : Known). k.start) (slice_get known n)) (sym there) ∙ one.starts) (unmoved s within) in
         until_reaches (l.next.now).force.now.following (l.next.now).now ((l.next.now).standing.now).instant _ (start_of (p_of l.next.now) s) x.end is.next.forward is.next.follows
-        (subst (λ n. IsAtMost x.end (nanoseconds ((((l.next.now).standing.now).instant -ℤ availability_start_of ((l.next.now).standing.now).opened) -ℤ pos n))) start one.ended)
+        (subst (λ n. IsAtMost x.end (nanoseconds ((((l.next.now).standing.now).instant -ℤ availability_start_of ((l.next.now).standing.now).opened) -ℤ pos n))) start (one.ended is.next.unended))
 
     -- what the presentation has there
     pub expansion_is : (r : SegmentTimeline) (w : Window) → UntilTells → option_map (λ (content : Content). content.runs) (content_at (p_of l.next.now) s l.index) ≡ Some r

@@ -1,7 +1,7 @@
 -- An update that comes to a session, and what it would leave.
 use Rattle.std.specs.Prelude.{◌≡◌, ℕ, ◌<◌, ◌≤◌, ℤ, int_lt, Bool, false, List, [], ◌++◌, length, map, slice_get, Option, Some, Ok, unwrap_or}
 use Rattle.mpd_rules.specs.Views.{segments_mpd}
-use Rattle.presentation.specs.Presented.{Presented, looked_at}
+use Rattle.presentation.specs.Presented.{Presented, is_finished, looked_at}
 use Rattle.presentation.specs.Counting.{range_faults}
 use Rattle.presentation.specs.Printing.{IsCounted}
 use Rattle.presentation.specs.Told.{presented_of}
@@ -17,7 +17,7 @@ use Rattle.live_judge.specs.declared.standing.Standing.{Standing}
 use Rattle.live_judge.specs.declared.track_next.TrackNext.{TrackNext}
 use Rattle.live_judge.specs.Changed.{listed_told}
 use Rattle.live_judge.specs.Known.{StandsAt}
-use Rattle.live_judge.specs.Shown.{common_shown, track_shown}
+use Rattle.live_judge.specs.Shown.{common_shown, in_force, track_shown}
 use Rattle.live_judge.specs.Sound.{IsLive, StartsAt}
 
 abbrev pub update_of : Coming → ℤ → Update
@@ -51,9 +51,10 @@ p_of n = looked_at n.now n.force.now
 abbrev pub coming_of : Next → Common
 coming_of n = common_with (common_shown n.standing.now) (update_of n.coming n.now) (p_of n)
 
--- it doesn't go back in time, its open ends break no limit, and its Periods go on behind the known ones
+-- no static MPD came before it, it doesn't go back in time, its open ends break no limit, and its Periods go on behind the known ones
 pub record IsNext (n : Next) : Type 0 where
   pub live : IsLive n.standing.now n.tracks.now
+  pub unended : is_finished (in_force n.standing.now) ≡ false
   pub forward : int_lt n.now (n.standing.now).instant ≡ false
   pub counted : (s t : ℕ) → s < length (p_of n).sections → t < length (p_of n).tracks → IsCounted (p_of n) s t
   pub alike : length (p_of n).tracks ≡ length n.tracks.now

@@ -12,3 +12,4 @@ pub mod Times
 pub mod Blocks
 pub mod Rewriting
 pub mod FirstStates
+pub mod SoundGoesOn

@@ -1,25 +1,31 @@
 -- What holds of each state that accepted updates of typed MPDs leave, and of what shows one.
-use Rattle.std.specs.Prelude.{◌≡◌, ◌⊎◌, ℕ, ◌+◌, ◌*◌, ◌<◌, ◌≤◌, ℤ, pos, ◌-ℤ◌, true, List, [], ◌∷◌, length, slice_get, All, IfSome, Some, option_map}
-use Rattle.exact_time.specs.Time.{IsAtMost, before, nanoseconds, seconds}
-use Rattle.presentation.specs.Presented.{Presented}
+use Rattle.std.specs.Prelude.{◌≡◌, ◌⊎◌, ℕ, ◌+◌, ◌*◌, ◌<◌, ◌≤◌, ℤ, pos, ◌-ℤ◌, false, true, List, [], ◌∷◌, length, map, slice_get, All, IfSome, Option, Some, None, option_map}
+use Rattle.exact_time.specs.Time.{AreRising, IsAtMost, IsTime, before, nanoseconds, seconds}
+use Rattle.timeline.specs.Expansions.{Timing}
+use Rattle.presentation.specs.Presented.{Presented, is_finished, listed_at, looked_at}
+use Rattle.followed.specs.Durations.{Last}
 use Rattle.live_meaning.specs.Segments.{Segment, segments_of}
 use Rattle.live_meaning.specs.Known.{Known, ids_of}
 use Rattle.live_meaning.specs.Histories.{Common, availability_start_of}
 use Rattle.live_meaning.specs.States.{State, Track}
 use Rattle.live_meaning.specs.Refusals.{ids_in}
+use Rattle.live_meaning.specs.Laws.{DoesLast}
 use Rattle.live_judge.specs.declared.standing.Standing.{Standing}
 use Rattle.live_judge.specs.declared.track.LiveTrack.{LiveTrack}
+use Rattle.live_judge.specs.Changed.{AreUnmoved}
 use Rattle.live_judge.specs.Known.{StandsAt}
 use Rattle.live_judge.specs.Shown.{in_force, state_shown}
 
 -- ---- segments
 
--- a segment's Period is known, and begins where the segment was dated from; the segment has ended, and behind the Period's start
+-- A segment's Period is known, and begins where the segment was dated from. The segment ends behind the Period's start; and it has
+-- ended, unless a static MPD came, which lists all segments.
 pub record IsSegmentOf (c : Common) (x : Segment) : Type 0 where
   pub starts : option_map (λ (k : Known). k.start) (slice_get c.known x.value.place) ≡ Some x.value.period_start
   pub section : x.section ≤ x.value.place + c.resets
   pub listed : before (seconds 0) x.end ≡ true
-  pub ended : IsAtMost x.end (nanoseconds ((c.instant -ℤ availability_start_of c.opened) -ℤ pos x.value.period_start))
+  pub ended : is_finished c.force ≡ false
+      → IsAtMost x.end (nanoseconds ((c.instant -ℤ availability_start_of c.opened) -ℤ pos x.value.period_start))
 
 -- no segment stands in an earlier Period than one before it, or in the same one with a lower section number
 abbrev pub DoesFollow : Segment → Segment → Type 0
@@ -29,26 +35,43 @@ abbrev pub AreOrdered : List Segment → Type 0
 AreOrdered [] = Unit {0}
 AreOrdered (x ∷ xs) = All (DoesFollow x) xs × AreOrdered xs
 
+-- each of some segments lasts, and their ends rise
+abbrev pub AreTimed : List Timing → Type 0
+AreTimed xs = All DoesLast xs × AreRising (map (λ x. x.end) xs)
+
 -- ---- a state
 
--- all of a track's segments stand before its last one
+-- it stands in an earlier Period than the last one, or in the same one with no higher section number
+abbrev pub IsUpTo : Last → (place : ℕ) → Segment → Type 0
+IsUpTo last place x = (x.value.place < place) ⊎ ((x.value.place ≡ place) × (x.section ≤ last.section))
+
+-- all do, and there is none where none was listed
+abbrev pub AreUpTo : Option Last → (place : ℕ) → List Segment → Type 0
+AreUpTo None place xs = xs ≡ []
+AreUpTo (Some last) place xs = All (IsUpTo last place) xs
+
+-- a track's segments stand in order, none behind its last one
 pub record IsSoundTrack (c : Common) (track : Track) : Type 0 where
   pub segments : All (IsSegmentOf c) (segments_of track.kept)
   pub ordered : AreOrdered (segments_of track.kept)
   pub section : IfSome track.last (λ last. last.section ≤ track.place + c.resets)
   pub begun : IfSome track.last (λ last. IsAtMost last.first last.end)
-  pub behind : IfSome track.last (λ last. All (λ (x : Segment). (x.value.place < track.place) ⊎ ((x.value.place ≡ track.place) × (x.section ≤ last.section))) (segments_of track.kept))
+  pub timed : IfSome track.last (λ last. IsTime last.end)
+  pub behind : AreUpTo track.last track.place (segments_of track.kept)
 
 abbrev pub StartsAt : ℤ → Presented → Type 0
 StartsAt start p = IfSome p.following (λ f. f.availability_start ≡ start)
 
+-- The Periods in force begin as they are known, and at each instant their segments are in order.
 pub record IsSound (s : State) : Type 0 where
   pub place : ℕ
   pub stands : StandsAt (ids_of s.common.known) (ids_in s.common.force) place
+  pub starts : AreUnmoved s.common.known s.common.force place
   pub follows : StartsAt (availability_start_of s.common.opened) s.common.force
   pub opened : length s.common.opened.tracks ≡ length s.tracks
   pub alike : length s.common.force.tracks ≡ length s.tracks
   pub few : length s.common.force.sections ≤ 1000
+  pub timed : (now : ℤ) (section track : ℕ) → AreTimed (listed_at (looked_at now s.common.force) section track)
   pub tracks : All (IsSoundTrack s.common) s.tracks
 
 -- ---- what shows one

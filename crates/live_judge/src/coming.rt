@@ -61,10 +61,10 @@ pub struct Next<'a> {
 
 impl<'a> Next<'a> {
     ghost use Rattle.std.specs.Prelude.{false, int_lt, IfOk};
-    ghost use Rattle.presentation.specs.Presented.{looked_at};
+    ghost use Rattle.presentation.specs.Presented.{is_finished, looked_at};
     ghost use Rattle.live_judge.specs.Coming.{Comes, IsNext, IsTrackNext, told_before, update_of};
     ghost use Rattle.live_judge.specs.Faults.{Judges};
-    ghost use Rattle.live_judge.specs.Shown.{state_shown};
+    ghost use Rattle.live_judge.specs.Shown.{in_force, state_shown};
     ghost use Rattle.live_judge.specs.Sound.{IsLive};
 
     /// Judges an update by all rules but those on when it comes, which [`Standing::check_now`] tries, and on the addresses
@@ -80,6 +80,7 @@ impl<'a> Next<'a> {
         now: Instant,
     ) -> Result<Next<'a>, RefreshFault>
         requires live { IsLive standing.now tracks.now }
+        requires unended { is_finished (in_force standing.now) ≡ false }
         requires forward { int_lt now standing.now.instant ≡ false }
         requires comes { Comes standing.now coming force.now now }
         ensures judged { Judges result (told_before (state_shown standing.now tracks.now) (update_of coming.entry now) (looked_at now force.now)) }

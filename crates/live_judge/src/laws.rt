@@ -1,5 +1,6 @@
 //! Laws of the definitions. The functions do nothing: what they ensure is the law.
 ghost use Rattle.live_judge.specs.FirstStates.{FirstPeriodsStand, FirstStatesAreSound};
+ghost use Rattle.live_judge.specs.SoundGoesOn.{KeptGoOn, NumbersGoOn, PeriodsStandOn, SoundStatesGoOn};
 
 use mpd_rules::laws::period_ids_differ;
 use presentation::presentations_show_their_mpd;
@@ -10,5 +11,16 @@ pub fn first_states_are_sound()
     ensures stands { FirstPeriodsStand }
 {
     period_ids_differ();
+    presentations_show_their_mpd();
+}
+
+/// An accepted update leaves a sound state sound. Its Periods stand from the place on that is found for them, it brings at
+/// most one reset and 1,000 Periods, and of each track a segment and at most 20,000 stay kept.
+pub fn accepted_states_stay_sound()
+    ensures sound { SoundStatesGoOn }
+    ensures stands { PeriodsStandOn }
+    ensures numbers { NumbersGoOn }
+    ensures kept { KeptGoOn }
+{
     presentations_show_their_mpd();
 }

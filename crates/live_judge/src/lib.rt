@@ -22,7 +22,7 @@ pub use changed::place_of;
 pub use coming::{Coming, Next};
 pub use fault::RefreshFault;
 pub use known::{KeptAttributes, KnownPeriod, KnownPeriods, periods_from};
-pub use laws::first_states_are_sound;
+pub use laws::{accepted_states_stay_sound, first_states_are_sound};
 pub use removal::removed_of;
 pub use standing::Standing;
 pub use track::{Fact, LastKept, LiveTrack};

@@ -18,7 +18,7 @@ pub check_kept-requires-clause-next : goal.check_kept-requires-clause-next
 check_kept-requires-clause-next c =
     next_is c.presentations_show_their_mpd.ensures.few c.presentations_show_their_mpd.ensures.followed c.answers_allow_listings.ensures.ends
     (record { standing = c.args.standing; tracks = c.args.tracks; coming = c.args.coming; force = c.args.force; now = c.args.now; place = c.in_ok-place.place })
-    c.in_ok-check_ends.field-0 c.requires.live c.requires.forward c.requires.comes c.in_ok-check_ends.ensures c.in_ok-place.ensures.place
+    c.in_ok-check_ends.field-0 c.requires.live c.requires.unended c.requires.forward c.requires.comes c.in_ok-check_ends.ensures c.in_ok-place.ensures.place
 
 pub check_kept-requires-clause-unmoved : goal.check_kept-requires-clause-unmoved
 check_kept-requires-clause-unmoved c = λ some.
@@ -29,7 +29,7 @@ pub check_times-requires : goal.check_times-requires
 check_times-requires c =
     next_is c.presentations_show_their_mpd.ensures.few c.presentations_show_their_mpd.ensures.followed c.answers_allow_listings.ensures.ends
     (record { standing = c.args.standing; tracks = c.args.tracks; coming = c.args.coming; force = c.args.force; now = c.args.now; place = c.in_ok-place.place })
-    c.in_ok-check_ends.field-0 c.requires.live c.requires.forward c.requires.comes c.in_ok-check_ends.ensures c.in_ok-place.ensures.place
+    c.in_ok-check_ends.field-0 c.requires.live c.requires.unended c.requires.forward c.requires.comes c.in_ok-check_ends.ensures c.in_ok-place.ensures.place
 
 pub returns-in_err-check_ends-clause-judged : goal.returns-in_err-check_ends-clause-judged
 returns-in_err-check_ends-clause-judged c =
@@ -81,7 +81,7 @@ pub returns-clause-next : goal.returns-clause-next
 returns-clause-next c = (
   next_is c.presentations_show_their_mpd.ensures.few c.presentations_show_their_mpd.ensures.followed c.answers_allow_listings.ensures.ends
       (record { standing = c.args.standing; tracks = c.args.tracks; coming = c.args.coming; force = c.args.force; now = c.args.now; place = c.in_ok-place.place })
-      c.in_ok-check_ends.field-0 c.requires.live c.requires.forward c.requires.comes c.in_ok-check_ends.ensures c.in_ok-place.ensures.place,
+      c.in_ok-check_ends.field-0 c.requires.live c.requires.unended c.requires.forward c.requires.comes c.in_ok-check_ends.ensures c.in_ok-place.ensures.place,
   refl,
   refl,
   refl,
