@@ -1,0 +1,90 @@
+-- Lists of tracks that are changed one after another.
+use Rattle.std.proofs.Common.{◌≡◌, ℕ, zero, suc, ◌+◌, ◌<◌, List, [], ◌∷◌, ◌++◌, map, length, take, drop, All, Some, refl, sym, ◌∙◌, ap, subst, inl, inr, arith}
+use Rattle.std.specs.Prelude.{slice_get, slice_set}
+use Rattle.std.proofs.lemmas.Bool.{cases_eq}
+use Rattle.std.proofs.lemmas.List.Elements.{All-cons, All-head, All-tail}
+use Rattle.std.proofs.lemmas.Option.{same_Some}
+use Rattle.live_judge.specs.declared.track.LiveTrack.{LiveTrack}
+use Rattle.live_session.specs.declared.made.MadeTrack.{MadeTrack}
+use Rattle.live_meaning.specs.Segments.{Kept}
+use Rattle.live_meaning.specs.States.{Track}
+use Rattle.live_session.specs.Growth.{grown, inside_of}
+use Rattle.live_session.specs.Kept.{HasRoom, with_all}
+
+pub grown_push : (tracks : List Track) (news : List (List Kept)) (new : List Kept) (track : Track)
+    → slice_get (grown tracks news) (length news) ≡ Some track
+    → grown tracks (news ++ new ∷ []) ≡ slice_set (grown tracks news) (length news) (with_all track new)
+grown_push [] [] new track is = absurd (cc)
+grown_push [] (n ∷ ns) new track is = absurd (cc)
+grown_push (t ∷ ts) [] new track is = let e : t ≡ track = cc in ap (λ (x : Track). with_all x new ∷ ts) e
+grown_push (t ∷ ts) (n ∷ ns) new track is = ap (λ (xs : List Track). with_all t n ∷ xs) (grown_push ts ns new track is)
+
+pub length-grown : (tracks : List Track) (news : List (List Kept)) → length (grown tracks news) ≡ length tracks
+length-grown [] [] = refl
+length-grown [] (n ∷ ns) = refl
+length-grown (t ∷ ts) [] = refl
+length-grown (t ∷ ts) (n ∷ ns) = ap suc (length-grown ts ns)
+
+-- the first ones are changed
+pub changed_to : {X : Type 0} (f : X → X) (i : ℕ) (xs : List X) (x : X) → slice_get xs i ≡ Some x
+    → slice_set (map f (take i xs) ++ drop i xs) i (f x) ≡ map f (take (i + 1) xs) ++ drop (i + 1) xs
+changed_to f i [] x is = absurd (cc)
+changed_to f zero (y ∷ ys) x is = let e : x ≡ y = cc in ap (λ z. f z ∷ ys) e
+changed_to f (suc i) (y ∷ ys) x is = let e : suc i + 1 ≡ suc (i + 1) = omega arith in rw e (ap (λ zs. f y ∷ zs) (changed_to f i ys x is))
+
+pub get_changed : {X : Type 0} (f : X → X) (i : ℕ) (xs : List X) → slice_get (map f (take i xs) ++ drop i xs) i ≡ slice_get xs i
+get_changed f zero xs = refl
+get_changed f (suc i) [] = refl
+get_changed f (suc i) (y ∷ ys) = get_changed f i ys
+
+pub all_changed : {X : Type 0} (f : X → X) (xs : List X) → map f (take (length xs) xs) ++ drop (length xs) xs ≡ map f xs
+all_changed f [] = refl
+all_changed f (x ∷ xs) = ap (λ ys. f x ∷ ys) (all_changed f xs)
+
+-- ---- one of them is changed
+
+pub get_set_here : {X : Type 0} (xs : List X) (i : ℕ) (y : X) → i < length xs → slice_get (slice_set xs i y) i ≡ Some y
+get_set_here [] i y less = absurd (omega arith)
+get_set_here (x ∷ xs) zero y less = refl
+get_set_here (x ∷ xs) (suc i) y less = get_set_here xs i y (omega arith)
+
+pub get_set_other : {X : Type 0} (xs : List X) (i t : ℕ) (y : X) → (t ≡ i → ⊥) → slice_get (slice_set xs i y) t ≡ slice_get xs t
+get_set_other [] i t y other = refl
+get_set_other (x ∷ xs) zero zero y other = absurd (other refl)
+get_set_other (x ∷ xs) zero (suc t) y other = refl
+get_set_other (x ∷ xs) (suc i) zero y other = refl
+get_set_other (x ∷ xs) (suc i) (suc t) y other = get_set_other xs i t y (λ e. other (ap suc e))
+
+pub all_set : {X : Type 0} (P : X → Type 0) (xs : List X) (i : ℕ) (y : X) → All P xs → P y → All P (slice_set xs i y)
+all_set P [] i y all here = all
+all_set P (x ∷ xs) zero y all here = All-cons P y xs here (All-tail P x xs all)
+all_set P (x ∷ xs) (suc i) y all here = All-cons P x (slice_set xs i y) (All-head P x xs all) (all_set P xs i y (All-tail P x xs all) here)
+
+pub drop_next : {X : Type 0} (k : ℕ) (xs ys : List X) (y : X) → y ∷ ys ≡ drop k xs → ys ≡ drop (k + 1) xs
+drop_next zero [] ys y is = absurd (cc)
+drop_next zero (x ∷ xs) ys y is = cc
+drop_next (suc k) [] ys y is = absurd (cc)
+drop_next (suc k) (x ∷ xs) ys y is = let e : suc k + 1 ≡ suc (k + 1) = omega arith in rw e (drop_next k xs ys y is)
+
+-- ---- room
+
+pub same_inside : (old new : LiveTrack) → new.items.items ≡ old.items.items → new.facts.items ≡ old.facts.items → new.first ≡ old.first
+    → new.begin ≡ old.begin → inside_of new ≡ inside_of old
+same_inside old new items facts first begin = rw (items, facts, first, begin) refl
+
+-- what holds of those before one, and of it
+pub room_next : (tracks : List LiveTrack) (made : List MadeTrack) (k : ℕ) (new : LiveTrack) (here : MadeTrack) → k < length tracks
+    → slice_get made k ≡ Some here → HasRoom (length here.segments.items) new
+    → ((t : ℕ) (track : LiveTrack) (x : MadeTrack) → t < k → slice_get tracks t ≡ Some track → slice_get made t ≡ Some x
+    → HasRoom (length x.segments.items) track)
+    → (t : ℕ) (track : LiveTrack) (x : MadeTrack) → t < k + 1 → slice_get (slice_set tracks k new) t ≡ Some track
+    → slice_get made t ≡ Some x → HasRoom (length x.segments.items) track
+room_next tracks made k new here within at room before t track x less is made_is = elim (cases_eq t k) [
+  | inl same ↦
+      let one : new ≡ track =
+      same_Some _ _ (sym (get_set_here tracks k new within) ∙ ap (slice_get (slice_set tracks k new)) (sym same) ∙ is) in
+      let other : here ≡ x = same_Some _ _ (sym at ∙ ap (slice_get made) (sym same) ∙ made_is) in
+      subst (λ (y : MadeTrack). HasRoom (length y.segments.items) track) other
+      (subst (λ (z : LiveTrack). HasRoom (length here.segments.items) z) one room)
+  | inr other ↦ before t track x (omega (arith, other)) (sym (get_set_other tracks k t new other) ∙ is) made_is
+]

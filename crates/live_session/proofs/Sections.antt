@@ -1,0 +1,227 @@
+-- The new segments of a track, section by section.
+use Rattle.std.proofs.Common.{◌≡◌, ℕ, zero, suc, ◌+◌, ◌<◌, ◌≤◌, ◌⊎◌, List, [], ◌∷◌, ◌++◌, map, filter, flat_map, length, Option, None, Some, refl, sym, ◌∙◌, ap, subst, inl, inr, arith}
+use Rattle.std.specs.Prelude.{true, false, IfSome}
+use Rattle.std.specs.List.{range_with_len}
+use Rattle.std.specs.Option.{option_map_or}
+use Rattle.std.proofs.lemmas.Bool.{cases_eq, eq-eqb, ne_eqb, le-ltb, lt-ltb}
+use Rattle.std.proofs.lemmas.List.Elements.{filter_agree}
+use Rattle.exact_time.specs.Time.{Time, before}
+use Rattle.exact_time.specs.Tick.{time_of}
+use Rattle.timeline.specs.Expansions.{Timing}
+use Rattle.presentation.specs.declared.parts.Content.{Content}
+use Rattle.presentation.specs.Presented.{Presented, content_at, listed_at, start_of}
+use Rattle.presentation.specs.Printing.{FollowsNear, GoesOn, later_than}
+use Rattle.followed.specs.Durations.{Last, last_behind, last_with}
+use Rattle.followed.proofs.PrintedSections.{last_section}
+use Rattle.live_meaning.specs.Segments.{Numbering, Segment, is_later, segment_with}
+use Rattle.live_meaning.specs.States.{Track}
+use Rattle.live_judge.specs.declared.track.LastKept.{LastKept}
+use Rattle.live_judge.specs.Shown.{last_of}
+use Rattle.live_session.specs.Making.{IsBelow, StandsBefore, behind_in, end_in}
+use Rattle.live_session.specs.New.{IsBegun, faults_by, joins, later_listed, new_faults_in, new_in, new_timings, segments_in, track_at}
+
+-- ---- tests of all and of none
+
+pub filter_all : {X : Type 0} (xs : List X) → filter (λ x. true) xs ≡ xs
+filter_all [] = refl
+filter_all (x ∷ xs) = ap (λ ys. x ∷ ys) (filter_all xs)
+
+filter_none : {X : Type 0} (xs : List X) → filter (λ x. false) xs ≡ []
+filter_none [] = refl
+filter_none (x ∷ xs) = filter_none xs
+
+is_later_there : (l : Last) (place q : ℕ) (end : Time) → place ≡ q → is_later l place q end ≡ before l.end end
+is_later_there l place q end same = rw (le-ltb place q (omega arith), eq-eqb place q same) refl
+
+is_later_behind : (l : Last) (place q : ℕ) (end : Time) → place < q → is_later l place q end ≡ true
+is_later_behind l place q end less = rw (lt-ltb place q less) refl
+
+is_later_before : (l : Last) (place q : ℕ) (end : Time) → q < place → is_later l place q end ≡ false
+is_later_before l place q end less = rw (le-ltb place q (omega arith), ne_eqb place q (λ e. omega arith)) refl
+
+-- ---- which are new
+
+module _ (p : Presented) (k t s : ℕ) where
+  pub times_are : (last : Option LastKept) → IfSome last (λ l. l.place ≤ k + s)
+      → new_timings p k (track_at last) t s ≡ later_listed (end_in (k + s) last) (listed_at p s t)
+  times_are None reached = filter_all (listed_at p s t)
+  times_are (Some l) reached = elim (cases_eq l.place (k + s)) [
+    | inl here ↦
+        let e : end_in (k + s) (Some l) ≡ Some l.end = rw (eq-eqb l.place (k + s) here) refl in
+        filter_agree (λ x. is_later (last_of l) l.place (k + s) x.end) (λ x. before (time_of l.end) x.end)
+        (λ x. is_later_there (last_of l) l.place (k + s) x.end here) (listed_at p s t)
+        ∙ sym (ap (λ o. later_listed o (listed_at p s t)) e)
+    | inr other ↦
+        let e : end_in (k + s) (Some l) ≡ None = rw (ne_eqb l.place (k + s) other) refl in
+        filter_agree (λ x. is_later (last_of l) l.place (k + s) x.end) (λ x. true)
+        (λ x. is_later_behind (last_of l) l.place (k + s) x.end (omega arith)) (listed_at p s t)
+        ∙ filter_all (listed_at p s t) ∙ sym (ap (λ o. later_listed o (listed_at p s t)) e)
+  ]
+
+  -- none where the Period lies before the last one's
+  none_before : (l : Last) (track : Track) → track.last ≡ Some l → k + s < track.place → new_timings p k track t s ≡ []
+  none_before l track is less =
+      rw is (filter_agree (λ x. is_later l track.place (k + s) x.end) (λ x. false) (λ x. is_later_before l track.place (k + s) x.end less)
+      (listed_at p s t) ∙ filter_none (listed_at p s t))
+
+  none_in : (n : Numbering) (o : Option Content) → option_map_or (segments_in n k p s []) o [] ≡ []
+  none_in n None = refl
+  none_in n (Some content) = refl
+
+  pub none_new : (n : Numbering) (l : Last) (track : Track) → track.last ≡ Some l → k + s < track.place → new_in n p k track t s ≡ []
+  none_new n l track is less =
+      ap (λ (xs : List Timing). option_map_or (segments_in n k p s xs) (content_at p s t) []) (none_before l track is less)
+      ∙ none_in n (content_at p s t)
+
+  none_faults_in : (o : Option Content) → option_map_or (faults_by s t (length (listed_at p s t)) []) o [] ≡ []
+  none_faults_in None = refl
+  none_faults_in (Some content) = refl
+
+  pub none_faults : (l : Last) (track : Track) → track.last ≡ Some l → k + s < track.place → new_faults_in p k track t s ≡ []
+  none_faults l track is less =
+      ap (λ (xs : List Timing). option_map_or (faults_by s t (length (listed_at p s t)) xs) (content_at p s t) [])
+      (none_before l track is less)
+      ∙ none_faults_in (content_at p s t)
+
+-- ---- how they go on
+
+joins_there : (n : Numbering) (place start : ℕ) (content : Content) (l : LastKept) (xs : List Timing) → l.section ≡ place + n.resets
+    → joins (Some (last_of l)) (map (segment_with n place start content) xs) → FollowsNear (time_of l.end) xs
+joins_there n place start content l [] here joined = tt
+joins_there n place start content l (x ∷ xs) here joined = joined (sym here)
+
+joined_at : (n : Numbering) (k : ℕ) (p : Presented) (s t : ℕ) (content : Content) (l : LastKept) → content_at p s t ≡ Some content
+    → l.place ≡ k + s → l.section ≡ k + s + n.resets
+    → joins (Some (last_of l)) (new_in n p k (track_at (Some l)) t s)
+    → FollowsNear (time_of l.end) (later_than (time_of l.end) (listed_at p s t))
+joined_at n k p s t content l is here same joined =
+    let xs : List Timing = later_than (time_of l.end) (listed_at p s t) in
+    let e : end_in (k + s) (Some l) ≡ Some l.end = rw (eq-eqb l.place (k + s) here) refl in
+    let new : new_timings p k (track_at (Some l)) t s ≡ xs = times_are p k t s (Some l) (omega arith)
+    ∙ ap (λ o. later_listed o (listed_at p s t)) e in
+    joins_there n (k + s) (start_of p s) content l xs same
+    (subst (λ (ys : List Segment). joins (Some (last_of l)) ys)
+    (ap (λ (o : Option Content). option_map_or (segments_in n k p s (new_timings p k (track_at (Some l)) t s)) o []) is
+    ∙ ap (λ ys. map (segment_with n (k + s) (start_of p s) content) ys) new)
+    joined)
+
+pub goes_on_there : (n : Numbering) (k : ℕ) (p : Presented) (s t : ℕ) (content : Content) (last : Option LastKept)
+    → content_at p s t ≡ Some content
+    → IfSome last (λ l. l.place ≤ k + s) → IsBegun n.resets (track_at last) → joins (track_at last).last (new_in n p k (track_at last) t s)
+    → IfSome (behind_in (k + s + n.resets) last) (λ b. (end_in (k + s) last ≡ Some b.former) × GoesOn (listed_at p s t) b)
+goes_on_there n k p s t content None is reached begun joined = tt
+goes_on_there n k p s t content (Some l) is reached begun joined = elim (cases_eq l.section (k + s + n.resets)) [
+  | inl same ↦
+      let numbered = begun.numbered in
+      let here : l.place ≡ k + s = omega (arith, numbered) in
+      rw (eq-eqb l.section (k + s + n.resets) same, eq-eqb l.place (k + s) here)
+      (refl, record { begun = begun.begun; near = joined_at n k p s t content l is here same joined })
+  | inr other ↦ rw (ne_eqb l.section (k + s + n.resets) other) tt
+]
+
+-- ---- all sections
+
+pub skip : {X : Type 0} (f : ℕ → List X) (i n m : ℕ) → ((j : ℕ) → i ≤ j → j < i + n → f j ≡ [])
+    → flat_map f (range_with_len i (n + m)) ≡ flat_map f (range_with_len (i + n) m)
+skip f i zero m none =
+    let e : i ≡ i + 0 = omega arith in let d : 0 + m ≡ m = omega arith in rw d (ap (λ j. flat_map f (range_with_len j m)) e)
+skip f i (suc n) m none =
+    let e : suc n + m ≡ suc (n + m) = omega arith in
+    let d : i + 1 + n ≡ i + suc n = omega arith in
+    rw e (ap (λ xs. xs ++ flat_map f (range_with_len (i + 1) (n + m))) (none i (omega arith) (omega arith))
+    ∙ skip f (i + 1) n m (λ j low high. none j (omega arith) (omega arith)) ∙ ap (λ j. flat_map f (range_with_len j m)) d)
+
+-- ---- section numbers
+
+-- all of some segments lie in the section of a number
+AreIn : (number : ℕ) → List Segment → Type 0
+AreIn number [] = Unit {0}
+AreIn number (x ∷ xs) = (x.section ≡ number) × AreIn number xs
+
+mapped_in : (n : Numbering) (place start : ℕ) (content : Content) (xs : List Timing)
+    → AreIn (place + n.resets) (map (segment_with n place start content) xs)
+unfolding AreIn
+mapped_in n place start content [] = tt
+mapped_in n place start content (x ∷ xs) = (refl, mapped_in n place start content xs)
+
+in_content : (n : Numbering) (k : ℕ) (p : Presented) (s : ℕ) (xs : List Timing) (o : Option Content)
+    → AreIn (k + s + n.resets) (option_map_or (segments_in n k p s xs) o [])
+unfolding AreIn
+in_content n k p s xs None = tt
+in_content n k p s xs (Some content) = mapped_in n (k + s) (start_of p s) content xs
+
+last_in : (number : ℕ) (last : Option Last) (xs : List Segment) → AreIn number xs
+    → (xs ≡ []) ⊎ (IfSome (last_behind last xs) (λ l. l.section ≡ number))
+unfolding AreIn
+last_in number last [] are = inl refl
+last_in number last (x ∷ xs) (here, later) = inr (elim (last_in number (Some (last_with last x)) xs later) [
+  | inl none ↦ rw none (last_section last x ∙ here)
+  | inr some ↦ some
+])
+
+-- nothing was made yet, or the last one so far and the one before all lie in sections before one of a number
+abbrev pub Stood : (track : Option Last) → (so_far : List Segment) → (number : ℕ) → Type 0
+Stood track so_far number = (so_far ≡ []) ⊎ (IsBelow (last_behind track so_far) number × IsBelow track number)
+
+pub stands : (track : Option Last) (so_far : List Segment) (number : ℕ) → Stood track so_far number
+    → StandsBefore track (last_behind track so_far) number
+stands track so_far number (inl none) = inl (ap (last_behind track) none)
+stands track so_far number (inr below) = inr below
+
+last_goes_on : (last : Option Last) (all more : List Segment) → last_behind last (all ++ more) ≡ last_behind (last_behind last all) more
+last_goes_on last [] more = refl
+last_goes_on last (x ∷ all) more = last_goes_on (Some (last_with last x)) all more
+
+below_more : (last : Option Last) (number : ℕ) → IsBelow last number → IsBelow last (number + 1)
+below_more None number below = tt
+below_more (Some l) number below = omega arith
+
+at_below : (last : Option Last) (number : ℕ) → IfSome last (λ l. l.section ≡ number) → IsBelow last (number + 1)
+at_below None number is = tt
+at_below (Some l) number is = omega arith
+
+not_above : (last : Option Last) (number : ℕ) → IfSome last (λ l. l.section ≤ number) → IsBelow last (number + 1)
+not_above None number is = tt
+not_above (Some l) number is = omega arith
+
+pub stands_next : (n : Numbering) (p : Presented) (k t s : ℕ) (track : Track) (so_far : List Segment)
+    → IfSome track.last (λ l. l.section ≤ k + s + n.resets) → Stood track.last so_far (k + s + n.resets)
+    → Stood track.last (so_far ++ new_in n p k track t s) (k + s + n.resets + 1)
+stands_next n p k t s track so_far within stood =
+    let new : List Segment = new_in n p k track t s in
+    let number : ℕ = k + s + n.resets in
+    let goes : last_behind track.last (so_far ++ new) ≡ last_behind (last_behind track.last so_far) new =
+    last_goes_on track.last so_far new in
+    elim (last_in number (last_behind track.last so_far) new (in_content n k p s (new_timings p k track t s) (content_at p s t))) [
+      | inl none ↦ elim stood [
+        | inl empty ↦ inl (let a : so_far ++ new ≡ [] = rw (none, empty) refl in a)
+        | inr below ↦ inr (
+          subst (λ (l : Option Last). IsBelow l (number + 1)) (sym (goes ∙ ap (last_behind (last_behind track.last so_far)) none))
+              (below_more _ number below.0),
+          below_more _ number below.1,
+        )
+      ]
+      | inr some ↦ inr
+          (subst (λ (l : Option Last). IsBelow l (number + 1)) (sym goes) (at_below _ number some), not_above track.last number within)
+    ]
+
+-- the first of what is left joins where the first of all does, or lies in a later section
+joins_front : (last : Option Last) (xs ys : List Segment) → joins last (xs ++ ys) → joins last xs
+joins_front None xs ys joined = tt
+joins_front (Some l) [] ys joined = tt
+joins_front (Some l) (x ∷ xs) ys joined = joined
+
+joins_elsewhere : (number : ℕ) (last : Option Last) (xs : List Segment) → AreIn number xs → IsBelow last number → joins last xs
+unfolding AreIn
+joins_elsewhere number None xs are below = tt
+joins_elsewhere number (Some l) [] are below = tt
+joins_elsewhere number (Some l) (x ∷ xs) (here, later) below = λ same. absurd (omega arith)
+
+pub joins_next : (n : Numbering) (p : Presented) (k t s : ℕ) (track : Track) (so_far later : List Segment)
+    → joins track.last (so_far ++ (new_in n p k track t s ++ later)) → Stood track.last so_far (k + s + n.resets)
+    → joins track.last (new_in n p k track t s)
+joins_next n p k t s track so_far later joined (inl none) =
+    joins_front track.last (new_in n p k track t s) later
+    (subst (λ (xs : List Segment). joins track.last (xs ++ (new_in n p k track t s ++ later))) none joined)
+joins_next n p k t s track so_far later joined (inr below) =
+    joins_elsewhere (k + s + n.resets) track.last _ (in_content n k p s (new_timings p k track t s) (content_at p s t)) below.1

@@ -1,0 +1,33 @@
+use Rattle.std.proofs.Common.{rules, ◌≡◌, List, false, true, sym, subst}
+use Rattle.std.proofs.lemmas.Result.{err_from_is_err_and}
+use Rattle.live_session.specs.declared.made.MadeTrack.{MadeTrack}
+use Rattle.live_session.specs.Changes.{AreNewOf}
+use Rattle.live_session.proofs.Counting.{none_there, some_there}
+use Rattle.live_session.proofs.NewTracks.{all_made, makeable, none_made, not_made}
+use Rattle.live_session.proofs.change.made_of.Goals as goal
+
+pub returns-then-not-has_new : goal.returns-then-not-has_new
+returns-then-not-has_new g c =
+    let n = c.args.next.now in
+    let off : c.has_new.result ≡ false = search rules in
+    subst (λ (made : List MadeTrack). AreNewOf n made c.args.steps.now c.args.steps.now) (sym c.new.ensures.items)
+    (none_made n c.requires.next c.args.steps.now (none_there n c.has_new.result c.has_new.ensures off))
+
+pub make_all-requires-clause-tracks : goal.make_all-requires-clause-tracks
+make_all-requires-clause-tracks g c = makeable c.args.next.now c.requires.next c.maker_of.result c.maker_of.ensures c.requires.joined
+
+pub returns-in_err-make_all : goal.returns-in_err-make_all
+returns-in_err-make_all g c =
+    let n = c.args.next.now in
+    let on : c.has_new.result ≡ true = search rules in
+    let p = err_from_is_err_and c.from_residual.result c.from_residual.ensures.1 in
+    rw (p.1, p.2) (not_made n c.requires.next c.maker_of.result c.maker_of.ensures c.in_err-make_all.field-0.0 c.args.steps.now
+    c.make_all.new.steps
+    (some_there n c.has_new.result c.has_new.ensures on) c.in_err-make_all.ensures)
+
+pub returns : goal.returns
+returns g c =
+    let n = c.args.next.now in
+    let on : c.has_new.result ≡ true = search rules in
+    all_made n c.requires.next c.maker_of.result c.maker_of.ensures c.in_ok-make_all.field-0.items c.args.steps.now c.make_all.new.steps
+    (some_there n c.has_new.result c.has_new.ensures on) c.in_ok-make_all.ensures

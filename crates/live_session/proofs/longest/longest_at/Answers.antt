@@ -1,0 +1,13 @@
+use Rattle.std.proofs.Common.{◌≡◌, ◌^◌, ap, arith}
+use Rattle.presentation.specs.Presented.{listed_at, looked_at}
+use Rattle.presentation.specs.Printing.{printed_timings}
+use Rattle.presentation.specs.Verifying.{longest_left}
+use Rattle.live_session.proofs.Durations.{longest_printed}
+use Rattle.live_session.proofs.longest.longest_at.Goals as goal
+
+pub loop-timed-init : goal.loop-timed-init
+loop-timed-init c =
+    let p = looked_at c.args.now c.args.presentation.now in let unit = 10 ^ c.args.digits in let xs =
+    listed_at p c.args.section c.args.track in
+    let e : c.into_iter-timed-iterator.result ≡ printed_timings unit xs = cc in
+    record { can = tt; finite = tt; longest = omega (arith, longest_printed unit xs, ap longest_left e) }

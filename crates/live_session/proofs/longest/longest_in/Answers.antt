@@ -1,0 +1,18 @@
+use Rattle.std.proofs.Common.{◌^◌, ap, arith, length, map}
+use Rattle.presentation.specs.Presented.{looked_at}
+use Rattle.presentation.specs.Verifying.{greatest, longest_of}
+use Rattle.live_session.proofs.Durations.{range_first}
+use Rattle.live_session.proofs.longest.longest_in.Goals as goal
+
+pub loop-track-preserved : goal.loop-track-preserved
+loop-track-preserved c =
+    let p = looked_at c.args.now c.args.presentation.now in let unit = 10 ^ c.args.digits in let t = c.loop-track.track in
+    let same = ap (λ xs. length xs) c.tracks.ensures in
+    omega (
+      arith,
+      c.loop-track.invariant,
+      ap (λ ss. greatest (map (longest_of p unit) ss))
+          (range_first t (length c.args.presentation.now.tracks) (omega arith)),
+      c.max-longest.ensures,
+      c.longest_of.ensures.longest,
+    )

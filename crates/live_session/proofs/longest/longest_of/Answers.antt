@@ -1,0 +1,18 @@
+use Rattle.std.proofs.Common.{◌^◌, ap, arith, length, map}
+use Rattle.presentation.specs.Presented.{looked_at}
+use Rattle.presentation.specs.Verifying.{greatest, longest_at}
+use Rattle.live_session.proofs.Durations.{range_first}
+use Rattle.live_session.proofs.longest.longest_of.Goals as goal
+
+pub loop-section-preserved : goal.loop-section-preserved
+loop-section-preserved c =
+    let p = looked_at c.args.now c.args.presentation.now in let unit = 10 ^ c.args.digits in let s = c.loop-section.section in
+    let same = ap (λ xs. length xs) c.sections.ensures in
+    omega (
+      arith,
+      c.loop-section.invariant,
+      ap (λ ss. greatest (map (longest_at p unit c.args.track) ss))
+          (range_first s (length c.args.presentation.now.sections) (omega arith)),
+      c.max-longest.ensures,
+      c.longest_at.ensures.longest,
+    )

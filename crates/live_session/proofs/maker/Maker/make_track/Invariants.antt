@@ -1,0 +1,11 @@
+use Rattle.std.proofs.Common.{◌≤◌}
+use Rattle.live_session.specs.Made.{all_made}
+use Rattle.live_session.specs.Making.{first_section}
+use Rattle.live_session.proofs.TrackMaking.{TrackSoFar}
+use Rattle.live_session.proofs.maker.Maker.make_track.Given as goal
+
+abbrev pub invariant-loop-section : goal.invariant-loop-section
+invariant-loop-section g l = record {
+  so_far : TrackSoFar l.fn.self l.fn.track l.last l.section (all_made l.made.items) l.fn.steps l.steps;
+  least : first_section l.fn.self.place l.last ≤ l.section;
+}

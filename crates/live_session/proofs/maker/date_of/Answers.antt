@@ -1,0 +1,25 @@
+use Rattle.std.proofs.Common.{arith}
+use Rattle.std.proofs.lemmas.Int.{ints}
+use Rattle.exact_time.specs.Tick.{time_of}
+use Rattle.live_session.proofs.Dates.{least_nanos, most_nanos}
+use Rattle.live_session.proofs.maker.date_of.Goals as goal
+
+pub overflow_add-result-2 : goal.overflow_add-result-2
+overflow_add-result-2 c =
+    let low = least_nanos (time_of c.args.start) c.requires.near in let high = most_nanos (time_of c.args.start) c.requires.near in
+    omega (arith, ints)
+
+pub invariant_of-result : goal.invariant_of-result
+invariant_of-result c =
+    let low = least_nanos (time_of c.args.start) c.requires.near in let high = most_nanos (time_of c.args.start) c.requires.near in
+    (omega (arith, ints), omega (arith, ints))
+
+pub returns-clause-date : goal.returns-clause-date
+returns-clause-date c =
+    let low = least_nanos (time_of c.args.start) c.requires.near in let high = most_nanos (time_of c.args.start) c.requires.near in
+    omega (arith, ints)
+
+pub returns-clause-writable : goal.returns-clause-writable
+returns-clause-writable c =
+    let low = least_nanos (time_of c.args.start) c.requires.near in let high = most_nanos (time_of c.args.start) c.requires.near in
+    (omega (arith, ints), omega (arith, ints))

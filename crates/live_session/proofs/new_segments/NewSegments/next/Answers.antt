@@ -1,0 +1,29 @@
+use Rattle.std.proofs.Common.{ap, subst, sym, ◌∙◌}
+use Rattle.exact_time.specs.Rounding.{Rounding}
+use Rattle.exact_time.specs.Time.{Time}
+use Rattle.timeline.specs.Expansions.{Timing}
+use Rattle.presentation.specs.Printing as spec
+use Rattle.presentation.specs.Kept.{IsPaced, printed_rest}
+use Rattle.presentation.proofs.Printing.{held, paced_next}
+use Rattle.live_session.proofs.Paced.{datable_first, datable_later}
+use Rattle.live_session.proofs.new_segments.NewSegments.next.Goals as goal
+
+pub returns-in-Err-clause-segment : goal.returns-in-Err-clause-segment
+returns-in-Err-clause-segment g c = let r = c.self.inside.rounder in
+    subst (λ old. spec.IsHeld old c.in-Err.fault (printed_rest c.next.new.self r)) c.self.view_is
+    (held c.self.inside.listing c.next.new.self r c.in-Err.fault c.in-Err.ensures.segment)
+
+pub invariant_of-self-in-Ok-Some : goal.invariant_of-self-in-Ok-Some
+invariant_of-self-in-Ok-Some g c = let made = rw c.in-Ok-Some.field-0-is at c.in-Ok-Some.ensures.segment in
+    let ends = ap (λ (x : Timing). x.end) c.span.ensures in
+    let r : Rounding = c.self.inside.rounder in
+    record {
+      paced = subst (λ (q : Rounding). IsPaced c.next.new.self q)
+          (sym (c.next-duration.ensures.kept ∙ ap (λ (e : Time). record r { former = e }) ends))
+          (paced_next c.self.inside.listing c.next.new.self c.in-Ok-Some.segment r made c.self.invariant.paced);
+      datable = datable_later c.self.inside.listing.left c.next.new.self.left c.in-Ok-Some.segment.times made.next c.self.invariant.datable;
+    }
+
+pub returns-in-Ok-Some-clause-datable : goal.returns-in-Ok-Some-clause-datable
+returns-in-Ok-Some-clause-datable g c = let made = rw c.in-Ok-Some.field-0-is at c.in-Ok-Some.ensures.segment in
+    datable_first c.self.inside.listing.left c.next.new.self.left c.in-Ok-Some.segment.times made.next c.self.invariant.datable

@@ -1,0 +1,38 @@
+-- The tracks of a session as they grow and lose their front.
+use Rattle.std.specs.Prelude.{◌≡◌, ℕ, ◌+◌, ◌*◌, ◌^◌, ◌<◌, List, [], ◌∷◌, length, slice_get, Some}
+use Rattle.exact_time.specs.declared.tick.Tick.{Tick}
+use Rattle.hls_writer.specs.declared.items.MediaItem.{MediaItem}
+use Rattle.live_meaning.specs.Removal.{removed_of}
+use Rattle.live_meaning.specs.Segments.{Kept}
+use Rattle.live_meaning.specs.States.{Track}
+use Rattle.live_judge.specs.declared.standing.Standing.{Standing}
+use Rattle.live_judge.specs.declared.track.Fact.{Fact}
+use Rattle.live_judge.specs.declared.track.LiveTrack.{LiveTrack}
+use Rattle.live_judge.specs.Shown.{in_force}
+use Rattle.live_session.specs.declared.made.MadeTrack.{MadeTrack}
+use Rattle.live_session.specs.Kept.{HasRoom, with_all, without_front}
+
+-- what a track has, whatever room there is for more
+abbrev pub inside_of : LiveTrack → List MediaItem × List Fact × ℕ × Tick
+inside_of track = (track.items.items, track.facts.items, track.first, track.begin)
+
+-- there is room for what was made of each track
+abbrev pub HaveRoom : List LiveTrack → List MadeTrack → Type 0
+HaveRoom tracks made = (t : ℕ) (track : LiveTrack) (new : MadeTrack) → slice_get tracks t ≡ Some track → slice_get made t ≡ Some new
+    → HasRoom (length new.segments.items) track
+
+-- with what was made of some of the tracks from the first one on
+abbrev pub grown : List Track → List (List Kept) → List Track
+grown tracks [] = tracks
+grown [] (new ∷ news) = []
+grown (track ∷ tracks) (new ∷ news) = with_all track new ∷ grown tracks news
+
+-- without what isn't available any more
+abbrev pub trimmed : Standing → Track → Track
+trimmed s track = without_front (removed_of (in_force s).following (3 * s.target * 10 ^ s.digits) track.kept) track
+
+-- some are kept, side by side, and their places fit a number
+pub record CanTrim (track : LiveTrack) : Type 0 where
+  pub paired : length track.items.items ≡ length track.facts.items
+  pub some : 0 < length track.items.items
+  pub fits : track.first + length track.items.items < 2 ^ 63

@@ -1,0 +1,10 @@
+pub mod Growth
+pub mod Kept
+pub mod Made
+pub mod Making
+pub mod New
+pub mod Paced
+pub mod Written
+pub mod Sessions
+pub mod Begun
+pub mod Changes

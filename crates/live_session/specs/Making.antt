@@ -1,0 +1,144 @@
+-- What is so of segments as they are made one by one.
+use Rattle.std.specs.Prelude.{◌≡◌, ◌⊎◌, ℕ, ◌+◌, ◌-◌, ◌^◌, ◌<◌, ◌≤◌, pos, neg_ℤ, ◌==◌, All, List, [], ◌∷◌, ◌++◌, length, map, slice_get, Option, Some, None, IfSome, Result, Ok, Err, MatchOption, MatchResult, IsSome, if◌then◌else◌}
+use Rattle.exact_time.specs.Time.{IsAtMost, IsTime, Time, seconds}
+use Rattle.exact_time.specs.declared.tick.Tick.{Tick}
+use Rattle.iso_time.specs.Instant.{IsWritable}
+use Rattle.url_parts.specs.declared.address.Part.{Part}
+use Rattle.timeline.specs.declared.fault.ListFault.{ListFault}
+use Rattle.timeline.specs.Listed.{part_of_timing}
+use Rattle.timeline.specs.Names.{list_refusal}
+use Rattle.timeline.specs.Expansions.{Timing}
+use Rattle.followed.specs.Durations.{Last, last_behind, told_behind}
+use Rattle.presentation.specs.declared.fault.PresentationFault.{PresentationFault}
+use Rattle.presentation.specs.declared.parts.Content.{Content}
+use Rattle.presentation.specs.declared.segments.Behind.{Behind}
+use Rattle.presentation.specs.Counting.{refusal}
+use Rattle.presentation.specs.Presented.{listed_at, start_of}
+use Rattle.presentation.specs.Printing.{GoesOn, IsAtEnd, PrintedRest}
+use Rattle.live_meaning.specs.Segments.{Kept, Segment, segments_of}
+use Rattle.live_judge.specs.declared.track.LastKept.{LastKept}
+use Rattle.live_judge.specs.declared.track.LiveTrack.{LiveTrack}
+use Rattle.live_session.specs.declared.made.Made.{Made}
+use Rattle.live_session.specs.declared.made.MadeTrack.{MadeTrack}
+use Rattle.live_session.specs.declared.maker.Maker.{Maker}
+use Rattle.live_session.specs.declared.maker.Section.{Section}
+use Rattle.live_judge.specs.Shown.{track_shown}
+use Rattle.live_session.specs.Kept.{AreSideBySide}
+use Rattle.live_session.specs.Made.{all_made, kept_as, made_kept}
+use Rattle.live_session.specs.New.{IsBegun, joins, later_listed, left_to_make, new_all, new_counted, new_faults, new_in, new_kept, numbers_of, shown_by, track_at}
+
+-- ---- where a section begins
+
+abbrev pub first_section : (k : ℕ) → Option LastKept → ℕ
+first_section k None = 0
+first_section k (Some l) = l.place - k
+
+abbrev pub end_in : (place : ℕ) → Option LastKept → Option Tick
+end_in place None = None
+end_in place (Some l) = if l.place == place then Some l.end else None
+
+abbrev pub behind_in : (number : ℕ) → Option LastKept → Option Behind
+behind_in number None = None
+behind_in number (Some l) = if l.section == number then Some (record { first = l.begin; former = l.end }) else None
+
+-- a start from which a date can be told: at most 1,000,000 s before its Period, and 10^11 s behind its start
+pub record IsNear (start : Time) : Type 0 where
+  pub is : IsTime start
+  pub low : IsAtMost (record { ticks = neg_ℤ (pos 1000000); scale = 1 }) start
+  pub high : IsAtMost start (seconds 100000000000)
+
+abbrev pub number_of : Maker → (section : ℕ) → ℕ
+number_of m s = m.place + s + m.resets
+
+-- the durations of a section's new segments go on behind the last one where it lies in that section
+abbrev pub GoesOnIn : Maker → (section track : ℕ) → Option LastKept → Type 0
+GoesOnIn m s t last = IfSome (behind_in (number_of m s) last) (λ b.
+    (end_in (m.place + s) last ≡ Some b.former) × GoesOn (listed_at (shown_by m) s t) b)
+
+pub record IsSection (m : Maker) (s t : ℕ) (last : Option LastKept) (section : Section) (content : Content) : Type 0 where
+  pub left : section.segments
+      ≡ left_to_make (behind_in (number_of m s) last) (10 ^ m.digits) content.runs
+      (later_listed (end_in (m.place + s) last) (listed_at (shown_by m) s t))
+  pub count : section.count ≡ length (later_listed (end_in (m.place + s) last) (listed_at (shown_by m) s t))
+  pub before : section.before ≡ length (listed_at (shown_by m) s t) - section.count
+
+-- ---- one segment
+
+-- the next segment was made
+pub record IsKeptNext (m : Maker) (s : ℕ) (map : Part) (old new : PrintedRest) (before after : ℕ) (made : Made) : Type 0 where
+  pub times : Timing
+  pub duration : ℕ
+  pub part : Part
+  pub next : old.left ≡ record { times = times; duration = duration } ∷ new.left
+  pub has : part_of_timing old.timeline times ≡ Ok part
+  pub kept : made_kept made
+      ≡ kept_as (numbers_of m) (m.place + s) (start_of (shown_by m) s) map (record { part = part; times = times }) duration
+  pub writable : IsWritable made.item.date
+  pub timeline : new.timeline ≡ old.timeline
+  pub counted : after ≡ before + 1
+
+-- no segment was left
+pub record IsDone (old new : PrintedRest) (before after : ℕ) : Type 0 where
+  pub end : IsAtEnd old new
+  pub counted : after ≡ before
+
+-- it has no address, or memory was wanting
+pub record IsRefused (old : PrintedRest) (before after : ℕ) (fault : ListFault) : Type 0 where
+  pub refused : IfSome (list_refusal fault)
+      (λ f. IsSome (slice_get old.left 0) × IfSome (slice_get old.left 0) (λ x. part_of_timing old.timeline x.times ≡ Err f))
+  pub counted : after ≡ before
+
+abbrev pub IsNextMade : Maker → (s : ℕ) → Part → (old new : PrintedRest) → (before after : ℕ) → Result (Option Made) ListFault → Type 0
+IsNextMade m s map old new before after result =
+    MatchResult result (λ next. MatchOption next (IsDone old new before after) (IsKeptNext m s map old new before after))
+    (IsRefused old before after)
+
+-- ---- those of a section, and of a track
+
+-- New segments were made behind others, each with the duration that it has behind them. Each has an address, and its date can be
+-- written.
+pub record IsMadeBehind (unit : ℕ) (last : Option Last) (new : List Segment) (faults : List PresentationFault) (old made : List Kept)
+    (before after : ℕ) : Type 0 where
+  pub made_is : made ≡ old ++ told_behind unit (last_behind last (segments_of old)) new
+  pub none : faults ≡ []
+  pub dates : All (λ k. IsWritable k.segment.value.date) old → All (λ k. IsWritable k.segment.value.date) made
+  pub counted : after ≡ before + length new
+
+-- the first fault is told, unless memory is wanting, and at most so many were made
+pub record IsNotMade (faults : List PresentationFault) (most : ℕ) (fault : PresentationFault) (before after : ℕ) : Type 0 where
+  pub refused : IfSome (refusal fault) (λ f. slice_get faults 0 ≡ Some f)
+  pub least : before ≤ after
+  pub most_made : after ≤ before + most
+
+-- a last segment lies in a section before one of a number
+abbrev pub IsBelow : Option Last → (number : ℕ) → Type 0
+IsBelow last number = IfSome last (λ l. l.section < number)
+
+-- The last one so far is the track's, in or before the section, or both lie in sections before it.
+abbrev pub StandsBefore : (track last : Option Last) → (number : ℕ) → Type 0
+StandsBefore track last number = (last ≡ track) ⊎ (IsBelow last number × IsBelow track number)
+
+pub record IsSectionMakeable (m : Maker) (s t : ℕ) (last : Option LastKept) (made : List Kept) : Type 0 where
+  pub reached : IfSome last (λ l. l.place ≤ m.place + s)
+  pub begun : IsBegun m.resets (track_at last)
+  pub near : joins (track_at last).last (new_in (numbers_of m) (shown_by m) m.place (track_at last) t s)
+  pub stands : StandsBefore (track_at last).last (last_behind (track_at last).last (segments_of made)) (number_of m s)
+
+pub record IsMakeable (m : Maker) (t : ℕ) (track : LiveTrack) : Type 0 where
+  pub paired : AreSideBySide track
+  pub begun : IsBegun m.resets (track_shown track)
+  pub near : joins (track_shown track).last (new_all (numbers_of m) (shown_by m) m.place (track_shown track) t)
+
+abbrev pub AreMakeable : Maker → List LiveTrack → Type 0
+AreMakeable m tracks = (t : ℕ) (track : LiveTrack) → slice_get tracks t ≡ Some track → IsMakeable m t track
+
+-- ---- those of all tracks
+
+abbrev pub all_kept : List MadeTrack → List (List Kept)
+all_kept made = map (λ (track : MadeTrack). all_made track.segments.items) made
+
+pub record AreMade (m : Maker) (tracks : List LiveTrack) (made : List MadeTrack) (before after : ℕ) : Type 0 where
+  pub kept : all_kept made ≡ new_kept (10 ^ m.digits) (numbers_of m) (shown_by m) m.place 0 (map track_shown tracks)
+  pub none : new_faults (shown_by m) m.place 0 (map track_shown tracks) ≡ []
+  pub dates : All (All (λ k. IsWritable k.segment.value.date)) (all_kept made)
+  pub counted : after ≡ before + new_counted (numbers_of m) (shown_by m) m.place 0 (map track_shown tracks)

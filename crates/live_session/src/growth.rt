@@ -1,0 +1,73 @@
+// The tracks of a session as they change.
+ghost use Rattle.std.specs.Prelude.{◌≡◌, ◌*◌, ◌+◌, ◌<◌, ◌≤◌, ◌^◌, [], All, IsOk, OnOk, length, map, sum};
+ghost use Rattle.live_judge.specs.Shown.{track_shown};
+ghost use Rattle.live_session.specs.Growth as spec;
+ghost use Rattle.live_session.specs.Kept.{AreSideBySide};
+ghost use Rattle.live_session.specs.Making.{all_kept};
+
+use crate::kept::{push_all, remove, reserve};
+use crate::made::MadeTrack;
+use bridge_io::NoMemory;
+use live_judge::{LiveTrack, Standing, removed_of};
+
+/// Makes room for what was made of each track. Where nothing was made of any, no memory is taken. An error leaves the segments as
+/// they were.
+pub(crate) fn make_room(tracks: &mut Vec<LiveTrack>, made: &[MadeTrack]) -> Result<(), NoMemory>
+    requires { length made.now ≤ length tracks.old.items }
+    ensures same { map spec.inside_of tracks.new.items ≡ map spec.inside_of tracks.old.items }
+    ensures room { OnOk result (spec.HaveRoom tracks.new.items made.now) }
+    ensures none { made.now ≡ [] → IsOk result }
+{
+    for track in 0..made.len() {
+        reserve(&mut tracks[track], made[track].segments.len())?;
+    }
+    Ok(())
+}
+
+/// How many segments were made.
+pub(crate) fn count_made(made: &[MadeTrack]) -> u64
+    requires { sum (map length (all_kept made.now)) < 2 ^ 63 }
+    ensures { result ≡ sum (map length (all_kept made.now)) }
+{
+    let mut count = 0;
+    for track in made {
+        count += track.segments.len() as u64;
+    }
+    count
+}
+
+/// Adds what was made of each track behind its segments.
+pub(crate) fn grow_all(tracks: &mut Vec<LiveTrack>, made: Vec<MadeTrack>)
+    requires room { spec.HaveRoom tracks.old.items made.items }
+    requires tracks { length made.items ≤ length tracks.old.items }
+    requires paired { All AreSideBySide tracks.old.items }
+    ensures shown { map track_shown tracks.new.items ≡ spec.grown (map track_shown tracks.old.items) (all_kept made.items) }
+    ensures paired { All AreSideBySide tracks.new.items }
+{
+    let mut track = 0;
+    for made in made {
+        push_all(&mut tracks[track], made.segments);
+        track += 1;
+    }
+}
+
+/// Removes from the front of each track what isn't available any more, unless too little is left.
+pub(crate) fn trim_all(standing: &Standing, tracks: &mut Vec<LiveTrack>)
+    requires target { 1 ≤ standing.now.target }
+    requires can { All spec.CanTrim tracks.old.items }
+    ensures shown { map track_shown tracks.new.items ≡ map (spec.trimmed standing.now) (map track_shown tracks.old.items) }
+    ensures paired { All AreSideBySide tracks.new.items }
+{
+    let least = three_targets(standing);
+    for track in 0..tracks.len() {
+        let count = removed_of(&tracks[track], standing.force(), standing.instant, least);
+        remove(&mut tracks[track], count);
+    }
+}
+
+/// Three target durations in units of the last decimal: so long is what stays at least.
+fn three_targets(standing: &Standing) -> u128
+    ensures { result ≡ 3 * standing.now.target * 10 ^ standing.now.digits }
+{
+    3 * u128::from(standing.target) * u128::from(standing.digits.unit())
+}
