@@ -1,3 +1,5 @@
 pub mod Targets
 pub mod Located
 pub mod Texts
+pub mod FirstItems
+pub mod FirstFiles

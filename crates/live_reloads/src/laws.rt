@@ -1,14 +1,17 @@
 //! Laws of the definitions. The functions do nothing: what they ensure is the law.
+ghost use Rattle.live_reloads.specs.First.{FirstFilesMeanTheSame};
 ghost use Rattle.live_reloads.specs.Laws.{FollowedTextsAreRead, FollowedTextsReload, ReadTextsReload};
 
 use live_meaning::{
     accepted_never_drift, histories_go_on, playlists_are_never_empty, reloads_are_lawful,
     sections_have_one_map,
 };
-use presentation::presentations_mean_what_they_list;
+use mpd_rules::laws::period_ids_differ;
+use presentation::{presentations_mean_what_they_list, presentations_show_their_mpd};
 use read_back::{
     counted_segments_are_in_pace, parts_are_located, playlists_are_read_again,
-    read_trees_are_of_bytes, static_segments_are_in_pace,
+    read_trees_are_of_bytes, static_segments_are_in_pace, tracks_are_writable,
+    tracks_mean_the_same,
 };
 use reload_law::rules_are_sentences;
 
@@ -38,4 +41,19 @@ pub fn followed_texts_reload()
     histories_go_on();
     reloads_are_lawful();
     rules_are_sentences();
+}
+
+/// The master and the playlists that are written of a first MPD that was read mean what its presentation means at its instant,
+/// with each time rounded down to the unit that durations are written in.
+pub fn first_files_mean_the_same()
+    ensures { FirstFilesMeanTheSame }
+{
+    period_ids_differ();
+    presentations_show_their_mpd();
+    histories_go_on();
+    presentations_mean_what_they_list();
+    tracks_are_writable();
+    counted_segments_are_in_pace();
+    followed_texts_are_read();
+    tracks_mean_the_same();
 }

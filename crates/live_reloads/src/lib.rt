@@ -4,4 +4,4 @@
 
 mod laws;
 
-pub use laws::{followed_texts_are_read, followed_texts_reload};
+pub use laws::{first_files_mean_the_same, followed_texts_are_read, followed_texts_reload};

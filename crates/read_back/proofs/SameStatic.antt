@@ -17,7 +17,7 @@ use Rattle.read_back.specs.Same.{EndInTurn}
 use Rattle.read_back.specs.SameFiles.{IsReadable, WrittenMeanTheSame}
 use Rattle.read_back.specs.SameStatic.{WrittenMeansTheSame}
 
-in_turn : (xs : List Timing) → IsInPace xs → EndInTurn xs
+pub in_turn : (xs : List Timing) → IsInPace xs → EndInTurn xs
 in_turn [] pace = (pace.0, tt)
 in_turn (x ∷ xs) pace = (pace.0, pace.1.0)
 
@@ -54,10 +54,12 @@ written_means_the_same finished writable initializations parts pace told same p 
       parts = λ x part is. part_read part (parts p from found k d within x part is);
     } in
     let readable : IsReadable p digits = record {
-      verified = verified;
-      few = few;
-      ordered = λ s t in_sections in_tracks. in_turn (listed_at p s t) (pace p s t from);
-      tracks = writable p from;
+      writable = record {
+        verified = verified;
+        few = few;
+        ordered = λ s t in_sections in_tracks. in_turn (listed_at p s t) (pace p s t from);
+        tracks = writable p from;
+      };
       playlists = λ t within. record { finished = finished p from; verified = verified; few = few; contents = contents; short = short p digits t told (λ s. pace p s t from) };
     } in
     same p digits files folder prefix readable own holds written

@@ -20,5 +20,6 @@ pub use origins::{
     static_tracks_are_writable, tracks_are_writable,
 };
 pub use same::{
-    read_playlists_mean_the_same, written_means_the_same, written_playlists_mean_the_same,
+    read_playlists_mean_the_same, tracks_mean_the_same, written_means_the_same,
+    written_playlists_mean_the_same,
 };

@@ -1,6 +1,6 @@
 //! Laws of what written playlists mean. The functions do nothing: what they ensure is the law.
 ghost use Rattle.read_back.specs.Same.{ReadMeanTheSame};
-ghost use Rattle.read_back.specs.SameFiles.{FoldersHoldFiles, WrittenMeanTheSame};
+ghost use Rattle.read_back.specs.SameFiles.{FoldersHoldFiles, TracksMeanTheSame, WrittenMeanTheSame};
 ghost use Rattle.read_back.specs.SameStatic.{WrittenMeansTheSame};
 
 use crate::master::written_masters_are_read;
@@ -22,15 +22,22 @@ pub fn read_playlists_mean_the_same()
     presentations_mean_what_they_list();
 }
 
-/// Files with the texts of a presentation's master and playlists mean what the presentation means, with each time rounded
-/// down. A folder of a store can hold them.
-pub fn written_playlists_mean_the_same()
-    ensures files { WrittenMeanTheSame }
+/// Files with the text of a presentation's master, and for each track a playlist with its segments, mean what the presentation
+/// means, with each time rounded down, whatever else the playlists tell. A folder of a store can hold them.
+pub fn tracks_mean_the_same()
+    ensures files { TracksMeanTheSame }
     ensures folders { FoldersHoldFiles }
 {
     written_masters_are_read();
-    track_playlists_are_read_again();
     read_playlists_mean_the_same();
+}
+
+/// Files with the texts of a finished presentation's master and playlists do.
+pub fn written_playlists_mean_the_same()
+    ensures { WrittenMeanTheSame }
+{
+    track_playlists_are_read_again();
+    tracks_mean_the_same();
 }
 
 /// The master and the playlists that are written of a static MPD mean what its presentation means, with each time rounded
