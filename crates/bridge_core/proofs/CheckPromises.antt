@@ -25,16 +25,16 @@ use Rattle.bridge_playlists.specs.Places.{place_of}
 use Rattle.bridge_playlists.specs.Playlists.{presented_at}
 use Rattle.bridge_playlists.specs.declared.place.Place.{Place}
 use Rattle.bridge_core.specs.Check.{check_at, check_outcome, compared, differ_line, judged, places_of, both_with, verdict_of}
-use Rattle.bridge_core.specs.Courses.{outcome_of_job, outcome_of_words}
+use Rattle.bridge_core.specs.Courses.{course_of, course_of_job, outcome_of_job}
 use Rattle.bridge_steps.specs.Endings.{placed}
-use Rattle.bridge_steps.specs.Manifests.{checked_presentation, mpd_at, mpd_in, presentation_of}
+use Rattle.bridge_steps.specs.Manifests.{checked_presentation, mpd_at, mpd_in}
 use Rattle.bridge_core.specs.Promises.{AreMeant, DifferIsApart, DoneIsAgreed, check_asked}
 use Rattle.bridge_core.specs.declared.check.Check.{Check}
 use Rattle.meaning.proofs.AlikeLemmas.{first_alike}
 use Rattle.bridge_core.proofs.Asked.{IsBounded, bounded}
 use Rattle.bridge_core.proofs.Lies.{content_read, in_folder_is, lies_of}
 use Rattle.bridge_core.proofs.MpdPromises.{presentation_read}
-use Rattle.bridge_steps.proofs.Static.{checked_read, static_read}
+use Rattle.bridge_steps.proofs.Static.{static_read}
 
 -- ---- a course that isn't refused
 
@@ -130,10 +130,8 @@ module _ (keeps : VerdictKeepsSteps) (texts : TextsAreMeant) (rates : ReadHaveRa
   text_meant : (job : Check) (url bytes : List ℕ) (p : Presented)
       → checked_presentation (Some NotStatic) (10 ^ job.digits) url None bytes ≡ Ok p
       → dash_meaning bytes url None ≡ Some (meaning_of p)
-  unfolding checked_presentation
   text_meant job url bytes p is =
-      let read = static_read NotStatic url None bytes p (checked_read (presentation_of (Some NotStatic) url None bytes) (10 ^ job.digits) p
-      is).first in
+      let read = static_read NotStatic (10 ^ job.digits) url None bytes p is in
       texts bytes url None read.came.tree read.came.mpd p read.spelled read.came.typed
       (subst (λ u. presented_of read.came.mpd u None ≡ Ok p) read.at (subst (λ now. presented_of read.came.mpd read.came.url now ≡ Ok p)
       read.instant read.came.presented))
@@ -173,11 +171,11 @@ module _ (keeps : VerdictKeepsSteps) (texts : TextsAreMeant) (rates : ReadHaveRa
   ended job course v files goes ends is_open = by_places job files course (places_of job) refl goes (λ refused. is_open (ends ∙ refused))
 
   pub done_agrees : DoneIsAgreed
-  unfolding outcome_of_words
-  done_agrees words job course before after files asks was goes run =
+  unfolding course_of
+  done_agrees words job input course before after files asks was goes run =
       let asked : IfSome (Some (check_asked job)) IsBounded = subst (λ asked. IfSome asked IsBounded) asks (bounded words) in
       let ends = (keeps course verdict.Done before after run).0 in
-      let by = ended job course verdict.Done files (subst (λ asked. option_map course_by (outcome_of_job asked (Some files)) ≡ Some course)
+      let by = ended job course verdict.Done files (subst (λ asked. course_of_job asked (Some files) input ≡ Some course)
       asks goes) ends (λ is. absurd (cc)) in
       let are = are_meant job files course asked by in
       let none = done_none by.mpd (first_difference (10 ^ job.digits) (meaning_of by.mpd) (meaning_of by.playlists)) (ends ∙ by.verdict) in
@@ -189,12 +187,11 @@ module _ (keeps : VerdictKeepsSteps) (texts : TextsAreMeant) (rates : ReadHaveRa
       }
 
   pub differ_is_apart : DifferIsApart
-  unfolding outcome_of_words
-  differ_is_apart words job course before after files asks was goes run =
+  unfolding course_of
+  differ_is_apart words job input course before after files asks was goes run =
       let asked : IfSome (Some (check_asked job)) IsBounded = subst (λ asked. IfSome asked IsBounded) asks (bounded words) in
       let ends = (keeps course verdict.Differ before after run).0 in
-      let by = ended job course verdict.Differ files (subst (λ asked. option_map course_by (outcome_of_job asked (Some files)) ≡ Some
-      course) asks goes) ends (λ is. absurd (cc)) in
+      let by = ended job course verdict.Differ files (subst (λ asked. course_of_job asked (Some files) input ≡ Some course) asks goes) ends (λ is. absurd (cc)) in
       let are = are_meant job files course asked by in
       let some = differ_some by.mpd (first_difference (10 ^ job.digits) (meaning_of by.mpd) (meaning_of by.playlists)) (ends ∙ by.verdict)
       in

@@ -1,19 +1,28 @@
 -- The files that are written, by their names.
-use Rattle.std.proofs.Common.{◌≡◌, ℕ, zero, suc, ◌+◌, ◌^◌, ◌<◌, ◌≤◌, List, [], ◌∷◌, ◌++◌, map, length, Some, bytes_eq, eqb, refl, sym, ◌∙◌, ap, arith, inl, inr, append_assoc}
-use Rattle.std.specs.Prelude.{codes, decimal}
+use Rattle.std.proofs.Common.{◌≡◌, ℕ, zero, suc, ◌+◌, ◌^◌, ◌<◌, ◌≤◌, List, [], ◌∷◌, ◌++◌, map, length, None, Option, Some, bytes_eq, eqb, refl, sym, ◌∙◌, ap, arith, inl, inr, append_assoc}
+use Rattle.std.specs.Prelude.{codes, decimal, option_map, slice_get}
 use Rattle.std.specs.List.{range_with_len}
+use Rattle.std.specs.Option.{option_map_or}
 use Rattle.std.proofs.lemmas.Bool.{cases_Bool, eqb-true}
 use Rattle.std.proofs.lemmas.Bool.Decides.{nat_tests}
 use Rattle.std.proofs.lemmas.Fmt.{decimal_injective}
 use Rattle.std.proofs.lemmas.List.{append_cancel_left, append_cancel_right}
+use Rattle.std.proofs.lemmas.Option.{slice_get_within}
 use Rattle.bridge_io.specs.InOrder.{put_all}
 use Rattle.bridge_io.specs.Outside.{Files, put}
 use Rattle.bridge_jobs.specs.Laws.{in_folder, playlist_of}
 use Rattle.mpd_text.proofs.NameLemmas.{same_bytes, equals_itself}
 use Rattle.presentation.specs.Presented.{Presented}
+use Rattle.hls_writer.specs.Finished.{media_text}
 use Rattle.hls_writer.specs.Master.{master_text}
 use Rattle.read_back.specs.SameFiles.{AreWritten, master_name}
-use Rattle.bridge_steps.specs.Playlists.{playlists, track_file, track_files, master_file}
+use Rattle.live_meaning.specs.States.{State, Track}
+use Rattle.live_meaning.specs.Playlists.{FollowedPlaylist, live_text, playlist_of as followed_of, playlist_with}
+use Rattle.live_reloads.specs.First.{HoldState}
+use Rattle.live_session.specs.Sessions.{text_of}
+use Rattle.bridge_steps.specs.LiveMpds.{live_files}
+use Rattle.bridge_steps.specs.Playlists.{playlists}
+use Rattle.bridge_steps.proofs.LiveFiles.{files_first}
 
 -- ---- one file
 
@@ -42,49 +51,82 @@ same_track out s t few less e =
 same_first : (a b : ℕ) (xs ys : List ℕ) → a ∷ xs ≡ b ∷ ys → a ≡ b
 same_first a b xs ys e = cc
 
-no_master : (out : List ℕ) (t : ℕ) → in_folder out (codes "master.m3u8") ≡ in_folder out (playlist_of t) → ⊥
+pub no_master : (out : List ℕ) (t : ℕ) → in_folder out (codes "master.m3u8") ≡ in_folder out (playlist_of t) → ⊥
 no_master out t e =
     let names : codes "master.m3u8" ≡ playlist_of t = (let behind = append_cancel_left out (47 ∷ codes "master.m3u8") (47 ∷ playlist_of t)
     e in cc) in
     absurd (omega (arith, same_first 109 116 (codes "aster.m3u8") (decimal t ++ codes ".m3u8") names))
 
--- ---- the playlists of a presentation
+-- ---- playlists of tracks in order
 
-module _ (out : List ℕ) (digits : ℕ) (p : Presented) where
+module _ (out : List ℕ) (texts : ℕ → List ℕ) where
   abbrev file : ℕ → List ℕ × List ℕ
-  file t = track_file out digits p t
+  file t = (in_folder out (playlist_of t), texts t)
 
-  stays : (from n : ℕ) (files : Files) (t : ℕ) → from + n ≤ 2 ^ 64 → t < from
-      → put_all (map file (range_with_len from n)) files (file t).0 ≡ files (file t).0
-  stays from zero files t few less = refl
-  stays from (suc n) files t few less =
-      stays (from + 1) n (put (file from).0 (file from).1 files) t (omega (arith, few)) (omega (arith, less))
-      ∙ put_elsewhere (file from).0 (file t).0 (file from).1 files (λ same. absurd
-      (omega (arith, less, same_track out from t (omega (arith, few)) (omega (arith, few, less)) same)))
+  -- another file is as before
+  pub file_apart : (from n : ℕ) (files : Files) (name : List ℕ) → ((t : ℕ) → t < from + n → from ≤ t → (file t).0 ≡ name → ⊥)
+      → put_all (map file (range_with_len from n)) files name ≡ files name
+  file_apart from zero files name apart = refl
+  file_apart from (suc n) files name apart =
+      file_apart (from + 1) n (put (file from).0 (file from).1 files) name (λ t less le. apart t (omega (arith, less)) (omega (arith, le)))
+      ∙ put_elsewhere (file from).0 name (file from).1 files (apart from (omega arith) (omega arith))
 
-  there : (from n : ℕ) (files : Files) (t : ℕ) → from + n ≤ 2 ^ 64 → from ≤ t → t < from + n
-      → put_all (map file (range_with_len from n)) files (file t).0 ≡ Some (file t).1
-  there from zero files t few least less = absurd (omega (arith, least, less))
-  there from (suc n) files t few least less = elim (cases_Bool (eqb from t)) [
+  pub file_there : (from n : ℕ) (files : Files) (t : ℕ) → from + n ≤ 2 ^ 64 → from ≤ t → t < from + n
+      → put_all (map file (range_with_len from n)) files (file t).0 ≡ Some (texts t)
+  file_there from zero files t few least less = absurd (omega (arith, least, less))
+  file_there from (suc n) files t few least less = elim (cases_Bool (eqb from t)) [
     | inl same ↦
         let is = eqb-true from t same in
-        rw (sym is) (stays (from + 1) n (put (file from).0 (file from).1 files) from (omega (arith, few)) (omega (arith)) ∙ put_there
-        (file from).0 (file from).1 files)
-    | inr differs ↦ there (from + 1) n (put (file from).0 (file from).1 files) t (omega (arith, few))
+        rw (sym is)
+        (file_apart (from + 1) n (put (file from).0 (file from).1 files) (file from).0
+        (λ r within le name. absurd (omega (arith, le, same_track out r from (omega (arith, few, within)) (omega (arith, few)) name)))
+        ∙ put_there (file from).0 (file from).1 files)
+    | inr differs ↦ file_there (from + 1) n (put (file from).0 (file from).1 files) t (omega (arith, few))
         (grind (arith, nat_tests, least, differs)) (omega (arith, less))
   ]
 
-  pub are_written : (files : Files) → length p.tracks ≤ 200 → AreWritten (put_all (playlists out digits p) files) (out ++ 47 ∷ []) p digits
-  are_written files few =
-      let last = put_last (track_files out digits p) (master_file out p) files in
-      record {
-        master = ap (put_all (playlists out digits p) files) (append_assoc out (47 ∷ []) master_name)
-            ∙ ap (λ fs. fs (in_folder out master_name)) last ∙ put_there (in_folder out master_name) (master_text p)
-            (put_all (track_files out digits p) files);
-        playlists = λ t less.
-            ap (put_all (playlists out digits p) files) (append_assoc out (47 ∷ []) (playlist_of t))
-            ∙ ap (λ fs. fs (in_folder out (playlist_of t))) last
-            ∙ put_elsewhere (in_folder out master_name) (in_folder out (playlist_of t)) (master_text p)
-            (put_all (track_files out digits p) files) (no_master out t)
-            ∙ there 0 (length p.tracks) files t (omega (arith, few)) (omega (arith)) (omega (arith, less));
-      }
+  -- and the master behind them
+  module _ (master : List ℕ) (n : ℕ) (few : n ≤ 200) (files : Files) where
+    abbrev all : Files
+    all = put_all (map file (range_with_len 0 n) ++ (in_folder out master_name, master) ∷ []) files
+
+    last : all ≡ put (in_folder out master_name) master (put_all (map file (range_with_len 0 n)) files)
+    last = put_last (map file (range_with_len 0 n)) (in_folder out master_name, master) files
+
+    pub master_there : all ((out ++ 47 ∷ []) ++ master_name) ≡ Some master
+    master_there =
+        ap all (append_assoc out (47 ∷ []) master_name) ∙ ap (λ fs. fs (in_folder out master_name)) last
+        ∙ put_there (in_folder out master_name) master (put_all (map file (range_with_len 0 n)) files)
+
+    pub playlist_there : (t : ℕ) → t < n → all ((out ++ 47 ∷ []) ++ playlist_of t) ≡ Some (texts t)
+    playlist_there t less =
+        ap all (append_assoc out (47 ∷ []) (playlist_of t)) ∙ ap (λ fs. fs (in_folder out (playlist_of t))) last
+        ∙ put_elsewhere (in_folder out master_name) (in_folder out (playlist_of t)) master (put_all (map file (range_with_len 0 n)) files) (no_master out t)
+        ∙ file_there 0 n files t (omega (arith, few)) (omega (arith)) (omega (arith, less))
+
+-- ---- the playlists of a static MPD, and of a first live one
+
+pub are_written : (out : List ℕ) (digits : ℕ) (p : Presented) (files : Files) → length p.tracks ≤ 200
+    → AreWritten (put_all (playlists out digits p) files) (out ++ 47 ∷ []) p digits
+are_written out digits p files few = record {
+  master = master_there out (media_text p digits) (master_text p) (length p.tracks) few files;
+  playlists = playlist_there out (media_text p digits) (master_text p) (length p.tracks) few files;
+}
+
+read_text : (o : Option FollowedPlaylist) (playlist : FollowedPlaylist) → o ≡ Some playlist → option_map_or live_text o [] ≡ live_text playlist
+read_text o playlist is = ap (λ o. option_map_or live_text o []) is
+
+some_track : (tracks : List Track) (t : ℕ) (o : Option Track) (f : Track → FollowedPlaylist) (playlist : FollowedPlaylist) → slice_get tracks t ≡ o
+    → option_map f o ≡ Some playlist → t < length tracks
+some_track tracks t None f playlist found is = absurd (cc)
+some_track tracks t (Some track) f playlist found is = slice_get_within tracks t track found
+
+pub first_written : (out : List ℕ) (s : State) (files : Files) → s.common.accepted ≡ 1 → length s.tracks ≤ 200
+    → HoldState (put_all (live_files out s) files) (out ++ 47 ∷ []) s
+first_written out s files one few = rw (files_first out s one) (record {
+  master = master_there out (text_of s) (master_text s.common.opened) (length s.tracks) few files;
+  playlists = λ t playlist is.
+      playlist_there out (text_of s) (master_text s.common.opened) (length s.tracks) few files t
+      (some_track s.tracks t (slice_get s.tracks t) (playlist_with s.common) playlist refl is)
+      ∙ ap (λ text. Some text) (read_text (followed_of s t) playlist is);
+})

@@ -7,3 +7,5 @@ pub mod DoneAt
 pub mod Promises
 pub mod MpdPromises
 pub mod CheckPromises
+pub mod Blamed
+pub mod Worked

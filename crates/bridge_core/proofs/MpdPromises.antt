@@ -44,7 +44,7 @@ use Rattle.presentation.specs.Meanings.{meaning_of}
 use Rattle.bridge_report.specs.Outcomes.{course_by}
 use Rattle.bridge_playlists.specs.Places.{place_of}
 use Rattle.bridge_steps.specs.Done.{done_line}
-use Rattle.bridge_core.specs.Courses.{outcome_of_job, outcome_of_words}
+use Rattle.bridge_core.specs.Courses.{course_of, course_of_job, outcome_of_job}
 use Rattle.bridge_core.specs.Dash.{dash_outcome, files_of, outcome_of}
 use Rattle.read_back.specs.Origins.{OwnTextsAreAddresses}
 use Rattle.bridge_core.specs.Promises.{MpdMeansTheSame, WrittenMpdMeansThePlaylists, mpd_asked}
@@ -256,9 +256,9 @@ module _ (done : DoneIsWhole) (keeps : VerdictKeepsSteps) (own : OwnTextsAreAddr
       }
 
   pub written_mpd_means : WrittenMpdMeansThePlaylists
-  unfolding outcome_of_words dash_outcome
-  written_mpd_means words job course before after first last asks was is goes run =
+  unfolding course_of dash_outcome
+  written_mpd_means words job input course before after first last asks was is goes run =
       let asked : IfSome (Some (mpd_asked job)) IsBounded = subst (λ asked. IfSome asked IsBounded) asks (bounded_words words) in
       let by = done_at (files_of job) done_line presented_at keeps before after (place_of job.base job.master) first course
-      (subst (λ asked. option_map course_by (outcome_of_job asked (Some first)) ≡ Some course) asks goes) run in
+      (subst (λ asked. course_of_job asked (Some first) input ≡ Some course) asks goes) run in
       promised job course before after first last asked was is by run

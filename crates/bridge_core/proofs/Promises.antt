@@ -1,9 +1,11 @@
 -- What is written means what the MPD means.
-use Rattle.std.proofs.Common.{◌≡◌, ℕ, ◌+◌, ◌-◌, ◌^◌, ◌<◌, ◌≤◌, not, Bool, true, false, IsTrue, List, [], ◌∷◌, ◌++◌, length, take, if◌then◌else◌, Some, option_map, Result, Ok, Err, IfSome, refl, sym, ◌∙◌, ap, subst, arith, inl, inr, append_assoc, take_all}
+use Rattle.std.proofs.Common.{◌≡◌, ◌⊎◌, ℕ, ℤ, ◌+◌, ◌-◌, ◌^◌, ◌<◌, ◌≤◌, not, Bool, true, false, IsTrue, List, [], ◌∷◌, ◌++◌, length, map, take, if◌then◌else◌, Option, None, Some, option_map, Result, Ok, Err, IfSome, refl, sym, ◌∙◌, ap, subst, arith, inl, inr, append_assoc, take_all}
 use Rattle.std.specs.Prelude.{nat_le, nat_lt}
 use Rattle.std.proofs.lemmas.Bool.{cases_Bool, and_parts}
-use Rattle.std.proofs.lemmas.List.{append-nil, take_more}
+use Rattle.std.proofs.lemmas.List.{append-nil, take_more, length-map}
+use Rattle.std.proofs.lemmas.List.Elements.{All-cons, All-nil}
 use Rattle.std.proofs.lemmas.List.Folds.{list_all-append}
+use Rattle.std.proofs.lemmas.List.FromFn.{length-range_with_len}
 use Rattle.std.specs.Prelude.{◌==◌, slice_index}
 use Rattle.std.specs.List.{list_all, list_any}
 use Rattle.std.specs.Str.{is_utf8}
@@ -14,7 +16,7 @@ use Rattle.bridge_io.specs.Names.{is_name}
 use Rattle.bridge_io.specs.Outside.{Files}
 use Rattle.bridge_jobs.specs.Jobs.{is_folder}
 use Rattle.bridge_jobs.specs.Laws.{FoldersHoldTheirFiles}
-use Rattle.bridge_runs.specs.Courses.{Course, World, files_of}
+use Rattle.bridge_runs.specs.Courses.{Course, World, files_of as course_files}
 use Rattle.bridge_runs.specs.Laws.{DoneIsWhole, VerdictKeepsSteps}
 use Rattle.bridge_runs.specs.Runs.{IsRun}
 use Rattle.bridge_runs.specs.declared.status.Status.TheVariants as status
@@ -24,61 +26,98 @@ use Rattle.mpd_text.specs.Trees.{Element}
 use Rattle.mpd_text.specs.declared.fault.TextFault.{TextFault}
 use Rattle.mpd_from_playlists.proofs.Bytes.{all_bytes, utf8_bytes}
 use Rattle.presentation.proofs.Filling.{steps_of, ok_under}
+use Rattle.presentation.specs.Counting.{tracks_of}
 use Rattle.presentation.specs.MeaningLaws.{TextsAreMeant}
-use Rattle.presentation.specs.Meanings.{meaning_of}
-use Rattle.presentation.specs.Origins.{CameFromStaticMpd}
+use Rattle.presentation.specs.Meanings.{dash_meaning, meaning_of}
 use Rattle.presentation.specs.Presented.{Presented}
-use Rattle.presentation.specs.Told.{presented_of}
+use Rattle.presentation.specs.Told.{presented_of, told_as}
 use Rattle.url_parts.specs.Addresses.{IsAddress, folder_of, is_tail}
 use Rattle.read_back.proofs.SameFolders.{no_tail, own_with_slash}
-use Rattle.hls_writer.specs.Verified.{IsVerified}
 use Rattle.hls_meaning.specs.Meanings.{hls_meaning}
-use Rattle.read_back.specs.Origins.{IsFound, IsOfBytes, ReadingsAreOfBytes, OwnTextsAreAddresses, StaticHaveFewTracks}
-use Rattle.read_back.specs.SameFiles.{AreWritten, FoldersHoldFiles, HoldsFiles, master_name}
+use Rattle.read_back.specs.Origins.{HaveFewTracks, IsFound, IsOfBytes, ReadingsAreOfBytes, OwnTextsAreAddresses, of_static}
+use Rattle.read_back.specs.SameFiles.{FoldersHoldFiles, HoldsFiles, MeanTheSame, master_name}
 use Rattle.read_back.specs.SameStatic.{WrittenMeansTheSame}
+use Rattle.live_meaning.specs.Updates.{Refresh, Update, Values, mpd_of, unit_of}
+use Rattle.live_meaning.specs.Histories.{Common, begun_common, begun_past, begun_with}
+use Rattle.live_meaning.specs.States.{State, shown, track_of}
+use Rattle.live_meaning.specs.Refusals.{begun_of}
+use Rattle.live_reloads.specs.First.{FirstFilesMeanTheSame}
+use Rattle.live_reloads.specs.Laws.{IsFollowed, IsRead, IsReadIfAny}
+use Rattle.live_reloads.proofs.FirstFiles.{begun_is}
 use Rattle.bridge_report.specs.Bases.{ends_in_slash, is_folder as is_base}
-use Rattle.bridge_core.specs.Courses.{outcome_of_job, outcome_of_words}
-use Rattle.bridge_core.specs.Hls.{hls_outcome, outcome_of, presented}
-use Rattle.bridge_report.specs.Outcomes.{course_by}
-use Rattle.bridge_report.specs.Reading.{content_of}
+use Rattle.bridge_core.specs.Courses.{course_of, course_of_job}
+use Rattle.bridge_core.specs.Hls.{Live, Static, Translation, files_of, hls_outcome, line_of, live_translation, outcome_of, static_translation, terms_at, translation_at, translation_by, translation_of}
+use Rattle.bridge_report.specs.Reading.{content_of, of_file}
+use Rattle.bridge_playlists.specs.declared.place.Place.{Place}
 use Rattle.bridge_playlists.specs.Places.{place_of}
-use Rattle.bridge_steps.specs.Done.{done_line}
-use Rattle.bridge_steps.specs.Manifests.{checked_presentation, mpd_at, mpd_in, presentation_of}
+use Rattle.bridge_steps.specs.LiveMpds.{live_files, told_of}
+use Rattle.bridge_steps.specs.Manifests.{ready_of, values_of}
 use Rattle.bridge_steps.specs.Playlists.{playlists}
 use Rattle.bridge_core.specs.Promises.{job_asked, MeansTheSame, WrittenMeansTheMpd}
 use Rattle.bridge_core.specs.declared.hls.Hls.{Hls}
-use Rattle.bridge_report.specs.declared.refusal.Refusal.TheVariants.{Unbuilt}
 use Rattle.bridge_core.proofs.Asked.{IsBounded, bounded}
-use Rattle.bridge_core.proofs.FileNames.{are_written}
+use Rattle.bridge_core.proofs.FileNames.{are_written, first_written}
 use Rattle.bridge_core.proofs.DoneAt.{IsDoneAt, done_at}
-use Rattle.bridge_core.proofs.Lies.{content_read, lies_of}
-use Rattle.bridge_steps.proofs.Static.{checked_read, static_read}
+use Rattle.bridge_core.proofs.Lies.{Lies, content_read, lies_of}
+use Rattle.bridge_steps.proofs.Static.{IsSpelled, IsStatic, spelled_of, static_ready}
 
--- ---- an MPD of which nothing is refused
+-- ---- what is written
 
--- a static MPD, and what its bytes spell
-record IsRead (bytes url : List ℕ) (job : Hls) (p : Presented) : Type 0 where
-  came : CameFromStaticMpd p
-  spelled : reading_of bytes ≡ Ok came.tree
-  at : came.url ≡ url
-  instant : came.now ≡ job.instant
-  verified : IsVerified p job.digits
+-- of a static MPD
+record IsStaticAt (job : Hls) (url bytes : List ℕ) (value : Translation) : Type 0 where
+  p : Presented
+  read : IsStatic (10 ^ job.digits) bytes url job.instant p
+  is : value ≡ Static job.digits p
 
-read_of : (job : Hls) (bytes url : List ℕ) (p : Presented)
-    → checked_presentation (Some Unbuilt) (10 ^ job.digits) url job.instant bytes ≡ Ok p → IsRead bytes url job p
-unfolding checked_presentation
-read_of job bytes url p is =
-    let found = checked_read (presentation_of (Some Unbuilt) url job.instant bytes) (10 ^ job.digits) p is in
-    let read = static_read Unbuilt url job.instant bytes p found.first in
+-- of a live one
+record IsLiveAt (job : Hls) (url bytes : List ℕ) (value : Translation) : Type 0 where
+  now : ℤ
+  instant : job.instant ≡ Some now
+  mpd : Values
+  spelled : IsSpelled bytes mpd
+  state : State
+  begun : begun_of (terms_at job url) mpd now ≡ Ok state
+  is : value ≡ Live state
+
+static_at : (job : Hls) (url bytes : List ℕ) (mpd : Values) (value : Translation) → values_of bytes ≡ Ok mpd → mpd.facts.live ≡ false
+    → static_translation job url mpd ≡ Ok value → IsStaticAt job url bytes value
+unfolding static_translation
+static_at job url bytes mpd value read static is =
+    let ready = steps_of (ready_of (10 ^ job.digits) url job.instant mpd) (λ p. Ok (Static job.digits p)) value is in
     record {
-      came =
-          read.came;
-      spelled = read.spelled;
-      at = read.at;
-      instant = read.instant;
-      verified = record
-          { longest = found.longest; is = found.all };
+      p = ready.value;
+      read = static_ready (10 ^ job.digits) bytes url job.instant mpd ready.value read static ready.first;
+      is = (let same : Static job.digits ready.value ≡ value = (let told = ready.then in cc) in sym same);
     }
+
+live_at : (job : Hls) (url bytes : List ℕ) (mpd : Values) (now : Option ℤ) (value : Translation) → values_of bytes ≡ Ok mpd → job.instant ≡ now
+    → live_translation job url now mpd ≡ Ok value → IsLiveAt job url bytes value
+unfolding live_translation
+live_at job url bytes mpd None value read at is = absurd (cc)
+live_at job url bytes mpd (Some now) value read at is =
+    let told = steps_of (told_as told_of (begun_of (terms_at job url) mpd now)) (λ s. Ok (Live s)) value is in
+    record {
+      now = now;
+      instant = at;
+      mpd = mpd;
+      spelled = spelled_of bytes mpd read;
+      state = told.value;
+      begun = ok_under told_of (begun_of (terms_at job url) mpd now) told.value told.first;
+      is = (let same : Live told.value ≡ value = (let rest = told.then in cc) in sym same);
+    }
+
+by_kind : (job : Hls) (url bytes : List ℕ) (mpd : Values) (live : Bool) (value : Translation) → values_of bytes ≡ Ok mpd → mpd.facts.live ≡ live
+    → (if live then live_translation job url job.instant mpd else static_translation job url mpd) ≡ Ok value
+    → IsStaticAt job url bytes value ⊎ IsLiveAt job url bytes value
+by_kind job url bytes mpd true value read kind is = inr (live_at job url bytes mpd job.instant value read refl is)
+by_kind job url bytes mpd false value read kind is = inl (static_at job url bytes mpd value read kind is)
+
+kind_of : (job : Hls) (url bytes : List ℕ) (value : Translation) → translation_of job url bytes ≡ Ok value
+    → IsStaticAt job url bytes value ⊎ IsLiveAt job url bytes value
+unfolding translation_of
+kind_of job url bytes value is =
+    let read = steps_of (values_of bytes) (translation_by job url) value is in
+    by_kind job url bytes read.value read.value.facts.live value read.first refl read.then
 
 -- bytes that spell a tree are UTF-8, and so bytes
 utf8_of : (b : Bool) (bytes : List ℕ) (read : Result Element TextFault) (fault : TextFault) (tree : Element) → is_utf8 bytes ≡ b
@@ -121,58 +160,131 @@ holds names hold out tracks room few = let files = names out room in
     hold out tracks (and_parts (is_name out) (nat_le (length out) 242) room).0 files.master
     (λ t less. files.playlists t (omega (arith, few, less)))
 
--- ---- the promise
+-- ---- what the files mean
 
-module _ (done : DoneIsWhole) (keeps : VerdictKeepsSteps) (names : FoldersHoldTheirFiles) (hold : FoldersHoldFiles) (meant : TextsAreMeant)
-    (same : WrittenMeansTheSame)
-    (reads : ReadingsAreOfBytes) (own : OwnTextsAreAddresses) (fewer : StaticHaveFewTracks) where
-  promised : (job : Hls) (course : Course) (before after : World) (first last : Files) → IsBounded (job_asked job)
-      → before.files ≡ Some first → after.files ≡ Some last
-      → IsDoneAt (outcome_of job) (presented job) (place_of job.base job.mpd) first course → IsRun course status.Done before after
-      → MeansTheSame job first last
-  unfolding mpd_at
-  promised job course before after first last few_digits was is by run =
-      let place = by.found in let p = by.value in
-      let lies = lies_of job.base job.mpd place by.at in
-      let read = steps_of (content_of place.file first) (mpd_in (Some Unbuilt) (10 ^ job.digits) job.instant place) p by.is in
-      let there : first job.mpd ≡ Some read.value = ap first (sym lies.file) ∙ content_read place.file first read.value read.first in
-      let mpd = read_of job read.value place.url p (ok_under _ (checked_presentation (Some Unbuilt) (10 ^ job.digits) place.url job.instant
-      read.value) p read.then) in
-      let few = fewer p mpd.came in
-      let pieces : List (List ℕ × List ℕ) = playlists job.out job.digits p in
-      let files : files_of course ≡ pieces = ap files_of by.goes ∙ append-nil pieces in
-      let left : Some last ≡ Some (put_all pieces first) =
-      sym is ∙ (done course before after run).files ∙ ap (λ fs. option_map (put_all fs) before.files) files
-      ∙ ap (option_map (put_all pieces)) was in
-      let last_is : last ≡ put_all pieces first = cc in
-      let found : IsFound mpd.came.tree mpd.came.url = record {
-        tree = reads read.value mpd.came.tree (spelled_bytes read.value mpd.came.tree mpd.spelled) mpd.spelled;
-        url = subst IsAddress (sym mpd.at) (own place.url lies.own);
-      } in
-      let written : AreWritten last (job.out ++ 47 ∷ []) p job.digits = rw last_is (are_written job.out job.digits p first few) in
-      let meaning = same p job.digits last job.base (job.out ++ 47 ∷ []) mpd.came found mpd.verified few_digits.1
-      (base_folder job.base lies.is_base)
-      (holds names hold job.out (length p.tracks) few_digits.0 few) written in
-      record {
-        bytes = read.value;
-        url = place.url;
-        there = there;
-        at = lies.at;
-        mpd = meaning_of p;
-        means =
-            meant read.value place.url job.instant mpd.came.tree mpd.came.mpd p mpd.spelled mpd.came.typed
-            (subst (λ u. presented_of mpd.came.mpd u job.instant ≡ Ok p) mpd.at (subst
-            (λ now. presented_of mpd.came.mpd mpd.came.url now ≡ Ok p) mpd.instant mpd.came.presented));
-        playlists = meaning.0;
-        written = ap (λ text. hls_meaning last job.base (job.base ++ text)) (sym (append_assoc job.out (47 ∷ []) master_name))
-            ∙ meaning.1.0;
-        same = meaning.1.1;
-      }
+-- a text means what a presentation means, and so do the files, rounded down
+record Means (job : Hls) (url bytes : List ℕ) (last : Files) : Type 0 where
+  p : Presented
+  text : dash_meaning bytes url job.instant ≡ Some (meaning_of p)
+  files : MeanTheSame last job.base (job.base ++ ((job.out ++ 47 ∷ []) ++ master_name)) p job.digits
 
-  pub written_means : WrittenMeansTheMpd
-  unfolding outcome_of_words hls_outcome
-  written_means words job course before after first last asks was is goes run =
-      let asked : IfSome (Some (job_asked job)) IsBounded = subst (λ asked. IfSome asked IsBounded) asks (bounded words) in
-      let by = done_at (playlists job.out job.digits) done_line (presented job) keeps before after (place_of job.base job.mpd) first course
-      (subst (λ asked. option_map course_by (outcome_of_job asked (Some first)) ≡ Some course) asks goes) run in
-      promised job course before after first last asked was is by run
+-- an update's MPD is read of bytes, if it has one
+abbrev IsReadUpdate : Update → Type 0
+IsReadUpdate u = IsReadIfAny (mpd_of u)
+
+first_tracks : (c : Common) → length (shown (begun_with c)).tracks ≡ length c.opened.tracks
+first_tracks c =
+    length-map (map (begun_past c) (tracks_of c.opened)) (track_of (unit_of c.terms)) ∙ length-map (tracks_of c.opened) (begun_past c)
+    ∙ length-range_with_len 0 (length c.opened.tracks)
+
+module _ (names : FoldersHoldTheirFiles) (hold : FoldersHoldFiles) (meant : TextsAreMeant) (same : WrittenMeansTheSame) (first_same : FirstFilesMeanTheSame)
+    (reads : ReadingsAreOfBytes) (own : OwnTextsAreAddresses) (fewer : HaveFewTracks) where
+  module _ (job : Hls) (place : Place) (first : Files) (asked : IsBounded (job_asked job)) (lies : Lies job.base job.mpd place) where
+    abbrev prefix : List ℕ
+    prefix = job.out ++ 47 ∷ []
+
+    room : (p : Presented) → length p.tracks ≤ 200 → HoldsFiles prefix (length p.tracks)
+    room p few = holds names hold job.out (length p.tracks) asked.0 few
+
+    static_means : (bytes : List ℕ) (p : Presented) → IsStatic (10 ^ job.digits) bytes place.url job.instant p
+        → Means job place.url bytes (put_all (files_of job.out (Static job.digits p)) first)
+    static_means bytes p read =
+        let few = fewer p (of_static p read.came) in
+        let found : IsFound read.came.tree read.came.url = record {
+          tree = reads bytes read.came.tree (spelled_bytes bytes read.came.tree read.spelled) read.spelled;
+          url = subst IsAddress (sym read.at) (own place.url lies.own);
+        } in
+        record {
+          p = p;
+          text = meant bytes place.url job.instant read.came.tree read.came.mpd p read.spelled read.came.typed
+              (subst (λ u. presented_of read.came.mpd u job.instant ≡ Ok p) read.at
+              (subst (λ now. presented_of read.came.mpd read.came.url now ≡ Ok p) read.instant read.came.presented));
+          files = same p job.digits (put_all (playlists job.out job.digits p) first) job.base prefix read.came found
+              (record { longest = read.longest; is = read.all }) asked.1 (base_folder job.base lies.is_base) (room p few)
+              (are_written job.out job.digits p first few);
+        }
+
+    live_means : (bytes : List ℕ) (mpd : Values) (now : ℤ) (s : State) → IsSpelled bytes mpd → job.instant ≡ Some now
+        → begun_of (terms_at job place.url) mpd now ≡ Ok s → Means job place.url bytes (put_all (files_of job.out (Live s)) first)
+    live_means bytes mpd now s spelled instant begun =
+        let terms = terms_at job place.url in
+        let is = begun_is terms mpd now s begun in let p = s.common.opened in
+        let opened : p ≡ is.p = ap (λ (s : State). s.common.opened) is.state in
+        let presented : presented_of mpd place.url (Some now) ≡ Ok p = is.first.made ∙ ap Ok (sym opened) in
+        let few : length p.tracks ≤ 200 = fewer p (record {
+          tree = spelled.tree;
+          mpd = mpd;
+          url = place.url;
+          now = Some now;
+          typed = spelled.typed;
+          presented = presented;
+        }) in
+        let many : length s.tracks ≡ length p.tracks = ap (λ (s : State). length s.tracks) is.state
+        ∙ first_tracks (begun_common terms mpd now is.p) ∙ ap (λ (p : Presented). length p.tracks) (sym opened) in
+        let read : IsRead mpd = record {
+          bytes = bytes;
+          are = spelled_bytes bytes spelled.tree spelled.reading;
+          tree = spelled.tree;
+          reading = spelled.reading;
+          typed = spelled.typed;
+        } in
+        let followed : IsFollowed terms (Refresh mpd now ∷ []) = record {
+          url = own place.url lies.own;
+          digits = asked.1;
+          read = All-cons IsReadUpdate (Refresh mpd now) [] read (All-nil IsReadUpdate);
+          few = omega arith;
+        } in
+        record {
+          p = p;
+          text = ap (dash_meaning bytes place.url) instant
+              ∙ meant bytes place.url (Some now) spelled.tree mpd p spelled.reading spelled.typed presented;
+          files = first_same terms mpd now s (put_all (live_files job.out s) first) job.base prefix followed begun
+              (base_folder job.base lies.is_base) (room p few)
+              (first_written job.out s first (ap (λ (s : State). s.common.accepted) is.state) (omega (arith, few, many)));
+        }
+
+    means_by : (bytes : List ℕ) (value : Translation) → IsStaticAt job place.url bytes value ⊎ IsLiveAt job place.url bytes value
+        → Means job place.url bytes (put_all (files_of job.out value) first)
+    means_by bytes value (inl static) = rw static.is (static_means bytes static.p static.read)
+    means_by bytes value (inr live) = rw live.is (live_means bytes live.mpd live.now live.state live.spelled live.instant live.begun)
+
+  -- ---- the promise
+
+  module _ (done : DoneIsWhole) (keeps : VerdictKeepsSteps) where
+    promised : (job : Hls) (course : Course) (before after : World) (first last : Files) → IsBounded (job_asked job)
+        → before.files ≡ Some first → after.files ≡ Some last
+        → IsDoneAt (outcome_of job) (translation_at job) (place_of job.base job.mpd) first course → IsRun course status.Done before after
+        → MeansTheSame job first last
+    unfolding translation_at
+    promised job course before after first last asked was is by run =
+        let place = by.found in let lies = lies_of job.base job.mpd place by.at in
+        let read = steps_of (content_of place.file first) (λ bytes. of_file place.file (translation_of job place.url bytes)) by.value by.is in
+        let there : first job.mpd ≡ Some read.value = ap first (sym lies.file) ∙ content_read place.file first read.value read.first in
+        let kind = kind_of job place.url read.value by.value (ok_under _ (translation_of job place.url read.value) by.value read.then) in
+        let pieces : List (List ℕ × List ℕ) = files_of job.out by.value in
+        let files : course_files course ≡ pieces = ap course_files by.goes ∙ append-nil pieces in
+        let left : Some last ≡ Some (put_all pieces first) =
+        sym is ∙ (done course before after run).files ∙ ap (λ fs. option_map (put_all fs) before.files) files
+        ∙ ap (option_map (put_all pieces)) was in
+        let last_is : last ≡ put_all pieces first = cc in
+        let means : Means job place.url read.value last = rw last_is (means_by job place first asked lies read.value by.value kind) in
+        record {
+          bytes = read.value;
+          url = place.url;
+          there = there;
+          at = lies.at;
+          mpd = meaning_of means.p;
+          means = means.text;
+          playlists = means.files.0;
+          written = ap (λ text. hls_meaning last job.base (job.base ++ text)) (sym (append_assoc job.out (47 ∷ []) master_name))
+              ∙ means.files.1.0;
+          same = means.files.1.1;
+        }
+
+    pub written_means : WrittenMeansTheMpd
+    unfolding course_of hls_outcome
+    written_means words job input course before after first last asks was is goes run =
+        let asked : IfSome (Some (job_asked job)) IsBounded = subst (λ asked. IfSome asked IsBounded) asks (bounded words) in
+        let by = done_at (files_of job.out) line_of (translation_at job) keeps before after (place_of job.base job.mpd) first course
+        (subst (λ asked. course_of_job asked (Some first) input ≡ Some course) asks goes) run in
+        promised job course before after first last asked was is by run

@@ -1,15 +1,20 @@
--- What a run does where nothing fails, by its words and the store's files.
-use Rattle.std.specs.Prelude.{ℕ, true, false, List, Option, Some, option_map}
+-- What a run does where nothing fails, by its words, the store's files and the input.
+use Rattle.std.specs.Prelude.{◌≡◌, ◌⊎◌, ◌≤◌, ℕ, true, false, List, Option, Some, None, option_map}
+use Rattle.std.specs.Option.{ForSome}
+use Rattle.bridge_io.specs.Fault.{Rose}
 use Rattle.bridge_io.specs.Outside.{Files}
 use Rattle.bridge_jobs.specs.declared.jobs.Job.{Job}
 use Rattle.bridge_jobs.specs.declared.jobs.Job.TheVariants as job
 use Rattle.bridge_jobs.specs.Jobs.{job_of}
 use Rattle.bridge_runs.specs.declared.status.Verdict.TheVariants as verdict
-use Rattle.bridge_runs.specs.Runs.{words_line}
+use Rattle.bridge_runs.specs.declared.ending.Ending.{Ending}
+use Rattle.bridge_runs.specs.declared.status.Status.TheVariants as status
+use Rattle.bridge_runs.specs.Runs.{status_of, words_line}
 use Rattle.bridge_runs.specs.Courses.{Course, World}
 use Rattle.bridge_report.specs.Outcomes.{Outcome, Ends, course_by}
 use Rattle.bridge_core.specs.Check.{check_outcome}
 use Rattle.bridge_core.specs.Dash.{dash_outcome}
+use Rattle.bridge_core.specs.Follow.{followed_course}
 use Rattle.bridge_core.specs.Hls.{hls_outcome}
 use Rattle.bridge_core.specs.Make.{make_outcome}
 use Rattle.bridge_core.specs.Show.{show_outcome}
@@ -18,7 +23,7 @@ use Rattle.bridge_playlists.specs.Reload.{reload_outcome}
 abbrev pub no_job : Outcome
 no_job = Ends verdict.Words words_line false true
 
--- `follow` isn't built yet: it is no job of the program
+-- of the commands that read all before they write; one that isn't built yet is no job of the program
 abbrev pub outcome_of_job : Option Job → Option Files → Option Outcome
 outcome_of_job (Some (job.Hls mpd base now out digits)) files =
     hls_outcome (record { mpd = mpd; base = base; instant = now; out = out; digits = digits }) files
@@ -31,33 +36,47 @@ outcome_of_job (Some (job.Reload old new base)) files = reload_outcome (record {
 outcome_of_job (Some (job.Make seed out digits)) files = make_outcome (record { seed = seed; out = out; digits = digits })
 outcome_of_job other files = Some no_job
 
--- How a run of these words ends over these files. Where the store doesn't tell its files, it is known if the words alone
--- decide it.
-unfoldable pub outcome_of_words : (words : List (List ℕ)) → Option Files → Option Outcome
-outcome_of_words words files = outcome_of_job (job_of words) files
+-- What a run of these words does over these files and this input. Where they aren't told, it is known if the words alone decide it.
+-- `follow` goes by the input alone, and the others by the files
+abbrev pub course_of_job : Option Job → Option Files → (input : Option (List ℕ)) → Option Course
+course_of_job (Some (job.Follow name base out digits)) files input =
+    followed_course (record { name = name; base = base; out = out; digits = digits }) input
+course_of_job other files input = option_map course_by (outcome_of_job other files)
 
-abbrev pub course_of : (words : List (List ℕ)) → Option Files → Option Course
-course_of words files = option_map course_by (outcome_of_words words files)
+unfoldable pub course_of : (words : List (List ℕ)) → Option Files → (input : Option (List ℕ)) → Option Course
+course_of words files input = course_of_job (job_of words) files input
+
+-- ---- jobs
+
+-- the job follows an MPD
+abbrev pub Follows : Option Job → Type 0
+Follows (Some (job.Follow name base out digits)) = Unit {0}
+Follows other = ⊥
 
 -- a job that isn't built yet
 abbrev pub IsUnbuilt : Job → Type 0
 IsUnbuilt (job.Hls mpd base now out digits) = ⊥
 IsUnbuilt (job.Dash master base out) = ⊥
+IsUnbuilt (job.Follow name base out digits) = ⊥
 IsUnbuilt (job.Show file base now digits) = ⊥
 IsUnbuilt (job.Check mpd master base digits) = ⊥
 IsUnbuilt (job.Reload old new base) = ⊥
 IsUnbuilt (job.Make seed out digits) = ⊥
 IsUnbuilt other = Unit {0}
 
--- what a run meets, in the order of its record
-abbrev pub world_of : (files : Option Files) (report : Option (List ℕ)) (input_faults read_faults write_faults report_faults made : ℕ)
-    → World
-world_of files report input_faults read_faults write_faults report_faults made = record {
-  files = files;
-  report = report;
-  input_faults = input_faults;
-  read_faults = read_faults;
-  write_faults = write_faults;
-  report_faults = report_faults;
-  made = made;
-}
+-- ---- causes
+
+-- what a job reads failed, by counts of faults of the input and of the store: the input of a job that follows, the store of any
+-- other
+abbrev pub ReadRose : Option Job → (input input' reads reads' : ℕ) → Type 0
+ReadRose (Some (job.Follow name base out digits)) input input' reads reads' = Rose input input'
+ReadRose (Some other) input input' reads reads' = Rose reads reads'
+ReadRose None input input' reads reads' = ⊥
+
+-- a fault has its cause, and Words are told of no job
+pub record IsBlamed (job : Option Job) (told : Ending) (before after : World) : Type 0 where
+  pub read_fault : status_of told ≡ status.ReadFault → ReadRose job before.input_faults after.input_faults before.read_faults after.read_faults
+  pub write_fault : status_of told ≡ status.WriteFault
+      → Rose before.write_faults after.write_faults ⊎ Rose before.report_faults after.report_faults
+  pub words : status_of told ≡ status.Words → ForSome job IsUnbuilt
+  pub report : before.report_faults ≤ after.report_faults

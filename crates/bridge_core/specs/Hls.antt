@@ -1,28 +1,79 @@
 -- From an MPD to playlists.
-use Rattle.std.specs.Prelude.{◌^◌, Option, Some, option_map, Result}
+use Rattle.std.specs.Prelude.{ℕ, ℤ, ◌^◌, List, if◌then◌else◌, Option, Some, None, option_map, Result, Ok, Err}
 use Rattle.bridge_io.specs.Outside.{Files}
 use Rattle.presentation.specs.Presented.{Presented}
+use Rattle.presentation.specs.Told.{and_then, told_as}
+use Rattle.presentation.specs.declared.fault.PresentationFault.TheVariants.{NeedsNow}
+use Rattle.live_meaning.specs.Refusals.{begun_of}
+use Rattle.live_meaning.specs.States.{State}
+use Rattle.live_meaning.specs.Updates.{Terms, Values}
+use Rattle.bridge_report.specs.declared.refusal.Refusal.{Refusal}
 use Rattle.bridge_report.specs.declared.refusal.Refusal.TheVariants as refusal
 use Rattle.bridge_report.specs.Outcomes.{Outcome}
-use Rattle.bridge_report.specs.Reading.{Named}
+use Rattle.bridge_report.specs.Reading.{Named, content_of, of_file}
 use Rattle.bridge_playlists.specs.declared.place.Place.{Place}
 use Rattle.bridge_playlists.specs.Places.{place_of}
 use Rattle.bridge_steps.specs.Done.{done_line}
 use Rattle.bridge_steps.specs.Endings.{outcome_written, placed}
-use Rattle.bridge_steps.specs.Manifests.{mpd_at}
+use Rattle.bridge_steps.specs.LiveMpds.{live_files, told_of}
+use Rattle.bridge_steps.specs.Manifests.{ready_of, values_of}
 use Rattle.bridge_steps.specs.Playlists.{playlists}
 use Rattle.bridge_core.specs.declared.hls.Hls.{Hls}
+use Rattle.bridge_core.specs.declared.hls.Translation.{Translation as Held}
+use Rattle.bridge_core.specs.declared.hls.Translation.TheVariants as held
 
--- an MPD that is followed isn't built yet
-abbrev pub presented : Hls → Place → Files → Result Presented Named
-presented job place files = mpd_at (Some refusal.Unbuilt) (10 ^ job.digits) job.instant place files
+-- What is written: of a static MPD its presentation, with so many decimals; of a live one what it leaves as a first frame.
+pub data Translation : Type 0 where
+  Static : (digits : ℕ) → Presented → Translation
+  Live : State → Translation
 
-abbrev pub outcome_of : Hls → Result Presented Named → Outcome
-outcome_of job read = outcome_written (playlists job.out job.digits) done_line read
+abbrev pub translated : Held → Translation
+translated (held.Static ready) = Static ready.digits ready.presentation
+translated (held.Live session) = Live session
+
+-- ---- what is written of an MPD, or its first refusal
+
+abbrev pub terms_at : Hls → (url : List ℕ) → Terms
+terms_at job url = record { url = url; digits = job.digits }
+
+unfoldable pub static_translation : Hls → (url : List ℕ) → Values → Result Translation Refusal
+static_translation job url mpd = and_then (ready_of (10 ^ job.digits) url job.instant mpd) (λ p. Ok (Static job.digits p))
+
+unfoldable pub live_translation : Hls → (url : List ℕ) → (now : Option ℤ) → Values → Result Translation Refusal
+live_translation job url None mpd = Err (refusal.Presentation NeedsNow)
+live_translation job url (Some now) mpd = and_then (told_as told_of (begun_of (terms_at job url) mpd now)) (λ s. Ok (Live s))
+
+abbrev pub translation_by : Hls → (url : List ℕ) → Values → Result Translation Refusal
+translation_by job url mpd = if mpd.facts.live then live_translation job url job.instant mpd else static_translation job url mpd
+
+unfoldable pub translation_of : Hls → (url bytes : List ℕ) → Result Translation Refusal
+translation_of job url bytes = and_then (values_of bytes) (translation_by job url)
+
+-- the MPD is the file at this place
+unfoldable pub translation_at : Hls → Place → Files → Result Translation Named
+translation_at job place files =
+    and_then (content_of place.file files) (λ bytes. of_file place.file (translation_of job place.url bytes))
+
+-- ---- files and the line of the report
+
+abbrev pub files_of : (out : List ℕ) → Translation → List (List ℕ × List ℕ)
+files_of out (Static digits p) = playlists out digits p
+files_of out (Live s) = live_files out s
+
+-- the presentation that is told: of a live MPD what it lists at the instant
+abbrev pub presented_in : Translation → Presented
+presented_in (Static digits p) = p
+presented_in (Live s) = s.common.opened
+
+abbrev pub line_of : Translation → List ℕ
+line_of translation = done_line (presented_in translation)
+
+abbrev pub outcome_of : Hls → Result Translation Named → Outcome
+outcome_of job read = outcome_written (files_of job.out) line_of read
 
 -- the MPD is at this place
 abbrev pub hls_at : Hls → Option Files → Place → Option Outcome
-hls_at job files place = option_map (λ files. outcome_of job (presented job place files)) files
+hls_at job files place = option_map (λ files. outcome_of job (translation_at job place files)) files
 
 unfoldable pub hls_outcome : Hls → Option Files → Option Outcome
 hls_outcome job files = placed (hls_at job files) (place_of job.base job.mpd)

@@ -1,6 +1,7 @@
 pub mod Check
 pub mod Courses
 pub mod Dash
+pub mod Follow
 pub mod Hls
 pub mod Make
 pub mod Promises

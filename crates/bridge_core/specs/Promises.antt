@@ -49,9 +49,9 @@ AsksFor words job = job_of words ≡ Some (job_asked job)
 
 -- Where such a run is done, what it wrote means what the MPD means.
 abbrev pub WrittenMeansTheMpd : Type 0
-WrittenMeansTheMpd = (words : List (List ℕ)) (job : Hls) (course : Course) (before after : World) (first last : Files)
+WrittenMeansTheMpd = (words : List (List ℕ)) (job : Hls) (input : Option (List ℕ)) (course : Course) (before after : World) (first last : Files)
     → AsksFor words job → before.files ≡ Some first → after.files ≡ Some last
-    → course_of words (Some first) ≡ Some course → IsRun course status.Done before after → MeansTheSame job first last
+    → course_of words (Some first) input ≡ Some course → IsRun course status.Done before after → MeansTheSame job first last
 
 -- ---- `dash`
 
@@ -77,9 +77,9 @@ AsksForMpd words job = job_of words ≡ Some (mpd_asked job)
 
 -- Where such a run is done, the MPD that it wrote means what the playlists mean.
 abbrev pub WrittenMpdMeansThePlaylists : Type 0
-WrittenMpdMeansThePlaylists = (words : List (List ℕ)) (job : Dash) (course : Course) (before after : World) (first last : Files)
+WrittenMpdMeansThePlaylists = (words : List (List ℕ)) (job : Dash) (input : Option (List ℕ)) (course : Course) (before after : World) (first last : Files)
     → AsksForMpd words job → before.files ≡ Some first → after.files ≡ Some last
-    → course_of words (Some first) ≡ Some course → IsRun course status.Done before after → MpdMeansTheSame job first last
+    → course_of words (Some first) input ≡ Some course → IsRun course status.Done before after → MpdMeansTheSame job first last
 
 -- ---- `check`
 
@@ -121,13 +121,13 @@ AsksToCheck words job = job_of words ≡ Some (check_asked job)
 -- Where such a run is done, the MPD and the playlists agree.
 abbrev pub DoneIsAgreed : Type 0
 DoneIsAgreed =
-    (words : List (List ℕ)) (job : Check) (course : Course) (before after : World) (files : Files) → AsksToCheck words job
+    (words : List (List ℕ)) (job : Check) (input : Option (List ℕ)) (course : Course) (before after : World) (files : Files) → AsksToCheck words job
     → before.files ≡ Some files
-    → course_of words (Some files) ≡ Some course → IsRun course status.Done before after → AreAgreed job files
+    → course_of words (Some files) input ≡ Some course → IsRun course status.Done before after → AreAgreed job files
 
 -- Where it ends as Differ, they don't, and its line, of which the report may have a front, tells where they differ first.
 abbrev pub DifferIsApart : Type 0
 DifferIsApart =
-    (words : List (List ℕ)) (job : Check) (course : Course) (before after : World) (files : Files) → AsksToCheck words job
+    (words : List (List ℕ)) (job : Check) (input : Option (List ℕ)) (course : Course) (before after : World) (files : Files) → AsksToCheck words job
     → before.files ≡ Some files
-    → course_of words (Some files) ≡ Some course → IsRun course status.Differ before after → AreApart job files course.end.lines
+    → course_of words (Some files) input ≡ Some course → IsRun course status.Differ before after → AreApart job files course.end.lines

@@ -1,15 +1,36 @@
 // From an MPD to playlists.
-ghost use Rattle.std.specs.Prelude.{◌≡◌, Ok, Some};
+ghost use Rattle.std.specs.Prelude.{◌≡◌, Ok, Some, IfOk, IfSome, OnOk, OnErr};
+ghost use Rattle.std.specs.Option.{ForSome};
+ghost use Rattle.bridge_io.specs.Answer.{Gives};
+ghost use Rattle.bridge_io.specs.Fault.{HasCause};
+ghost use Rattle.bridge_io.specs.InOrder.{put_all, AreBegun};
+ghost use Rattle.bridge_io.specs.Outside.{Changes};
+ghost use Rattle.file_pieces.specs.declared.fault.OutFault.TheVariants.{WriteFault};
+ghost use Rattle.iso_time.specs.Instant.{IsReadable};
+ghost use Rattle.mpd_rules.specs.Views.{segments_mpd};
+ghost use Rattle.live_meaning.specs.Laws.{IsTyped};
+ghost use Rattle.bridge_report.specs.Reading.{halted};
+ghost use Rattle.bridge_report.specs.Refusals.{refused_in};
+ghost use Rattle.bridge_report.specs.declared.reading.Halt.TheVariants.{ReadFault};
 ghost use Rattle.bridge_steps.specs.Endings.{JobEndsAs, around};
 ghost use Rattle.bridge_core.specs.Hls as spec;
 
-use bridge_io::{Ledger, Name, Steps, Store, Text};
-use bridge_report::{Refusal, halted};
+use bridge_io::{Ledger, Name, NoMemory, Steps, Store, Text};
+use bridge_playlists::Place;
+use bridge_report::{Halt, Refusal, Stop, content_of, halted};
 use bridge_runs::Ending;
-use bridge_steps::{Ready, done_line, mpd_at, place_in, write_playlists, written};
+use bridge_steps::{
+    Ready, begin_session, done_line, place_in, ready_of, values_of, write_live_files,
+    write_playlists, written,
+};
 use exact_time::Digits;
+use hls_writer::OutFault;
 use iso_time::Instant;
+use live_session::Session;
+use mpd_rules::Mpd;
+use presentation::PresentationFault;
 use std::alloc::Global;
+use url_parts::Base;
 
 /// An MPD whose playlists are to be written.
 #[derive(Debug, Drop)]
@@ -26,7 +47,17 @@ pub struct Hls {
     pub digits: Digits,
 }
 
-/// Writes the playlists of a job's MPD, unless it is refused.
+/// What is written of an MPD.
+#[derive(Drop)]
+pub enum Translation {
+    /// The presentation of a static one.
+    Static(Ready),
+    /// Of a live one what it leaves as the first frame of a stream.
+    Live(Session),
+}
+
+/// Writes the playlists of a job's MPD, unless it is refused. Of a live one they are those that `follow` writes behind a first
+/// frame at the job's instant.
 #[tactic(auto, unfolding(crate::specs::Hls::hls_outcome))]
 pub fn translate<F: Store, L: Ledger>(
     alloc: Global,
@@ -34,35 +65,130 @@ pub fn translate<F: Store, L: Ledger>(
     store: &mut F,
     steps: &mut Steps<L>,
 ) -> Ending
+    requires { IfSome job.now.instant IsReadable }
     ensures { JobEndsAs (spec.hls_outcome job.now (F.files store.old)) result
         (around (F.files store.old) (F.read_faults store.old) (F.write_faults store.old) steps.old)
         (around (F.files store.new) (F.read_faults store.new) (F.write_faults store.new) steps.new) }
 {
-    let live = Some(Refusal::Unbuilt);
     match place_in(alloc, &job.base, &job.mpd) {
-        Ok(place) => match mpd_at(alloc, &place, job.instant, live, job.digits, store, steps) {
-            Ok(ready) => write(alloc, job, &ready, store, steps),
+        Ok(place) => match translation_at(alloc, job, &place, store, steps) {
+            Ok(translation) => write(alloc, job, &translation, store, steps),
             Err(halt) => halted(alloc, halt),
         },
         Err(told) => told,
     }
 }
 
-/// Writes the playlists of a presentation.
+/// What is written of the MPD at a place, or why it isn't read. [`Halt::ReadFault`] comes only where the store's count of failed
+/// reads rose.
+#[tactic(auto, unfolding(crate::specs::Hls::translation_at))]
+fn translation_at<F: Store, L: Ledger>(
+    alloc: Global,
+    job: &Hls,
+    place: &Place,
+    store: &mut F,
+    steps: &mut Steps<L>,
+) -> Result<Translation, Halt>
+    requires { IfSome job.now.instant IsReadable }
+    ensures translation { ForSome (F.files store.old) (λ files. Gives spec.translated halted result (spec.translation_at job.now place.now files)) }
+    ensures cause { HasCause ReadFault (F.read_faults store.old) (F.read_faults store.new) result }
+    ensures files { F.files store.new ≡ F.files store.old }
+    ensures writes { F.write_faults store.new ≡ F.write_faults store.old }
+{
+    let bytes = content_of(alloc, store, &place.file)?;
+    match translation_of(alloc, job, &place.url, bytes.as_slice(), steps) {
+        Ok(translation) => Ok(translation),
+        Err(Stop::Refused(refusal)) => Err(Halt::refused(alloc, &place.file, refusal)),
+        Err(Stop::Memory) => Err(Halt::Memory),
+    }
+}
+
+/// What is written of an MPD, or its first refusal.
+#[tactic(auto, unfolding(crate::specs::Hls::translation_of, crate::specs::Hls::static_translation))]
+fn translation_of<L: Ledger>(
+    alloc: Global,
+    job: &Hls,
+    url: &Base,
+    bytes: &[u8],
+    steps: &mut Steps<L>,
+) -> Result<Translation, Stop>
+    requires { IfSome job.now.instant IsReadable }
+    ensures { Gives spec.translated refused_in result (spec.translation_of job.now url.now bytes.now) }
+{
+    let mpd = values_of(alloc, bytes)?;
+    if mpd.live() {
+        return live_translation(alloc, job, url, &mpd, steps);
+    }
+    let ready = ready_of(alloc, &mpd, url, job.instant, job.digits, steps)?;
+    Ok(Translation::Static(ready))
+}
+
+/// What is written of a live MPD at the job's instant.
+#[tactic(auto, unfolding(crate::specs::Hls::live_translation))]
+fn live_translation<L: Ledger>(
+    alloc: Global,
+    job: &Hls,
+    url: &Base,
+    mpd: &Mpd,
+    steps: &mut Steps<L>,
+) -> Result<Translation, Stop>
+    requires now { IfSome job.now.instant IsReadable }
+    requires typed { IsTyped (Some (segments_mpd mpd.now)) }
+    ensures { Gives spec.translated refused_in result (spec.live_translation job.now url.now job.now.instant (segments_mpd mpd.now)) }
+{
+    let Some(now) = job.instant else {
+        return Err(Stop::Refused(Refusal::Presentation(PresentationFault::NeedsNow)));
+    };
+    let session = begin_session(alloc, url, job.digits, mpd, now, steps)?;
+    Ok(Translation::Live(session))
+}
+
+/// Writes the playlists of an MPD.
 fn write<F: Store, L: Ledger>(
     alloc: Global,
     job: &Hls,
-    ready: &Ready,
+    translation: &Translation,
     store: &mut F,
     steps: &mut Steps<L>,
 ) -> Ending
-    requires { ready.now.digits ≡ job.now.digits }
-    ensures { JobEndsAs (Some (spec.outcome_of job.now (Ok ready.now.presentation))) result
+    ensures { JobEndsAs (Some (spec.outcome_of job.now (Ok (spec.translated translation.now)))) result
         (around (F.files store.old) (F.read_faults store.old) (F.write_faults store.old) steps.old)
         (around (F.files store.new) (F.read_faults store.new) (F.write_faults store.new) steps.new) }
 {
-    let Ok(line) = done_line(alloc, &ready.presentation) else {
+    let Ok(line) = line_of(alloc, translation) else {
         return Ending::Memory;
     };
-    written(line, write_playlists(alloc, &job.out, ready, store, steps))
+    written(
+        line,
+        write_files(alloc, &job.out, translation, store, steps),
+    )
+}
+
+/// The line that tells what is written.
+fn line_of(alloc: Global, translation: &Translation) -> Result<Text, NoMemory>
+    ensures { IfOk result (λ line. line ≡ spec.line_of (spec.translated translation.now)) }
+{
+    match translation {
+        Translation::Static(ready) => done_line(alloc, &ready.presentation),
+        Translation::Live(session) => done_line(alloc, session.first()),
+    }
+}
+
+/// Writes the files of an MPD, the master last.
+fn write_files<F: Store, L: Ledger>(
+    alloc: Global,
+    out: &Name,
+    translation: &Translation,
+    store: &mut F,
+    steps: &mut Steps<L>,
+) -> Result<(), OutFault>
+    ensures ok { OnOk result (Changes (put_all (spec.files_of out.now (spec.translated translation.now))) (F.files store.old) (F.files store.new)) }
+    ensures err { OnErr result (AreBegun (spec.files_of out.now (spec.translated translation.now)) (F.files store.old) (F.files store.new)) }
+    ensures cause { HasCause WriteFault (F.write_faults store.old) (F.write_faults store.new) result }
+    ensures reads { F.read_faults store.new ≡ F.read_faults store.old }
+{
+    match translation {
+        Translation::Static(ready) => write_playlists(alloc, out, ready, store, steps),
+        Translation::Live(session) => write_live_files(alloc, out, session, store),
+    }
 }

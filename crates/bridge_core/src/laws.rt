@@ -5,6 +5,7 @@ use bridge_jobs::laws::folders_hold_their_files;
 use bridge_runs::{a_verdict_keeps_the_steps, done_is_whole};
 use hls_media::what_is_read_is_bounded;
 use hls_read::presented_mean_their_files;
+use live_reloads::first_files_mean_the_same;
 use meaning::agreeing_has_no_difference;
 use mpd_from_playlists::{
     read_tracks_can_be_written, what_is_read_has_addresses,
@@ -12,24 +13,24 @@ use mpd_from_playlists::{
 };
 use presentation::presentations_mean_what_they_list;
 use read_back::{
-    read_trees_are_of_bytes, static_tracks_are_writable, written_means_the_same,
-    written_playlists_mean_the_same,
+    read_trees_are_of_bytes, tracks_are_writable, tracks_mean_the_same, written_means_the_same,
 };
 
-/// Where a run of `hls` is done, the master and the playlists that it wrote mean what the MPD means: the same tracks,
-/// addresses and ranges in order, and each time rounded down to the unit of the printed durations (ISO/IEC 23009-1, 5.3;
-/// RFC 8216, 4.3).
+/// Where a run of `hls` is done, the master and the playlists that it wrote mean what the MPD means, a live one at the job's
+/// instant: the same tracks, addresses and ranges in order, and each time rounded down to the unit of the printed durations
+/// (ISO/IEC 23009-1, 5.3; RFC 8216, 4.3).
 pub fn what_is_written_means_the_mpd()
     ensures { WrittenMeansTheMpd }
 {
     done_is_whole();
     a_verdict_keeps_the_steps();
     folders_hold_their_files();
-    written_playlists_mean_the_same();
+    tracks_mean_the_same();
     presentations_mean_what_they_list();
     written_means_the_same();
+    first_files_mean_the_same();
     read_trees_are_of_bytes();
-    static_tracks_are_writable();
+    tracks_are_writable();
 }
 
 /// Where a run of `dash` is done, the MPD that it wrote means, at any URL and instant, what the master and its playlists mean:

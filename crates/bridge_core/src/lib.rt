@@ -3,6 +3,7 @@
 
 mod check;
 mod dash;
+mod follow;
 mod hls;
 mod laws;
 mod listing;

@@ -2,16 +2,19 @@
 ghost use Rattle.std.specs.Prelude.{◌≡◌, ◌⊎◌, Some};
 ghost use Rattle.std.specs.Option.{ForSome};
 ghost use Rattle.bridge_io.specs.Fault.{Rose};
-ghost use Rattle.bridge_jobs.specs.Jobs.{job_of};
+ghost use Rattle.bridge_jobs.specs.Jobs.{HasReadableNow, job_of};
 ghost use Rattle.bridge_runs.specs.declared.status.Status.TheVariants as status;
-ghost use Rattle.bridge_runs.specs.Runs.{IsRun, status_by, status_of};
+ghost use Rattle.bridge_runs.specs.Runs.{IsRun, NeverFalls, status_by, status_of};
 ghost use Rattle.bridge_runs.specs.Laws.{IsCalm};
+ghost use Rattle.bridge_runs.specs.Steps.{Work};
 ghost use Rattle.bridge_steps.specs.Endings.{EndsAs, around};
-ghost use Rattle.bridge_core.specs.Courses.{IsUnbuilt, course_of, outcome_of_job, outcome_of_words, world_of};
+ghost use Rattle.bridge_steps.specs.Follow.{Grows, world_of};
+ghost use Rattle.bridge_core.specs.Courses.{Follows, IsBlamed, IsUnbuilt, ReadRose, course_of, course_of_job, outcome_of_job};
 ghost use Rattle.bridge_core.specs.Reports.{TellsItsEnd};
 
 use crate::check::{self, Check};
 use crate::dash::{self, Dash};
+use crate::follow::{self, Follow};
 use crate::hls::{self, Hls};
 use crate::make::{self, Make};
 use crate::show::{self, Show};
@@ -22,11 +25,13 @@ use bridge_runs::{Ending, Status, tell};
 use std::alloc::Global;
 
 /// Runs the command that the words are, without the program's own name: it reads and writes the files of the store,
-/// and reports how it ends, in one line but for `show`. The input is left as it was.
+/// and reports how it ends, in one line but for `show` and `follow`. The input is left as it was, but for `follow`.
 ///
-/// Six commands are built yet. `hls` writes the playlists of an MPD, `t0.m3u8` and so on for each track and `master.m3u8` for
-/// all, to a folder, the master last. `dash` writes the MPD of a master and its playlists, `manifest.mpd`. Neither writes
-/// anything before every refusal is ruled out. `show` tells the tracks and sections of an MPD or of a master, a line for each
+/// Seven commands are built yet. `hls` writes the playlists of an MPD, `t0.m3u8` and so on for each track and `master.m3u8` for
+/// all, to a folder, the master last; of a live one those that `follow` would write of it at an instant. `dash` writes the MPD of a
+/// master and its playlists, `manifest.mpd`. Neither writes anything before every refusal is ruled out. `follow` reads frames from
+/// the input, each a version of a live MPD or an instant, and after each accepted one writes the playlists again, which slide; each
+/// frame has a line. It reads nothing of the store. `show` tells the tracks and sections of an MPD or of a master, a line for each
 /// track in each section. `check` tells whether an MPD and a master agree, or where they differ first. `reload` reads two media
 /// playlists and tells whether the second may take the first one's place, or the first rule that it breaks. `make` writes an MPD
 /// that is made from a seed, `source.mpd`, and then what `hls` writes of it, and reads nothing.
@@ -38,14 +43,14 @@ pub fn bridge<I: Source, F: Store, P: Sink, L: Ledger>(
     report: &mut P,
     steps: &mut Steps<L>,
 ) -> Status
-    // The run does what the words and the store's files say, unless a fault or want of memory ends it.
-    ensures run { ForSome (course_of words.now (F.files store.old)) (λ course.
+    // The run does what the words, the store's files and the input say, unless a fault or want of memory ends it.
+    ensures run { ForSome (course_of words.now (F.files store.old) (I.remaining input.old)) (λ course.
         let before = world_of (F.files store.old) (P.written report.old) (I.faults input.old) (F.read_faults store.old) (F.write_faults store.old) (P.faults report.old) steps.old in
         let after = world_of (F.files store.new) (P.written report.new) (I.faults input.new) (F.read_faults store.new) (F.write_faults store.new) (P.faults report.new) steps.new in
         IsRun course result before after) }
 
     // Where no count of faults rose, it ends as its course, or for want of memory.
-    ensures complete { ForSome (course_of words.now (F.files store.old)) (λ course.
+    ensures complete { ForSome (course_of words.now (F.files store.old) (I.remaining input.old)) (λ course.
         let before = world_of (F.files store.old) (P.written report.old) (I.faults input.old) (F.read_faults store.old) (F.write_faults store.old) (P.faults report.old) steps.old in
         let after = world_of (F.files store.new) (P.written report.new) (I.faults input.new) (F.read_faults store.new) (F.write_faults store.new) (P.faults report.new) steps.new in
         IsCalm before after → (result ≡ status_by course.end.verdict) ⊎ (result ≡ status.Memory)) }
@@ -53,45 +58,95 @@ pub fn bridge<I: Source, F: Store, P: Sink, L: Ledger>(
     // Words are told only of words that are no job, whatever the store tells.
     ensures words { result ≡ status.Words → ForSome (job_of words.now) IsUnbuilt }
 
-    // A fault has a cause.
-    ensures read_fault { result ≡ status.ReadFault → Rose (F.read_faults store.old) (F.read_faults store.new) }
+    // A fault has a cause: of reading in what the job reads.
+    ensures read_fault { result ≡ status.ReadFault → ReadRose (job_of words.now) (I.faults input.old) (I.faults input.new) (F.read_faults store.old) (F.read_faults store.new) }
     ensures write_fault { result ≡ status.WriteFault → Rose (F.write_faults store.old) (F.write_faults store.new) ⊎ Rose (P.faults report.old) (P.faults report.new) }
 
     // How it ends is told, whatever the store tells.
     ensures told { TellsItsEnd result (P.faults report.old) (P.faults report.new) (P.written report.old) (P.written report.new) }
 
-    ensures input { input.new ≡ input.old }
+    // The input is read by a job that follows alone, which never reads the store.
+    ensures input { (Follows (job_of words.now) → ⊥) → input.new ≡ input.old }
+    ensures reads { Follows (job_of words.now) → F.read_faults store.new ≡ F.read_faults store.old }
 {
-    let ending = work(alloc, words, store, steps);
+    let ending = work(alloc, words, input, store, report, steps);
     tell(&ending, report)
 }
 
 /// Does what the words ask for.
-#[tactic(auto, unfolding(crate::specs::Courses::outcome_of_words))]
-fn work<F: Store, L: Ledger>(
+#[tactic(auto, unfolding(crate::specs::Courses::course_of))]
+fn work<I: Source, F: Store, P: Sink, L: Ledger>(
     alloc: Global,
     words: &[Text],
+    input: &mut I,
     store: &mut F,
+    report: &mut P,
     steps: &mut Steps<L>,
 ) -> Ending
-    ensures ends { EndsAs (outcome_of_words words.now (F.files store.old)) result
-        (around (F.files store.old) (F.read_faults store.old) (F.write_faults store.old) steps.old)
-        (around (F.files store.new) (F.read_faults store.new) (F.write_faults store.new) steps.new) }
-    ensures words { status_of result ≡ status.Words → ForSome (job_of words.now) IsUnbuilt }
+    ensures work { ForSome (course_of words.now (F.files store.old) (I.remaining input.old)) (λ course. Work course result
+        (world_of (F.files store.old) (P.written report.old) (I.faults input.old) (F.read_faults store.old) (F.write_faults store.old) (P.faults report.old) steps.old)
+        (world_of (F.files store.new) (P.written report.new) (I.faults input.new) (F.read_faults store.new) (F.write_faults store.new) (P.faults report.new) steps.new)) }
+    ensures blamed { IsBlamed (job_of words.now) result
+        (world_of (F.files store.old) (P.written report.old) (I.faults input.old) (F.read_faults store.old) (F.write_faults store.old) (P.faults report.old) steps.old)
+        (world_of (F.files store.new) (P.written report.new) (I.faults input.new) (F.read_faults store.new) (F.write_faults store.new) (P.faults report.new) steps.new) }
+    ensures told { Grows (P.written report.old) (P.written report.new) }
+    ensures input { (Follows (job_of words.now) → ⊥) → input.new ≡ input.old }
+    ensures reads { Follows (job_of words.now) → F.read_faults store.new ≡ F.read_faults store.old }
 {
     match job(alloc, words) {
-        Ok(Some(job)) => run_job(alloc, job, store, steps),
+        Ok(Some(job)) => run_job(alloc, job, input, store, report, steps),
         Ok(None) => Ending::Words,
         Err(NoMemory) => Ending::Memory,
     }
 }
 
-fn run_job<F: Store, L: Ledger>(
+fn run_job<I: Source, F: Store, P: Sink, L: Ledger>(
+    alloc: Global,
+    job: Job,
+    input: &mut I,
+    store: &mut F,
+    report: &mut P,
+    steps: &mut Steps<L>,
+) -> Ending
+    requires { HasReadableNow job }
+    ensures work { ForSome (course_of_job (Some job) (F.files store.old) (I.remaining input.old)) (λ course. Work course result
+        (world_of (F.files store.old) (P.written report.old) (I.faults input.old) (F.read_faults store.old) (F.write_faults store.old) (P.faults report.old) steps.old)
+        (world_of (F.files store.new) (P.written report.new) (I.faults input.new) (F.read_faults store.new) (F.write_faults store.new) (P.faults report.new) steps.new)) }
+    ensures blamed { IsBlamed (Some job) result
+        (world_of (F.files store.old) (P.written report.old) (I.faults input.old) (F.read_faults store.old) (F.write_faults store.old) (P.faults report.old) steps.old)
+        (world_of (F.files store.new) (P.written report.new) (I.faults input.new) (F.read_faults store.new) (F.write_faults store.new) (P.faults report.new) steps.new) }
+    ensures told { Grows (P.written report.old) (P.written report.new) }
+    ensures input { (Follows (Some job) → ⊥) → input.new ≡ input.old }
+    ensures reads { Follows (Some job) → F.read_faults store.new ≡ F.read_faults store.old }
+{
+    match job {
+        Job::Follow {
+            name,
+            base,
+            out,
+            digits,
+        } => {
+            let job = Follow {
+                name,
+                base,
+                out,
+                digits,
+            };
+            follow::translate(alloc, job, input, store, report, steps)
+        }
+        other => run_command(alloc, other, store, steps),
+    }
+}
+
+/// Runs a command that reads all before it writes, and leaves the input and the report.
+fn run_command<F: Store, L: Ledger>(
     alloc: Global,
     job: Job,
     store: &mut F,
     steps: &mut Steps<L>,
 ) -> Ending
+    requires readable { HasReadableNow job }
+    requires other { Follows (Some job) → ⊥ }
     ensures ends { EndsAs (outcome_of_job (Some job) (F.files store.old)) result
         (around (F.files store.old) (F.read_faults store.old) (F.write_faults store.old) steps.old)
         (around (F.files store.new) (F.read_faults store.new) (F.write_faults store.new) steps.new) }

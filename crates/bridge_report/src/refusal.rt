@@ -32,8 +32,6 @@ pub enum Refusal {
     Text(TextFault),
     /// The tree isn't that of an MPD of the profile.
     Rules(RuleFault),
-    /// The MPD is one that isn't built yet.
-    Unbuilt,
     /// The MPD gives no presentation.
     Presentation(PresentationFault),
     /// The file is no media playlist of the profile.
@@ -147,7 +145,6 @@ fn words(refusal: Refusal) -> &'static str
         Refusal::Absent => "io 2 Absent",
         Refusal::Text(fault) => text_words(fault),
         Refusal::Rules(fault) => rule_words(fault),
-        Refusal::Unbuilt => "job 5 Unbuilt",
         Refusal::Presentation(fault) => presentation_words(fault),
         Refusal::Media(fault) => media_words(fault),
         Refusal::Master(fault) => master_words(fault),
@@ -168,7 +165,6 @@ fn spot(refusal: Refusal) -> Option<Spot>
     match refusal {
         Refusal::Base
         | Refusal::Absent
-        | Refusal::Unbuilt
         | Refusal::OutsideBase
         | Refusal::TooManySegments
         | Refusal::Hls(_)

@@ -23,7 +23,7 @@ use Rattle.bridge_report.specs.Refusals.{refusal_line}
 use Rattle.bridge_steps.specs.Endings.{IsTold, IsUnplaced, IsWritten, JobEndsAs, NeverReads, NeverWrites, Surroundings, around, outcome_written, placed}
 
 -- what holds of each value holds of what it is mapped to
-over : {A B : Type 0} (f : A → B) (o : Option A) (P : B → Type 0) → ForSome o (λ x. P (f x)) → ForSome (option_map f o) P
+pub over : {A B : Type 0} (f : A → B) (o : Option A) (P : B → Type 0) → ForSome o (λ x. P (f x)) → ForSome (option_map f o) P
 over f None P each y is = absurd (cc)
 over f (Some x) P each y is = (let same : f x ≡ y = cc in subst P same (each x refl))
 

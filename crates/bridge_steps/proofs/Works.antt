@@ -1,6 +1,7 @@
 -- How the work of a run ends follows from what it leaves of the files.
 use Rattle.std.proofs.Common.{◌≡◌, ◌⊎◌, ◌+◌, ◌≤◌, ℕ, Bool, false, IsTrue, List, [], Option, None, Some, option_map, inl, inr, refl, sym, ap, ◌∙◌, subst, arith}
 use Rattle.std.proofs.lemmas.List.{append-nil}
+use Rattle.std.specs.Option.{ForSome}
 use Rattle.bridge_io.specs.Fault.{Rose}
 use Rattle.bridge_io.specs.declared.outside.Fail.TheVariants as fail
 use Rattle.bridge_io.specs.InOrder.{put_all}
@@ -10,11 +11,13 @@ use Rattle.bridge_runs.specs.declared.status.Status.{Status}
 use Rattle.bridge_runs.specs.declared.status.Status.TheVariants as status
 use Rattle.bridge_runs.specs.declared.ending.Ending.{Ending}
 use Rattle.bridge_runs.specs.declared.ending.Ending.TheVariants as ending
-use Rattle.bridge_runs.specs.Runs.{Works, Finishes, NeverFalls, Tells, TellsAs, IsRun, status_of, status_untold, words_line}
+use Rattle.bridge_runs.specs.Runs.{Works, Finishes, TellsAs, status_of, status_untold, words_line}
+use Rattle.bridge_runs.specs.Steps.{Work}
 use Rattle.bridge_runs.specs.Courses.{Course, World, Whole, Step, Reaches, last_step}
 use Rattle.bridge_runs.proofs.Stepping.{none_put, none_told}
 use Rattle.bridge_report.specs.Outcomes.{Outcome, Ends, Writes, course_by, IsSaid, IsEnding}
 use Rattle.bridge_steps.specs.Endings.{EndsAs, Surroundings, around}
+use Rattle.bridge_steps.proofs.Endings.{over}
 
 -- as many segments are made as there were
 none_made : (counts : Bool) (before after : ℕ) → (IsTrue counts → after ≡ before) → IsTrue counts
@@ -136,26 +139,21 @@ works (Writes files l reads) ending.Memory before after (inr begun) read write r
 works outcome (ending.Cut fail) before after is read write report made = absurd is
 
 -- what a command meets of what a run meets
-abbrev met : World → Surroundings
+abbrev pub met : World → Surroundings
 met world = around world.files world.read_faults world.write_faults world.made
 
--- a run whose work ended so, of the course that its outcome is
-pub run_of : (o : Option Outcome) (course : Course) (told : Ending) (end : Status) (before mid after : World)
-    → option_map course_by o ≡ Some course
-    → EndsAs o told (met before) (met mid) → NeverFalls before mid → mid.report ≡ before.report → Tells told end mid after
-    → IsRun course end before after
-run_of None course told end before mid after is ends never_falls report tells = absurd (cc)
-run_of (Some outcome) course told end before mid after is ends never_falls report tells =
-    let same : course_by outcome ≡ course = cc in
-    subst (λ course. IsRun course end before after) same (record {
-      how = told;
-      mid = mid;
+-- the work of a command that leaves the input and the report, of the course that its outcome is
+pub work_of : (o : Option Outcome) (told : Ending) (before after : World) → EndsAs o told (met before) (met after)
+    → after.input_faults ≡ before.input_faults → after.report_faults ≡ before.report_faults → after.report ≡ before.report
+    → ForSome (option_map course_by o) (λ course. Work course told before after)
+work_of o told before after ends input faults report =
+    over course_by o (λ course. Work course told before after) (λ outcome is. record {
       works =
-          works outcome told before mid (ends.ending outcome refl) (λ is. ends.read_fault (ap status_of is))
-          (λ is. ends.write_fault (ap status_of is)) report
-          (ends.made outcome refl);
-      never_falls = never_falls;
-      tells = tells;
+          works outcome told before after (ends.ending outcome is) (λ e. ends.read_fault (ap status_of e))
+          (λ e. ends.write_fault (ap status_of e)) report
+          (ends.made outcome is);
+      never_falls =
+          record { input = omega (arith, input); reads = ends.reads; writes = ends.writes; report = omega (arith, faults) };
     })
 
 -- Words are told of an ending by words alone
@@ -176,6 +174,25 @@ pub words_told : (told : Ending) (end : Status) (f f' : ℕ) (r r' : Option (Lis
 words_told told end f f' r r' (inl tells) is = sym tells.0 ∙ is
 words_told told end f f' r r' (inr (inl tells)) is = untold_words told (sym tells.0 ∙ is)
 words_told told end f f' r r' (inr (inr tells)) is = absurd (let e = tells.0 in cc)
+
+-- a read fault is told of one alone
+untold_read : (told : Ending) → status_untold told ≡ status.ReadFault → status_of told ≡ status.ReadFault
+untold_read (ending.Ended verdict.Done line) is = absurd (cc)
+untold_read (ending.Ended verdict.Refused line) is = is
+untold_read (ending.Ended verdict.Words line) is = is
+untold_read (ending.Ended verdict.Differ line) is = is
+untold_read ending.Words is = is
+untold_read ending.ReadFault is = is
+untold_read ending.WriteFault is = is
+untold_read ending.Memory is = is
+untold_read (ending.Cut fail.Failed) is = is
+untold_read (ending.Cut fail.Memory) is = is
+
+pub read_fault_told : (told : Ending) (end : Status) (f f' : ℕ) (r r' : Option (List ℕ)) → TellsAs told end f f' r r' → end ≡ status.ReadFault
+    → status_of told ≡ status.ReadFault
+read_fault_told told end f f' r r' (inl tells) is = sym tells.0 ∙ is
+read_fault_told told end f f' r r' (inr (inl tells)) is = untold_read told (sym tells.0 ∙ is)
+read_fault_told told end f f' r r' (inr (inr tells)) is = absurd (let e = tells.0 in cc)
 
 -- a write fault is told of one, or where the sink failed
 pub write_fault_told : (told : Ending) (end : Status) (f f' : ℕ) (r r' : Option (List ℕ)) {P : Type 0} → TellsAs told end f f' r r'

@@ -18,23 +18,25 @@ abbrev pub unless_live : (live : Option Refusal) → TypedMpd (Option Segments) 
 unless_live None mpd = Ok mpd
 unless_live (Some live) mpd = if mpd.facts.live then Err live else Ok mpd
 
--- the tree that bytes spell, its values, or the first refusal
-unfoldable pub mpd_of : (live : Option Refusal) → List ℕ → Result (TypedMpd (Option Segments)) Refusal
-mpd_of live bytes =
-    and_then (told_as refusal.Text (reading_of bytes)) (λ root.
-    and_then (told_as refusal.Rules (typed_mpd_of root)) (unless_live live))
+-- the values of the tree that bytes spell, or the first refusal
+unfoldable pub values_of : List ℕ → Result (TypedMpd (Option Segments)) Refusal
+values_of bytes = and_then (told_as refusal.Text (reading_of bytes)) (λ root. told_as refusal.Rules (typed_mpd_of root))
 
--- the presentation of an MPD at a URL, or the first refusal
-unfoldable pub presentation_of : (live : Option Refusal) (url : List ℕ) (now : Option ℤ) (bytes : List ℕ) → Result Presented Refusal
-presentation_of live url now bytes = and_then (mpd_of live bytes) (λ mpd. told_as refusal.Presentation (presented_of mpd url now))
+-- the same, where a live MPD may be refused
+unfoldable pub mpd_of : (live : Option Refusal) → List ℕ → Result (TypedMpd (Option Segments)) Refusal
+mpd_of live bytes = and_then (values_of bytes) (unless_live live)
 
 -- each listed segment has an address
 unfoldable pub checked : (unit : ℕ) → Presented → Result Presented Refusal
 checked unit p = and_then (told_as refusal.Presentation (verified p unit)) (λ longest. Ok p)
 
+-- the presentation of an MPD at a URL, or the first refusal
+unfoldable pub ready_of : (unit : ℕ) (url : List ℕ) (now : Option ℤ) → TypedMpd (Option Segments) → Result Presented Refusal
+ready_of unit url now mpd = and_then (told_as refusal.Presentation (presented_of mpd url now)) (checked unit)
+
 unfoldable pub checked_presentation : (live : Option Refusal) (unit : ℕ) (url : List ℕ) (now : Option ℤ) (bytes : List ℕ)
     → Result Presented Refusal
-checked_presentation live unit url now bytes = and_then (presentation_of live url now bytes) (checked unit)
+checked_presentation live unit url now bytes = and_then (mpd_of live bytes) (ready_of unit url now)
 
 -- the same of the file at a place, which has these bytes
 abbrev pub mpd_in : (live : Option Refusal) (unit : ℕ) (now : Option ℤ) → Place → (bytes : List ℕ) → Result Presented Named

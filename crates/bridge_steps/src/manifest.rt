@@ -1,8 +1,9 @@
 // From the bytes of an MPD to a presentation whose segments all have addresses.
-ghost use Rattle.std.specs.Prelude.{◌≡◌, ◌^◌, Ok, IfOk, IsTrue, is_some, true};
+ghost use Rattle.std.specs.Prelude.{◌≡◌, ◌^◌, Ok, Some, IfOk, IsTrue, is_some, true};
 ghost use Rattle.std.specs.Option.{ForSome};
 ghost use Rattle.bridge_io.specs.Answer.{Gives};
 ghost use Rattle.bridge_io.specs.Fault.{HasCause};
+ghost use Rattle.live_meaning.specs.Laws.{IsTyped};
 ghost use Rattle.mpd_text.specs.Meaning.{reading_of};
 ghost use Rattle.mpd_text.specs.Nodes.{root_of};
 ghost use Rattle.mpd_rules.specs.Rules.{typed_mpd_of};
@@ -89,7 +90,7 @@ pub fn mpd_in<L: Ledger>(
 }
 
 /// The presentation of bytes, or the first refusal.
-#[tactic(auto, unfolding(crate::specs::Manifests::checked_presentation, crate::specs::Manifests::presentation_of))]
+#[tactic(auto, unfolding(crate::specs::Manifests::checked_presentation))]
 fn checked_presentation<L: Ledger>(
     alloc: Global,
     url: &Base,
@@ -103,7 +104,23 @@ fn checked_presentation<L: Ledger>(
     ensures digits { IfOk result (λ ready. ready.digits ≡ digits) }
 {
     let mpd = mpd_of(alloc, bytes, live)?;
-    match Presentation::from_mpd(alloc, &mpd, url, now) {
+    ready_of(alloc, &mpd, url, now, digits, steps)
+}
+
+/// The presentation of an MPD, read at an instant, whose segments all have addresses; or the first refusal.
+#[tactic(auto, unfolding(crate::specs::Manifests::ready_of))]
+pub fn ready_of<L: Ledger>(
+    alloc: Global,
+    mpd: &Mpd,
+    url: &Base,
+    now: Option<Instant>,
+    digits: Digits,
+    steps: &mut Steps<L>,
+) -> Result<Ready, Stop>
+    ensures ready { Gives (λ ready. ready.presentation) refused_in result (spec.ready_of (10 ^ digits) url.now now (segments_mpd mpd.now)) }
+    ensures digits { IfOk result (λ ready. ready.digits ≡ digits) }
+{
+    match Presentation::from_mpd(alloc, mpd, url, now) {
         Ok(presentation) => checked(alloc, presentation, digits, steps),
         Err(fault) => Err(Stop::of_presentation(fault)),
     }
@@ -130,17 +147,26 @@ fn checked<L: Ledger>(
     }
 }
 
-/// The values of an MPD, or the first refusal.
+/// The values of an MPD, or the first refusal. A live one may be refused.
 #[tactic(auto, unfolding(crate::specs::Manifests::mpd_of))]
 fn mpd_of(alloc: Global, bytes: &[u8], live: Option<Refusal>) -> Result<Mpd, Stop>
     ensures { Gives segments_mpd refused_in result (spec.mpd_of live bytes.now) }
 {
-    let tree = tree_of(alloc, bytes)?;
-    let mpd = values_of(alloc, &tree)?;
+    let mpd = values_of(alloc, bytes)?;
     match live {
         Some(refusal) if mpd.live() => Err(Stop::Refused(refusal)),
         _ => Ok(mpd),
     }
+}
+
+/// The values of an MPD, live or not, or the first refusal.
+#[tactic(auto, unfolding(crate::specs::Manifests::values_of))]
+pub fn values_of(alloc: Global, bytes: &[u8]) -> Result<Mpd, Stop>
+    ensures mpd { Gives segments_mpd refused_in result (spec.values_of bytes.now) }
+    ensures typed { IfOk result (λ mpd. IsTyped (Some (segments_mpd mpd))) }
+{
+    let tree = tree_of(alloc, bytes)?;
+    typed_of(alloc, &tree)
 }
 
 fn tree_of(alloc: Global, bytes: &[u8]) -> Result<Tree, Stop>
@@ -152,8 +178,9 @@ fn tree_of(alloc: Global, bytes: &[u8]) -> Result<Tree, Stop>
     }
 }
 
-fn values_of(alloc: Global, tree: &Tree) -> Result<Mpd, Stop>
-    ensures { Gives segments_mpd refused_in result (told_as Refusal.Rules (typed_mpd_of (root_of tree.now))) }
+fn typed_of(alloc: Global, tree: &Tree) -> Result<Mpd, Stop>
+    ensures mpd { Gives segments_mpd refused_in result (told_as Refusal.Rules (typed_mpd_of (root_of tree.now))) }
+    ensures typed { IfOk result (λ mpd. IsTyped (Some (segments_mpd mpd))) }
 {
     match rules(alloc, tree) {
         Ok(mpd) => Ok(mpd),

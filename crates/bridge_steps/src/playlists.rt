@@ -80,7 +80,7 @@ fn write_track<F: Store, L: Ledger>(
     )
 }
 
-fn write_the_master<F: Store>(
+pub(crate) fn write_the_master<F: Store>(
     alloc: Global,
     out: &Name,
     presentation: &Presentation,
@@ -98,7 +98,7 @@ fn write_the_master<F: Store>(
 }
 
 /// The name of a track's playlist. A folder of a job leaves room for it.
-fn playlist_name(alloc: Global, out: &Name, track: usize) -> Result<Name, NoMemory>
+pub(crate) fn playlist_name(alloc: Global, out: &Name, track: usize) -> Result<Name, NoMemory>
     ensures { IfOk result (λ name. name ≡ in_folder out.now (playlist_of track)) }
 {
     let out = out.as_str();

@@ -51,6 +51,9 @@ pub fn follow<T: Follow, I: Source, F: Store, P: Sink, L: Ledger>(
     ensures caused { IsCaused result
         (world_of (F.files store.old) (P.written report.old) (I.faults input.old) (F.read_faults store.old) (F.write_faults store.old) (P.faults report.old) steps.old)
         (world_of (F.files store.new) (P.written report.new) (I.faults input.new) (F.read_faults store.new) (F.write_faults store.new) (P.faults report.new) steps.new) }
+    ensures never_falls { NeverFalls
+        (world_of (F.files store.old) (P.written report.old) (I.faults input.old) (F.read_faults store.old) (F.write_faults store.old) (P.faults report.old) steps.old)
+        (world_of (F.files store.new) (P.written report.new) (I.faults input.new) (F.read_faults store.new) (F.write_faults store.new) (P.faults report.new) steps.new) }
     ensures told { Grows (P.written report.old) (P.written report.new) }
     ensures reads { F.read_faults store.new ≡ F.read_faults store.old }
 {

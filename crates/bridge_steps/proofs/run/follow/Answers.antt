@@ -23,5 +23,8 @@ returns-in-Err-clause-work g c = λ bytes told.
 pub returns-in-Err-clause-caused : goal.returns-in-Err-clause-caused
 returns-in-Err-clause-caused g c = caused_later c.in-Err.told _ _ _ c.loop-told.invariant.never_falls c.in-Err.ensures.caused
 
+pub returns-in-Err-clause-never_falls : goal.returns-in-Err-clause-never_falls
+returns-in-Err-clause-never_falls g c = falls_then _ _ _ c.loop-told.invariant.never_falls c.in-Err.ensures.never_falls
+
 pub returns-in-Err-clause-told : goal.returns-in-Err-clause-told
 returns-in-Err-clause-told g c = grown_then _ _ _ c.loop-told.invariant.told c.in-Err.ensures.told
