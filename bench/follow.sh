@@ -1,0 +1,84 @@
+#!/usr/bin/env bash
+# Times `bridge follow` of 5,000 frames behind the first one, by turns a tick and the MPD again, each two seconds later than the one before:
+# 30 segments are kept, and 852,033,600 lie before the first of them. Beside it a loop in C that rewrites a file of the playlist's size and
+# prints a line for each frame. Then the first thousand frames beside all of them, and the same with 10^9 more earlier segments. Files lie
+# in a memory file system. The shortest of eleven runs counts, with its largest memory.
+#
+# It wants `rt`, python3, cc and /dev/shm, and proves the program first where that isn't kept.
+set -euo pipefail
+source "$(dirname "$0")/program.sh"
+shm=$(mktemp -d /dev/shm/follow.XXXXXX)
+trap 'rm -rf "$work" "$shm"' EXIT
+
+cat > "$work/rewrites.c" <<'C'
+#include <fcntl.h>
+#include <stdio.h>
+#include <stdlib.h>
+#include <string.h>
+#include <unistd.h>
+
+/* Rewrites a file of SIZE bytes and prints a line, COUNT times. */
+int main(int words, char **word) {
+    size_t size = strtoul(word[1], 0, 10);
+    char *text = memset(malloc(size), 'a', size), line[64];
+    for (long k = 0; k < strtol(word[2], 0, 10); k++) {
+        int file = open("rewritten", O_WRONLY | O_CREAT | O_TRUNC, 0666);
+        if (file < 0 || write(file, text, size) != (ssize_t)size || close(file))
+            return 1;
+        if (write(1, line, snprintf(line, sizeof line, "frame %ld ok appended=1\n", k)) < 0)
+            return 1;
+    }
+    return 0;
+}
+C
+cc -O2 -o "$work/rewrites" "$work/rewrites.c"
+
+cat > "$work/follow.py" <<'PY'
+import datetime, os, subprocess, sys
+
+from measure import LAUNCH, measure
+
+bridge, rewrites, folder = sys.argv[1:]
+os.chdir(folder)
+BASE = "--base=https://h.example/"
+START = datetime.datetime(2024, 1, 1)
+LIVE = ('<MPD xmlns="urn:mpeg:dash:schema:mpd:2011" type="dynamic" availabilityStartTime="{}" timeShiftBufferDepth="PT60S"><Period id="p" start="PT0S">'
+        '<AdaptationSet mimeType="video/mp4"><Representation id="v" bandwidth="1000"><SegmentTemplate duration="2" initialization="i.mp4" '
+        'media="s$Number$.m4s"/></Representation></AdaptationSet></Period></MPD>')
+
+def stream(name, frames, available="1970-01-01T00:00:00Z"):
+    """The first MPD, and so many frames behind it."""
+    mpd = LIVE.format(available)
+    with open(name, "w") as it:
+        for k in range(frames + 1):
+            now = (START + datetime.timedelta(seconds=2 * k)).strftime("%Y-%m-%dT%H:%M:%SZ")
+            it.write(f"tick {now}\n" if k % 2 else f"mpd {now} {len(mpd)}\n{mpd}")
+
+def followed(name):
+    """Milliseconds and MiB of following a stream."""
+    return measure(["sh", "-c", f"exec {bridge} follow live.mpd {BASE} < {name}"])
+
+def last(name):
+    told = subprocess.run([bridge, "follow", "live.mpd", BASE], stdin=open(name), capture_output=True, text=True, check=True).stdout.splitlines()
+    playlist = open("out/t0.m3u8").read()
+    names = [line.rpartition("/")[2] for line in playlist.splitlines() if line.startswith("https://")]
+    return told, playlist, names
+
+stream("thousand", 1_000)
+stream("all", 5_000)
+stream("more", 5_000, "1906-08-16T20:26:40Z")
+told, playlist, names = last("all")
+assert sum(int(line.rpartition("=")[2]) for line in told[:-1]) == 5_030, told[-1]
+assert told[-1] == "done frames=5001 accepted=5001" and "#EXT-X-MEDIA-SEQUENCE:5000\n" in playlist
+assert (names[0], names[-1], len(names)) == ("s852038571.m4s", "s852038600.m4s", 30)
+
+yard, _ = measure([rewrites, str(len(playlist)), "5001"])
+few, few_mib = followed("thousand")
+whole, whole_mib = followed("all")
+more, more_mib = followed("more")
+print(f"a loop that rewrites {len(playlist)} bytes and prints a line, 5,001 times: {yard:.1f} ms")
+print(f"follow, 5,001 frames: {whole:.1f} ms, {whole / 5.001:.1f} us a frame, {whole_mib:.1f} MiB, {whole / yard:.1f} of the loop's time")
+print(f"its first 1,001 frames: {few:.1f} ms, {few / 1.001:.1f} us a frame, {few_mib:.1f} MiB")
+print(f"with 10^9 more earlier segments: {more:.1f} ms, {more_mib:.1f} MiB")
+PY
+python3 "$work/follow.py" "$bridge" "$work/rewrites" "$shm"
