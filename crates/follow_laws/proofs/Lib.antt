@@ -1,0 +1,11 @@
+mod Courses
+mod Steps
+mod Counted
+mod FewFrames
+mod FewDigits
+mod FrameStates
+mod JudgedFrames
+mod FollowedFiles
+mod Readings
+mod Reloads
+mod Ends
