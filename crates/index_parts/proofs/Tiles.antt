@@ -9,7 +9,7 @@ use Rattle.segment_index.specs.Index.{Index, index_of}
 use Rattle.segment_index.specs.Laws.{Tile, end_from}
 use Rattle.timeline.specs.declared.fault.TimeFault.{TimeFault}
 use Rattle.timeline.specs.Expansions.{SegmentTimeline}
-use Rattle.timeline.specs.SegmentTimelines.{unless_fault}
+use Rattle.timeline.proofs.OpenEnds.{no_fault}
 use Rattle.url_parts.specs.Addresses.{chain, local_name_of}
 use Rattle.url_parts.specs.declared.address.Part.{Part}
 use Rattle.presentation.specs.Told.{told_as}
@@ -21,7 +21,7 @@ use Rattle.index_parts.specs.declared.located.Listed.{Listed}
 use Rattle.index_parts.specs.declared.located.Located.{Located}
 use Rattle.index_parts.specs.Found.{empty_faults, found_in, if_there, index_faults, index_in, range_faults, reference_faults}
 use Rattle.index_parts.specs.Laws.{IsIndexed, LastAs, SegmentsTile, bytes_of}
-use Rattle.index_parts.specs.Located.{address_of, if_named, initialization_of, listed_at, listed_by, listed_in, located_of, located_with, read_of, track_parts, unless_long}
+use Rattle.index_parts.specs.Located.{address_of, if_named, initialization_by, initialization_of, listed_at, listed_by, listed_in, located_of, located_with, read_of, track_parts, unless_long}
 use Rattle.index_parts.specs.Refusals.{times_fault, unless_any, url_fault}
 use Rattle.index_parts.specs.Rows.{Row, told_in}
 use Rattle.index_parts.specs.Segments.{extents_from, extents_in, fault_of, part_of, parts_from, parts_in, runs_of, ticks_of, timeline_with}
@@ -51,10 +51,11 @@ named_so : (name : Option (List ℕ)) (file : List ℕ) → if_named name ≡ Ok
 named_so None file is = absurd (cc)
 named_so (Some name) file is = (let same : name ≡ file = cc in ap Some same)
 
-record IsLocated (url folder : List ℕ) (row : Row) (l : Located) : Type 0 where
-  addressed : chain url row.description.bases ≡ Ok l.address
-  named : local_name_of folder l.address ≡ Some l.file
-  range : l.index ≡ (told_in row).range
+pub record IsLocated (url folder : List ℕ) (row : Row) (l : Located) : Type 0 where
+  pub addressed : chain url row.description.bases ≡ Ok l.address
+  pub initialized : initialization_by l.address (told_in row).range (told_in row).initialization ≡ Ok l.initialization
+  pub named : local_name_of folder l.address ≡ Some l.file
+  pub range : l.index ≡ (told_in row).range
 
 is_located : (url folder : List ℕ) (row : Row) (l : Located) → located_of url folder row ≡ Ok l → IsLocated url folder row l
 unfolding located_of
@@ -66,14 +67,16 @@ is_located url folder row l is =
     let same : located_with row.description (told_in row) a.value i.value n.value ≡ l = (let h = r.then in cc) in
     subst (IsLocated url folder row) same (record {
       addressed = ok_under (url_fault row.description.place) (chain url row.description.bases) a.value a.first;
+      initialized = ok_under (url_fault row.description.place)
+          (initialization_by a.value (told_in row).range (told_in row).initialization) i.value i.first;
       named = named_so (local_name_of folder a.value) n.value n.first;
       range = refl;
     })
 
-record IsRead (l : Located) (files : Files) (bytes : List ℕ) : Type 0 where
-  whole : List ℕ
-  there : files l.file ≡ Some whole
-  part : take l.index.count (drop l.index.first whole) ≡ bytes
+pub record IsRead (l : Located) (files : Files) (bytes : List ℕ) : Type 0 where
+  pub whole : List ℕ
+  pub there : files l.file ≡ Some whole
+  pub part : take l.index.count (drop l.index.first whole) ≡ bytes
 
 part_is : (l : Located) (files : Files) (o : Option (List ℕ)) (bytes : List ℕ) → files l.file ≡ o
     → part_read l.index.first l.index.count o ≡ Ok bytes → IsRead l files bytes
@@ -95,9 +98,14 @@ has_scale : (timescale at : ℕ) (later : List FileFault) (x index : Index)
 has_scale zero at later x index is = absurd (cc)
 has_scale (suc n) at later x index is = omega arith
 
-record IsFound (left : Left) (index : Index) : Type 0 where
-  first : index_of left ≡ Ok (Some index)
-  scaled : 0 < index.timescale
+none_of : {X : Type 0} (faults : List FileFault) (x y : X) → unless_any faults x ≡ Ok y → faults ≡ []
+none_of [] x y is = refl
+none_of (fault ∷ faults) x y is = absurd (cc)
+
+pub record IsFound (left : Left) (index : Index) : Type 0 where
+  pub first : index_of left ≡ Ok (Some index)
+  pub faults : index_faults index ≡ []
+  pub scaled : 0 < index.timescale
 
 is_found : (left : Left) (index : Index) → index_in left ≡ Ok index → IsFound left index
 unfolding index_in
@@ -107,40 +115,75 @@ is_found left index is =
     let same : f.value ≡ index = sym (passed_value (index_faults f.value) f.value index f.then) in
     subst (IsFound left) same (record {
       first = ok_under Boxes (index_of left) o.value o.first ∙ ap Ok (there_so o.value f.value o.then);
+      faults = none_of (index_faults f.value) f.value index f.then;
       scaled = has_scale f.value.timescale f.value.at
           (empty_faults f.value ++ (flat_map reference_faults f.value.references ++ range_faults f.value)) f.value index f.then;
     })
 
-timed_so : (fault : Option TimeFault) (timeline runs : SegmentTimeline) → unless_fault fault timeline ≡ Ok runs → timeline ≡ runs
-timed_so None timeline runs is = cc
-timed_so (Some fault) timeline runs is = absurd (cc)
+abbrev pub timeline_in : (address : List ℕ) → Index → SegmentTimeline
+timeline_in address index = timeline_with (ticks_of index) (parts_in address index) (extents_in index)
+
+abbrev pub fault_in : (address : List ℕ) → Index → Option TimeFault
+fault_in address index = fault_of (parts_in address index) (extents_in index)
 
 runs_are : (address : List ℕ) (index : Index) (runs : SegmentTimeline) → runs_of address index ≡ Ok runs
-    → timeline_with (ticks_of index) (parts_in address index) (extents_in index) ≡ runs
+    → (fault_in address index ≡ None) × (timeline_in address index ≡ runs)
 unfolding runs_of
-runs_are address index runs is =
-    timed_so (fault_of (parts_in address index) (extents_in index)) (timeline_with (ticks_of index) (parts_in address index)
-    (extents_in index)) runs is
+runs_are address index runs is = no_fault (fault_in address index) (timeline_in address index) runs is
 
-abbrev listed_with : Located → Index → SegmentTimeline → Listed
+abbrev pub listed_with : Located → Index → SegmentTimeline → Listed
 listed_with l index runs = record {
   content = record { initialization = l.initialization; runs = runs };
   segments = length index.references;
 }
 
-is_listed : (l : Located) (index : Index) (listed : Listed) → listed_by l index ≡ Ok listed
-    → listed_with l index (timeline_with (ticks_of index) (parts_in l.address index) (extents_in index)) ≡ listed
+record IsListed (l : Located) (index : Index) (listed : Listed) : Type 0 where
+  none : fault_in l.address index ≡ None
+  same : listed_with l index (timeline_in l.address index) ≡ listed
+
+is_listed : (l : Located) (index : Index) (listed : Listed) → listed_by l index ≡ Ok listed → IsListed l index listed
 unfolding listed_by
 is_listed l index listed is =
     let s = steps_of (told_as (times_fault l.place) (runs_of l.address index)) _ listed is in
     let same : listed_with l index s.value ≡ listed = (let h = s.then in cc) in
-    ap (listed_with l index) (runs_are l.address index s.value
-    (ok_under (times_fault l.place) (runs_of l.address index) s.value s.first)) ∙ same
+    let timed = runs_are l.address index s.value (ok_under (times_fault l.place) (runs_of l.address index) s.value s.first) in
+    record { none = timed.0; same = ap (listed_with l index) timed.1 ∙ same }
+
+-- what tells a Representation's segments
+pub record IsTold (url folder : List ℕ) (files : Files) (row : Row) (listed : Listed) : Type 0 where
+  pub place : Located
+  pub bytes : List ℕ
+  pub index : Index
+  pub located : IsLocated url folder row place
+  pub read : IsRead place files bytes
+  pub found : IsFound (record { at = place.index.first; bytes = bytes }) index
+  pub none : fault_in place.address index ≡ None
+  pub same : listed_with place index (timeline_in place.address index) ≡ listed
+
+pub is_told : (url folder : List ℕ) (files : Files) (row : Row) (listed : Listed) → track_parts url folder files row ≡ Ok listed
+    → IsTold url folder files row listed
+unfolding track_parts listed_at listed_in
+is_told url folder files row listed is =
+    let l = steps_of (located_of url folder row) _ listed is in
+    let b = steps_of (read_of l.value files) _ listed l.then in
+    let i = steps_of (told_as (File l.value.file) (index_in (record { at = l.value.index.first; bytes = b.value }))) _ listed b.then in
+    let made = is_listed l.value i.value listed i.then in
+    record {
+      place = l.value;
+      bytes = b.value;
+      index = i.value;
+      located = is_located url folder row l.value l.first;
+      read = is_read l.value files b.value b.first;
+      found = is_found (record { at = l.value.index.first; bytes = b.value }) i.value
+          (ok_under (File l.value.file) (index_in (record { at = l.value.index.first; bytes = b.value })) i.value i.first);
+      none = made.none;
+      same = made.same;
+    }
 
 indexed : (url folder : List ℕ) (files : Files) (row : Row) (l : Located) (bytes : List ℕ) (index : Index) → IsLocated url folder row l
     → IsRead l files bytes
     → IsFound (record { at = l.index.first; bytes = bytes }) index
-    → IsIndexed url folder files row (listed_with l index (timeline_with (ticks_of index) (parts_in l.address index) (extents_in index)))
+    → IsIndexed url folder files row (listed_with l index (timeline_in l.address index))
 indexed url folder files row l bytes index located read found =
     let ticks : ticks_of index ≡ index.timescale = (let some = found.scaled in omega arith) in
     record {
@@ -164,13 +207,7 @@ indexed url folder files row l bytes index located read found =
     }
 
 pub tiled : SegmentsTile
-unfolding track_parts listed_at listed_in
 tiled url folder files row listed is =
-    let l = steps_of (located_of url folder row) _ listed is in
-    let b = steps_of (read_of l.value files) _ listed l.then in
-    let i = steps_of (told_as (File l.value.file) (index_in (record { at = l.value.index.first; bytes = b.value }))) _ listed b.then in
-    subst (IsIndexed url folder files row) (is_listed l.value i.value listed i.then)
-    (indexed url folder files row l.value b.value i.value (is_located url folder row l.value l.first)
-    (is_read l.value files b.value b.first)
-    (is_found (record { at = l.value.index.first; bytes = b.value }) i.value
-    (ok_under (File l.value.file) (index_in (record { at = l.value.index.first; bytes = b.value })) i.value i.first)))
+    let told = is_told url folder files row listed is in
+    subst (IsIndexed url folder files row) told.same
+    (indexed url folder files row told.place told.bytes told.index told.located told.read told.found)

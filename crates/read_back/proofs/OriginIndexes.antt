@@ -1,6 +1,6 @@
 -- The indexes of the files of an MPD.
-use Rattle.std.proofs.Common.{◌≡◌, ℕ, ◌+◌, Bool, true, false, List, [], ◌∷◌, ◌++◌, All, Option, Some, None, IfSome, refl}
-use Rattle.std.specs.Prelude.{flat_map, if◌then◌else◌}
+use Rattle.std.proofs.Common.{◌≡◌, ℕ, zero, suc, ◌+◌, ◌<◌, ◌&&◌, ◌==◌, Bool, true, false, List, [], ◌∷◌, ◌++◌, All, Option, Some, None, IfSome, refl, arith}
+use Rattle.std.specs.Prelude.{flat_map, if◌then◌else◌, is_none}
 use Rattle.std.proofs.lemmas.List.Elements.{All-cons, All-nil, All-weaker}
 use Rattle.bridge_io.specs.declared.place.Place.{Place}
 use Rattle.url_parts.specs.declared.range.Range.{Range}
@@ -47,6 +47,12 @@ whole : (lacks : Bool) (place : Place) → (if lacks then Missing place ∷ [] e
 whole true place none = absurd (cc)
 whole false place none = refl
 
+some_before : (initialization : Option Initialization) (first : ℕ) → (is_none initialization && first == 0) ≡ false
+    → initialization ≡ None → 0 < first
+some_before None zero there none = absurd (cc)
+some_before None (suc n) there none = omega arith
+some_before (Some initialization) first there none = absurd (cc)
+
 module _ (row : TrackRow (Option IndexRow)) (place : Place) where
   by_range : (range : Option Range) (initialization : Option Initialization) → lacks_by range initialization ≡ false
       → IfSome range IsSomeBytes
@@ -57,6 +63,7 @@ module _ (row : TrackRow (Option IndexRow)) (place : Place) where
     there = is;
     range = rw is refl;
     bytes = rw is bytes;
+    before = rw is (some_before initialization range.first there);
   }
 
   by_index : (o : Option IndexRow) → row.segments ≡ o → IfSome o HasBytes → index_refused place o ≡ [] → HasIndex row

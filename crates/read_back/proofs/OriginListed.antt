@@ -11,7 +11,7 @@ use Rattle.read_back.specs.Origins.{AreInPace, IsInPace, StaticAreInPace, of_sta
 use Rattle.read_back.proofs.OriginPace.{in_pace}
 use Rattle.read_back.proofs.OriginParts.{IsContentWell, at_place, contents_ended, contents_well}
 
-by_content : (window : Window) (o : Option Content) → IfSome o IsContentWell → IfSome o (λ content. IsReached content.runs window)
+pub by_content : (window : Window) (o : Option Content) → IfSome o IsContentWell → IfSome o (λ content. IsReached content.runs window)
     → IsInPace (option_map_or (λ content. listed_in window content.runs) o [])
 by_content window None well reached = (omega arith, tt)
 by_content window (Some content) well reached = in_pace content.runs window well reached

@@ -99,7 +99,7 @@ own_bytes : (address : List ℕ) → absolute address ≡ Ok address → IsOfByt
 unfolding absolute
 own_bytes address is = parsed_bytes (parse_url None address) address is
 
-address_bytes : (address : List ℕ) → IsAddress address → IsOfBytes address
+pub address_bytes : (address : List ℕ) → IsAddress address → IsOfBytes address
 address_bytes address is = own_bytes address is.normal
 
 no_base : url_at [] ≡ None
@@ -119,7 +119,8 @@ own_texts_are_addresses text is =
     let same : resolve [] text ≡ absolute text = elim (cases_Bool (is_absolute text)) [ inl web ↦ with_scheme text web | inr other ↦ without_base text other ] in
     resolved_is_address [] text text (All-nil IsByte) (own_bytes text is) (same ∙ is)
 
-referred_is_address : (base : List ℕ) (reference : Option (List ℕ)) (address : List ℕ) → IsAddress base → IfSome reference IsOfBytes → referred base reference ≡ Ok address → IsAddress address
+pub referred_is_address : (base : List ℕ) (reference : Option (List ℕ)) (address : List ℕ) → IsAddress base
+    → IfSome reference IsOfBytes → referred base reference ≡ Ok address → IsAddress address
 referred_is_address base None address is bytes made = (let same : base ≡ address = cc in subst IsAddress same is)
 referred_is_address base (Some reference) address is bytes made = resolved_is_address base reference address (address_bytes base is) bytes made
 
@@ -128,7 +129,8 @@ chained_behind : (r : Result (List ℕ) UrlFault) (references : List (List ℕ))
 chained_behind (Ok next) references address first later made = later next (first next refl) made
 chained_behind (Err fault) references address first later made = absurd (cc)
 
-chain_is_address : (references : List (List ℕ)) (base address : List ℕ) → IsAddress base → All IsOfBytes references → chain base references ≡ Ok address → IsAddress address
+pub chain_is_address : (references : List (List ℕ)) (base address : List ℕ) → IsAddress base → All IsOfBytes references
+    → chain base references ≡ Ok address → IsAddress address
 chain_is_address [] base address is bytes made = (let same : base ≡ address = cc in subst IsAddress same is)
 chain_is_address (reference ∷ references) base address is bytes made =
     chained_behind (resolve base reference) references address
@@ -186,7 +188,7 @@ beside : (children : Forest) → AreOfBytes children → All IsElementOfBytes (s
 beside nothing are = All-nil IsElementOfBytes
 beside (element head children others) are = All-cons IsElementOfBytes _ (side_by_side others) (record { head = are.0; children = are.1 }) (beside others are.2)
 
-child_is : (name : List ℕ) (e : Element) → IsElementOfBytes e → IfSome (child_named name e) IsElementOfBytes
+pub child_is : (name : List ℕ) (e : Element) → IsElementOfBytes e → IfSome (child_named name e) IsElementOfBytes
 child_is name e is = found IsElementOfBytes (is_named name) (side_by_side e.children) (beside e.children is.children)
 
 children_are : (name : List ℕ) (e : Element) → IsElementOfBytes e → All IsElementOfBytes (children_named name e)
@@ -216,7 +218,8 @@ pub record AreSegmentsOfBytes (s : Segments) : Type 0 where
   pub init_reference : IfSome s.init_reference IsOfBytes
   pub init_range : IfSome s.init_range IsSomeBytes
 
-first_found : {Y : Type 0} (P : Y → Type 0) (value : Element → Option Y) → ((e : Element) → IsElementOfBytes e → IfSome (value e) P) → (es : List Element) → All IsElementOfBytes es → IfSome (first_some value es) P
+pub first_found : {Y : Type 0} (P : Y → Type 0) (value : Element → Option Y) → ((e : Element) → IsElementOfBytes e → IfSome (value e) P)
+    → (es : List Element) → All IsElementOfBytes es → IfSome (first_some value es) P
 first_found P value each [] all = tt
 first_found P value each (e ∷ es) all =
     or_there (value e) (first_some value es) P (each e (All-head IsElementOfBytes e es all)) (first_found P value each es (All-tail IsElementOfBytes e es all))
@@ -255,7 +258,7 @@ pub record IsInitializationOfBytes (i : Initialization) : Type 0 where
   pub reference : IfSome i.reference IsOfBytes
   pub range : IfSome i.range IsSomeBytes
 
-initialization_is : (e : Element) → IsElementOfBytes e → IfSome (initialization_in e) IsInitializationOfBytes
+pub initialization_is : (e : Element) → IsElementOfBytes e → IfSome (initialization_in e) IsInitializationOfBytes
 initialization_is e is =
     mapped initialization_of IsElementOfBytes IsInitializationOfBytes
     (λ i of. record { reference = value_is (codes "sourceURL") i.head of.head; range = named_some (value_named (codes "range") i.head) })
@@ -311,33 +314,60 @@ or_empty : (o : Option (List ℕ)) → IfSome o IsOfBytes → IsOfBytes (unwrap_
 or_empty None is = All-nil IsByte
 or_empty (Some text) is = is
 
-path_bytes : (path : Path) → IsElementOfBytes path.mpd → IsElementOfBytes path.period → IsElementOfBytes path.set → IsElementOfBytes path.representation → IsRowOfBytes (typed.track_of segments_of path)
-path_bytes path mpd period set own =
+-- the elements from an MPD down to a Representation
+pub record IsPathOfBytes (path : Path) : Type 0 where
+  pub mpd : IsElementOfBytes path.mpd
+  pub period : IsElementOfBytes path.period
+  pub set : IsElementOfBytes path.set
+  pub representation : IsElementOfBytes path.representation
+
+pub levels_bytes : (path : Path) → IsPathOfBytes path → All IsElementOfBytes (levels_of path)
+levels_bytes path is =
+    All-cons IsElementOfBytes path.representation (path.set ∷ path.period ∷ []) is.representation
+    (All-cons IsElementOfBytes path.set (path.period ∷ []) is.set
+    (All-cons IsElementOfBytes path.period [] is.period (All-nil IsElementOfBytes)))
+
+pub bases_bytes : (path : Path) → IsPathOfBytes path → All IsOfBytes (description_in (common_at path) path.representation).bases
+bases_bytes path is =
     let a = bases_below [] path.mpd in
     let b = bases_below a path.period in
     let c = bases_below b path.set in
-    let levels = All-cons IsElementOfBytes path.representation (path.set ∷ path.period ∷ []) own (All-cons IsElementOfBytes path.set (path.period ∷ []) set (All-cons IsElementOfBytes path.period [] period (All-nil IsElementOfBytes))) in
-    record {
-      id = or_empty (value_named (codes "id") path.representation.head) (value_is (codes "id") path.representation.head own.head);
-      bases = below c path.representation (below b path.set (below a path.period (below [] path.mpd (All-nil IsOfBytes) mpd) period) set) own;
-      segments = or_untold (segments_of (levels_of path)) (segments_bytes (levels_of path) levels);
-    }
+    below c path.representation (below b path.set (below a path.period (below [] path.mpd (All-nil IsOfBytes) is.mpd) is.period) is.set)
+    is.representation
+
+row_bytes : (path : Path) → IsPathOfBytes path → IsRowOfBytes (typed.track_of segments_of path)
+row_bytes path is = record {
+  id = or_empty (value_named (codes "id") path.representation.head)
+      (value_is (codes "id") path.representation.head is.representation.head);
+  bases = bases_bytes path is;
+  segments = or_untold (segments_of (levels_of path)) (segments_bytes (levels_of path) (levels_bytes path is));
+}
 
 kept_bytes : (e : Element) → IsElementOfBytes e → (l : Listed) (name : List ℕ) → All IsElementOfBytes (kept_children l name e)
 kept_bytes e is l name = All-filter (is_kept l name e.head) IsElementOfBytes (side_by_side e.children) (beside e.children is.children)
 
-abbrev IsPathOfBytes : Path → Type 0
-IsPathOfBytes path = IsRowOfBytes (typed.track_of segments_of path)
-
 module _ (tree : Element) (is : IsElementOfBytes tree) where
-  set_bytes : (e set : Element) → IsElementOfBytes e → IsElementOfBytes set → (k : ℕ) → All (λ own. IsPathOfBytes (path_in tree e set k own)) (representations_of set)
-  set_bytes e set is_period is_set k j d within = path_bytes (path_in tree e set k _) is is_period is_set (kept_bytes set is_set listed.Representation (codes "Representation") j d within)
+  set_bytes : (e set : Element) → IsElementOfBytes e → IsElementOfBytes set → (k : ℕ)
+      → All (λ own. IsPathOfBytes (path_in tree e set k own)) (representations_of set)
+  set_bytes e set is_period is_set k j d within = record {
+    mpd = is;
+    period = is_period;
+    set = is_set;
+    representation = kept_bytes set is_set listed.Representation (codes "Representation") j d within;
+  }
 
   period_bytes : (e : Element) → IsElementOfBytes e → All IsPathOfBytes (paths_of tree e)
   period_bytes e is_period = paths_hold IsPathOfBytes tree e 0 (sets_of e) (λ k d within. set_bytes e _ is_period (kept_bytes e is_period listed.AdaptationSet (codes "AdaptationSet") k d within))
 
   rows_bytes : All (λ e. All IsPathOfBytes (paths_of tree e)) (periods_of tree)
   rows_bytes k d within = period_bytes _ (kept_bytes tree is listed.Period (codes "Period") k d within)
+
+  -- what holds of each Representation's path of bytes
+  pub paths_bytes : (P : Path → Type 0) → ((path : Path) → IsPathOfBytes path → P path)
+      → All (λ e. All P (paths_of tree e)) (periods_of tree)
+  paths_bytes P each =
+      All-weaker (λ e. All IsPathOfBytes (paths_of tree e)) (λ e. All P (paths_of tree e))
+      (λ e paths. All-weaker IsPathOfBytes P each (paths_of tree e) paths) (periods_of tree) rows_bytes
 
 -- ---- what a Representation has in its Period
 
@@ -511,7 +541,7 @@ contents_located : (p : Presented) (from : CameFromMpd p) → IsFound from.tree 
 contents_located p from found =
     let of = of_mpd p from in
     let rows = each_row segments_of OneByOne from.tree from.mpd (clean from.tree from.mpd from.typed) IsRowOfBytes
-    (rows_bytes from.tree found.tree) in
+    (paths_bytes from.tree found.tree (λ path. IsRowOfBytes (typed.track_of segments_of path)) row_bytes) in
     subst (λ (q : Presented). All IsContentLocated q.contents) of.is
     (all_have IsRowOfBytes IsContentLocated from.url from.mpd.facts.live (λ end row content bytes made. content_located from.url from.mpd.facts.live end row content found.url bytes made) from.mpd.periods of.tolds rows of.all)
 

@@ -32,7 +32,7 @@ module _ (bound : ℕ) where
   greatest_short f [] each = omega arith
   greatest_short f (x ∷ xs) each = omega (arith, each x, greatest_short f xs each)
 
-short : (p : Presented) (digits t : ℕ) → AreShortInPace → ((s : ℕ) → IsInPace (listed_at p s t)) → AreShort p digits t
+pub short : (p : Presented) (digits t : ℕ) → AreShortInPace → ((s : ℕ) → IsInPace (listed_at p s t)) → AreShort p digits t
 short p digits t told pace =
     let unit : ℕ = 10 ^ digits in
     let some : 0 < unit = ten_pow-pos digits in
@@ -44,7 +44,7 @@ short p digits t told pace =
 range_read : (range : Range) → IsSomeBytes range → IsReadableRange range
 range_read range bytes = record { some = bytes.some; count = omega (arith, bytes.bounded); first = omega (arith, bytes.bounded) }
 
-part_read : (part : Part) → IsLocated part → IsReadablePart part
+pub part_read : (part : Part) → IsLocated part → IsReadablePart part
 part_read part located = record { address = located.address; range = IfSome_then part.range located.range range_read }
 
 pub written_means_the_same : StaticAreFinished → StaticTracksAreWritable → StaticInitializationsAreLocated → StaticPartsAreLocated → StaticAreInPace → AreShortInPace → WrittenMeanTheSame → WrittenMeansTheSame

@@ -1,5 +1,5 @@
 -- What is so of a presentation that came from an MPD.
-use Rattle.std.specs.Prelude.{◌≡◌, ℕ, ℤ, ◌*◌, ◌<◌, ◌≤◌, List, length, All, IfSome, Option, Some, Ok}
+use Rattle.std.specs.Prelude.{◌≡◌, ℕ, ℤ, ◌*◌, ◌<◌, ◌≤◌, List, length, All, IfSome, Option, Some, None, Ok}
 use Rattle.exact_time.specs.Time.{IsTime}
 use Rattle.url_parts.specs.Addresses.{IsAddress, absolute}
 use Rattle.url_parts.specs.declared.address.Part.{Part}
@@ -114,12 +114,13 @@ StaticHaveSections = (p : Presented) → CameFromStaticMpd p → 0 < length p.se
 
 -- ---- the indexes of files
 
--- the bytes of a Representation's index are told, and they are some
+-- the bytes of a Representation's index are told, and they are some; without an Initialization a byte stands before them
 pub record HasIndex (row : TrackRow (Option IndexRow)) : Type 0 where
   pub index : IndexRow
   pub there : row.segments ≡ Some index
   pub range : index.range ≡ Some (index_told row.segments).range
   pub bytes : IsSomeBytes (index_told row.segments).range
+  pub before : (index_told row.segments).initialization ≡ None → 0 < (index_told row.segments).range.first
 
 abbrev pub IndexesAreTold : Type 0
 IndexesAreTold = (tree : Element) (mpd : TypedMpd (Option IndexRow)) → indexed_mpd_of tree ≡ Ok mpd
