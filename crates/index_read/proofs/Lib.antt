@@ -1,0 +1,5 @@
+pub mod Entries
+pub mod Meant
+pub mod Presented
+pub mod Sound
+pub mod Written
