@@ -5,3 +5,4 @@ pub mod Outcomes
 pub mod Reading
 pub mod Refusals
 pub mod Words
+pub mod Indexes

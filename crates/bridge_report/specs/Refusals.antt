@@ -23,6 +23,7 @@ use Rattle.bridge_report.specs.declared.refusal.Refusal.{Refusal}
 use Rattle.bridge_report.specs.declared.refusal.Refusal.TheVariants as refusal
 use Rattle.bridge_report.specs.declared.refusal.Stop.{Stop}
 use Rattle.bridge_report.specs.declared.refusal.Stop.TheVariants as stop
+use Rattle.bridge_report.specs.Indexes.{index_spot, index_words}
 use Rattle.bridge_report.specs.Words.{text_words, rule_words, presentation_words, media_words, master_words, hls_words, frame_words, update_words}
 
 -- ---- where
@@ -137,6 +138,7 @@ spot_of refusal.NotStatic = None
 spot_of (refusal.Frame fault) = frame_spot fault
 spot_of refusal.NotOpen = None
 spot_of (refusal.Session fault) = None
+spot_of (refusal.Index index) = index_spot index
 
 abbrev pub spot_text : Option Spot → List ℕ
 spot_text None = []
@@ -162,6 +164,7 @@ words_of refusal.NotStatic = codes "job 4 NotStatic"
 words_of (refusal.Frame fault) = frame_words fault
 words_of refusal.NotOpen = codes "frame 4 NotOpen"
 words_of (refusal.Session fault) = update_words fault
+words_of (refusal.Index index) = index_words index
 
 -- what is told of a refusal, whatever is refused: its words, and where it stands, if that is told
 unfoldable pub refusal_text : Refusal → List ℕ

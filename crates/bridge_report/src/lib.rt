@@ -4,6 +4,7 @@
 mod base;
 mod ending;
 mod fault_words;
+mod index_refusal;
 mod laws;
 mod lines;
 mod reading;
@@ -13,6 +14,7 @@ mod update_fault;
 
 pub use base::{file_url, folder_url};
 pub use ending::{halted, refused};
+pub use index_refusal::IndexRefusal;
 pub use laws::{
     accepted_frames_make_the_files, commands_read_before_they_write, one_course_for_both_tellings,
 };

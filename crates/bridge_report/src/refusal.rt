@@ -6,6 +6,7 @@ use crate::fault_words::{
     frame_words, hls_words, master_words, media_words, presentation_words, rule_words, text_words,
     update_words,
 };
+use crate::index_refusal::{IndexRefusal, index_spot, index_words};
 use crate::spot::Spot;
 use crate::update_fault::UpdateFault;
 use bridge_io::{NoMemory, Place, Text};
@@ -52,6 +53,8 @@ pub enum Refusal {
     NotOpen,
     /// The frame breaks a rule of a followed presentation.
     Session(UpdateFault),
+    /// Media files with an index inside give no presentation.
+    Index(IndexRefusal),
 }
 
 /// Why the input of a job isn't read.
@@ -155,6 +158,7 @@ fn words(refusal: Refusal) -> &'static str
         Refusal::Frame(fault) => frame_words(fault),
         Refusal::NotOpen => "frame 4 NotOpen",
         Refusal::Session(fault) => update_words(fault),
+        Refusal::Index(refusal) => index_words(refusal),
     }
 }
 
@@ -178,6 +182,7 @@ fn spot(refusal: Refusal) -> Option<Spot>
         Refusal::Media(fault) => media_spot(fault),
         Refusal::Master(fault) => master_spot(fault),
         Refusal::Frame(fault) => frame_spot(fault),
+        Refusal::Index(refusal) => index_spot(refusal),
     }
 }
 
