@@ -1,5 +1,6 @@
 -- Texts with references in the place of bytes.
-use Rattle.std.proofs.Common.{◌≡◌, ℕ, zero, suc, ◌+◌, ◌/◌, ◌%◌, ◌<◌, ◌≤◌, ◌==◌, true, false, List, [], ◌∷◌, ◌++◌, length, take, drop, get_or, decimal, None, Some, refl, sym, ap, ◌∙◌, arith, inl, inr}
+use Rattle.std.proofs.Common.{◌≡◌, ℕ, zero, suc, ◌+◌, ◌/◌, ◌%◌, ◌<◌, ◌≤◌, ◌==◌, true, false, List, [], ◌∷◌, ◌++◌, length, take, drop}
+use Rattle.std.proofs.Common.{get_or, decimal, None, Some, refl, sym, ap, ◌∙◌, arith, inl, inr}
 use Rattle.std.specs.Fmt.{digits, digits_onto, digit_glyph}
 use Rattle.std.specs.List.{position, position_from}
 use Rattle.std.proofs.lemmas.Bool.{cases_Bool}
@@ -106,3 +107,8 @@ number_stays mark n stays =
 -- a number alone
 pub alone_stays : (n : ℕ) → decimal n ++ [] ≡ escape_all (decimal n)
 alone_stays n = append-nil (decimal n) ∙ sym (decimal_stays n)
+
+-- a number between bytes
+pub seconds_stay : (n : ℕ) → 80 ∷ 84 ∷ (decimal n ++ (83 ∷ [])) ≡ escape_all (80 ∷ 84 ∷ (decimal n ++ 83 ∷ []))
+unfolding escape_all
+seconds_stay n = ap (λ t. 80 ∷ 84 ∷ t) (sym (escape-append (decimal n) (83 ∷ []) ∙ ap (λ t. t ++ (83 ∷ [])) (decimal_stays n)))

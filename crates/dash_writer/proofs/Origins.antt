@@ -1,5 +1,6 @@
 -- What a presentation from playlists tells of a track in a section.
-use Rattle.std.proofs.Common.{◌≡◌, ℕ, ◌+◌, ◌*◌, ◌<◌, true, false, length, Option, None, Some, option_map, option_to_list, refl, ap, ◌∙◌, mul_comm}
+use Rattle.std.proofs.Common.{◌≡◌, ℕ, ◌+◌, ◌*◌, ◌<◌, true, false, length, Option, None, Some, option_map, option_to_list, refl, ap, ◌∙◌}
+use Rattle.std.proofs.Common.{mul_comm}
 use Rattle.std.specs.Prelude.{is_some}
 use Rattle.std.proofs.lemmas.Nat.{mul-add-lt}
 use Rattle.url_parts.specs.declared.address.Part.{Part}
@@ -13,25 +14,34 @@ use Rattle.dash_writer.specs.Segments.{segment_list}
 use Rattle.dash_writer.specs.Written.{is_childless}
 
 -- a SegmentList of what stands there
-pub list_is : (window : Window) (content : Option Content) (runs : SegmentTimeline) (part : Part) → option_map (λ content. content.runs) content ≡ Some runs
+pub list_is : (window : Window) (content : Option Content) (runs : SegmentTimeline) (part : Part)
+    → option_map (λ content. content.runs) content ≡ Some runs
     → option_map (λ content. content.initialization) content ≡ Some part
-    → option_map (λ content. segment_list content.runs content.initialization (listed_in window content.runs)) content ≡ Some (segment_list runs part (listed_in window runs))
+    → option_map (λ content. segment_list content.runs content.initialization (listed_in window content.runs)) content
+    ≡ Some (segment_list runs part (listed_in window runs))
 list_is window None runs part is is_part = absurd (cc)
-list_is window (Some content) runs part is is_part = let same : content.runs ≡ runs = cc in let same_part : content.initialization ≡ part = cc in
-    ap (λ r. Some (segment_list r content.initialization (listed_in window r))) same ∙ ap (λ i. Some (segment_list runs i (listed_in window runs))) same_part
+list_is window (Some content) runs part is is_part = let same : content.runs ≡ runs = cc in
+    let same_part : content.initialization ≡ part = cc in
+    ap (λ r. Some (segment_list r content.initialization (listed_in window r))) same
+    ∙ ap (λ i. Some (segment_list runs i (listed_in window runs))) same_part
 
 one_list : (window : Window) (content : Option Content) → is_some content ≡ true
-    → is_childless (option_to_list (option_map (λ content. segment_list content.runs content.initialization (listed_in window content.runs)) content)) ≡ false
+    → is_childless (option_to_list (option_map (λ content. segment_list content.runs content.initialization
+    (listed_in window content.runs)) content)) ≡ false
 one_list window None some = absurd (cc)
 one_list window (Some content) some = refl
 
+-- the place of a track in a section is one of all
+pub place_within : (section sections tracks track all : ℕ) → AreFilled sections tracks all → section < sections → track < tracks
+    → section * tracks + track < all
+place_within section sections tracks track all filled in_sections in_tracks =
+    rw (filled, mul_comm sections tracks) (mul-add-lt section tracks track sections in_sections in_tracks)
+
 -- each track has something in each section
-pub some_list : (p : Presented) (section track : ℕ) → AreFilled (length p.sections) (length p.tracks) (length p.contents) → section < length p.sections → track < length p.tracks
+pub some_list : (p : Presented) (section track : ℕ) → AreFilled (length p.sections) (length p.tracks) (length p.contents)
+    → section < length p.sections → track < length p.tracks
     → is_childless (segment_lists p section track) ≡ false
 some_list p section track filled in_sections in_tracks =
-    let within : section * length p.tracks + track < length p.contents = below section (length p.sections) (length p.tracks) track (length p.contents) filled in_sections in_tracks in
+    let within = place_within section (length p.sections) (length p.tracks) track (length p.contents) filled in_sections in_tracks in
     let found = some_at p.contents (section * length p.tracks + track) within in
     one_list (window_of p section) (content_at p section track) (ap is_some found.1)
-  where
-    below : (s n m t all : ℕ) → all ≡ n * m → s < n → t < m → s * m + t < all
-    below s n m t all is in_n in_m = rw (is, mul_comm n m) (mul-add-lt s m t n in_n in_m)

@@ -1,21 +1,35 @@
 -- The segments of a listing one after another.
-use Rattle.std.proofs.Common.{◌≡◌, List, [], ◌∷◌, ◌++◌, All, refl, ap, ◌∙◌}
+use Rattle.std.proofs.Common.{◌≡◌, List, [], ◌∷◌, ◌++◌, map, codes, All, None, refl, ap, ◌∙◌}
+use Rattle.url_parts.specs.declared.address.Part.{Part}
+use Rattle.timeline.specs.Expansions.{SegmentTimeline, Timing}
 use Rattle.std.proofs.lemmas.List.Elements.{All-tail}
-use Rattle.timeline.specs.Listed.{IsDone, IsMade, Made, Rest}
+use Rattle.timeline.specs.Listed.{IsDone, IsMade, Made, Rest, part_of_timing}
 use Rattle.presentation.specs.Laws.{HasAddress}
-use Rattle.dash_writer.specs.Elements.{Element}
-use Rattle.dash_writer.specs.Segments.{segment_url, segment_urls}
+use Rattle.dash_writer.specs.Elements.{Element, node}
+use Rattle.dash_writer.specs.Lists.{list_with, parts_of, timeline_with}
+use Rattle.dash_writer.specs.Segments.{duration_of, initialization, list_attributes, part_or_none, segment_list, segment_url, segment_urls}
 use Rattle.dash_writer.specs.Written.{element_text, elements_text}
 use Rattle.dash_writer.proofs.Nodes.{elements-cons}
 
+-- segments with their own times are listed as any others
+files_of : (timeline : SegmentTimeline) (listed : List Timing) → map segment_url (parts_of timeline listed) ≡ segment_urls timeline listed
+files_of timeline [] = refl
+files_of timeline (x ∷ xs) = ap (λ urls. segment_url (part_or_none (part_of_timing timeline x)) ∷ urls) (files_of timeline xs)
+
+pub with_own_times : (timeline : SegmentTimeline) (part : Part) (listed : List Timing)
+    → list_with timeline.ticks None 0 part (map duration_of listed) (parts_of timeline listed) ≡ segment_list timeline part listed
+with_own_times timeline part listed =
+    ap (λ urls. node (codes "SegmentList") (list_attributes timeline) (initialization part ∷ timeline_with 0
+    (map duration_of listed) ∷ urls)) (files_of timeline listed)
+
 abbrev pub urls_left : Rest → List Element
-urls_left rest = segment_urls rest.timeline rest.left
+urls_left rest = map segment_url (parts_of rest.timeline rest.left)
 
 first_url : (old new : Rest) (made : Made) → IsMade old made new → urls_left old ≡ segment_url made.part ∷ urls_left new
 first_url old new made next = rw (next.next, next.part, next.timeline) refl
 
-pub next_url : (old new : Rest) (made : Made) → IsMade old made new → elements_text (urls_left old)
-    ≡ element_text (segment_url made.part) ++ elements_text (urls_left new)
+pub next_url : (old new : Rest) (made : Made) → IsMade old made new
+    → elements_text (urls_left old) ≡ element_text (segment_url made.part) ++ elements_text (urls_left new)
 next_url old new made next = ap elements_text (first_url old new made next) ∙ elements-cons (segment_url made.part) (urls_left new)
 
 pub no_url : (old new : Rest) → IsDone old new → elements_text (urls_left old) ≡ []

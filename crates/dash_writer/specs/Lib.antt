@@ -2,10 +2,12 @@ pub mod Elements
 pub mod Escaped
 pub mod Given
 pub mod Lists
+pub mod Live
 pub mod Manifest
 pub mod Outline
 pub mod Runs
 pub mod SegmentRuns
 pub mod Segments
+pub mod Timed
 pub mod Values
 pub mod Written

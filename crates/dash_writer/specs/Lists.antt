@@ -1,14 +1,28 @@
 -- SegmentLists with a first time of their own (ISO/IEC 23009-1, 5.3.9.3).
 use Rattle.std.specs.Prelude.{ℕ, List, [], ◌∷◌, map, codes, decimal, Option, Some, option_map}
 use Rattle.url_parts.specs.declared.address.Part.{Part}
-use Rattle.dash_writer.specs.Elements.{Element, node}
+use Rattle.timeline.specs.Expansions.{SegmentTimeline, Timing}
+use Rattle.timeline.specs.Listed.{part_of_timing}
+use Rattle.dash_writer.specs.Elements.{Attribute, Element, node}
 use Rattle.dash_writer.specs.Runs.{longest_runs}
-use Rattle.dash_writer.specs.Segments.{initialization, s_elements, same_duration, segment_url}
+use Rattle.dash_writer.specs.Segments.{initialization, part_or_none, s_elements, same_duration, segment_url}
+
+abbrev pub head_attributes : (ticks : ℕ) (offset : Option ℕ) → List Attribute
+head_attributes ticks offset = (codes "timescale", Some (decimal ticks)) ∷ (codes "presentationTimeOffset", option_map decimal offset) ∷ []
+
+-- SegmentTimeline (5.3.9.6)
+abbrev pub timeline_with : (first : ℕ) → (durations : List ℕ) → Element
+timeline_with first durations = node (codes "SegmentTimeline") [] (s_elements (Some first) (longest_runs same_duration durations))
+
+abbrev pub contents_with : (first : ℕ) → Part → (durations : List ℕ) → List Part → List Element
+contents_with first part durations parts = initialization part ∷ timeline_with first durations ∷ map segment_url parts
 
 -- segments of these durations and files, of which the first one begins at a media time; the media time of the Period's start
 -- stands where it is told
 abbrev pub list_with : (ticks : ℕ) (offset : Option ℕ) (first : ℕ) → Part → (durations : List ℕ) → List Part → Element
-list_with ticks offset first part durations parts = node (codes "SegmentList")
-    ((codes "timescale", Some (decimal ticks)) ∷ (codes "presentationTimeOffset", option_map decimal offset) ∷ [])
-    (initialization part ∷ node (codes "SegmentTimeline") [] (s_elements (Some first) (longest_runs same_duration durations))
-    ∷ map segment_url parts)
+list_with ticks offset first part durations parts =
+    node (codes "SegmentList") (head_attributes ticks offset) (contents_with first part durations parts)
+
+-- the files of segments
+abbrev pub parts_of : SegmentTimeline → List Timing → List Part
+parts_of timeline listed = map (λ x. part_or_none (part_of_timing timeline x)) listed

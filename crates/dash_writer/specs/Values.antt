@@ -18,3 +18,7 @@ known_rate ratio = if ratio.n == 0 then None else Some (rate_text ratio)
 -- the id of the track at a place: `t<place>`
 abbrev pub id_text : ℕ → List ℕ
 id_text place = codes "t" ++ decimal place
+
+-- a duration in whole seconds (XML Schema part 2, 3.2.6)
+abbrev pub seconds_text : ℕ → List ℕ
+seconds_text n = codes "PT" ++ decimal n ++ codes "S"

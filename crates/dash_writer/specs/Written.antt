@@ -4,7 +4,7 @@ use Rattle.std.specs.Borrow.{Bor}
 use Rattle.iso_time.specs.Duration.{duration_text}
 use Rattle.mpd_markup.specs.Markup.{Tag, attribute_text, enclosed, opening, printed}
 use Rattle.dash_writer.specs.Elements.{Attribute, Element, in_order, with_attribute}
-use Rattle.dash_writer.specs.Values.{id_text, range_text, rate_text}
+use Rattle.dash_writer.specs.Values.{id_text, range_text, rate_text, seconds_text}
 use Rattle.dash_writer.specs.declared.attribute.Value.{Value}
 use Rattle.dash_writer.specs.declared.attribute.Value.TheVariants as value
 
@@ -14,6 +14,8 @@ value_text (value.Text text) = text.now
 value_text (value.Number number) = decimal number
 value_text (value.Wide number) = decimal number
 value_text (value.Duration nanos) = duration_text nanos
+value_text (value.Seconds number) = seconds_text number
+value_text (value.Instant text) = text.now
 value_text (value.Id place) = id_text place
 value_text (value.Rate ratio) = rate_text ratio
 value_text (value.Range range) = range_text range

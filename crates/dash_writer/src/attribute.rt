@@ -23,6 +23,10 @@ pub(crate) enum Value<'a> {
     Wide(u128),
     /// A duration.
     Duration(Nanos),
+    /// A duration in whole seconds.
+    Seconds(u64),
+    /// An instant as it is written.
+    Instant(&'a [u8; 24]),
     /// The id of the track at a place.
     Id(usize),
     /// Frames a second.
@@ -47,6 +51,12 @@ impl Value<'_> {
             Value::Duration(nanos) => {
                 push_escaped(writer, store, write_duration(nanos).as_str().as_bytes())
             }
+            Value::Seconds(number) => push_pieces(
+                writer,
+                store,
+                &[Piece::Text(b"PT"), Piece::Number(number), Piece::Text(b"S")],
+            ),
+            Value::Instant(text) => push_escaped(writer, store, text),
             Value::Id(place) => push_pieces(
                 writer,
                 store,

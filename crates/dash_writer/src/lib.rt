@@ -4,11 +4,19 @@
 mod attribute;
 mod element;
 mod escape;
+mod listed;
+mod live;
 mod manifest;
 mod outline;
 mod segments;
 mod sets;
+mod timed;
 mod times;
 
 pub use file_pieces::OutFault;
+pub use live::{
+    LiveMpd, LivePeriod, LivePeriodList, LiveRun, LiveRunList, LiveSegment, LiveSegmentList,
+    write_live_mpd,
+};
 pub use manifest::write_mpd;
+pub use timed::{TickList, TickRun, TickSeq, write_mpd_timed};

@@ -54,7 +54,7 @@ pub fn write_mpd<F: Store, L: Ledger>(
 }
 
 /// The attributes of a finished MPD that ends at a time (5.3.1.2).
-fn finished_root<'a>(end: Option<Nanos>) -> [Attribute<'a>; 5]
+pub(crate) fn finished_root<'a>(end: Option<Nanos>) -> [Attribute<'a>; 5]
     ensures { all_told result ≡ spec.finished_root end }
 {
     [
@@ -77,7 +77,7 @@ fn duration<'a>(nanos: Option<Nanos>) -> Option<Value<'a>>
 }
 
 /// When the last section ends, where it is known.
-fn last_end(sections: &[Section]) -> Option<Nanos>
+pub(crate) fn last_end(sections: &[Section]) -> Option<Nanos>
     ensures { result ≡ spec.last_end sections.now }
 {
     end_of(sections.last()?)

@@ -1,19 +1,65 @@
 // The times of segments, run by run.
-ghost use Rattle.std.specs.Prelude.{◌≡◌, ◌+◌, ◌<◌, ◌^◌, length, decimal, map, option_map, Some, IfOk};
+ghost use Rattle.std.specs.Prelude.{◌≡◌, ◌∷◌, ◌+◌, ◌<◌, ◌^◌, ℕ, List, [], codes, length, decimal, option_map, IfOk, MatchOption};
 ghost use Rattle.file_pieces.specs.Adding.{Adds, shown};
 ghost use Rattle.timeline.specs.Listed.{timing_of};
+ghost use Rattle.dash_writer.specs.Elements.{node};
+ghost use Rattle.dash_writer.specs.Lists.{timeline_with};
 ghost use Rattle.dash_writer.specs.Segments as spec;
 ghost use Rattle.dash_writer.specs.SegmentRuns.{begun, ended, gone_on, runs_left};
 ghost use Rattle.dash_writer.specs.Written.{element_text, elements_text, value_text};
 
 use crate::attribute::Value;
-use crate::element::push_leaf;
+use crate::element::{push_end, push_leaf, push_start};
 use bridge_io::{Fail, FileWriter, Store};
 use timeline::{Span, TimeWalk};
 
+/// How long segments last, in order.
+pub(crate) trait Durations {
+    /// The durations that are left, in ticks.
+    ghost durations: { Self → List ℕ };
+
+    /// The next one.
+    fn next_duration(&mut self) -> Option<u128>
+        ensures { MatchOption result (durations self.old ≡ []) (λ duration. durations self.old ≡ duration ∷ durations self.new) };
+}
+
+impl Durations for TimeWalk<'_> {
+    ghost use Rattle.std.specs.Prelude.{map};
+    ghost use Rattle.dash_writer.specs.Segments.{duration_of};
+
+    ghost durations = { λ walk. map duration_of walk };
+
+    fn next_duration(&mut self) -> Option<u128> {
+        Some(duration_of(&self.next()?))
+    }
+}
+
+/// How long a segment lasts, in ticks.
+fn duration_of(span: &Span) -> u128
+    ensures { result ≡ spec.duration_of (timing_of span.now) }
+{
+    (span.end.n - span.start.n).max(0) as u128
+}
+
+/// Durations that are told one by one.
+#[derive(Drop)]
+pub(crate) struct Ticks<'a> {
+    pub(crate) left: &'a [u64],
+}
+
+impl Durations for Ticks<'_> {
+    ghost durations = { λ ticks. ticks.left.now };
+
+    fn next_duration(&mut self) -> Option<u128> {
+        let (first, others) = self.left.split_first()?;
+        self.left = others;
+        Some(u128::from(*first))
+    }
+}
+
 /// Segments that last equally long, one behind another: S (ISO/IEC 23009-1, 5.3.9.6).
 #[derive(Clone, Copy)]
-pub(crate) struct SegmentRun {
+struct SegmentRun {
     /// When the first one begins, in ticks, where it is told.
     time: Option<u64>,
     /// How long each one lasts, in ticks.
@@ -23,13 +69,13 @@ pub(crate) struct SegmentRun {
 }
 
 impl SegmentRun {
-    /// The first segment of a Period.
-    pub(crate) fn first(span: &Span) -> SegmentRun
-        ensures { result ≡ begun (Some 0) (spec.duration_of (timing_of span.now)) }
+    /// A segment alone.
+    fn of(time: Option<u64>, duration: u128) -> SegmentRun
+        ensures { result ≡ begun time duration }
     {
         SegmentRun {
-            time: Some(0),
-            duration: duration_of(span),
+            time,
+            duration,
             repeats: 0,
         }
     }
@@ -51,11 +97,7 @@ impl SegmentRun {
             return Ok(SegmentRun { repeats, ..self });
         }
         self.push_to(writer, store)?;
-        Ok(SegmentRun {
-            time: None,
-            duration,
-            repeats: 0,
-        })
+        Ok(SegmentRun::of(None, duration))
     }
 
     fn push_to<F: Store>(self, writer: &mut FileWriter<'_>, store: &mut F) -> Result<(), Fail>
@@ -77,34 +119,47 @@ impl SegmentRun {
 }
 
 /// A number as a value, where there is one.
-fn number<'a>(number: Option<u64>) -> Option<Value<'a>>
+pub(crate) fn number<'a>(number: Option<u64>) -> Option<Value<'a>>
     ensures { option_map value_text result ≡ option_map decimal number }
 {
     Some(Value::Number(number?))
 }
 
-/// How long a segment lasts, in ticks.
-fn duration_of(span: &Span) -> u128
-    ensures { result ≡ spec.duration_of (timing_of span.now) }
-{
-    (span.end.n - span.start.n).max(0) as u128
-}
-
-/// Adds a run and the segments behind it.
-pub(crate) fn push_runs<F: Store>(
-    first: SegmentRun,
-    walk: TimeWalk<'_>,
+/// Adds the SegmentTimeline (5.3.9.6) of segments, of which the first one begins at a time.
+pub(crate) fn push_timeline<D: Durations, F: Store>(
+    time: u64,
+    durations: &mut D,
     writer: &mut FileWriter<'_>,
     store: &mut F,
 ) -> Result<(), Fail>
-    requires { first.repeats + length walk < 2 ^ 64 }
+    requires { length (D.durations durations.old) < 2 ^ 64 }
     ensures { let shows = shown F.files F.read_faults F.write_faults in
-        Adds (elements_text (runs_left first (map spec.duration_of walk.entry)))
+        Adds (element_text (timeline_with time (D.durations durations.old)))
         writer.old writer.new (shows store.old) (shows store.new) result }
 {
-    let mut run = first;
-    for span in walk {
-        run = run.go_on(duration_of(&span), writer, store)?;
+    match durations.next_duration() {
+        None => push_leaf(writer, store, "SegmentTimeline", &[]),
+        Some(first) => push_runs(SegmentRun::of(Some(time), first), durations, writer, store),
     }
-    run.push_to(writer, store)
+}
+
+/// Adds the SegmentTimeline of a run and the segments behind it.
+fn push_runs<D: Durations, F: Store>(
+    first: SegmentRun,
+    durations: &mut D,
+    writer: &mut FileWriter<'_>,
+    store: &mut F,
+) -> Result<(), Fail>
+    requires { first.repeats + length (D.durations durations.old) < 2 ^ 64 }
+    ensures { let shows = shown F.files F.read_faults F.write_faults in
+        Adds (element_text (node (codes "SegmentTimeline") [] (runs_left first (D.durations durations.old))))
+        writer.old writer.new (shows store.old) (shows store.new) result }
+{
+    push_start(writer, store, "SegmentTimeline", &[], false)?;
+    let mut run = first;
+    while let Some(duration) = durations.next_duration() {
+        run = run.go_on(duration, writer, store)?;
+    }
+    run.push_to(writer, store)?;
+    push_end(writer, store, "SegmentTimeline", false)
 }

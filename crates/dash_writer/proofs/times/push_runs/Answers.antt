@@ -1,38 +1,53 @@
-use Rattle.std.proofs.Common.{◌≡◌, [], length, map, sym, ap, ◌∙◌}
+use Rattle.std.proofs.Common.{◌≡◌, [], length, codes, Err, refl, sym, ap, ◌∙◌}
 use Rattle.file_pieces.proofs.Adding.{adds_same}
-use Rattle.timeline.specs.Listed.{timing_of}
-use Rattle.dash_writer.specs.Segments.{duration_of}
 use Rattle.dash_writer.specs.SegmentRuns.{gone_on, runs_left}
 use Rattle.dash_writer.specs.Written.{elements_text}
+use Rattle.dash_writer.proofs.Nodes.{adds_node, stops_at_children, stops_at_start}
 use Rattle.dash_writer.proofs.Progress.{ends, fails, further, nothing_yet}
-use Rattle.dash_writer.proofs.RunLemmas.{more_runs, room_left, run_ends}
+use Rattle.dash_writer.proofs.RunLemmas.{more_runs, room_left, run_ends, some_runs}
 use Rattle.dash_writer.proofs.times.push_runs.Goals as goal
 
-pub loop-span-init : goal.loop-span-init
-loop-span-init g c = rw c.into_iter-span-iterator.ensures.into_iter_gives
-    (record { can = tt; finite = tt; room = c.requires; so_far = nothing_yet _ _ _ })
+pub returns-in_err-push_start : goal.returns-in_err-push_start
+returns-in_err-push_start g c = let durations = g.D.Durations.durations c.args.durations.now in
+    stops_at_start (codes "SegmentTimeline") [] (runs_left c.args.first durations) (some_runs c.args.first durations)
+    c.from_residual.result c.from_residual.ensures.1 c.in_err-push_start.ensures
+
+pub loop-duration-init : goal.loop-duration-init
+loop-duration-init g c = record { room = c.requires; so_far = nothing_yet _ _ _ }
 
 pub returns-in_err-run : goal.returns-in_err-run
-returns-in_err-run g c = let l = c.loop-span in let duration = duration_of (timing_of c.in-Some.span) in
-    let durations = map duration_of c.next.new.self in
-    fails l.invariant.so_far _ (elements_text (runs_left (gone_on l.run duration) durations))
-    (ap (λ xs. elements_text (runs_left l.run (map duration_of xs))) c.in-Some.ensures.steps ∙ more_runs l.run duration durations)
-    c.from_residual.result c.from_residual.ensures.1 (rw c.duration_of.ensures at c.in_err-run.ensures.adds)
+returns-in_err-run g c = let durations = g.D.Durations.durations in let l = c.loop-duration in
+    let left = durations c.next_duration.new.self in
+    stops_at_children (codes "SegmentTimeline") [] (runs_left c.args.first (durations c.args.durations.now)) (some_runs c.args.first
+    (durations c.args.durations.now))
+    c.in_ok-push_start.ensures c.from_residual-in_err-run.result c.from_residual-in_err-run.ensures.1
+    (fails l.invariant.so_far _ (elements_text (runs_left (gone_on l.run c.in-Some.duration) left))
+    (ap (λ xs. elements_text (runs_left l.run xs)) c.in-Some.ensures
+    ∙ more_runs l.run c.in-Some.duration left) (Err _) refl c.in_err-run.ensures.adds)
 
-pub loop-span-preserved : goal.loop-span-preserved
-loop-span-preserved g c = let l = c.loop-span in let duration = duration_of (timing_of c.in-Some.span) in
-    let durations = map duration_of c.next.new.self in
-    let next : c.in_ok-run.run' ≡ gone_on l.run duration = rw c.duration_of.ensures at c.in_ok-run.ensures.run in record {
-      can = tt;
-      finite = tt;
-      room = rw next (room_left l.run duration (length c.next.new.self) (rw c.in-Some.ensures.steps at l.invariant.room));
-      so_far = rw next (further l.invariant.so_far _ (elements_text (runs_left (gone_on l.run duration) durations))
-          (ap (λ xs. elements_text (runs_left l.run (map duration_of xs))) c.in-Some.ensures.steps ∙ more_runs l.run duration durations)
-          (rw c.duration_of.ensures at c.in_ok-run.ensures.adds));
+pub loop-duration-preserved : goal.loop-duration-preserved
+loop-duration-preserved g c = let durations = g.D.Durations.durations in let l = c.loop-duration in
+    let left = durations c.next_duration.new.self in
+    let next : c.in_ok-run.run' ≡ gone_on l.run c.in-Some.duration = c.in_ok-run.ensures.run in record {
+      room = rw next (room_left l.run c.in-Some.duration (length left) (rw c.in-Some.ensures at l.invariant.room));
+      so_far = rw next (further l.invariant.so_far _ (elements_text (runs_left (gone_on l.run c.in-Some.duration) left))
+          (ap (λ xs. elements_text (runs_left l.run xs)) c.in-Some.ensures
+          ∙ more_runs l.run c.in-Some.duration left) c.in_ok-run.ensures.adds);
     }
 
+pub returns-in_err-push_to : goal.returns-in_err-push_to
+returns-in_err-push_to g c = let durations = g.D.Durations.durations in let l = c.loop-duration in
+    stops_at_children (codes "SegmentTimeline") [] (runs_left c.args.first (durations c.args.durations.now)) (some_runs c.args.first
+    (durations c.args.durations.now))
+    c.in_ok-push_start.ensures c.from_residual-in_err-push_to.result c.from_residual-in_err-push_to.ensures.1
+    (ends l.invariant.so_far (adds_same (ap elements_text (sym (run_ends l.run))
+    ∙ ap (λ xs. elements_text (runs_left l.run xs)) (sym c.in_default.ensures)) c.in_err-push_to.ensures))
+
 pub returns : goal.returns
-returns g c = let l = c.loop-span in
-    let none : l.span-iterator ≡ [] = c.in-None.ensures.steps.0 in
-    ends l.invariant.so_far (adds_same (ap elements_text (sym (run_ends l.run))
-    ∙ ap (λ xs. elements_text (runs_left l.run (map duration_of xs))) (sym none)) c.push_to.ensures)
+returns g c = let durations = g.D.Durations.durations in let l = c.loop-duration in
+    adds_node (codes "SegmentTimeline") [] (runs_left c.args.first (durations c.args.durations.now)) (some_runs c.args.first
+    (durations c.args.durations.now))
+    c.in_ok-push_start.ensures
+    (ends l.invariant.so_far (adds_same (ap elements_text (sym (run_ends l.run))
+    ∙ ap (λ xs. elements_text (runs_left l.run xs)) (sym c.in_default.ensures)) c.in_ok-push_to.ensures))
+    c.push_end.ensures

@@ -4,16 +4,16 @@ use Rattle.file_pieces.specs.Adding.{shown}
 use Rattle.dash_writer.specs.Written.{elements_text}
 use Rattle.dash_writer.proofs.Progress.{Progress}
 use Rattle.dash_writer.proofs.Urls.{urls_left}
-use Rattle.dash_writer.proofs.segments.push_urls.Given as goal
+use Rattle.dash_writer.proofs.listed.ListingFilesSteps.push_urls.Given as goal
 
 abbrev pub invariant-loop-segment : goal.invariant-loop-segment
 invariant-loop-segment g l =
     let shows = shown g.F.Store.files g.F.Store.read_faults g.F.Store.write_faults in
     record {
-      addressed : All (HasAddress l.listing.timeline) l.listing.left;
-      so_far : Progress (elements_text (urls_left l.initial.listing)) (elements_text (urls_left l.listing)) l.initial.writer l.writer
+      addressed : All (HasAddress l.self.timeline) l.self.left;
+      so_far : Progress (elements_text (urls_left l.initial.self)) (elements_text (urls_left l.self)) l.initial.writer l.writer
           (shows l.initial.store) (shows l.store);
     }
 
 abbrev pub decreases-loop-segment : goal.decreases-loop-segment
-decreases-loop-segment g l = length l.listing.left
+decreases-loop-segment g l = length l.self.left

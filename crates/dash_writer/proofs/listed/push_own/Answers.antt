@@ -1,0 +1,41 @@
+use Rattle.std.proofs.Common.{◌≡◌, None, length, map, ap, ◌∙◌, arith}
+use Rattle.std.proofs.lemmas.List.{length-map}
+use Rattle.std.specs.Result.{result_unwrap_or}
+use Rattle.file_pieces.proofs.Adding.{adds_same}
+use Rattle.exact_time.specs.Time.{Time}
+use Rattle.timeline.specs.Listed.{expansion}
+use Rattle.presentation.specs.Presented.{listed_in}
+use Rattle.presentation.proofs.OwnListed.{counted, fits, reached}
+use Rattle.presentation.proofs.Printing.{all_listed}
+use Rattle.dash_writer.specs.Lists.{list_with, parts_of}
+use Rattle.dash_writer.specs.Segments.{duration_of}
+use Rattle.dash_writer.specs.Written.{element_text}
+use Rattle.dash_writer.proofs.Urls.{with_own_times}
+use Rattle.dash_writer.proofs.listed.push_own.Goals as goal
+
+pub count-requires : goal.count-requires
+count-requires g c = fits c.args.runs.now c.args.window.now c.requires.ended
+
+pub seek-requires-clause-window : goal.seek-requires-clause-window
+seek-requires-clause-window g c = fits c.args.runs.now c.args.window.now c.requires.ended
+
+pub seek-requires-clause-reached : goal.seek-requires-clause-reached
+seek-requires-clause-reached g c = reached c.args.runs.now c.args.window.now c.requires.ended
+
+pub walk-walk-requires-clause-reached : goal.walk-walk-requires-clause-reached
+walk-walk-requires-clause-reached g c = reached c.args.runs.now c.args.window.now c.requires.ended
+
+pub push_listed-requires-clause-few : goal.push_listed-requires-clause-few
+push_listed-requires-clause-few g c = let runs = c.args.runs.now in let window = c.args.window.now in
+    let all = c.walk-walk.ensures.listed ∙ all_listed window (expansion runs window) c.seek.result c.seek.ensures.first.none_before in
+    let number : c.unwrap_or.result ≡ length (listed_in window runs) = c.unwrap_or.ensures
+    ∙ ap (λ n. result_unwrap_or n 0) c.count.ensures ∙ counted runs window (reached runs window c.requires.ended) in
+    omega (arith, length-map c.walk-walk.result duration_of, ap length all, number, c.unwrap_or.type_inv)
+
+pub returns : goal.returns
+returns g c = let runs = c.args.runs.now in let window = c.args.window.now in let listed = listed_in window runs in
+    let all = c.walk-walk.ensures.listed ∙ all_listed window (expansion runs window) c.seek.result c.seek.ensures.first.none_before in
+    let ticks = c.from.ensures ∙ ap (λ (t : Time). t.scale) c.offset.ensures in
+    adds_same (ap (λ xs. element_text (list_with c.from.result None 0 c.args.part.now (map duration_of xs) (parts_of runs listed))) all
+    ∙ ap (λ n. element_text (list_with n None 0 c.args.part.now (map duration_of listed) (parts_of runs listed))) ticks
+    ∙ ap element_text (with_own_times runs c.args.part.now listed)) c.push_listed.ensures

@@ -1,0 +1,15 @@
+use Rattle.std.proofs.Common.{List, drop, map}
+use Rattle.file_pieces.specs.Adding.{shown}
+use Rattle.dash_writer.specs.declared.live.LiveSegment.{LiveSegment}
+use Rattle.dash_writer.specs.Live.{part_of}
+use Rattle.dash_writer.specs.Segments.{segment_url}
+use Rattle.dash_writer.specs.Written.{elements_text}
+use Rattle.dash_writer.proofs.Progress.{Progress}
+use Rattle.dash_writer.proofs.live.LiveSegmentsFilesUnit.push_urls.Given as goal
+
+abbrev pub invariant-loop-segment : goal.invariant-loop-segment
+invariant-loop-segment g l =
+    let shows = shown g.F.Store.files g.F.Store.read_faults g.F.Store.write_faults in
+    let urls = λ (segments : List LiveSegment). elements_text (map segment_url (map part_of segments)) in
+    Progress (urls l.self.left.now) (urls (drop l.segment-index l.self.left.now)) l.initial.writer l.writer (shows l.initial.store)
+    (shows l.store)

@@ -1,0 +1,15 @@
+use Rattle.std.proofs.Common.{List, None, ◌^◌, map, ap, ◌∙◌}
+use Rattle.file_pieces.proofs.Adding.{adds_same}
+use Rattle.dash_writer.specs.declared.live.LiveSegment.{LiveSegment}
+use Rattle.dash_writer.specs.Lists.{list_with}
+use Rattle.dash_writer.specs.Live.{first_time, part_of}
+use Rattle.dash_writer.specs.Written.{element_text}
+use Rattle.dash_writer.proofs.live.push_run.Goals as goal
+
+pub returns : goal.returns
+returns g c = let part = c.args.run.now.initialization in let segments = c.as_slice-segments.result.now in
+    let durations = λ (segments : List LiveSegment). map (λ (segment : LiveSegment). segment.duration) segments in
+    adds_same
+    (ap (λ n. element_text (list_with (10 ^ 9) None n part (durations segments) (map part_of segments))) c.first_time.ensures
+    ∙ ap (λ segments. element_text (list_with (10 ^ 9) None (first_time segments) part (durations segments) (map part_of segments)))
+    c.as_slice-segments.ensures) c.push_segment_list.ensures

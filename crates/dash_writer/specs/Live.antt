@@ -1,0 +1,94 @@
+-- The MPD of a live presentation (ISO/IEC 23009-1, 5.3).
+use Rattle.std.specs.Prelude.{◌≡◌, ℕ, ◌+◌, ◌-◌, ◌^◌, min, List, [], ◌∷◌, length, map, slice_get, codes, decimal, All, Option, Some}
+use Rattle.std.specs.Prelude.{None, option_map, option_and_then, option_to_list, if◌then◌else◌}
+use Rattle.iso_time.specs.Civil.{instant_text}
+use Rattle.iso_time.specs.Duration.{duration_text}
+use Rattle.iso_time.specs.Instant.{IsWritable}
+use Rattle.url_parts.specs.declared.address.Part.{Part}
+use Rattle.dash_writer.specs.declared.live.LiveMpd.{LiveMpd}
+use Rattle.dash_writer.specs.declared.live.LivePeriod.{LivePeriod}
+use Rattle.dash_writer.specs.declared.live.LiveRun.{LiveRun}
+use Rattle.dash_writer.specs.declared.live.LiveSegment.{LiveSegment}
+use Rattle.dash_writer.specs.Elements.{Attribute, Element}
+use Rattle.dash_writer.specs.Lists.{list_with}
+use Rattle.dash_writer.specs.Manifest.{finished_root}
+use Rattle.dash_writer.specs.Outline.{Outline, heads_from, outline_text}
+use Rattle.dash_writer.specs.Values.{seconds_text}
+
+-- ---- the root
+
+-- while more may come: AST, the instant of this text, and after how long there may be another one
+abbrev pub growing_root : (start published : List ℕ) (target : ℕ) → List Attribute
+growing_root start published target =
+    (codes "xmlns", Some (codes "urn:mpeg:dash:schema:mpd:2011"))
+    ∷ (codes "profiles", Some (codes "urn:mpeg:dash:profile:full:2011"))
+    ∷ (codes "type", Some (codes "dynamic"))
+    ∷ (codes "availabilityStartTime", Some start)
+    ∷ (codes "publishTime", Some published)
+    ∷ (codes "minimumUpdatePeriod", Some (seconds_text target))
+    ∷ (codes "minBufferTime", Some (codes "PT2S"))
+    ∷ []
+
+-- when a Period ends, in nanoseconds, of which fewer than 10^19 can be written
+abbrev pub live_end : LivePeriod → ℕ
+live_end period = min (10 ^ 19 - 1) (period.start + period.longest)
+
+-- when the last one does
+abbrev pub last_live_end : List LivePeriod → Option ℕ
+last_live_end periods = option_map live_end (slice_get periods (length periods - 1))
+
+abbrev pub live_root : LiveMpd → List Attribute
+live_root mpd =
+    if mpd.ended then finished_root (last_live_end mpd.periods)
+    else growing_root (instant_text mpd.start) (instant_text mpd.published) mpd.target
+
+-- ---- Periods, and what tracks have in them
+
+-- by its section's number; it tells no duration, also where nothing more comes
+abbrev pub live_period : (place : ℕ) → LivePeriod → List Attribute
+live_period place period =
+    (codes "id", Some (decimal period.number)) ∷ (codes "start", Some (duration_text period.start)) ∷ (codes "duration", None) ∷ []
+
+-- when the first segment begins
+abbrev pub first_time : List LiveSegment → ℕ
+first_time [] = 0
+first_time (segment ∷ segments) = segment.time
+
+-- the file of a segment, or which bytes of it
+abbrev pub part_of : LiveSegment → Part
+part_of segment = record { address = segment.address; range = segment.range }
+
+-- in nanoseconds from the Period's start on
+abbrev pub live_list : LiveRun → Element
+live_list run = list_with (10 ^ 9) None (first_time run.segments) run.initialization
+    (map (λ (segment : LiveSegment). segment.duration) run.segments) (map part_of run.segments)
+
+abbrev pub live_lists : LiveMpd → (section place : ℕ) → List Element
+live_lists mpd section place = option_to_list (option_and_then
+    (λ (period : LivePeriod). option_map live_list (slice_get period.runs place))
+    (slice_get mpd.periods section))
+
+-- ---- the whole
+
+abbrev pub live_outline : LiveMpd → Outline
+live_outline mpd = record {
+  root = live_root mpd;
+  periods = heads_from live_period 0 mpd.periods;
+  tracks = mpd.tracks;
+  lists =
+      live_lists mpd;
+}
+
+unfoldable pub live_text : LiveMpd → List ℕ
+live_text mpd = outline_text (live_outline mpd)
+
+-- the years of its instants are 1000 to 9999, and each track has a run in each Period
+pub record IsLive (mpd : LiveMpd) : Type 0 where
+  pub start : IsWritable mpd.start
+  pub published : IsWritable mpd.published
+  pub filled : All (λ (period : LivePeriod). length period.runs ≡ length mpd.tracks) mpd.periods
+
+-- the track at a place has a run in the Period at a place
+abbrev pub HasRun : LiveMpd → (section place : ℕ) → Type 0
+HasRun mpd section place = (period : LivePeriod) × (run : LiveRun) × (slice_get mpd.periods section
+    ≡ Some period) × (slice_get period.runs place ≡ Some run)

@@ -1,0 +1,88 @@
+-- The MPD of a presentation with the times that its files state (ISO/IEC 23009-1, 5.3).
+use Rattle.std.specs.Prelude.{ℕ, zero, suc, ◌+◌, ◌*◌, ◌^◌, ◌<◌, max, sum, List, [], ◌∷◌, length, take, drop, slice_get, All, Some}
+use Rattle.std.specs.Prelude.{option_map, option_and_then, option_to_list}
+use Rattle.std.specs.Int.{div_ceil}
+use Rattle.presentation.specs.declared.parts.Content.{Content}
+use Rattle.presentation.specs.declared.track.Section.{Section}
+use Rattle.presentation.specs.Presented.{AreFilled, Presented, content_at, listed_in, window_of}
+use Rattle.presentation.specs.Origins.{CameFromPlaylists}
+use Rattle.timeline.specs.declared.window.Window.{Window}
+use Rattle.timeline.specs.Expansions.{SegmentTimeline}
+use Rattle.url_parts.specs.declared.address.Part.{Part}
+use Rattle.dash_writer.specs.declared.timed.TickRun.{TickRun}
+use Rattle.dash_writer.specs.Elements.{Element}
+use Rattle.dash_writer.specs.Lists.{list_with, parts_of}
+use Rattle.dash_writer.specs.Manifest.{CanBeListed as IsListed, all_period_attributes, root_attributes}
+use Rattle.dash_writer.specs.Outline.{Outline, outline_text}
+
+-- ---- Periods
+
+-- how long a track's segments last, in nanoseconds, rounded up
+abbrev pub lasting : TickRun → ℕ
+lasting run = div_ceil (sum run.durations * 10 ^ 9) run.scale
+
+-- how long the longest of some tracks does
+abbrev pub longest : List TickRun → ℕ
+longest [] = 0
+longest (run ∷ runs) = max (lasting run) (longest runs)
+
+-- the lengths of so many sections, of so many tracks each: a section lasts as long as its longest track
+abbrev pub lengths : (tracks count : ℕ) → List TickRun → List ℕ
+lengths tracks zero times = []
+lengths tracks (suc n) times = longest (take tracks times) ∷ lengths tracks n (drop tracks times)
+
+-- sections of these lengths, one behind another; their ids aren't written
+abbrev pub sections_from : (start : ℕ) → (lengths : List ℕ) → List Section
+sections_from start [] = []
+sections_from start (n ∷ lengths) = record { id = []; start = start; length = Some n } ∷ sections_from (start + n) lengths
+
+abbrev pub timed_sections : Presented → List TickRun → List Section
+timed_sections p times = sections_from 0 (lengths (length p.tracks) (length p.sections) times)
+
+-- ---- SegmentLists
+
+-- media time is at the first segment's time where the Period begins
+abbrev pub list_of : Window → SegmentTimeline → Part → TickRun → Element
+list_of window runs part run =
+    list_with run.scale (Some run.first) run.first part run.durations (parts_of runs (listed_in window runs))
+
+abbrev pub timed_list : Window → Content → TickRun → Element
+timed_list window content run = list_of window content.runs content.initialization run
+
+-- what a track has in a section
+abbrev pub timed_lists : Presented → List TickRun → (section place : ℕ) → List Element
+timed_lists p times section place = option_to_list (option_and_then
+    (λ content. option_map (timed_list (window_of p section) content) (slice_get times (section * length p.tracks + place)))
+    (content_at p section place))
+
+-- ---- the whole
+
+abbrev pub timed_outline : Presented → List TickRun → Outline
+timed_outline p times = record {
+  root = root_attributes (timed_sections p times);
+  periods = all_period_attributes 0 (timed_sections p times);
+  tracks = p.tracks;
+  lists = timed_lists p times;
+}
+
+unfoldable pub timed_text : Presented → List TickRun → List ℕ
+timed_text p times = outline_text (timed_outline p times)
+
+-- ---- what can be written
+
+-- a second has ticks, and the last segment ends below 2^63
+pub record CanBeCounted (run : TickRun) : Type 0 where
+  pub scale : 0 < run.scale
+  pub ends : run.first + sum run.durations < 2 ^ 63
+
+-- one run for each section and track, by section, then by track
+pub record CanBeTimed (p : Presented) (times : List TickRun) : Type 0 where
+  pub origin : CameFromPlaylists p
+  pub filled : AreFilled (length p.sections) (length p.tracks) (length times)
+  pub counted : All CanBeCounted times
+  pub total : sum (lengths (length p.tracks) (length p.sections) times) < 10 ^ 19
+
+-- the segments of a track in a section can be listed, with times
+pub record CanBeListed (p : Presented) (times : List TickRun) (section place : ℕ) : Type 0 where
+  pub listed : IsListed p section place
+  pub timed : section * length p.tracks + place < length times

@@ -1,0 +1,266 @@
+// The MPD of a live presentation.
+ghost use Rattle.std.specs.Prelude.{⊤, ◌≡◌, ◌⊎◌, OnErr, OnOk, if◌then◌else◌, map};
+ghost use Rattle.bridge_io.specs.Fault.{HasCause};
+ghost use Rattle.bridge_io.specs.Outside.{put, Changes};
+ghost use Rattle.bridge_io.specs.Written.{HasFront};
+ghost use Rattle.file_pieces.specs.Adding.{Adds, shown};
+ghost use Rattle.file_pieces.specs.declared.fault.OutFault.TheVariants.{WriteFault};
+ghost use Rattle.dash_writer.specs.Live as spec;
+ghost use Rattle.dash_writer.specs.Written.{all_told, element_text};
+
+use crate::attribute::{Attribute, Value};
+use crate::manifest::finished_root;
+use crate::outline::{Outline, Period};
+use crate::segments::{Files, ListHead, push_segment_list, push_url};
+use crate::sets::TrackLists;
+use crate::times::Durations;
+use bridge_io::{Fail, FileWriter, Name, Sequence, Store};
+use exact_time::Nanos;
+use file_pieces::OutFault;
+use iso_time::{Instant, write_instant_ms};
+use presentation::TrackList;
+use std::alloc::Global;
+use url_parts::{Address, Part, Range};
+
+/// A live presentation as its playlists tell it at an instant.
+#[derive(Debug, Drop)]
+pub struct LiveMpd {
+    /// When the first Period begins: `@availabilityStartTime` (ISO/IEC 23009-1, 5.3.1.2).
+    pub start: Instant,
+    /// When this was told: `@publishTime`.
+    pub published: Instant,
+    /// The greatest target duration in seconds, after which there may be more: `@minimumUpdatePeriod`.
+    pub target: u64,
+    /// Whether nothing more comes.
+    pub ended: bool,
+    /// The tracks: video, then audio, then text.
+    pub tracks: TrackList,
+    /// The Periods in order.
+    pub periods: LivePeriodList,
+}
+
+/// The segments of one discontinuity sequence number that are listed (RFC 8216, 4.3.3.3).
+#[derive(Debug, Drop)]
+pub struct LivePeriod {
+    /// That number.
+    pub number: u64,
+    /// When it begins, from the presentation's start.
+    pub start: Nanos,
+    /// When the longest of its tracks ends, from its own start.
+    pub longest: Nanos,
+    /// What each track has in it.
+    pub runs: LiveRunList,
+}
+
+/// What a track has in a Period.
+#[derive(Debug, Drop)]
+pub struct LiveRun {
+    /// The initialization part.
+    pub initialization: Part,
+    /// The listed segments in order, one behind another.
+    pub segments: LiveSegmentList,
+}
+
+/// A listed segment.
+#[derive(Debug, Drop)]
+pub struct LiveSegment {
+    /// The file.
+    pub address: Address,
+    /// The bytes of the file; None is the whole.
+    pub range: Option<Range>,
+    /// When it begins, in nanoseconds from the Period's start.
+    pub time: u64,
+    /// How long it lasts.
+    pub duration: Nanos,
+}
+
+/// Periods in order.
+pub type LivePeriodList = Sequence<LivePeriod>;
+
+/// What the tracks have in a Period, in their order.
+pub type LiveRunList = Sequence<LiveRun>;
+
+/// Listed segments in order.
+pub type LiveSegmentList = Sequence<LiveSegment>;
+
+/// Writes the MPD of a live presentation (ISO/IEC 23009-1, 5.3): until it is ended a dynamic one with `@publishTime` and
+/// `@minimumUpdatePeriod`, and then a static one that lasts until the last Period's longest track ends. A Period tells its
+/// number and its start, and times are nanoseconds, of which the first S tells the first listed one.
+///
+/// Requires that the years of the instants are 1000 to 9999, and that each track has a run in each Period. The text tells the
+/// segments' times where each one begins when the one before it ends.
+///
+/// An error leaves the file as it was, or a front of the text in it. [`OutFault::WriteFault`] comes only where the store's
+/// count of failed writes rose.
+pub fn write_live_mpd<F: Store>(
+    alloc: Global,
+    mpd: &LiveMpd,
+    store: &mut F,
+    name: &Name,
+) -> Result<(), OutFault>
+    requires { spec.IsLive mpd.now }
+    ensures ok { OnOk result (Changes (put name.now (spec.live_text mpd.now)) (F.files store.old) (F.files store.new)) }
+    ensures err { OnErr result ((F.files store.new ≡ F.files store.old)
+        ⊎ HasFront name.now (spec.live_text mpd.now) (F.files store.old) (F.files store.new)) }
+    ensures cause { HasCause WriteFault (F.write_faults store.old) (F.write_faults store.new) result }
+    ensures reads { F.read_faults store.new ≡ F.read_faults store.old }
+{
+    let periods = mpd.periods.as_slice();
+    let start = write_instant_ms(mpd.start);
+    let published = write_instant_ms(mpd.published);
+    let finished = finished_root(last_end(periods));
+    let growing = growing_root(&start, &published, mpd.target);
+    let outline = Outline {
+        root: one_of(mpd.ended, &finished, &growing),
+        periods,
+        tracks: mpd.tracks.as_slice(),
+        lists: mpd,
+    };
+    outline.write(alloc, store, name, &mut ())
+}
+
+/// The attributes of an MPD that goes on (5.3.1.2).
+fn growing_root<'a>(start: &'a [u8; 24], published: &'a [u8; 24], target: u64) -> [Attribute<'a>; 7]
+    ensures { all_told result ≡ spec.growing_root start.now published.now target }
+{
+    [
+        ("xmlns", Some(Value::Text("urn:mpeg:dash:schema:mpd:2011"))),
+        (
+            "profiles",
+            Some(Value::Text("urn:mpeg:dash:profile:full:2011")),
+        ),
+        ("type", Some(Value::Text("dynamic"))),
+        ("availabilityStartTime", Some(Value::Instant(start))),
+        ("publishTime", Some(Value::Instant(published))),
+        ("minimumUpdatePeriod", Some(Value::Seconds(target))),
+        ("minBufferTime", Some(Value::Text("PT2S"))),
+    ]
+}
+
+fn one_of<'a, T>(first: bool, one: &'a [T], other: &'a [T]) -> &'a [T]
+    ensures { result.now ≡ (if first then one.now else other.now) }
+{
+    if first { one } else { other }
+}
+
+/// When the last Period ends, where there is one.
+fn last_end(periods: &[LivePeriod]) -> Option<Nanos>
+    ensures { result ≡ spec.last_live_end periods.now }
+{
+    Some(end_of(periods.last()?))
+}
+
+fn end_of(period: &LivePeriod) -> Nanos
+    ensures { result ≡ spec.live_end period.now }
+{
+    let end = period.start.0.saturating_add(period.longest.0);
+    Nanos(end.min(9_999_999_999_999_999_999))
+}
+
+impl Period for LivePeriod {
+    ghost head = { spec.live_period };
+
+    fn attributes(&self, place: usize) -> [Attribute<'_>; 3] {
+        let _ = place; // its number stands in the place
+        [
+            ("id", Some(Value::Number(self.number))),
+            ("start", Some(Value::Duration(self.start))),
+            ("duration", None),
+        ]
+    }
+}
+
+impl TrackLists<()> for LiveMpd {
+    ghost lists = { spec.live_lists };
+
+    ghost can_list = { spec.HasRun };
+
+    fn push_list<F: Store>(
+        &self,
+        alloc: Global,
+        section: usize,
+        track: usize,
+        writer: &mut FileWriter<'_>,
+        store: &mut F,
+        steps: &mut (),
+    ) -> Result<(), Fail> {
+        let run = &self.periods.as_slice()[section].runs.as_slice()[track];
+        push_run(alloc, run, writer, store, steps)
+    }
+}
+
+/// Adds the SegmentList of a track in a Period.
+fn push_run<F: Store>(
+    alloc: Global,
+    run: &LiveRun,
+    writer: &mut FileWriter<'_>,
+    store: &mut F,
+    steps: &mut (),
+) -> Result<(), Fail>
+    ensures { let shows = shown F.files F.read_faults F.write_faults in
+        Adds (element_text (spec.live_list run.now)) writer.old writer.new (shows store.old) (shows store.new) result }
+{
+    let segments = run.segments.as_slice();
+    let head = ListHead {
+        ticks: 1_000_000_000,
+        offset: None,
+        first: first_time(segments),
+        initialization: &run.initialization,
+    };
+    let mut durations = LiveSegments { left: segments };
+    let mut files = LiveSegments { left: segments };
+    push_segment_list(
+        alloc,
+        &head,
+        &mut durations,
+        &mut files,
+        writer,
+        store,
+        steps,
+    )
+}
+
+/// When the first segment begins.
+fn first_time(segments: &[LiveSegment]) -> u64
+    ensures { result ≡ spec.first_time segments.now }
+{
+    match segments.first() {
+        Some(first) => first.time,
+        None => 0,
+    }
+}
+
+/// Segments that are left.
+#[derive(Drop)]
+struct LiveSegments<'a> {
+    left: &'a [LiveSegment],
+}
+
+impl Durations for LiveSegments<'_> {
+    ghost durations = { λ segments. map (λ segment. segment.duration) segments.left.now };
+
+    fn next_duration(&mut self) -> Option<u128> {
+        let (first, others) = self.left.split_first()?;
+        self.left = others;
+        Some(u128::from(first.duration.0))
+    }
+}
+
+impl Files<()> for LiveSegments<'_> {
+    ghost parts = { λ segments. map spec.part_of segments.left.now };
+
+    ghost can_push = { λ segments. ⊤ };
+
+    fn push_urls<F: Store>(
+        &mut self,
+        _alloc: Global,
+        writer: &mut FileWriter<'_>,
+        store: &mut F,
+        _steps: &mut (),
+    ) -> Result<(), Fail> {
+        for segment in self.left {
+            push_url(segment.address.as_str(), segment.range, writer, store)?;
+        }
+        Ok(())
+    }
+}

@@ -1,0 +1,204 @@
+// The MPD of a presentation with the times that its files state.
+ghost use Rattle.std.specs.Prelude.{◌≡◌, ◌⊎◌, ◌*◌, ◌<◌, ◌^◌, All, MatchResult, OnErr, OnOk, length, sum};
+ghost use Rattle.bridge_io.specs.Fault.{HasCause};
+ghost use Rattle.bridge_io.specs.Outside.{put, Changes};
+ghost use Rattle.bridge_io.specs.Written.{HasFront};
+ghost use Rattle.bridge_io.specs.declared.outside.Fail.TheVariants.{Memory};
+ghost use Rattle.file_pieces.specs.Adding.{Adds, shown};
+ghost use Rattle.file_pieces.specs.declared.fault.OutFault.TheVariants.{WriteFault};
+ghost use Rattle.presentation.specs.Origins.{IsAddressed};
+ghost use Rattle.dash_writer.specs.Timed as spec;
+ghost use Rattle.dash_writer.specs.Written.{element_text};
+
+use crate::listed::push_listed;
+use crate::manifest::{finished_root, last_end};
+use crate::outline::Outline;
+use crate::segments::ListHead;
+use crate::sets::TrackLists;
+use crate::times::Ticks;
+use bridge_io::{Fail, FileWriter, Ledger, Name, Sequence, Steps, Store, Text};
+use exact_time::Nanos;
+use file_pieces::OutFault;
+use presentation::{Presentation, Section, SectionList};
+use std::alloc::Global;
+use timeline::{Runs, Window};
+use url_parts::Part;
+
+/// The segments of a track in a section by their media times (ISO/IEC 23009-1, 5.3.9.6).
+#[derive(Debug, Drop)]
+pub struct TickRun {
+    /// How many ticks make a second.
+    pub scale: u32,
+    /// When the first segment begins, in ticks. It is the media time of the Period's start.
+    pub first: u64,
+    /// How long each segment lasts, in ticks.
+    pub durations: TickSeq,
+}
+
+/// Numbers of ticks, one for each segment.
+pub type TickSeq = Sequence<u64>;
+
+/// The media times of all segments: by section, then by track.
+pub type TickList = Sequence<TickRun>;
+
+/// Writes the MPD of a presentation that came from playlists with the media times of its segments (ISO/IEC 23009-1, 5.3.9):
+/// as [`write_mpd`](crate::write_mpd) does, but each SegmentList counts in the ticks of its track, and media time is at the
+/// first segment's time where its Period begins: `@presentationTimeOffset` and the first S tell it. A Period lasts as long as
+/// its longest track, rounded up to nanoseconds, and begins where the one before it ends.
+///
+/// Requires that the presentation came from playlists, and that there is one run for each section and track, by section, then
+/// by track, of at least 1 tick a second and with an end below 2^63 ticks; that all Periods together last less than 10^19 ns.
+/// The text tells when each segment begins where a run has one duration for each listed segment.
+///
+/// An error leaves the file as it was, or a front of the text in it. [`OutFault::WriteFault`] comes only where the store's
+/// count of failed writes rose.
+pub fn write_mpd_timed<F: Store, L: Ledger>(
+    alloc: Global,
+    presentation: &Presentation,
+    times: &TickList,
+    store: &mut F,
+    name: &Name,
+    steps: &mut Steps<L>,
+) -> Result<(), OutFault>
+    requires { spec.CanBeTimed presentation.now times.now }
+    ensures ok { OnOk result (Changes (put name.now (spec.timed_text presentation.now times.now)) (F.files store.old) (F.files store.new)) }
+    ensures err { OnErr result ((F.files store.new ≡ F.files store.old)
+        ⊎ HasFront name.now (spec.timed_text presentation.now times.now) (F.files store.old) (F.files store.new)) }
+    ensures cause { HasCause WriteFault (F.write_faults store.old) (F.write_faults store.new) result }
+    ensures reads { F.read_faults store.new ≡ F.read_faults store.old }
+{
+    let tracks = presentation.tracks().as_slice();
+    let times = times.as_slice();
+    let sections = sections_of(alloc, presentation.sections().len(), tracks.len(), times)?;
+    let root = finished_root(last_end(sections.as_slice()));
+    let lists = TimedLists {
+        presentation,
+        times,
+    };
+    let outline = Outline {
+        root: &root,
+        periods: sections.as_slice(),
+        tracks,
+        lists: &lists,
+    };
+    outline.write(alloc, store, name, steps)
+}
+
+/// The sections, one behind another, of so many tracks each.
+fn sections_of(
+    alloc: Global,
+    count: usize,
+    tracks: usize,
+    times: &[TickRun],
+) -> Result<SectionList, Fail>
+    requires filled { length times.now ≡ count * tracks }
+    requires ends { All spec.CanBeCounted times.now }
+    requires total { sum (spec.lengths tracks count times.now) < 10 ^ 19 }
+    ensures { MatchResult result (λ sections. sections ≡ spec.sections_from 0 (spec.lengths tracks count times.now))
+        (λ fail. fail ≡ Memory) }
+{
+    let mut sections = SectionList::new(alloc);
+    let mut start = 0;
+    let mut rest = times;
+    while sections.len() < count {
+        let (row, behind) = rest.split_at(tracks);
+        let length = longest(row);
+        sections.push(Section {
+            id: Text::from(String::new(alloc)),
+            start: Nanos(start),
+            length: Some(Nanos(length)),
+        })?;
+        start += length;
+        rest = behind;
+    }
+    Ok(sections)
+}
+
+/// How long the longest of some tracks lasts, in nanoseconds.
+fn longest(runs: &[TickRun]) -> u64
+    requires ends { All spec.CanBeCounted runs.now }
+    requires short { spec.longest runs.now < 10 ^ 19 }
+    ensures { result ≡ spec.longest runs.now }
+{
+    let mut longest = 0;
+    for run in runs {
+        longest = longest.max(lasting(run));
+    }
+    longest as u64
+}
+
+/// How long a track's segments last, in nanoseconds, rounded up.
+fn lasting(run: &TickRun) -> u128
+    requires { spec.CanBeCounted run.now }
+    ensures { result ≡ spec.lasting run.now }
+{
+    let ticks: u64 = run.durations.as_slice().iter().sum();
+    (u128::from(ticks) * 1_000_000_000).div_ceil(u128::from(run.scale))
+}
+
+/// What the tracks of a presentation have in its sections, with the times of their segments.
+#[derive(Clone, Copy)]
+struct TimedLists<'a> {
+    presentation: &'a Presentation,
+    times: &'a [TickRun],
+}
+
+impl<L: Ledger> TrackLists<Steps<L>> for TimedLists<'_> {
+    ghost lists = { λ lists. spec.timed_lists lists.presentation.now lists.times.now };
+
+    ghost can_list = { λ lists. spec.CanBeListed lists.presentation.now lists.times.now };
+
+    fn push_list<F: Store>(
+        &self,
+        alloc: Global,
+        section: usize,
+        track: usize,
+        writer: &mut FileWriter<'_>,
+        store: &mut F,
+        steps: &mut Steps<L>,
+    ) -> Result<(), Fail> {
+        let presentation = self.presentation;
+        let run = &self.times[section * presentation.tracks().len() + track];
+        let part = presentation.initialization(section, track);
+        let runs = presentation.runs(section, track);
+        let window = presentation.window(section);
+        push_timed(alloc, run, part, runs, &window, writer, store, steps)
+    }
+}
+
+/// Adds the SegmentList of the segments that are listed in a window, with the times that their files state.
+fn push_timed<F: Store, L: Ledger>(
+    alloc: Global,
+    run: &TickRun,
+    part: &Part,
+    runs: &Runs,
+    window: &Window,
+    writer: &mut FileWriter<'_>,
+    store: &mut F,
+    steps: &mut Steps<L>,
+) -> Result<(), Fail>
+    requires { IsAddressed runs.now }
+    ensures { let shows = shown F.files F.read_faults F.write_faults in
+        Adds (element_text (spec.list_of window.now runs.now part.now run.now))
+        writer.old writer.new (shows store.old) (shows store.new) result }
+{
+    let head = ListHead {
+        ticks: u64::from(run.scale),
+        offset: Some(run.first),
+        first: run.first,
+        initialization: part,
+    };
+    let mut durations = Ticks {
+        left: run.durations.as_slice(),
+    };
+    push_listed(
+        alloc,
+        &head,
+        &mut durations,
+        runs,
+        window,
+        writer,
+        store,
+        steps,
+    )
+}
