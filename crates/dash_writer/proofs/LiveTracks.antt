@@ -52,7 +52,8 @@ list_read mpd section place has periods period runs run are is runs_are run_is =
     (slice_get_within mpd.periods section has.0 has.2) (is ∙ ap (λ xs. get_or xs section period) are) in
     let same : has.0 ≡ period = cc (has.2, read) in
     let within : place < length period.runs = rw same at (slice_get_within has.0.runs place has.1 has.3) in
-    let run_read = slice_get_read period.runs (length period.runs) place run refl within (run_is ∙ ap (λ xs. get_or xs place run) runs_are) in
+    let run_read = slice_get_read period.runs (length period.runs) place run refl within
+    (run_is ∙ ap (λ xs. get_or xs place run) runs_are) in
     rw (read, run_read) refl
 
 pub root_is : (ended : Bool) (chosen one other : List (Bor (List ℕ) × Option Value)) (finished growing : List Attribute)

@@ -31,7 +31,12 @@ sum-cons n ns = sum_by-cons (λ m. m) n ns
 pub room_first : (start tracks n m : ℕ) (times : List TickRun) → n ≡ suc m → start + sum (lengths tracks n times) < 10 ^ 19
     → start + longest (take tracks times) + sum (lengths tracks m (drop tracks times)) < 10 ^ 19
 room_first start tracks n m times is room =
-    omega (arith, room, ap sum (first_length n m tracks times is), sum-cons (longest (take tracks times)) (lengths tracks m (drop tracks times)))
+    omega (
+      arith,
+      room,
+      ap sum (first_length n m tracks times is),
+      sum-cons (longest (take tracks times)) (lengths tracks m (drop tracks times)),
+    )
 
 pub longest_so_far : (a b c whole : ℕ) → max a (max b c) ≡ whole → max (max a b) c ≡ whole
 longest_so_far a b c whole is = omega arith

@@ -92,7 +92,8 @@ fn push_contents<S, D: Durations, P: Files<S>, F: Store>(
     requires few { length (D.durations durations.old) < 2 ^ 64 }
     requires can { P.can_push files.old }
     ensures { let shows = shown F.files F.read_faults F.write_faults in
-        Adds (elements_text (lists.contents_with head.now.first head.now.initialization.now (D.durations durations.old) (P.parts files.old)))
+        Adds (elements_text (lists.contents_with head.now.first head.now.initialization.now
+        (D.durations durations.old) (P.parts files.old)))
         writer.old writer.new (shows store.old) (shows store.new) result }
 {
     push_initialization(head.initialization, writer, store)?;

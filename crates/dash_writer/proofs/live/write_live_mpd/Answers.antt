@@ -23,7 +23,8 @@ root : (g : _) (c : goal.After-write g) → all_told c.one_of.result.now ≡ liv
 root g c = let mpd = c.args.mpd.now in
     root_is mpd.ended c.one_of.result.now c.finished_root-finished.result c.growing_root-growing.result _ _ c.one_of.ensures
     (c.finished_root-finished.ensures ∙ ap finished_root (c.last_end.ensures ∙ ap last_live_end c.as_slice-periods.ensures))
-    (c.growing_root-growing.ensures ∙ ap (λ start. growing_root start c.write_instant_ms-published.result mpd.target) c.write_instant_ms-start.ensures.text
+    (c.growing_root-growing.ensures
+    ∙ ap (λ start. growing_root start c.write_instant_ms-published.result mpd.target) c.write_instant_ms-start.ensures.text
     ∙ ap (λ published. growing_root (instant_text mpd.start) published mpd.target) c.write_instant_ms-published.ensures.text)
 
 pub returns-clause-ok : goal.returns-clause-ok

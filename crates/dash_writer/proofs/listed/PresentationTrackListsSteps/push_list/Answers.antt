@@ -9,10 +9,12 @@ use Rattle.dash_writer.proofs.listed.PresentationTrackListsSteps.push_list.Goals
 
 pub push_own-requires : goal.push_own-requires
 push_own-requires g c = let p = c.args.self.now in
-    addressed_at p.contents (c.args.section * length p.tracks + c.args.track) c.runs-runs.result.now c.requires.origin.addressed c.runs-runs.ensures.content
+    addressed_at p.contents (c.args.section * length p.tracks + c.args.track) c.runs-runs.result.now
+    c.requires.origin.addressed c.runs-runs.ensures.content
 
 pub returns : goal.returns
 returns g c = let p = c.args.self.now in let runs = c.runs-runs.result.now in let part = c.initialization-part.result.now in
-    let list = list_is (window_of p c.args.section) (content_at p c.args.section c.args.track) runs part c.runs-runs.ensures.content c.initialization-part.ensures in
+    let list = list_is (window_of p c.args.section) (content_at p c.args.section c.args.track) runs part
+    c.runs-runs.ensures.content c.initialization-part.ensures in
     adds_same (ap (λ window. element_text (segment_list runs part (listed_in window runs))) c.window-window.ensures
     ∙ ap (λ o. elements_text (option_to_list o)) (sym list)) c.push_own.ensures

@@ -17,7 +17,8 @@ pub returns : goal.returns
 returns g c = let p = c.args.self.now.presentation.now in let times = c.args.self.now.times.now in
     let section = c.args.section in let place = section * length p.tracks + c.args.track in let run = c.index-self-section.result in
     let runs = c.runs-runs.result.now in let part = c.initialization-part.result.now in
-    let at = c.index-self-section.is ∙ ap (λ n. get_or times (section * n + c.args.track) run) (c.len.ensures ∙ ap length c.tracks.ensures) in
+    let at = c.index-self-section.is
+    ∙ ap (λ n. get_or times (section * n + c.args.track) run) (c.len.ensures ∙ ap length c.tracks.ensures) in
     let timed = slice_get_read times (length times) place run refl c.requires.timed at in
     let is = timed_is (window_of p section) (content_at p section c.args.track) runs part (slice_get times place) run
     c.runs-runs.ensures.content c.initialization-part.ensures timed in
