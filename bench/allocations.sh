@@ -1,7 +1,9 @@
 #!/usr/bin/env bash
-# Refuses each allocation of `bridge` in turn: those of `hls` over one Period and over two, and those of `dash`. Each run ends as one whose
-# memory is ample, with the same line and the same files, or as 5, with each file a front of its text, none begun before the one in front of
-# it is whole, and no other file. A run that does anything else is told, and the script's status is then 1.
+# Refuses each allocation of `bridge` in turn: those of `hls` over one Period and over two, of `hls-index`, `dash`, `show`, `check` and
+# `reload`, and of `follow` over an MPD, an instant, a refused address and a reset. Each run ends as one whose memory is ample, with the same lines and the
+# same files, or as 5, with each file a front of its text, none begun before the one in front of it is whole, and no other file; of `follow`,
+# with the lines and files of the frames so far, and such fronts of the next one's. A run that does anything else is told, and the script's
+# status is then 1.
 #
 # It wants `rt`, python3 and cc, and proves the program first where that isn't kept. glibc is taken for the C library.
 set -euo pipefail
@@ -41,7 +43,7 @@ C
 cc -O2 -shared -fPIC -o "$work/refuse.so" "$work/refuse.c"
 
 cat > "$work/allocations.py" <<'PY'
-import itertools, os, subprocess, sys, tempfile
+import itertools, os, struct, subprocess, sys, tempfile
 
 bridge, library, data = sys.argv[1:]
 
@@ -57,6 +59,9 @@ def period(base):
 MASTER = ('#EXTM3U\n#EXT-X-STREAM-INF:BANDWIDTH=800000,CODECS="avc1.64001f",RESOLUTION=640x360,FRAME-RATE=29.970\nv.m3u8\n')
 VIDEO = ('#EXTM3U\n#EXT-X-TARGETDURATION:9\n#EXT-X-MAP:URI="i.mp4"\n#EXTINF:9.009,\ns0.m4s\n#EXTINF:9.009,\ns1.m4s\n'
          '#EXTINF:3.003,\ns2.m4s\n#EXT-X-ENDLIST\n')
+INDEXED = ('<MPD xmlns="urn:mpeg:dash:schema:mpd:2011"><Period><AdaptationSet mimeType="video/mp4"><Representation id="v" bandwidth="1000">'
+           '<BaseURL>f.mp4</BaseURL><SegmentBase indexRange="100-155"/></Representation></AdaptationSet></Period></MPD>')
+INDEX = bytes(100) + struct.pack(">I4s12I", 56, b"sidx", 0, 1, 1000, 0, 0, 2, 1000, 2000, 9 << 28, 500, 1500, 9 << 28)
 PERIODS = '<MPD xmlns="urn:mpeg:dash:schema:mpd:2011">' + period("") + period("<BaseURL>p2/</BaseURL>") + "</MPD>"
 
 # What is run over which files, its line, and the files that it writes in turn.
@@ -65,9 +70,34 @@ RUNS = {
                           ["out/t0.m3u8", "out/master.m3u8"]),
     "hls of two Periods": (["hls", "m.mpd"], {"m.mpd": PERIODS}, "done tracks=1 sections=2 segments=4 left-out=0\n",
                            ["out/t0.m3u8", "out/master.m3u8"]),
+    "hls-index": (["hls-index", "m.mpd"], {"m.mpd": INDEXED, "f.mp4": INDEX}, "done tracks=1 sections=1 segments=2 left-out=0\n",
+                  ["out/t0.m3u8", "out/master.m3u8"]),
     "dash": (["dash", "m.m3u8"], {"m.m3u8": MASTER, "v.m3u8": VIDEO}, "done tracks=1 sections=1 segments=3 left-out=0\n",
              ["out/manifest.mpd"]),
+    "show": (["show", "m.m3u8"], {"m.m3u8": MASTER, "v.m3u8": VIDEO}, "hls tracks=1 sections=1 segments=3 left-out=0\n"
+             "track 0 video - section 0 segments=3 length=21.021000\n", []),
+    "check": (["check", "m.mpd", "m.m3u8"], {"m.mpd": text("m.mpd"), "m.m3u8": MASTER, "v.m3u8": VIDEO},
+              "differ duration section 0 track 0 segment 0\n", []),
+    "reload": (["reload", "v.m3u8", "v.m3u8"], {"v.m3u8": VIDEO}, "lawful kept=3 added=0 removed=0\n", []),
 }
+STATUS = {"check": 6}
+
+# Frames that are followed, and what is told of each.
+LIVE = ('<MPD xmlns="urn:mpeg:dash:schema:mpd:2011" type="dynamic" availabilityStartTime="2024-01-01T00:00:00Z" timeShiftBufferDepth="PT12S">'
+        '<Period id="p" start="PT0S"><AdaptationSet mimeType="video/mp4"><Representation id="v" bandwidth="1000"><SegmentTemplate '
+        'duration="2" initialization="i.mp4" media="{}$Number$.m4s"/></Representation></AdaptationSet></Period></MPD>')
+REFUSED = "http://[/"
+
+def frame(word, second, mpd=""):
+    return f"{word} 2024-01-01T00:00:{second}Z{f' {len(mpd)}' if mpd else ''}\n{mpd}"
+
+FRAMES = [
+    (frame("mpd", 20, LIVE.format("s")), "frame 0 ok appended=6\n"),
+    (frame("tick", 24), "frame 1 ok appended=2\n"),
+    (frame("mpd", 26, LIVE.format(REFUSED)), "frame 2 refused url 1 Refused section 0 track 0 segment 5\n"),
+    (frame("tick", 26), "frame 3 ok appended=1\n"),
+    (frame("reset", 30, LIVE.format("s")), "frame 4 ok appended=2\n"),
+]
 
 def left(folder):
     """The files below a folder."""
@@ -79,13 +109,13 @@ def left(folder):
                 found[os.path.relpath(path, folder)] = it.read()
     return found
 
-def run(words, files, refused):
-    """The status and the line, the files that are left, and whether an allocation was refused."""
+def run(words, files, refused, given=""):
+    """The status and the lines, the files that are left, and whether an allocation was refused."""
     with tempfile.TemporaryDirectory() as folder:
         for name, it in files.items():
-            with open(os.path.join(folder, name), "w") as file:
-                file.write(it)
-        ended = subprocess.run([bridge, *words, "--base=https://h.example/"], cwd=folder, capture_output=True,
+            with open(os.path.join(folder, name), "wb") as file:
+                file.write(it if isinstance(it, bytes) else it.encode())
+        ended = subprocess.run([bridge, *words, "--base=https://h.example/"], cwd=folder, capture_output=True, input=given.encode(),
                                env={"LD_PRELOAD": library, "REFUSED": str(refused)})
         return (ended.returncode, ended.stdout.decode(), left(folder)), ended.stderr == b"refused\n"
 
@@ -97,25 +127,60 @@ def gave_up(ended, whole, files, written):
             and all(now[name] == whole[name] for name in [*files, *begun[:-1]])
             and all(whole[name].startswith(now[name]) for name in begun))
 
-bad = 0
-for label, (words, files, line, written) in RUNS.items():
-    whole, _ = run(words, files, 0)
-    if whole[:2] != (0, line) or set(whole[2]) != {*files, *written}:
-        sys.exit(f"{label}: with ample memory it ends as {whole[:2]} and leaves {sorted(whole[2])}")
-    same = fronts = 0
+def is_begun(now, before, after, written):
+    """Whether some of the files that are written in turn are whole, the next one a front of its text, and all others as before."""
+    if not written:
+        return now == before
+    first, *later = written
+    whole = {**before, first: after[first]}
+    front = now.get(first)
+    return (is_begun(now, whole, after, later) or now == before
+            or front is not None and after[first].startswith(front) and now == {**before, first: front})
+
+def stopped(ended, told, states):
+    """Whether a run that ended as 5 left what some frames left, and fronts of the next one's files."""
+    status, lines, now = ended
+    lines = lines.removesuffix("out of memory\n")
+    count = lines.count("\n")
+    if status != 5 or lines != "".join(told[:count]):
+        return False
+    following = min(count + 1, len(told))
+    accepted = " ok " in "".join(told[count:following])
+    written = ["out/t0.m3u8", "out/master.m3u8"][:1 + (count == 0)] if accepted else []
+    return is_begun(now, states[count], states[following], written)
+
+def tried(label, words, files, whole, gives_up, given=""):
+    """How many runs did what they may not do, with each allocation refused in turn."""
+    bad = same = fronts = 0
     for number in itertools.count(1):
-        ended, was_refused = run(words, files, number)
+        ended, was_refused = run(words, files, number, given)
         if not was_refused:
             break
         if ended == whole:
             same += 1
-        elif gave_up(ended, whole[2], files, written):
+        elif gives_up(ended):
             fronts += 1
         else:
             bad += 1
             print(f"{label}: without allocation {number} it ends as {ended}")
     print(f"{label}: of {number - 1} allocations, each refused in turn, {fronts} end it as 5 with fronts, and {same} change nothing")
-    bad += number == 1
+    return bad + (number == 1)
+
+bad = 0
+for label, (words, files, line, written) in RUNS.items():
+    whole, _ = run(words, files, 0)
+    if whole[:2] != (STATUS.get(label, 0), line) or set(whole[2]) != {*files, *written}:
+        sys.exit(f"{label}: with ample memory it ends as {whole[:2]} and leaves {sorted(whole[2])}")
+    bad += tried(label, words, files, whole, lambda ended: gave_up(ended, whole[2], files, written))
+
+told = [line for _, line in FRAMES]
+streams = ["".join(text for text, _ in FRAMES[:count]) for count in range(len(FRAMES) + 1)]
+ends = [run(["follow", "live.mpd"], {}, 0, stream)[0] for stream in streams]
+for count, (status, lines, _) in enumerate(ends):
+    if (status, lines.rpartition("done")[0]) != (0, "".join(told[:count])):
+        sys.exit(f"follow: with ample memory {count} frames end as {status} with {lines}")
+states = [files for _, _, files in ends]
+bad += tried("follow", ["follow", "live.mpd"], {}, ends[-1], lambda ended: stopped(ended, told, states), streams[-1])
 sys.exit(bad != 0)
 PY
 python3 "$work/allocations.py" "$bridge" "$work/refuse.so" "$here/crates/bridge/data"

@@ -16,6 +16,7 @@ use Rattle.bridge_jobs.specs.Verbs.{values_of}
 abbrev pub IsBounded : Job → Type 0
 IsBounded (job.Hls mpd base now out digits) = IsTrue (is_folder out) × (digits ≤ 9)
 IsBounded (job.Dash master base out) = IsTrue (is_name master)
+IsBounded (job.HlsIndex mpd base out digits) = IsTrue (is_folder out) × (digits ≤ 9)
 IsBounded (job.Check mpd master base digits) = IsTrue (is_name master)
 IsBounded other = Unit {0}
 
@@ -82,6 +83,18 @@ hls_bounded rows =
     bounded_in (out_of rows) (digits_of rows) mpd base now (folder_is (unwrap_or (first_of (codes "out") rows) (codes "out")))
     (few_of rows))))
 
+index_in : (out : Option (List ℕ)) (digits : Option ℕ) (mpd base : List ℕ) → ((o : List ℕ) → out ≡ Some o → IsTrue (is_folder o))
+    → ((d : ℕ) → digits ≡ Some d → d ≤ 9) → IfSome (out >>= (λ o. digits >>= (λ d. Some (job.HlsIndex mpd base o d)))) IsBounded
+index_in None digits mpd base room few = tt
+index_in (Some o) None mpd base room few = tt
+index_in (Some o) (Some d) mpd base room few = (room o refl, few d refl)
+
+index_bounded : (rows : List Row) → IfSome (hls_index_of rows) IsBounded
+unfolding hls_index_of out_of
+index_bounded rows =
+    behind IsBounded (file_of (codes "mpd") rows) _ (λ mpd. behind IsBounded (base_of rows) _ (λ base.
+    index_in (out_of rows) (digits_of rows) mpd base (folder_is (unwrap_or (first_of (codes "out") rows) (codes "out"))) (few_of rows)))
+
 named : (text name : List ℕ) → name_in text ≡ Some name → IsTrue (is_name name)
 named text name is = elim (cases_Bool (is_name text)) [
   | inl is_so ↦ (let same : text ≡ name = (let e = rw is_so at is in cc) in rw (← same, is_so) refl)
@@ -118,7 +131,7 @@ check_bounded rows =
     (named_in (first_of (codes "master") rows))
 
 bounded_by : (v : Verb) (rows : List Row) → IfSome (job_by v rows) IsBounded
-unfolding follow_of show_of reload_of make_of hls_index_of dash_times_of agree_of follow_hls_of
+unfolding follow_of show_of reload_of make_of dash_times_of agree_of follow_hls_of
 bounded_by verb.Hls rows = hls_bounded rows
 bounded_by verb.Dash rows = dash_bounded rows
 bounded_by verb.Follow rows =
@@ -129,8 +142,7 @@ bounded_by verb.Check rows = check_bounded rows
 bounded_by verb.Reload rows =
     three IsBounded (file_of (codes "old") rows) (file_of (codes "new") rows) (base_of rows) job.Reload (λ _ _ _. tt)
 bounded_by verb.Make rows = three IsBounded (seed_of rows) (out_of rows) (digits_of rows) job.Make (λ _ _ _. tt)
-bounded_by verb.HlsIndex rows =
-    four IsBounded (file_of (codes "mpd") rows) (base_of rows) (out_of rows) (digits_of rows) job.HlsIndex (λ _ _ _ _. tt)
+bounded_by verb.HlsIndex rows = index_bounded rows
 bounded_by verb.DashTimes rows = three IsBounded (file_of (codes "master") rows) (base_of rows) (out_of rows) job.DashTimes (λ _ _ _. tt)
 bounded_by verb.Agree rows = two IsBounded (file_of (codes "mpd") rows) (base_of rows) job.Agree (λ _ _. tt)
 bounded_by verb.FollowHls rows = three IsBounded (file_of (codes "master") rows) (base_of rows) (out_of rows) job.FollowHls (λ _ _ _. tt)

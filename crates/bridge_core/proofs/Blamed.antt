@@ -85,18 +85,19 @@ pub left_unbuilt : (j : Job)
     → ((mpd master base : List ℕ) (digits : ℕ) → j ≡ job.Check mpd master base digits → ⊥)
     → ((old new base : List ℕ) → j ≡ job.Reload old new base → ⊥)
     → ((seed : ℕ) (out : List ℕ) (digits : ℕ) → j ≡ job.Make seed out digits → ⊥)
+    → ((mpd base out : List ℕ) (digits : ℕ) → j ≡ job.HlsIndex mpd base out digits → ⊥)
     → (Follows (Some j) → ⊥) → IsUnbuilt j
-left_unbuilt (job.Hls mpd base now out digits) a b c d e f g = a mpd base now out digits refl
-left_unbuilt (job.Dash master base out) a b c d e f g = b master base out refl
-left_unbuilt (job.Follow name base out digits) a b c d e f g = g tt
-left_unbuilt (job.Show file base now digits) a b c d e f g = c file base now digits refl
-left_unbuilt (job.Check mpd master base digits) a b c d e f g = d mpd master base digits refl
-left_unbuilt (job.Reload old new base) a b c d e f g = e old new base refl
-left_unbuilt (job.Make seed out digits) a b c d e f g = f seed out digits refl
-left_unbuilt (job.HlsIndex mpd base out digits) a b c d e f g = tt
-left_unbuilt (job.DashTimes master base out) a b c d e f g = tt
-left_unbuilt (job.Agree mpd base) a b c d e f g = tt
-left_unbuilt (job.FollowHls master base out) a b c d e f g = tt
+left_unbuilt (job.Hls mpd base now out digits) a b c d e f g other = a mpd base now out digits refl
+left_unbuilt (job.Dash master base out) a b c d e f g other = b master base out refl
+left_unbuilt (job.Follow name base out digits) a b c d e f g other = other tt
+left_unbuilt (job.Show file base now digits) a b c d e f g other = c file base now digits refl
+left_unbuilt (job.Check mpd master base digits) a b c d e f g other = d mpd master base digits refl
+left_unbuilt (job.Reload old new base) a b c d e f g other = e old new base refl
+left_unbuilt (job.Make seed out digits) a b c d e f g other = f seed out digits refl
+left_unbuilt (job.HlsIndex mpd base out digits) a b c d e f g other = g mpd base out digits refl
+left_unbuilt (job.DashTimes master base out) a b c d e f g other = tt
+left_unbuilt (job.Agree mpd base) a b c d e f g other = tt
+left_unbuilt (job.FollowHls master base out) a b c d e f g other = tt
 
 store_read : (j : Job) → (Follows (Some j) → ⊥) → (i i' r r' : ℕ) → Rose r r' → ReadRose (Some j) i i' r r'
 store_read (job.Hls mpd base now out digits) other i i' r r' rose = rose

@@ -9,3 +9,4 @@ pub mod MpdPromises
 pub mod CheckPromises
 pub mod Blamed
 pub mod Worked
+pub mod IndexPromises

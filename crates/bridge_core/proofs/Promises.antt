@@ -125,7 +125,7 @@ utf8_of : (b : Bool) (bytes : List ℕ) (read : Result Element TextFault) (fault
 utf8_of true bytes read fault tree utf8 is = all_bytes bytes (utf8_bytes bytes (IsUtf8-from_is_utf8 bytes utf8))
 utf8_of false bytes read fault tree utf8 is = absurd (cc)
 
-spelled_bytes : (bytes : List ℕ) (tree : Element) → reading_of bytes ≡ Ok tree → IsOfBytes bytes
+pub spelled_bytes : (bytes : List ℕ) (tree : Element) → reading_of bytes ≡ Ok tree → IsOfBytes bytes
 unfolding reading_of
 spelled_bytes bytes tree is = utf8_of (is_utf8 bytes) bytes _ _ tree refl is
 
@@ -143,7 +143,7 @@ last_is xs x some is =
     sym (take_all (length xs - 1 + 1) xs (omega (arith, some))) ∙ take_more xs (length xs - 1) 0 (omega (arith, some))
     ∙ ap (λ y. take (length xs - 1) xs ++ y ∷ []) is
 
-base_folder : (base : List ℕ) → is_base base ≡ true → folder_of base ≡ base
+pub base_folder : (base : List ℕ) → is_base base ≡ true → folder_of base ≡ base
 base_folder base is =
     let both = and_parts (ends_in_slash base) (not (list_any is_tail base)) is in
     let ends = and_parts (nat_lt 0 (length base)) (slice_index base (length base - 1) == 47) both.0 in
@@ -154,7 +154,7 @@ base_folder base is =
     let whole = and_parts (list_all no_tail front) true (sym (list_all-append no_tail front (47 ∷ [])) ∙ plain) in
     ap folder_of last ∙ own_with_slash front whole.0 ∙ sym last
 
-holds : FoldersHoldTheirFiles → FoldersHoldFiles → (out : List ℕ) (tracks : ℕ) → IsTrue (is_folder out) → tracks ≤ 200
+pub holds : FoldersHoldTheirFiles → FoldersHoldFiles → (out : List ℕ) (tracks : ℕ) → IsTrue (is_folder out) → tracks ≤ 200
     → HoldsFiles (out ++ 47 ∷ []) tracks
 holds names hold out tracks room few = let files = names out room in
     hold out tracks (and_parts (is_name out) (nat_le (length out) 242) room).0 files.master

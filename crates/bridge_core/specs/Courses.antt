@@ -19,6 +19,7 @@ use Rattle.bridge_core.specs.Hls.{hls_outcome}
 use Rattle.bridge_core.specs.Make.{make_outcome}
 use Rattle.bridge_core.specs.Show.{show_outcome}
 use Rattle.bridge_playlists.specs.Reload.{reload_outcome}
+use Rattle.bridge_reach.specs.Index.{index_outcome}
 
 abbrev pub no_job : Outcome
 no_job = Ends verdict.Words words_line false true
@@ -34,6 +35,8 @@ outcome_of_job (Some (job.Check mpd master base digits)) files =
     check_outcome (record { mpd = mpd; master = master; base = base; digits = digits }) files
 outcome_of_job (Some (job.Reload old new base)) files = reload_outcome (record { old = old; new = new; base = base }) files
 outcome_of_job (Some (job.Make seed out digits)) files = make_outcome (record { seed = seed; out = out; digits = digits })
+outcome_of_job (Some (job.HlsIndex mpd base out digits)) files =
+    index_outcome (record { mpd = mpd; base = base; out = out; digits = digits }) files
 outcome_of_job other files = Some no_job
 
 -- What a run of these words does over these files and this input. Where they aren't told, it is known if the words alone decide it.
@@ -62,6 +65,7 @@ IsUnbuilt (job.Show file base now digits) = ⊥
 IsUnbuilt (job.Check mpd master base digits) = ⊥
 IsUnbuilt (job.Reload old new base) = ⊥
 IsUnbuilt (job.Make seed out digits) = ⊥
+IsUnbuilt (job.HlsIndex mpd base out digits) = ⊥
 IsUnbuilt other = Unit {0}
 
 -- ---- causes

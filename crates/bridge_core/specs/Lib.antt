@@ -3,6 +3,7 @@ pub mod Courses
 pub mod Dash
 pub mod Follow
 pub mod Hls
+pub mod IndexPromises
 pub mod Make
 pub mod Promises
 pub mod Reports

@@ -1,10 +1,15 @@
 //! Laws of the program's runs. The functions do nothing: what they ensure is the law.
+ghost use Rattle.bridge_core.specs.IndexPromises.{WrittenMeansTheIndexes};
 ghost use Rattle.bridge_core.specs.Promises.{DifferIsApart, DoneIsAgreed, WrittenMeansTheMpd, WrittenMpdMeansThePlaylists};
 
 use bridge_jobs::laws::folders_hold_their_files;
 use bridge_runs::{a_verdict_keeps_the_steps, done_is_whole};
 use hls_media::what_is_read_is_bounded;
 use hls_read::presented_mean_their_files;
+use index_read::{
+    indexed_parts_can_be_written, indexes_mean_what_they_list,
+    what_is_written_means_the_indexes as written_indexes_mean_the_same,
+};
 use live_reloads::first_files_mean_the_same;
 use meaning::agreeing_has_no_difference;
 use mpd_from_playlists::{
@@ -31,6 +36,22 @@ pub fn what_is_written_means_the_mpd()
     first_files_mean_the_same();
     read_trees_are_of_bytes();
     tracks_are_writable();
+}
+
+/// Where a run of `hls-index` is done, the master and the playlists that it wrote mean what the MPD means with the indexes of its
+/// media files: the same tracks, addresses and ranges in order, and each time rounded down to the unit of the printed durations
+/// (ISO/IEC 23009-1, 5.3.9.2; RFC 8216, 4.3).
+pub fn what_is_written_means_the_indexes()
+    ensures { WrittenMeansTheIndexes }
+{
+    done_is_whole();
+    a_verdict_keeps_the_steps();
+    folders_hold_their_files();
+    tracks_mean_the_same();
+    read_trees_are_of_bytes();
+    indexes_mean_what_they_list();
+    indexed_parts_can_be_written();
+    written_indexes_mean_the_same();
 }
 
 /// Where a run of `dash` is done, the MPD that it wrote means, at any URL and instant, what the master and its playlists mean:

@@ -15,6 +15,7 @@ mod source;
 
 pub use bridge_runs::Status;
 pub use laws::{
-    what_is_checked_agrees, what_is_written_means_the_mpd, what_is_written_means_the_playlists,
+    what_is_checked_agrees, what_is_written_means_the_indexes, what_is_written_means_the_mpd,
+    what_is_written_means_the_playlists,
 };
 pub use run::bridge;

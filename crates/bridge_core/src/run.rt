@@ -21,20 +21,22 @@ use crate::show::{self, Show};
 use bridge_io::{Ledger, NoMemory, Sink, Source, Steps, Store, Text};
 use bridge_jobs::{Job, job};
 use bridge_playlists::{Reload, judge};
+use bridge_reach::{HlsIndex, translate_indexed};
 use bridge_runs::{Ending, Status, tell};
 use std::alloc::Global;
 
 /// Runs the command that the words are, without the program's own name: it reads and writes the files of the store,
 /// and reports how it ends, in one line but for `show` and `follow`. The input is left as it was, but for `follow`.
 ///
-/// Seven commands are built yet. `hls` writes the playlists of an MPD, `t0.m3u8` and so on for each track and `master.m3u8` for
-/// all, to a folder, the master last; of a live one those that `follow` would write of it at an instant. `dash` writes the MPD of a
-/// master and its playlists, `manifest.mpd`. Neither writes anything before every refusal is ruled out. `follow` reads frames from
-/// the input, each a version of a live MPD or an instant, and after each accepted one writes the playlists again, which slide; each
-/// frame has a line. It reads nothing of the store. `show` tells the tracks and sections of an MPD or of a master, a line for each
-/// track in each section. `check` tells whether an MPD and a master agree, or where they differ first. `reload` reads two media
-/// playlists and tells whether the second may take the first one's place, or the first rule that it breaks. `make` writes an MPD
-/// that is made from a seed, `source.mpd`, and then what `hls` writes of it, and reads nothing.
+/// Eight commands are built yet. `hls` writes the playlists of an MPD, `t0.m3u8` and so on for each track and `master.m3u8` for
+/// all, to a folder, the master last; of a live one those that `follow` would write of it at an instant. `hls-index` writes the same
+/// of an MPD whose media files have an index inside, and of these files. `dash` writes the MPD of a master and its playlists,
+/// `manifest.mpd`. None of them writes anything before every refusal is ruled out. `follow` reads frames from the input, each a
+/// version of a live MPD or an instant, and after each accepted one writes the playlists again, which slide; each frame has a line.
+/// It reads nothing of the store. `show` tells the tracks and sections of an MPD or of a master, a line for each track in each
+/// section. `check` tells whether an MPD and a master agree, or where they differ first. `reload` reads two media playlists and
+/// tells whether the second may take the first one's place, or the first rule that it breaks. `make` writes an MPD that is made
+/// from a seed, `source.mpd`, and then what `hls` writes of it, and reads nothing.
 pub fn bridge<I: Source, F: Store, P: Sink, L: Ledger>(
     alloc: Global,
     words: &[Text],
@@ -203,6 +205,20 @@ fn run_command<F: Store, L: Ledger>(
         Job::Reload { old, new, base } => judge(alloc, &Reload { old, new, base }, store),
         Job::Make { seed, out, digits } => {
             make::translate(alloc, &Make { seed, out, digits }, store, steps)
+        }
+        Job::HlsIndex {
+            mpd,
+            base,
+            out,
+            digits,
+        } => {
+            let job = HlsIndex {
+                mpd,
+                base,
+                out,
+                digits,
+            };
+            translate_indexed(alloc, &job, store, steps)
         }
         _ => Ending::Words,
     }

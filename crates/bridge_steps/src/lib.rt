@@ -18,6 +18,6 @@ pub use frames::Follow;
 pub use live_files::write_live_files;
 pub use live_frame::begin_session;
 pub use live_mpd::LiveMpd;
-pub use manifest::{Ready, mpd_at, mpd_in, ready_of, values_of};
+pub use manifest::{Ready, checked, mpd_at, mpd_in, ready_of, tree_of, values_of};
 pub use playlists::{file_in, write_playlists};
 pub use run::follow;

@@ -128,7 +128,7 @@ pub fn ready_of<L: Ledger>(
 
 /// Looks at each listed segment of a presentation: whether it has an address, and how long its printed duration is.
 #[tactic(auto, unfolding(crate::specs::Manifests::checked), using(crate::proofs::Counted::all_counted))]
-fn checked<L: Ledger>(
+pub fn checked<L: Ledger>(
     alloc: Global,
     presentation: Presentation,
     digits: Digits,
@@ -169,7 +169,8 @@ pub fn values_of(alloc: Global, bytes: &[u8]) -> Result<Mpd, Stop>
     typed_of(alloc, &tree)
 }
 
-fn tree_of(alloc: Global, bytes: &[u8]) -> Result<Tree, Stop>
+/// The tree that bytes spell, or why they spell none.
+pub fn tree_of(alloc: Global, bytes: &[u8]) -> Result<Tree, Stop>
     ensures { Gives root_of refused_in result (told_as Refusal.Text (reading_of bytes.now)) }
 {
     match read_tree(alloc, bytes) {

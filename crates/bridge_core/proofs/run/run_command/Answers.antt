@@ -17,4 +17,5 @@ returns-in-Reload-clause-ends g c = let told = c.judge-in-Reload.ensures in
 pub returns-clause-words : goal.returns-clause-words
 returns-clause-words g c = λ _.
     let not = c.in_default in
-    left_unbuilt c.args.job not.not-Hls not.not-Dash not.not-Show not.not-Check not.not-Reload not.not-Make c.requires.other
+    left_unbuilt c.args.job not.not-Hls not.not-Dash not.not-Show not.not-Check not.not-Reload not.not-Make not.not-HlsIndex
+    c.requires.other

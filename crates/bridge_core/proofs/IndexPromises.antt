@@ -1,0 +1,82 @@
+-- What is written means what an MPD and the indexes of its media files mean.
+use Rattle.std.proofs.Common.{◌≡◌, ℕ, ◌^◌, List, [], ◌∷◌, ◌++◌, length, Some, option_map, IfSome, sym, ◌∙◌, ap, subst, append_assoc}
+use Rattle.std.proofs.lemmas.List.{append-nil}
+use Rattle.bridge_io.specs.InOrder.{put_all}
+use Rattle.bridge_io.specs.Outside.{Files}
+use Rattle.bridge_jobs.specs.Laws.{FoldersHoldTheirFiles}
+use Rattle.bridge_runs.specs.Courses.{Course, World, files_of}
+use Rattle.bridge_runs.specs.Laws.{DoneIsWhole, VerdictKeepsSteps}
+use Rattle.bridge_runs.specs.Runs.{IsRun}
+use Rattle.bridge_runs.specs.declared.status.Status.TheVariants as status
+use Rattle.hls_meaning.specs.Meanings.{hls_meaning}
+use Rattle.hls_writer.specs.Verified.{IsVerified}
+use Rattle.index_parts.specs.Meanings.{indexed_meaning}
+use Rattle.index_read.specs.Meant.{IndexedTextsAreMeant}
+use Rattle.index_read.specs.Origins.{IndexedAreFew}
+use Rattle.index_read.specs.Written.{WrittenMeansTheIndex}
+use Rattle.presentation.specs.Meanings.{meaning_of}
+use Rattle.read_back.specs.Origins.{IsFound, OwnTextsAreAddresses, ReadingsAreOfBytes}
+use Rattle.read_back.specs.SameFiles.{AreWritten, FoldersHoldFiles, master_name}
+use Rattle.bridge_playlists.specs.Places.{place_of}
+use Rattle.bridge_steps.specs.Done.{done_line}
+use Rattle.bridge_steps.specs.Playlists.{playlists}
+use Rattle.bridge_reach.specs.declared.index.HlsIndex.{HlsIndex}
+use Rattle.bridge_reach.specs.Index.{index_outcome, outcome_of, presented}
+use Rattle.bridge_reach.proofs.Came.{came_from, is_indexed}
+use Rattle.bridge_core.specs.Courses.{course_of, course_of_job}
+use Rattle.bridge_core.specs.IndexPromises.{IndexMeansTheSame, WrittenMeansTheIndexes, index_asked}
+use Rattle.bridge_core.proofs.Asked.{IsBounded, bounded}
+use Rattle.bridge_core.proofs.DoneAt.{IsDoneAt, done_at}
+use Rattle.bridge_core.proofs.FileNames.{are_written}
+use Rattle.bridge_core.proofs.Lies.{content_read, lies_of}
+use Rattle.bridge_core.proofs.Promises.{base_folder, holds, spelled_bytes}
+
+module _ (done : DoneIsWhole) (keeps : VerdictKeepsSteps) (names : FoldersHoldTheirFiles) (hold : FoldersHoldFiles)
+    (meant : IndexedTextsAreMeant) (same : WrittenMeansTheIndex)
+    (reads : ReadingsAreOfBytes) (own : OwnTextsAreAddresses) (fewer : IndexedAreFew) where
+  promised : (job : HlsIndex) (course : Course) (before after : World) (first last : Files) → IsBounded (index_asked job)
+      → before.files ≡ Some first → after.files ≡ Some last
+      → IsDoneAt (outcome_of job) (presented job) (place_of job.base job.mpd) first course → IsRun course status.Done before after
+      → IndexMeansTheSame job first last
+  promised job course before after first last few_digits was is by run =
+      let place = by.found in let p = by.value in
+      let lies = lies_of job.base job.mpd place by.at in
+      let read = is_indexed (10 ^ job.digits) place first p by.is in
+      let came = came_from (10 ^ job.digits) place first p read in
+      let there : first job.mpd ≡ Some read.bytes = ap first (sym lies.file) ∙ content_read place.file first read.bytes read.there in
+      let few = fewer p came in
+      let pieces : List (List ℕ × List ℕ) = playlists job.out job.digits p in
+      let files : files_of course ≡ pieces = ap files_of by.goes ∙ append-nil pieces in
+      let left : Some last ≡ Some (put_all pieces first) =
+      sym is ∙ (done course before after run).files ∙ ap (λ fs. option_map (put_all fs) before.files) files
+      ∙ ap (option_map (put_all pieces)) was in
+      let last_is : last ≡ put_all pieces first = cc in
+      let found : IsFound came.tree came.url = record {
+        tree = reads read.bytes read.tree (spelled_bytes read.bytes read.tree read.spelled) read.spelled;
+        url = own place.url lies.own;
+      } in
+      let verified : IsVerified p job.digits = record { longest = read.longest; is = read.verified } in
+      let written : AreWritten last (job.out ++ 47 ∷ []) p job.digits = rw last_is (are_written job.out job.digits p first few) in
+      let meaning = same p job.digits last job.base (job.out ++ 47 ∷ []) came found verified few_digits.1
+      (base_folder job.base lies.is_base) (holds names hold job.out (length p.tracks) few_digits.0 few) written in
+      record {
+        bytes = read.bytes;
+        url = place.url;
+        there = there;
+        at = lies.at;
+        indexes = meaning_of p;
+        means = subst (λ folder. indexed_meaning read.bytes place.url folder first ≡ Some (meaning_of p)) lies.folder
+            (meant read.bytes place.url place.folder first read.tree read.mpd p read.spelled read.typed read.presented);
+        playlists = meaning.0;
+        written = ap (λ text. hls_meaning last job.base (job.base ++ text)) (sym (append_assoc job.out (47 ∷ []) master_name))
+            ∙ meaning.1.0;
+        same = meaning.1.1;
+      }
+
+  pub written_means : WrittenMeansTheIndexes
+  unfolding course_of index_outcome
+  written_means words job input course before after first last asks was is goes run =
+      let asked : IfSome (Some (index_asked job)) IsBounded = subst (λ asked. IfSome asked IsBounded) asks (bounded words) in
+      let by = done_at (playlists job.out job.digits) done_line (presented job) keeps before after (place_of job.base job.mpd) first course
+      (subst (λ asked. course_of_job asked (Some first) input ≡ Some course) asks goes) run in
+      promised job course before after first last asked was is by run

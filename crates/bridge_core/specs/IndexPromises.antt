@@ -1,0 +1,48 @@
+-- What `hls-index` promises of the files that it writes.
+use Rattle.std.specs.Prelude.{◌≡◌, ℕ, ◌^◌, List, ◌++◌, codes, Option, Some}
+use Rattle.bridge_io.specs.Outside.{Files}
+use Rattle.bridge_jobs.specs.Jobs.{job_of}
+use Rattle.bridge_jobs.specs.Laws.{in_folder}
+use Rattle.bridge_jobs.specs.declared.jobs.Job.{Job}
+use Rattle.bridge_jobs.specs.declared.jobs.Job.TheVariants as jobs
+use Rattle.bridge_runs.specs.Courses.{Course, World}
+use Rattle.bridge_runs.specs.Runs.{IsRun}
+use Rattle.bridge_runs.specs.declared.status.Status.TheVariants as status
+use Rattle.hls_meaning.specs.Meanings.{hls_meaning}
+use Rattle.index_parts.specs.Meanings.{indexed_meaning}
+use Rattle.meaning.specs.Meanings.{Meaning}
+use Rattle.meaning.specs.Same.{SameFloor}
+use Rattle.bridge_report.specs.Bases.{file_url}
+use Rattle.bridge_reach.specs.declared.index.HlsIndex.{HlsIndex}
+use Rattle.bridge_core.specs.Courses.{course_of}
+
+-- where the master lies
+abbrev pub master_url : HlsIndex → List ℕ
+master_url job = job.base ++ in_folder job.out (codes "master.m3u8")
+
+-- A job's MPD means something at its URL with the indexes of its media files (ISO/IEC 23009-1, 5.3.9.2), the master and its
+-- playlists mean something (RFC 8216, 4.3), and that is the same but that each time is rounded down.
+pub record IndexMeansTheSame (job : HlsIndex) (before after : Files) : Type 0 where
+  pub bytes : List ℕ
+  pub url : List ℕ
+  pub there : before job.mpd ≡ Some bytes
+  pub at : file_url job.base job.mpd ≡ Some url
+  pub indexes : Meaning
+  pub means : indexed_meaning bytes url job.base before ≡ Some indexes
+  pub playlists : Meaning
+  pub written : hls_meaning after job.base (master_url job) ≡ Some playlists
+  pub same : SameFloor (10 ^ job.digits) indexes playlists
+
+-- the words ask for the playlists of an MPD and the indexes of its files
+abbrev pub index_asked : HlsIndex → Job
+index_asked job = jobs.HlsIndex job.mpd job.base job.out job.digits
+
+abbrev pub AsksForIndex : (words : List (List ℕ)) → HlsIndex → Type 0
+AsksForIndex words job = job_of words ≡ Some (index_asked job)
+
+-- Where such a run is done, what it wrote means what the MPD and the indexes mean.
+abbrev pub WrittenMeansTheIndexes : Type 0
+WrittenMeansTheIndexes = (words : List (List ℕ)) (job : HlsIndex) (input : Option (List ℕ)) (course : Course) (before after : World)
+    (first last : Files)
+    → AsksForIndex words job → before.files ≡ Some first → after.files ≡ Some last
+    → course_of words (Some first) input ≡ Some course → IsRun course status.Done before after → IndexMeansTheSame job first last

@@ -1,0 +1,66 @@
+-- What is read of an MPD and its media files came from them.
+use Rattle.std.proofs.Common.{◌≡◌, ℕ, List, Option, Ok}
+use Rattle.bridge_io.specs.Outside.{Files}
+use Rattle.index_parts.specs.Presented.{indexed_of}
+use Rattle.index_read.specs.Origins.{CameFromIndexes}
+use Rattle.mpd_levels.specs.declared.indexed.IndexRow.{IndexRow}
+use Rattle.mpd_rules.specs.Rules.{indexed_mpd_of}
+use Rattle.mpd_rules.specs.Typed.{TypedMpd}
+use Rattle.mpd_text.specs.Meaning.{reading_of}
+use Rattle.mpd_text.specs.Trees.{Element}
+use Rattle.presentation.proofs.Filling.{ok_under, steps_of}
+use Rattle.presentation.specs.Presented.{Presented}
+use Rattle.presentation.specs.Told.{told_as}
+use Rattle.presentation.specs.Verifying.{verified}
+use Rattle.bridge_playlists.specs.declared.place.Place.{Place}
+use Rattle.bridge_report.specs.declared.refusal.Refusal.TheVariants as refusal
+use Rattle.bridge_report.specs.Reading.{content_of}
+use Rattle.bridge_steps.specs.Manifests.{checked}
+use Rattle.bridge_reach.specs.Index.{checked_in, presented_by, presented_in, ready_at, ready_in, values_in, values_of}
+
+-- the bytes of the MPD at a place, what they spell, and the presentation of that and of the files, with addresses
+pub record IsIndexed (unit : ℕ) (place : Place) (files : Files) (p : Presented) : Type 0 where
+  pub bytes : List ℕ
+  pub there : content_of place.file files ≡ Ok bytes
+  pub tree : Element
+  pub spelled : reading_of bytes ≡ Ok tree
+  pub mpd : TypedMpd (Option IndexRow)
+  pub typed : indexed_mpd_of tree ≡ Ok mpd
+  pub presented : indexed_of place.url place.folder files mpd ≡ Ok p
+  pub longest : List ℕ
+  pub verified : verified p unit ≡ Ok longest
+
+pub is_indexed : (unit : ℕ) (place : Place) (files : Files) (p : Presented) → ready_at unit place files ≡ Ok p
+    → IsIndexed unit place files p
+unfolding ready_at ready_in presented_in values_of checked
+is_indexed unit place files p is =
+    let read = steps_of (content_of place.file files) (ready_in unit place files) p is in
+    let made = steps_of (presented_in place files read.value) (checked_in unit place) p read.then in
+    let values = steps_of (values_in place read.value) (presented_by place files) made.value made.first in
+    let spelled = steps_of (told_as refusal.Text (reading_of read.value)) (λ root. told_as refusal.Rules (indexed_mpd_of root)) values.value
+    (ok_under _ (values_of read.value) values.value values.first) in
+    let found = steps_of (told_as refusal.Presentation (verified made.value unit)) (λ longest. Ok made.value) p
+    (ok_under _ (checked unit made.value) p made.then) in
+    let same : made.value ≡ p = cc in
+    rw (← same) (record {
+      bytes = read.value;
+      there = read.first;
+      tree = spelled.value;
+      spelled = ok_under _ (reading_of read.value) spelled.value spelled.first;
+      mpd = values.value;
+      typed = ok_under _ (indexed_mpd_of spelled.value) values.value spelled.then;
+      presented = ok_under _ (indexed_of place.url place.folder files values.value) made.value values.then;
+      longest = found.value;
+      verified = ok_under _ (verified made.value unit) found.value found.first;
+    })
+
+abbrev pub came_from : (unit : ℕ) (place : Place) (files : Files) (p : Presented) → IsIndexed unit place files p → CameFromIndexes p
+came_from unit place files p is = record {
+  tree = is.tree;
+  mpd = is.mpd;
+  url = place.url;
+  folder = place.folder;
+  files = files;
+  typed = is.typed;
+  presented = is.presented;
+}

@@ -1,0 +1,203 @@
+// `hls-index`: from an MPD and the indexes of its media files to playlists.
+ghost use Rattle.std.specs.Prelude.{◌≡◌, ◌^◌, Ok, IfOk, IfSome, Some};
+ghost use Rattle.std.specs.Option.{ForSome};
+ghost use Rattle.bridge_io.specs.Answer.{Gives};
+ghost use Rattle.bridge_io.specs.Fault.{HasCause};
+ghost use Rattle.index_parts.specs.declared.fault.IndexFault.TheVariants.{Fault};
+ghost use Rattle.index_parts.specs.Refusals.{refusal};
+ghost use Rattle.mpd_rules.specs.Views.{index_mpd};
+ghost use Rattle.bridge_report.specs.declared.reading.Halt.TheVariants.{ReadFault};
+ghost use Rattle.bridge_report.specs.Reading.{IsNoReadFault, halted};
+ghost use Rattle.bridge_report.specs.Refusals.{refused_in};
+ghost use Rattle.bridge_steps.specs.Endings.{JobEndsAs, around};
+ghost use Rattle.bridge_reach.specs.Index as spec;
+
+use bridge_io::{Ledger, Name, Steps, Store, Text};
+use bridge_playlists::Place;
+use bridge_report::{Halt, IndexRefusal, Refusal, Stop, content_of, halted};
+use bridge_runs::Ending;
+use bridge_steps::{Ready, checked, done_line, place_in, tree_of, write_playlists, written};
+use exact_time::Digits;
+use index_parts::{IndexFault, index_parts};
+use mpd_rules::{IndexedMpd, rules_indexed};
+use presentation::Presentation;
+use std::alloc::Global;
+
+/// An MPD whose media files have an index inside, and whose playlists are to be written.
+#[derive(Debug, Drop)]
+pub struct HlsIndex {
+    /// The MPD's file.
+    pub mpd: Name,
+    /// The URL of the store's root.
+    pub base: Text,
+    /// The folder of the playlists.
+    pub out: Name,
+    /// The decimals of printed durations.
+    pub digits: Digits,
+}
+
+/// Writes the playlists of a job's MPD and its media files, unless one of them is refused.
+#[tactic(auto, unfolding(crate::specs::Index::index_outcome))]
+pub fn translate_indexed<F: Store, L: Ledger>(
+    alloc: Global,
+    job: &HlsIndex,
+    store: &mut F,
+    steps: &mut Steps<L>,
+) -> Ending
+    ensures { JobEndsAs (spec.index_outcome job.now (F.files store.old)) result
+        (around (F.files store.old) (F.read_faults store.old) (F.write_faults store.old) steps.old)
+        (around (F.files store.new) (F.read_faults store.new) (F.write_faults store.new) steps.new) }
+{
+    match place_in(alloc, &job.base, &job.mpd) {
+        Ok(place) => match indexed_at(alloc, &place, job.digits, store, steps) {
+            Ok(ready) => write(alloc, job, &ready, store, steps),
+            Err(halt) => halted(alloc, halt),
+        },
+        Err(told) => told,
+    }
+}
+
+/// Writes the playlists of a presentation.
+fn write<F: Store, L: Ledger>(
+    alloc: Global,
+    job: &HlsIndex,
+    ready: &Ready,
+    store: &mut F,
+    steps: &mut Steps<L>,
+) -> Ending
+    requires { ready.now.digits ≡ job.now.digits }
+    ensures { JobEndsAs (Some (spec.outcome_of job.now (Ok ready.now.presentation))) result
+        (around (F.files store.old) (F.read_faults store.old) (F.write_faults store.old) steps.old)
+        (around (F.files store.new) (F.read_faults store.new) (F.write_faults store.new) steps.new) }
+{
+    let Ok(line) = done_line(alloc, &ready.presentation) else {
+        return Ending::Memory;
+    };
+    written(line, write_playlists(alloc, &job.out, ready, store, steps))
+}
+
+/// The presentation of the MPD in the file at a place, whose media files have an index inside, with the address of each segment;
+/// or the first refusal, of the MPD or of a media file. [`Halt::ReadFault`] comes only where the store's count of failed reads
+/// rose.
+#[tactic(auto, unfolding(crate::specs::Index::ready_at))]
+fn indexed_at<F: Store, L: Ledger>(
+    alloc: Global,
+    place: &Place,
+    digits: Digits,
+    store: &mut F,
+    steps: &mut Steps<L>,
+) -> Result<Ready, Halt>
+    ensures mpd { ForSome (F.files store.old) (λ files.
+        Gives (λ ready. ready.presentation) halted result (spec.ready_at (10 ^ digits) place.now files)) }
+    ensures digits { IfOk result (λ ready. ready.digits ≡ digits) }
+    ensures cause { HasCause ReadFault (F.read_faults store.old) (F.read_faults store.new) result }
+    ensures files { F.files store.new ≡ F.files store.old }
+    ensures writes { F.write_faults store.new ≡ F.write_faults store.old }
+{
+    let bytes = content_of(alloc, store, &place.file)?;
+    indexed_in(alloc, place, bytes.as_slice(), digits, store, steps)
+}
+
+/// The same of bytes that the file at the place has.
+#[tactic(auto, unfolding(crate::specs::Index::ready_in, crate::specs::Index::presented_in))]
+fn indexed_in<F: Store, L: Ledger>(
+    alloc: Global,
+    place: &Place,
+    bytes: &[u8],
+    digits: Digits,
+    store: &mut F,
+    steps: &mut Steps<L>,
+) -> Result<Ready, Halt>
+    ensures mpd { ForSome (F.files store.old) (λ files.
+        Gives (λ ready. ready.presentation) halted result (spec.ready_in (10 ^ digits) place.now files bytes.now)) }
+    ensures digits { IfOk result (λ ready. ready.digits ≡ digits) }
+    ensures cause { HasCause ReadFault (F.read_faults store.old) (F.read_faults store.new) result }
+    ensures files { F.files store.new ≡ F.files store.old }
+    ensures writes { F.write_faults store.new ≡ F.write_faults store.old }
+{
+    let mpd = values_in(alloc, place, bytes)?;
+    let presentation = presented(alloc, place, &mpd, store)?;
+    checked_in(alloc, place, presentation, digits, steps)
+}
+
+/// Looks at each segment of the presentation.
+fn checked_in<L: Ledger>(
+    alloc: Global,
+    place: &Place,
+    presentation: Presentation,
+    digits: Digits,
+    steps: &mut Steps<L>,
+) -> Result<Ready, Halt>
+    ensures ready { Gives (λ ready. ready.presentation) halted result (spec.checked_in (10 ^ digits) place.now presentation) }
+    ensures digits { IfOk result (λ ready. ready.digits ≡ digits) }
+    ensures no_fault { IsNoReadFault result }
+{
+    match checked(alloc, presentation, digits, steps) {
+        Ok(ready) => Ok(ready),
+        Err(Stop::Refused(refusal)) => Err(Halt::refused(alloc, &place.file, refusal)),
+        Err(Stop::Memory) => Err(Halt::Memory),
+    }
+}
+
+/// The values of the MPD.
+fn values_in(alloc: Global, place: &Place, bytes: &[u8]) -> Result<IndexedMpd, Halt>
+    ensures values { Gives index_mpd halted result (spec.values_in place.now bytes.now) }
+    ensures no_fault { IsNoReadFault result }
+{
+    match values_of(alloc, bytes) {
+        Ok(mpd) => Ok(mpd),
+        Err(Stop::Refused(refusal)) => Err(Halt::refused(alloc, &place.file, refusal)),
+        Err(Stop::Memory) => Err(Halt::Memory),
+    }
+}
+
+#[tactic(auto, unfolding(crate::specs::Index::values_of))]
+fn values_of(alloc: Global, bytes: &[u8]) -> Result<IndexedMpd, Stop>
+    ensures { Gives index_mpd refused_in result (spec.values_of bytes.now) }
+{
+    let tree = tree_of(alloc, bytes)?;
+    match rules_indexed(alloc, &tree) {
+        Ok(mpd) => Ok(mpd),
+        Err(fault) => Err(Stop::of_rules(fault)),
+    }
+}
+
+/// The presentation of the MPD's values and of the files of the store.
+fn presented<F: Store>(
+    alloc: Global,
+    place: &Place,
+    mpd: &IndexedMpd,
+    store: &mut F,
+) -> Result<Presentation, Halt>
+    ensures presented { ForSome (F.files store.old) (λ files.
+        Gives (λ presentation. presentation) halted result (spec.presented_by place.now files (index_mpd mpd.now))) }
+    ensures cause { HasCause ReadFault (F.read_faults store.old) (F.read_faults store.new) result }
+    ensures files { F.files store.new ≡ F.files store.old }
+    ensures writes { F.write_faults store.new ≡ F.write_faults store.old }
+{
+    match index_parts(alloc, mpd, &place.url, &place.folder, store) {
+        Ok(presentation) => Ok(presentation),
+        Err(fault) => Err(unpresented(alloc, &place.file, fault)),
+    }
+}
+
+/// Which file is refused, and why.
+fn unpresented(alloc: Global, mpd: &Name, fault: IndexFault) -> Halt
+    ensures told { IfSome (halted result) (λ named. (refusal fault ≡ Some fault) × (named ≡ spec.named_by mpd.now fault)) }
+    ensures read_fault { result ≡ ReadFault → fault ≡ Fault }
+{
+    match fault {
+        IndexFault::Presentation(fault) => {
+            Halt::refused(alloc, mpd, Refusal::Presentation(fault))
+        }
+        IndexFault::OutsideBase => {
+            Halt::refused(alloc, mpd, Refusal::Index(IndexRefusal::OutsideBase))
+        }
+        IndexFault::TooLong => Halt::refused(alloc, mpd, Refusal::Index(IndexRefusal::TooLong)),
+        IndexFault::File(file, fault) => {
+            Halt::refused(alloc, &file, Refusal::Index(IndexRefusal::File(fault)))
+        }
+        IndexFault::Fault => Halt::ReadFault,
+        IndexFault::Memory => Halt::Memory,
+    }
+}
