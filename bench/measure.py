@@ -20,6 +20,18 @@ print(os.waitstatus_to_exitcode(status), time.perf_counter() - start, usage.ru_m
 """
 
 
+# The same of a command that reads a stream and tells a line for each frame: the longest time between two lines, and the last one.
+FRAMES = """
+import os, subprocess, sys, time
+run = subprocess.Popen(sys.argv[2:], stdin=open(sys.argv[1]), stdout=subprocess.PIPE)
+longest, begun, line = 0, time.perf_counter(), b""
+for line in run.stdout:
+    longest, begun = max(longest, time.perf_counter() - begun), time.perf_counter()
+_, status, usage = os.wait4(run.pid, 0)
+print(longest, usage.ru_maxrss, line.decode(), end="")
+"""
+
+
 def launched(command):
     """The status, the milliseconds and the MiB of one run."""
     told = subprocess.run([sys.executable, "-S", "-c", LAUNCH, *command], capture_output=True, text=True, check=True).stdout.split()
@@ -39,6 +51,13 @@ def answers(command):
     runs = [launched(command) for _ in range(3)]
     told = subprocess.run(command, capture_output=True, text=True)
     return max(ms for _, ms, _ in runs) / 1000, max(mib for _, _, mib in runs), told.stdout.partition("\n")[0]
+
+
+def framed(stream, command):
+    """The longest time of a frame in seconds, the largest memory of the run in MiB, and the last line that the command tells."""
+    told = subprocess.run([sys.executable, "-S", "-c", FRAMES, stream, *command], capture_output=True, text=True, check=True).stdout
+    longest, peak, last = told.split(maxsplit=2)
+    return float(longest), int(peak) / 1024, last.strip()
 
 
 def main(name, file, *command):

@@ -1,16 +1,17 @@
 #!/usr/bin/env bash
 # Runs the bridge on files of up to 8 MB as a stranger may make them, each with as many of one thing as fit: variants, renditions,
-# Periods, S that thousands of Representations share, SegmentURLs. The longest of three runs counts, with its largest memory. Each is to be answered within 5
-# seconds and 600 MB.
+# Periods, S that thousands of Representations share, SegmentURLs. The longest of three runs counts, with its largest memory. Each is to be
+# answered within 5 seconds and 600 MB. Then `bridge follow` of streams as a stranger may make them: each frame within 5 seconds, and the run
+# within 1,200 MB.
 #
 # It wants `rt` and python3, and proves the program first where that isn't kept.
 set -euo pipefail
 source "$(dirname "$0")/program.sh"
 
 cat > "$work/strangers.py" <<'PY'
-import os, sys
+import datetime, os, sys
 
-from measure import answers
+from measure import answers, framed
 
 bridge, work = sys.argv[1:]
 os.chdir(work)
@@ -57,5 +58,52 @@ for command, name, base, what in rows:
     seconds, megabytes, answer = answers([bridge, command, name, f"--base={base}"])
     print(f"| {what} | {size / 1e6:.1f} | `{answer}` | {seconds:.2f} | {megabytes:.0f} |")
     assert seconds <= 5 and megabytes <= 600, what
+
+START = datetime.datetime(2024, 1, 1)
+LIVE = '<MPD xmlns="urn:mpeg:dash:schema:mpd:2011" type="dynamic" availabilityStartTime="2024-01-01T00:00:00Z"{}>{}</MPD>'
+TEMPLATE = '<SegmentTemplate{} initialization="i" media="$Number$"'
+
+def instant(seconds):
+    return (START + datetime.timedelta(seconds=seconds)).strftime("%Y-%m-%dT%H:%M:%SZ")
+
+def stream(name, frames):
+    """A stream of instants in seconds, each with an MPD, or none."""
+    def parts():
+        for seconds, text in frames:
+            yield f"mpd {instant(seconds)} {len(text)}\n{text}" if text else f"tick {instant(seconds)}\n"
+    return file(name, *parts())
+
+def depth(seconds):
+    return f' timeShiftBufferDepth="PT{seconds}S"'
+
+def live(attributes, start, identity, segments, tracks):
+    """A live MPD of one Period."""
+    return LIVE.format(attributes, f'<Period id="{identity}" start="PT{start}S">' + "".join(set_of(segments, tracks))[len("<Period>"):])
+
+def many(seconds, count, inside):
+    """So many Periods from an instant on, of 2 s each."""
+    return LIVE.format(depth(2 * count), "".join(
+        f'<Period id="{identity}" start="PT{seconds + 2 * k}S" duration="PT2S">' + "".join(set_of([TEMPLATE.format(' duration="2"') + "/>"], 1))[len("<Period>"):]
+        for k, identity in enumerate(inside)))
+
+entries = [TEMPLATE.format(' timescale="1000"') + "><SegmentTimeline>", *['<S d="1999"/><S d="2001"/>'] * 300_000, "</SegmentTimeline></SegmentTemplate>"]
+timeline = live(depth(60), 0, "p", entries, 1)
+shared = live(depth(4_000), 0, "p", entries, 190)
+numbers = live(depth(10_000), 0, "p", [TEMPLATE.format(' duration="2"').replace("$Number$", "$Number%0120d$") + "/>"], 20)
+alike = "i" * 8_000
+streams = [
+    (stream("frames", [(1_000_000 + 2 * k, None if k % 2 else timeline) for k in range(10)]), BASE, "10 frames, by turns 600,000 S and an instant"),
+    (stream("periods", [(2_000 * (k + 1), many(2_000 * k, 1_000, range(1_000 * k, 1_000 * (k + 1)))) for k in range(20)]), BASE,
+     "20 frames of 1,000 Periods that no other has"),
+    (stream("tracks", [(1_000_000, shared), (1_000_002, None), (1_000_004, shared)]), BASE, "600,000 S that 190 tracks share, 2,000 segments kept of each"),
+    (stream("alike", [(2_000 + 2 * k, many(0, 1_000, (f"{alike}{place}" for place in range(1_000)))) for k in range(3)]), BASE,
+     "1,000 Periods with ids of 8 kB that begin alike, three times"),
+    (stream("addresses", [(100_000, numbers), (100_002, None), (100_004, numbers)]), LONG_BASE, "100,000 segments kept, with addresses of 2 kB"),
+]
+print("\n| stream | MB | last line | s, the longest frame | MB of memory |\n|---|---|---|---|---|")
+for name, base, what in streams:
+    seconds, megabytes, last = framed(name, [bridge, "follow", "live.mpd", f"--base={base}"])
+    print(f"| {what} | {os.path.getsize(name) / 1e6:.1f} | `{last}` | {seconds:.2f} | {megabytes:.0f} |")
+    assert seconds <= 5 and megabytes <= 1_200, what
 PY
 python3 "$work/strangers.py" "$bridge" "$work"
