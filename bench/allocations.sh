@@ -1,9 +1,9 @@
 #!/usr/bin/env bash
 # Refuses each allocation of `bridge` in turn: those of `hls` over one Period and over two, of `hls-index`, `dash`, `show`, `check` and
-# `reload`, and of `follow` over an MPD, an instant, a refused address and a reset. Each run ends as one whose memory is ample, with the same lines and the
-# same files, or as 5, with each file a front of its text, none begun before the one in front of it is whole, and no other file; of `follow`,
-# with the lines and files of the frames so far, and such fronts of the next one's. A run that does anything else is told, and the script's
-# status is then 1.
+# `reload`, and of `follow` over an MPD, an instant, a refused address and a reset. Each run ends as one whose memory is ample, with the
+# same lines and the same files, or as 5, with each file a front of its text, none begun before the one in front of it is whole, and no
+# other file; of `follow`, with the lines and files of the frames so far, and such fronts of the next one's. A run that does anything else
+# is told, and the script's status is then 1.
 #
 # It wants `rt`, python3 and cc, and proves the program first where that isn't kept. glibc is taken for the C library.
 set -euo pipefail

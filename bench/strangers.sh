@@ -1,8 +1,8 @@
 #!/usr/bin/env bash
-# Runs the bridge on files of up to 8 MB as a stranger may make them, each with as many of one thing as fit: variants, renditions,
-# Periods, S that thousands of Representations share, SegmentURLs. The longest of three runs counts, with its largest memory. Each is to be
-# answered within 5 seconds and 600 MB. Then `bridge follow` of streams as a stranger may make them: each frame within 5 seconds, and the run
-# within 1,200 MB.
+# Runs the bridge on files of up to 8 MB as a stranger may make them, each with as many of one thing as fit: variants, renditions, Periods,
+# S that thousands of Representations share, SegmentURLs. The longest of three runs counts, with its largest memory. Each is to be answered
+# within 5 seconds and 600 MB. Then `bridge follow` of streams as a stranger may make them: each frame within 5 seconds, and the run within
+# 1,200 MB.
 #
 # It wants `rt` and python3, and proves the program first where that isn't kept.
 set -euo pipefail
