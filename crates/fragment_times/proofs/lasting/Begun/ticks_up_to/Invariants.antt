@@ -1,0 +1,13 @@
+use Rattle.std.proofs.Common.{◌≡◌, ◌≤◌, ◌+◌, drop, length, sum}
+use Rattle.fragment_times.specs.Durations.{ticks_from}
+use Rattle.fragment_times.specs.Times.{behind}
+use Rattle.fragment_times.proofs.lasting.Begun.ticks_up_to.Given as goal
+
+-- what is told so far, and then of the segments that are left, is told of all
+abbrev pub invariant-loop-start : goal.invariant-loop-start
+invariant-loop-start l = record {
+  within : l.start-index ≤ length l.later;
+  room : l.begun.at.segment ≡ l.fn.self.at.segment + l.start-index;
+  rises : l.fn.self.start + sum l.ticks ≡ l.begun.start;
+  told : behind l.ticks (ticks_from l.scale l.last l.begun (drop l.start-index l.later)) ≡ ticks_from l.scale l.last l.fn.self l.later;
+}

@@ -1,0 +1,75 @@
+-- Which bytes of files initialization parts and segments are, and what they tell.
+use Rattle.std.specs.Prelude.{ℕ, ◌+◌, ◌-◌, ◌^◌, ◌<◌, min, List, Option, Some, None, Result, Ok, Err, take, drop}
+use Rattle.bridge_io.specs.Outside.{Files}
+use Rattle.box_reader.specs.Boxes.{Found, Left}
+use Rattle.box_reader.specs.Parts.{part_of}
+use Rattle.box_reader.specs.declared.part.PartFault.{PartFault}
+use Rattle.url_parts.specs.Addresses.{local_name_of}
+use Rattle.url_parts.specs.declared.address.Part.{Part}
+use Rattle.url_parts.specs.declared.range.Range.{Range}
+use Rattle.presentation.specs.Told.{and_then, told_as}
+use Rattle.fragment_times.specs.declared.fault.FileFault.{FileFault}
+use Rattle.fragment_times.specs.declared.fault.FileFault.TheVariants.{Absent}
+use Rattle.fragment_times.specs.declared.fault.TimesFault.{TimesFault}
+use Rattle.fragment_times.specs.declared.fault.TimesFault.TheVariants.{File, OutsideBase}
+use Rattle.fragment_times.specs.declared.part.Reach.{Reach}
+use Rattle.fragment_times.specs.Told.{decode_time_of, first_of, media_scale_of}
+
+-- ---- which bytes
+
+-- from which one on: no file has more than 2^63
+abbrev pub first_byte : Option Range → ℕ
+first_byte None = 0
+first_byte (Some range) = min range.first (2 ^ 63)
+
+-- and how many at most
+abbrev pub byte_limit : Option Range → ℕ
+byte_limit None = 1048576
+byte_limit (Some range) = min (min range.count 1048576) (2 ^ 63 - min range.first (2 ^ 63))
+
+-- what a file has of them
+abbrev pub bytes_of : Option Range → (file : List ℕ) → Left
+bytes_of range file = record { at = first_byte range; bytes = take (byte_limit range) (drop (first_byte range) file) }
+
+-- ---- what they tell
+
+abbrev pub if_named : Option (List ℕ) → Result (List ℕ) TimesFault
+if_named None = Err OutsideBase
+if_named (Some file) = Ok file
+
+-- the file of a part, in the store whose folder has a URL
+abbrev pub file_of : (folder : List ℕ) → Part → Result (List ℕ) TimesFault
+file_of folder part = if_named (local_name_of folder part.address)
+
+abbrev pub told_of : (tell : Left → Result ℕ FileFault) → Option Range → (file : Option (List ℕ)) → Result ℕ FileFault
+told_of tell range None = Err Absent
+told_of tell range (Some file) = tell (bytes_of range file)
+
+abbrev pub told_at : (tell : Left → Result ℕ FileFault) → (folder : List ℕ) → Files → Part → Result ℕ TimesFault
+told_at tell folder files part = and_then (file_of folder part) (λ file. told_as (File file) (told_of tell part.range (files file)))
+
+-- the timescale that an initialization part states
+unfoldable pub scale_at : (folder : List ℕ) → Files → Part → Result ℕ TimesFault
+scale_at = told_at media_scale_of
+
+-- the decode time that a segment states
+unfoldable pub start_at : (folder : List ℕ) → Files → Part → Result ℕ TimesFault
+start_at = told_at decode_time_of
+
+-- ---- the box that tells them
+
+-- the first box of a type, in bytes of which the first one stands at a place
+abbrev pub box_from : (kind : List ℕ) → (at : ℕ) → List ℕ → Result Found FileFault
+box_from kind at bytes = first_of kind (record { at = at; bytes = bytes })
+
+abbrev pub box_by : (kind : List ℕ) → (at : ℕ) → Result (List ℕ) PartFault → Result (Result Found FileFault) PartFault
+box_by kind at (Ok bytes) = Ok (box_from kind at bytes)
+box_by kind at (Err fault) = Err fault
+
+-- in so many bytes of a file, where it is there
+abbrev pub box_of : (kind : List ℕ) → Reach → (file : Option (List ℕ)) → Result (Result Found FileFault) PartFault
+box_of kind reach file = box_by kind reach.first (part_of reach.first reach.limit file)
+
+abbrev pub EndsWithin : (end : ℕ) → Result Found FileFault → Type 0
+EndsWithin end (Ok found) = found.head.at + found.head.size < end
+EndsWithin end (Err fault) = ⊥

@@ -1,0 +1,16 @@
+//! The times that media files tell of themselves (ISO/IEC 14496-12, 8.4.2 and 8.8.12), beside those that a presentation tells.
+//!
+//! Of a part of a file only the first bytes are read: those up to the end of the one box that tells its time.
+#![tactic(auto)]
+
+mod agreement;
+mod fault;
+mod lasting;
+mod part;
+mod times;
+mod told;
+
+pub use agreement::first_apart;
+pub use fault::{FileFault, SegmentSpot, TimesFault};
+pub use lasting::{DurationsList, TickSeq, durations};
+pub use times::{SegmentTimes, StartList, TimesList, fragment_times};

@@ -1,0 +1,193 @@
+// The times of all segments of a presentation, as their files state them.
+ghost use Rattle.std.specs.Prelude.{◌≡◌, ◌+◌, ◌*◌, ◌<◌, ◌^◌, All, IfOk, MatchResult, MatchOption, length};
+ghost use Rattle.std.specs.Option.{ForSome};
+ghost use Rattle.bridge_io.specs.Answer.{Gives};
+ghost use Rattle.bridge_io.specs.Fault.{HasCause};
+ghost use Rattle.timeline.specs.Listed.{IsDone, IsMade};
+ghost use Rattle.presentation.specs.Laws.{HasAddress};
+ghost use Rattle.presentation.specs.Listable.{AreListable};
+ghost use Rattle.presentation.specs.Presented.{listed_at};
+ghost use Rattle.fragment_times.specs.declared.fault.TimesFault.TheVariants.{Fault};
+ghost use Rattle.fragment_times.specs.Refusals.{refusal};
+ghost use Rattle.fragment_times.specs.Times as spec;
+
+use crate::TimesFault;
+use crate::part::{scale_at, start_at};
+use bridge_io::{Ledger, NoMemory, Sequence, Steps, Store};
+use presentation::Presentation;
+use std::alloc::Global;
+use timeline::{ListFault, Listing, Segment, closed_ends};
+use url_parts::Base;
+
+/// What the files of a track in a section state.
+#[derive(Debug, Drop)]
+pub struct SegmentTimes {
+    /// How many ticks make a second, at least 1.
+    pub scale: u32,
+    /// When each listed segment begins, in ticks.
+    pub starts: StartList,
+}
+
+/// Times in ticks, one for each segment, below 2^63.
+pub type StartList = Sequence<u64>;
+
+/// What all files state: by section, then by track.
+pub type TimesList = Sequence<SegmentTimes>;
+
+/// The media times of a presentation's listed segments as their files state them: of each track in each section the timescale
+/// that its initialization part states (ISO/IEC 14496-12, 8.4.2), and the decode time of each segment's first sample (8.8.12).
+/// `folder` is the URL of the store's folder.
+///
+/// Of a whole file at most the first 1,048,576 bytes are read, and of a range no more than so many of it; where the first
+/// 65,536 of these have the box that tells the time whole, no others. The store's files stay as they are.
+///
+/// The parts are taken by section, then by track, the initialization part first and then the segments in order. OutsideBase
+/// comes before what is told of a file, whose faults come in the order of [`FileFault`](crate::FileFault). Fault comes only
+/// where the store's count of failed reads rose.
+///
+/// Requires that the presentation came from playlists, or from a static MPD and was verified.
+#[tactic(auto, unfolding(crate::specs::Times::times_of))]
+pub fn fragment_times<F: Store, L: Ledger>(
+    alloc: Global,
+    presentation: &Presentation,
+    folder: &Base,
+    store: &mut F,
+    steps: &mut Steps<L>,
+) -> Result<TimesList, TimesFault>
+    requires { AreListable presentation.now }
+    ensures times { ForSome (F.files store.old) (λ files.
+        Gives (λ times. times) refusal result (spec.times_of folder.now files presentation.now)) }
+    ensures filled { IfOk result (λ times. spec.FillPlaces presentation.now (length times)) }
+    ensures scaled { IfOk result (λ times. All spec.IsScaled times) }
+    ensures cause { HasCause Fault (F.read_faults store.old) (F.read_faults store.new) result }
+    ensures files { F.files store.new ≡ F.files store.old }
+    ensures writes { F.write_faults store.new ≡ F.write_faults store.old }
+{
+    let reading = Reading {
+        presentation,
+        folder,
+    };
+    let mut times = TimesList::new(alloc);
+    for section in 0..presentation.sections().len() {
+        times = reading.with_section(alloc, section, times, store, steps)?;
+    }
+    Ok(times)
+}
+
+/// A presentation whose files are read, and the URL of the store's folder.
+#[derive(Clone, Copy, Debug)]
+struct Reading<'a> {
+    presentation: &'a Presentation,
+    folder: &'a Base,
+}
+
+impl Reading<'_> {
+    /// Adds what the files of a section state, track by track.
+    fn with_section<F: Store, L: Ledger>(
+        &self,
+        alloc: Global,
+        section: usize,
+        former: TimesList,
+        store: &mut F,
+        steps: &mut Steps<L>,
+    ) -> Result<TimesList, TimesFault>
+        requires listable { AreListable self.now.presentation.now }
+        requires section { section < length self.now.presentation.now.sections }
+        requires scaled { All spec.IsScaled former }
+        ensures times { ForSome (F.files store.old) (λ files. Gives (λ times. times) refusal result
+            (spec.behind former (spec.section_times self.now.folder.now files self.now.presentation.now section))) }
+        ensures filled { IfOk result (λ times. length times ≡ length former + length self.now.presentation.now.tracks) }
+        ensures scaled { IfOk result (λ times. All spec.IsScaled times) }
+        ensures cause { HasCause Fault (F.read_faults store.old) (F.read_faults store.new) result }
+        ensures files { F.files store.new ≡ F.files store.old }
+        ensures writes { F.write_faults store.new ≡ F.write_faults store.old }
+    {
+        let mut times = former;
+        for track in 0..self.presentation.tracks().len() {
+            let own = self.track_times(alloc, section, track, store, steps)?;
+            times.push(own)?;
+        }
+        Ok(times)
+    }
+
+    /// What the files of a track in a section state.
+    #[tactic(auto, unfolding(crate::specs::Times::times_at))]
+    fn track_times<F: Store, L: Ledger>(
+        &self,
+        alloc: Global,
+        section: usize,
+        track: usize,
+        store: &mut F,
+        steps: &mut Steps<L>,
+    ) -> Result<SegmentTimes, TimesFault>
+        requires listable { AreListable self.now.presentation.now }
+        requires section { section < length self.now.presentation.now.sections }
+        requires track { track < length self.now.presentation.now.tracks }
+        ensures times { ForSome (F.files store.old) (λ files. Gives (λ times. times) refusal result
+            (spec.times_at self.now.folder.now files self.now.presentation.now section track)) }
+        ensures scaled { IfOk result spec.IsScaled }
+        ensures cause { HasCause Fault (F.read_faults store.old) (F.read_faults store.new) result }
+        ensures files { F.files store.new ≡ F.files store.old }
+        ensures writes { F.write_faults store.new ≡ F.write_faults store.old }
+    {
+        let initialization = self.presentation.initialization(section, track);
+        let scale = scale_at(alloc, self.folder, initialization, store)?;
+        let listing = self.listing(section, track);
+        let starts = self.starts(alloc, listing, store, steps)?;
+        Ok(SegmentTimes { scale, starts })
+    }
+
+    /// The listed segments of a track in a section, which all have addresses.
+    fn listing(&self, section: usize, track: usize) -> Listing<'_>
+        requires listable { AreListable self.now.presentation.now }
+        requires section { section < length self.now.presentation.now.sections }
+        requires track { track < length self.now.presentation.now.tracks }
+        ensures left { result.left ≡ listed_at self.now.presentation.now section track }
+        ensures timeline { spec.IsTimelineAt self.now.presentation.now section track result.timeline }
+        ensures addressed { All (HasAddress result.timeline) result.left }
+    {
+        closed_ends();
+        let runs = self.presentation.runs(section, track);
+        let window = self.presentation.window(section);
+        runs.resume(&runs.seek(&window), &window)
+    }
+
+    /// The decode times that the segments state that are left.
+    fn starts<F: Store, L: Ledger>(
+        &self,
+        alloc: Global,
+        mut listing: Listing<'_>,
+        store: &mut F,
+        steps: &mut Steps<L>,
+    ) -> Result<StartList, TimesFault>
+        requires { All (HasAddress listing.timeline) listing.left }
+        ensures starts { ForSome (F.files store.old) (λ files. Gives (λ starts. starts) refusal result
+            (spec.all_starts self.now.folder.now files (spec.parts_of listing.entry.timeline listing.entry.left))) }
+        ensures cause { HasCause Fault (F.read_faults store.old) (F.read_faults store.new) result }
+        ensures files { F.files store.new ≡ F.files store.old }
+        ensures writes { F.write_faults store.new ≡ F.write_faults store.old }
+    {
+        let mut starts = StartList::new(alloc);
+        while let Some(segment) = next_segment(alloc, &mut listing, steps)? {
+            let part = segment.into_part();
+            starts.push(start_at(alloc, self.folder, &part, store)?)?;
+        }
+        Ok(starts)
+    }
+}
+
+/// Makes the next segment of those that all have addresses.
+fn next_segment<L: Ledger>(
+    alloc: Global,
+    listing: &mut Listing<'_>,
+    steps: &mut Steps<L>,
+) -> Result<Option<Segment>, NoMemory>
+    requires { All (HasAddress listing.old.timeline) listing.old.left }
+    ensures { IfOk result (λ next. MatchOption next (IsDone listing.old listing.new) (λ made. IsMade listing.old made listing.new)) }
+{
+    match listing.next(alloc, steps) {
+        Ok(next) => Ok(next),
+        Err(ListFault::Memory) => Err(NoMemory),
+        Err(ListFault::Url(_)) => unreachable!(),
+    }
+}
