@@ -77,7 +77,7 @@ RUNS = {
     "show": (["show", "m.m3u8"], {"m.m3u8": MASTER, "v.m3u8": VIDEO}, "hls tracks=1 sections=1 segments=3 left-out=0\n"
              "track 0 video - section 0 segments=3 length=21.021000\n", []),
     "check": (["check", "m.mpd", "m.m3u8"], {"m.mpd": text("m.mpd"), "m.m3u8": MASTER, "v.m3u8": VIDEO},
-              "differ duration section 0 track 0 segment 0\n", []),
+              "differ address section 0 track 0 segment 0\n", []),
     "reload": (["reload", "v.m3u8", "v.m3u8"], {"v.m3u8": VIDEO}, "lawful kept=3 added=0 removed=0\n", []),
 }
 STATUS = {"check": 6}

@@ -89,7 +89,7 @@ def many(seconds, count, inside):
 entries = [TEMPLATE.format(' timescale="1000"') + "><SegmentTimeline>", *['<S d="1999"/><S d="2001"/>'] * 300_000, "</SegmentTimeline></SegmentTemplate>"]
 timeline = live(depth(60), 0, "p", entries, 1)
 shared = live(depth(4_000), 0, "p", entries, 190)
-numbers = live(depth(10_000), 0, "p", [TEMPLATE.format(' duration="2"').replace("$Number$", "$Number%0120d$") + "/>"], 20)
+numbers = live(depth(10_000), 0, "p", [TEMPLATE.format(' duration="2"').replace("$Number$", "f" * 100 + "$Number%09d$") + "/>"], 20)
 alike = "i" * 8_000
 streams = [
     (stream("frames", [(1_000_000 + 2 * k, None if k % 2 else timeline) for k in range(10)]), BASE, "10 frames, by turns 600,000 S and an instant"),
