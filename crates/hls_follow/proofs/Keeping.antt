@@ -1,0 +1,59 @@
+-- Kept tracks, one after another.
+use Rattle.std.proofs.Common.{◌≡◌, ◌<◌, ◌+◌, ℕ, Bool, List, [], ◌∷◌, ◌++◌, map, length, drop, get_or, slice_get, zero, suc, All, Option}
+use Rattle.std.proofs.Common.{Some, None, IfSome, refl, sym, ◌∙◌, ap}
+use Rattle.std.proofs.Common.{append_assoc}
+use Rattle.std.specs.Borrow.{Bor}
+use Rattle.std.specs.Option.{option_copied}
+use Rattle.std.specs.Slice.{IsItemAt}
+use Rattle.std.proofs.lemmas.List.{drop_more}
+use Rattle.std.proofs.lemmas.Option.{slice_get_past, slice_get_read}
+use Rattle.std.proofs.lemmas.List.Elements.{All-nil, All-head, All-tail}
+use Rattle.hls_media.specs.declared.media.Media.{Media}
+use Rattle.hls_presentation.specs.Tracks.{Source}
+use Rattle.hls_presentation.specs.Views.{source_of}
+use Rattle.hls_presentation.specs.declared.kept.Source.{Source as Held}
+use Rattle.hls_follow.specs.declared.state.Followed.{Followed}
+use Rattle.hls_follow.specs.declared.state.FollowedTrack.{FollowedTrack}
+use Rattle.hls_follow.specs.declared.state.TimedSegment.{TimedSegment}
+use Rattle.hls_follow.specs.Kept.{IsEarly, IsSound, formers_of, kept_by}
+use Rattle.hls_follow.specs.Rounds.{followed_tracks, times_in}
+
+-- what is lent of a place
+pub lent_at : {X : Type 0} (xs : List X) (i : ℕ) (r : Option (Bor X)) → IsItemAt xs i r → option_copied r ≡ slice_get xs i
+lent_at xs i None is = sym (slice_get_past xs i is.3)
+lent_at xs i (Some x) is = sym (slice_get_read xs (length xs) i x.now refl is.3.0 is.1)
+
+-- what is left at a place begins with what stands there
+pub left_at : (kept : List Held) (i : ℕ) (d : Held) → i < length kept → d ≡ get_or kept i d → drop i kept ≡ d ∷ drop (i + 1) kept
+left_at kept i d within at = drop_more kept i d within ∙ ap (λ (s : Held). s ∷ drop (i + 1) kept) (sym at)
+
+pub kept_none : (flags : List Bool) → kept_by flags [] ≡ []
+kept_none [] = refl
+kept_none (flag ∷ flags) = refl
+
+pub followed_none : (kept : List Source) → followed_tracks kept [] ≡ []
+followed_none [] = refl
+followed_none (s ∷ kept) = refl
+
+-- before the first round there are none
+pub early_formers : (former : Option Followed) → IfSome former IsSound → All IsEarly (formers_of former)
+early_formers None sound = All-nil IsEarly
+early_formers (Some former) sound = sound.early
+
+-- a track more
+pub tracks_turn : (kept : List Held) (i : ℕ) (d : Held) (tracks : List FollowedTrack) (timed later : List (List TimedSegment))
+    (first : List TimedSegment) (media : Media) (times : List ℕ) (all : List FollowedTrack)
+    → i < length kept → d ≡ get_or kept i d → timed ≡ first ∷ later → media ≡ (source_of d).media → times ≡ times_in first
+    → tracks ++ followed_tracks (map source_of (drop i kept)) timed ≡ all
+    → (tracks ++ record { media = media; times = times } ∷ []) ++ followed_tracks (map source_of (drop (i + 1) kept)) later ≡ all
+tracks_turn kept i d tracks timed later first media times all within at front same told so_far =
+    let next = left_at kept i d within at in
+    let pieces : followed_tracks (map source_of (drop i kept)) timed
+    ≡ record { media = media; times = times } ∷ followed_tracks (map source_of (drop (i + 1) kept)) later = rw
+    (next, front, same, told) refl in
+    append_assoc tracks _ _ ∙ ap (λ (others : List FollowedTrack). tracks ++ others) (sym pieces) ∙ so_far
+
+pub early_at : (formers : List FollowedTrack) (place : ℕ) → All IsEarly formers → IfSome (slice_get formers place) IsEarly
+early_at [] place are = tt
+early_at (track ∷ formers) zero are = All-head IsEarly track formers are
+early_at (track ∷ formers) (suc place) are = early_at formers place (All-tail IsEarly track formers are)

@@ -1,0 +1,11 @@
+pub mod Bounded
+pub mod Cutting
+pub mod Gathering
+pub mod Timing
+pub mod Steps
+pub mod Staying
+pub mod Judging
+pub mod Counting
+pub mod Keeping
+pub mod Rounding
+pub mod Accepting

@@ -1,0 +1,11 @@
+use Rattle.std.proofs.Common.{◌≡◌, drop, length}
+use Rattle.hls_follow.specs.Faults.{behind}
+use Rattle.hls_follow.specs.Groups.{row_at}
+use Rattle.hls_follow.specs.Periods.{runs_of}
+use Rattle.hls_follow.proofs.periods.runs_of.Given as goal
+
+abbrev pub invariant-loop-track : goal.invariant-loop-track
+invariant-loop-track l = record {
+  told : behind l.runs (runs_of (row_at (drop l.track-index l.tracks) l.place)) ≡ runs_of (row_at l.tracks l.place);
+  filled : length l.runs ≡ l.track-index;
+}

@@ -1,0 +1,11 @@
+use Rattle.std.proofs.Common.{◌≡◌, drop, map}
+use Rattle.hls_presentation.specs.Views.{source_of}
+use Rattle.hls_follow.specs.Rules.{judged_all, judged_reload}
+use Rattle.hls_follow.proofs.rules.check_reloads.Given as goal
+
+abbrev pub invariant-loop-source : goal.invariant-loop-source
+invariant-loop-source l = record {
+  place : l.place ≡ l.source-index;
+  told : judged_all judged_reload l.formers l.place (map source_of (drop l.source-index l.kept))
+      ≡ judged_all judged_reload l.formers 0 (map source_of l.kept);
+}

@@ -1,0 +1,21 @@
+-- What is refused, and what goes on.
+use Rattle.std.specs.Prelude.{Bool, true, false, List, ◌++◌, Option, Some, None, Result, Ok, Err}
+use Rattle.hls_follow.specs.declared.fault.LiveFault.{LiveFault}
+use Rattle.hls_follow.specs.declared.fault.LiveFault.TheVariants.{Memory}
+
+-- want of memory tells nothing of playlists
+abbrev pub told : LiveFault → Option LiveFault
+told Memory = None
+told fault = Some fault
+
+abbrev pub and_then : {X Y : Type 0} → Result X LiveFault → (X → Result Y LiveFault) → Result Y LiveFault
+and_then (Ok x) next = next x
+and_then (Err fault) next = Err fault
+
+abbrev pub refused_if : Bool → LiveFault → Result (Unit {0}) LiveFault
+refused_if true fault = Err fault
+refused_if false fault = Ok tt
+
+-- some members, and then what others give
+abbrev pub behind : {X : Type 0} → List X → Result (List X) LiveFault → Result (List X) LiveFault
+behind before others = and_then others (λ xs. Ok (before ++ xs))

@@ -1,0 +1,43 @@
+-- Which tracks are kept, and what the last accepted round left of them.
+use Rattle.std.specs.Prelude.{◌<◌, ◌^◌, Bool, List, [], ◌∷◌, map, All, Option, Some, None, if◌then◌else◌}
+use Rattle.hls_media.specs.Laws.{IsBounded}
+use Rattle.hls_presentation.specs.Tracks.{Source, is_kept}
+use Rattle.dash_writer.specs.Live.{IsLive}
+use Rattle.dash_writer.specs.declared.live.LivePeriod.{LivePeriod}
+use Rattle.hls_follow.specs.declared.state.Followed.{Followed}
+use Rattle.hls_follow.specs.declared.state.FollowedTrack.{FollowedTrack}
+
+-- before the first accepted round there are none
+abbrev pub formers_of : Option Followed → List FollowedTrack
+formers_of None = []
+formers_of (Some former) = former.tracks
+
+abbrev pub periods_of : Option Followed → List LivePeriod
+periods_of None = []
+periods_of (Some former) = former.mpd.periods
+
+-- the first accepted round leaves out text tracks for good
+abbrev pub flags_of : Option Followed → List Source → List Bool
+flags_of None sources = map is_kept sources
+flags_of (Some former) sources = former.kept
+
+-- the sources that flags keep
+abbrev pub kept_by : List Bool → List Source → List Source
+kept_by [] sources = []
+kept_by (flag ∷ flags) [] = []
+kept_by (flag ∷ flags) (s ∷ sources) = if flag then s ∷ kept_by flags sources else kept_by flags sources
+
+-- their playlists are bounded as those are that are read
+abbrev pub AreBounded : List Source → Type 0
+AreBounded sources = All (λ (s : Source). IsBounded s.media) sources
+
+-- ---- what stays so
+
+-- a sequence value that can be judged
+abbrev pub IsEarly : FollowedTrack → Type 0
+IsEarly track = track.media.sequence < 2 ^ 63
+
+-- what accepted rounds leave
+pub record IsSound (f : Followed) : Type 0 where
+  pub early : All IsEarly f.tracks
+  pub live : IsLive f.mpd

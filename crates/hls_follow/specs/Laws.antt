@@ -1,0 +1,46 @@
+-- What stays from one accepted round to the next.
+use Rattle.std.specs.Prelude.{◌≡◌, ℕ, ◌<◌, ◌≤◌, List, All, slice_get, Some, Ok, ℤ}
+use Rattle.hls_master.specs.declared.track.MasterTrack.{MasterTrack}
+use Rattle.hls_media.specs.declared.media.Media.{Media}
+use Rattle.reload_law.specs.Rules.{end_of}
+use Rattle.dash_writer.specs.declared.live.LivePeriod.{LivePeriod}
+use Rattle.hls_follow.specs.declared.periods.Extent.{Extent}
+use Rattle.hls_follow.specs.declared.state.Followed.{Followed}
+use Rattle.hls_follow.specs.declared.state.FollowedTrack.{FollowedTrack}
+use Rattle.hls_follow.specs.Periods.{known_in}
+use Rattle.hls_follow.specs.Rounds.{followed_of}
+use Rattle.hls_follow.specs.Times.{former_time}
+
+-- A round was accepted behind others.
+pub record Follows (old new : Followed) : Type 0 where
+  pub tracks : List MasterTrack
+  pub now : ℤ
+  pub medias : List Media
+  pub accepted : followed_of tracks (Some old) now medias ≡ Ok new
+
+-- A track's last playlist lists a segment with this number.
+pub record Lists (track : FollowedTrack) (number : ℕ) : Type 0 where
+  pub from : track.media.sequence ≤ number
+  pub before : number < end_of track.media
+
+-- a track has these playlists one behind another
+pub record IsTrack (old new : Followed) (a b : FollowedTrack) : Type 0 where
+  pub place : ℕ
+  pub in_old : slice_get old.tracks place ≡ Some a
+  pub in_new : slice_get new.tracks place ≡ Some b
+
+-- a sequence number that is listed again keeps its time
+abbrev pub NumbersKeepTheirTimes : Type 0
+NumbersKeepTheirTimes = (old new : Followed) (a b : FollowedTrack) (number time : ℕ) → Follows old new → IsTrack old new a b
+    → Lists b number
+    → former_time (Some a) number ≡ Some time → former_time (Some b) number ≡ Some time
+
+-- a section that is listed again keeps its start
+abbrev pub SectionsKeepTheirStarts : Type 0
+SectionsKeepTheirStarts = (old new : Followed) → Follows old new
+    → All (λ (period : LivePeriod). (known : Extent) → known_in period.number old.mpd.periods ≡ Some known → period.start
+    ≡ known.start) new.mpd.periods
+
+-- the presentation keeps its start
+abbrev pub StartsStay : Type 0
+StartsStay = (old new : Followed) → Follows old new → new.mpd.start ≡ old.mpd.start

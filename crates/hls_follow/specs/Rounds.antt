@@ -1,0 +1,122 @@
+-- A round of playlists behind those that were accepted (RFC 8216, 6.2; ISO/IEC 23009-1, 5.3).
+use Rattle.std.specs.Prelude.{ℕ, max, Bool, List, [], ◌∷◌, map, if◌then◌else◌, Option, Some, None, Result, Ok, Err}
+use Rattle.std.specs.Prelude.{ℤ, pos, neg_ℤ, ◌-ℤ◌, ◌*ℤ◌, int_lt}
+use Rattle.std.specs.Int.{int_div_euclid}
+use Rattle.std.specs.List.{list_all}
+use Rattle.hls_master.specs.declared.track.MasterTrack.{MasterTrack}
+use Rattle.hls_media.specs.declared.media.Media.{Media}
+use Rattle.hls_presentation.specs.Presenting.{track_of}
+use Rattle.hls_presentation.specs.Tracks.{Source, sources}
+use Rattle.dash_writer.specs.declared.live.LiveMpd.{LiveMpd}
+use Rattle.dash_writer.specs.declared.live.LivePeriod.{LivePeriod}
+use Rattle.hls_follow.specs.declared.fault.LiveFault.{LiveFault}
+use Rattle.hls_follow.specs.declared.fault.LiveFault.TheVariants.{Limit}
+use Rattle.hls_follow.specs.declared.state.Followed.{Followed}
+use Rattle.hls_follow.specs.declared.state.FollowedTrack.{FollowedTrack}
+use Rattle.hls_follow.specs.declared.state.TimedSegment.{TimedSegment}
+use Rattle.hls_follow.specs.Faults.{and_then}
+use Rattle.hls_follow.specs.Groups.{groups_of}
+use Rattle.hls_follow.specs.Kept.{flags_of, formers_of, kept_by, periods_of}
+use Rattle.hls_follow.specs.Periods.{last_end, periods_from}
+use Rattle.hls_follow.specs.Rules.{appended_from, common_sections, judged_all, judged_at, judged_count, judged_reload, judged_section}
+use Rattle.hls_follow.specs.Rules.{judged_segments}
+use Rattle.hls_follow.specs.Times.{timed_all}
+
+-- ---- the presentation as it is told at an instant
+
+-- rounded down to milliseconds
+abbrev pub whole_millis : ℤ → ℤ
+whole_millis nanos = int_div_euclid nanos (pos 1_000_000) *ℤ pos 1_000_000
+
+abbrev pub from_1583 : ℤ → Result ℤ LiveFault
+from_1583 start = if int_lt start (neg_ℤ (pos 12_212_553_600_000_000_000)) then Err Limit else Ok start
+
+abbrev pub first_start : (now : ℤ) → (end : ℕ) → Result ℤ LiveFault
+first_start now end = from_1583 (whole_millis (now -ℤ pos end))
+
+-- When the presentation begins: what the first accepted round lists ends at that round's instant, and this stays.
+abbrev pub start_of : Option Followed → (now : ℤ) → List LivePeriod → Result ℤ LiveFault
+start_of (Some former) now periods = Ok former.mpd.start
+start_of None now periods = first_start now (last_end periods)
+
+-- the greatest target duration
+abbrev pub target_of : List Source → ℕ
+target_of [] = 0
+target_of (s ∷ kept) = max s.media.target (target_of kept)
+
+-- no playlist goes on
+abbrev pub are_ended : List Source → Bool
+are_ended kept = list_all (λ (s : Source). s.media.ended) kept
+
+abbrev pub mpd_of : (start now : ℤ) → List LivePeriod → List Source → LiveMpd
+mpd_of start now periods kept = record {
+  start = start;
+  published = now;
+  target = target_of kept;
+  ended = are_ended kept;
+  tracks = map track_of kept;
+  periods = periods;
+}
+
+abbrev pub mpd_or_fault : Option Followed → (now : ℤ) → List LivePeriod → List Source → Result LiveMpd LiveFault
+mpd_or_fault former now periods kept = and_then (start_of former now periods) (λ start. Ok (mpd_of start now periods kept))
+
+-- ---- what a round leaves
+
+abbrev pub times_in : List TimedSegment → List ℕ
+times_in timed = map (λ (t : TimedSegment). t.time) timed
+
+-- each kept track's playlist with its times
+abbrev pub followed_tracks : List Source → List (List TimedSegment) → List FollowedTrack
+followed_tracks [] all = []
+followed_tracks (s ∷ kept) [] = []
+followed_tracks (s ∷ kept) (timed ∷ all) = record { media = s.media; times = times_in timed } ∷ followed_tracks kept all
+
+abbrev pub followed_with : List Bool → List Source → List (List TimedSegment) → LiveMpd → Followed
+followed_with flags kept timed mpd = record { kept = flags; tracks = followed_tracks kept timed; mpd = mpd }
+
+abbrev pub followed_at : Option Followed → (now : ℤ) → List Bool → List Source → List (List TimedSegment) → List LivePeriod
+    → Result Followed LiveFault
+followed_at former now flags kept timed periods =
+    and_then (mpd_or_fault former now periods kept) (λ mpd. Ok (followed_with flags kept timed mpd))
+
+-- its times and its Periods, within their limits
+unfoldable pub placed_of : Option Followed → (now : ℤ) → List Bool → List Source → (sections : List ℕ) → Result Followed LiveFault
+placed_of former now flags kept sections =
+    and_then (timed_all (formers_of former) 0 kept) (λ timed.
+    and_then (periods_from (periods_of former) (map groups_of timed) (last_end (periods_of former)) 0 sections)
+    (followed_at former now flags kept timed))
+
+-- what is judged of the kept tracks, in order; they have these sections
+unfoldable pub judged_tracks : List FollowedTrack → List Source → Result (List ℕ) LiveFault
+judged_tracks formers kept =
+    and_then (judged_segments kept) (λ _.
+    and_then (common_sections kept) (λ sections.
+    and_then (judged_all judged_reload formers 0 kept) (λ _.
+    and_then (judged_all judged_section formers 0 kept) (λ _.
+    and_then (judged_count sections kept) (λ _. Ok sections)))))
+
+abbrev pub kept_in : Option Followed → List Source → List Source
+kept_in former all = kept_by (flags_of former all) all
+
+abbrev pub followed_by : Option Followed → (now : ℤ) → List Source → Result Followed LiveFault
+followed_by former now all =
+    and_then (judged_tracks (formers_of former) (kept_in former all)) (placed_of former now (flags_of former all) (kept_in former all))
+
+-- What a round leaves behind those that were accepted, or why it is refused.
+unfoldable pub followed_of : List MasterTrack → Option Followed → (now : ℤ) → List Media → Result Followed LiveFault
+followed_of tracks former now medias = and_then (judged_at former now) (λ _. followed_by former now (sources tracks medias))
+
+-- ---- the whole
+
+-- a master's tracks, and what the accepted rounds left
+pub record Following : Type 0 where
+  pub tracks : List MasterTrack
+  pub followed : Option Followed
+
+unfoldable pub next_of : Following → (now : ℤ) → List Media → Result Following LiveFault
+next_of f now medias = and_then (followed_of f.tracks f.followed now medias) (λ next. Ok (record f { followed = Some next }))
+
+-- how many segments a round has whose numbers are past every one that was accepted for their track
+unfoldable pub appended_by : Following → List Media → ℕ
+appended_by f medias = appended_from (formers_of f.followed) 0 (kept_in f.followed (sources f.tracks medias))

@@ -1,0 +1,124 @@
+-- What is refused of a round, rule by rule.
+use Rattle.std.specs.Prelude.{ℕ, ◌+◌, ◌-◌, ◌==◌, ◌||◌, nat_eq, nat_lt, Bool, List, [], ◌∷◌, length, slice_get, sum_by}
+use Rattle.std.specs.Prelude.{if◌then◌else◌, Option, Some, None, Result, Ok, Err, ℤ, int_lt}
+use Rattle.std.specs.Cmp.Lexicographic.{pointwise}
+use Rattle.std.specs.List.{list_all}
+use Rattle.std.specs.Option.{option_eq}
+use Rattle.hls_media.specs.declared.media.Media.{Media}
+use Rattle.hls_media.specs.declared.media.MediaSegment.{MediaSegment}
+use Rattle.reload_law.specs.Rules.{end_of, lawful, segments_from}
+use Rattle.reload_law.specs.declared.unlawful.Unlawful.{Unlawful as Rule}
+use Rattle.reload_law.specs.declared.unlawful.Unlawful.TheVariants.{ThreeTargets}
+use Rattle.hls_presentation.specs.declared.fault.HlsFault.{HlsFault}
+use Rattle.hls_presentation.specs.declared.fault.HlsFault.TheVariants as hls
+use Rattle.hls_presentation.specs.Tracks.{Source, segment_faults}
+use Rattle.hls_follow.specs.declared.fault.LiveFault.{LiveFault}
+use Rattle.hls_follow.specs.declared.fault.LiveFault.TheVariants.{Ended, ClockBack, NoMap, MapChanged, ZeroDuration, SectionsDiffer}
+use Rattle.hls_follow.specs.declared.fault.LiveFault.TheVariants.{NoTracks, Unlawful, SectionBack, Limit}
+use Rattle.hls_follow.specs.declared.state.Followed.{Followed}
+use Rattle.hls_follow.specs.declared.state.FollowedTrack.{FollowedTrack}
+use Rattle.hls_follow.specs.Faults.{and_then, refused_if}
+use Rattle.hls_follow.specs.Times.{last_in}
+
+-- ---- the instant
+
+-- nothing follows where every playlist was ended, nor earlier than the last accepted round
+abbrev pub judged_at : Option Followed → ℤ → Result (Unit {0}) LiveFault
+judged_at None now = Ok tt
+judged_at (Some former) now =
+    if former.mpd.ended then Err Ended else refused_if (int_lt now former.mpd.published) (ClockBack former.mpd.published now)
+
+-- ---- the segments of one track
+
+-- all that is refused of segments are these three
+abbrev pub fault_of_track : HlsFault → LiveFault
+fault_of_track hls.NoMap = NoMap
+fault_of_track hls.MapChanged = MapChanged
+fault_of_track fault = ZeroDuration
+
+abbrev pub first_of : List HlsFault → Result (Unit {0}) LiveFault
+first_of [] = Ok tt
+first_of (fault ∷ faults) = Err (fault_of_track fault)
+
+abbrev pub judged_segments : List Source → Result (Unit {0}) LiveFault
+judged_segments [] = Ok tt
+judged_segments (s ∷ sources) = and_then (first_of (segment_faults s.media)) (λ _. judged_segments sources)
+
+-- ---- sections
+
+-- the section numbers of segments, behind those of a section
+abbrev pub sections_behind : Option ℕ → List MediaSegment → List ℕ
+sections_behind former [] = []
+sections_behind former (s ∷ segments) =
+    if option_eq nat_eq former (Some s.section) then sections_behind former segments else s.section ∷ sections_behind
+    (Some s.section) segments
+
+abbrev pub sections_of : Media → List ℕ
+sections_of media = sections_behind None media.segments
+
+-- those of the first track
+abbrev pub sections_in : List Source → List ℕ
+sections_in [] = []
+sections_in (s ∷ sources) = sections_of s.media
+
+abbrev pub has_sections : List ℕ → Source → Bool
+has_sections sections s = pointwise nat_eq sections (sections_of s.media)
+
+-- the section numbers that all tracks have: there are some
+abbrev pub common_sections : List Source → Result (List ℕ) LiveFault
+common_sections kept =
+    if list_all (has_sections (sections_in kept)) kept
+    then (if length (sections_in kept) == 0 then Err NoTracks else Ok (sections_in kept))
+    else Err SectionsDiffer
+
+-- ---- the round before
+
+-- each track is judged by its place and its last playlist
+abbrev pub judged_all : (ℕ → Option FollowedTrack → Media → Result (Unit {0}) LiveFault) → List FollowedTrack → (place : ℕ)
+    → List Source → Result (Unit {0}) LiveFault
+judged_all judge formers place [] = Ok tt
+judged_all judge formers place (s ∷ kept) =
+    and_then (judge place (slice_get formers place) s.media) (λ _. judged_all judge formers (place + 1) kept)
+
+-- the first rule that is broken, but that on three target durations, which is the last one
+abbrev pub reload_told : (track : ℕ) → Result (Unit {0}) Rule → Result (Unit {0}) LiveFault
+reload_told track (Ok done) = Ok tt
+reload_told track (Err ThreeTargets) = Ok tt
+reload_told track (Err rule) = Err (Unlawful track rule)
+
+abbrev pub judged_reload : (track : ℕ) → Option FollowedTrack → Media → Result (Unit {0}) LiveFault
+judged_reload track None media = Ok tt
+judged_reload track (Some former) media = reload_told track (lawful former.media media)
+
+-- how many numbers stand before the end of the playlist before
+abbrev pub known_in : (former new : Media) → ℕ
+known_in former new = end_of former - new.sequence
+
+-- the segments behind the last number of the round before
+abbrev pub new_segments : Option FollowedTrack → Media → List MediaSegment
+new_segments None media = media.segments
+new_segments (Some former) media = segments_from (end_of former.media) media
+
+-- the first of them isn't in a section before that of the last segment
+abbrev pub section_told : (track : ℕ) → (last first : Option MediaSegment) → Result (Unit {0}) LiveFault
+section_told track (Some last) (Some first) = refused_if (nat_lt first.section last.section) (SectionBack track last.section first.section)
+section_told track (Some last) None = Ok tt
+section_told track None first = Ok tt
+
+abbrev pub judged_section : (track : ℕ) → Option FollowedTrack → Media → Result (Unit {0}) LiveFault
+judged_section track None media = Ok tt
+judged_section track (Some former) media = section_told track (last_in former.media.segments) (slice_get (new_segments
+    (Some former) media) 0)
+
+-- ---- the whole
+
+abbrev pub count_of : List Source → ℕ
+count_of kept = sum_by (λ (s : Source). length s.media.segments) kept
+
+abbrev pub judged_count : (sections : List ℕ) → List Source → Result (Unit {0}) LiveFault
+judged_count sections kept = refused_if (nat_lt 500_000 (count_of kept) || nat_lt 1_000 (length sections)) Limit
+
+-- how many segments are past every number that was accepted
+abbrev pub appended_from : List FollowedTrack → (place : ℕ) → List Source → ℕ
+appended_from formers place [] = 0
+appended_from formers place (s ∷ kept) = length (new_segments (slice_get formers place) s.media) + appended_from formers (place + 1) kept

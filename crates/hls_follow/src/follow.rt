@@ -1,0 +1,98 @@
+// A live presentation that is followed.
+ghost use Rattle.std.specs.Prelude.{◌≡◌, ◌<◌, ◌^◌, All, length, map, IfOk, IsSome, OnErr, option_map, Some};
+ghost use Rattle.bridge_io.specs.Answer.{Gives};
+ghost use Rattle.iso_time.specs.Instant.{IsReadable};
+ghost use Rattle.hls_media.specs.Laws.{IsBounded};
+ghost use Rattle.dash_writer.specs.Live.{IsLive};
+ghost use Rattle.hls_follow.specs.Faults.{told};
+ghost use Rattle.hls_follow.specs.Rounds as spec;
+
+use crate::LiveFault;
+use crate::round::{Round, follow_round};
+use crate::state::Followed;
+use bridge_io::NoMemory;
+use dash_writer::LiveMpd;
+use hls_master::Master;
+use hls_presentation::MediaFiles;
+use iso_time::Instant;
+use std::alloc::Global;
+use std::marker::Model;
+
+/// A live presentation whose playlists are read again and again.
+///
+/// In a contract it is the master's tracks and what the accepted rounds left: which tracks are kept, their last playlists with the
+/// times of their segments, and the MPD.
+#[derive(Drop)]
+pub struct Follow {
+    alloc: Global,
+    master: Master,
+    followed: Option<Followed>,
+}
+
+impl Model for Follow {
+    ghost use Rattle.hls_follow.specs.Rounds.{Following};
+
+    ghost Value = { Following };
+
+    ghost use Rattle.std.specs.Option.{ForSome};
+    ghost use Rattle.hls_follow.specs.Kept.{IsSound};
+
+    ghost view = { λ f. record { tracks = f.master; followed = f.followed } };
+
+    ghost invariant = { λ f. ForSome f.followed IsSound };
+}
+
+/// How many segments an accepted round appended, of all kept tracks: those whose numbers are past every one before.
+#[derive(Clone, Copy, Debug, PartialEq, Eq)]
+pub struct Appended(pub u64);
+
+impl Follow {
+    /// The presentation of a master, of which no round was accepted.
+    pub fn new(alloc: Global, master: Master) -> Result<Follow, NoMemory>
+        ensures { IfOk result (λ f. f ≡ record { tracks = master; followed = None }) }
+    {
+        Ok(Follow {
+            alloc,
+            master,
+            followed: None,
+        })
+    }
+
+    /// Takes a round: one media playlist for each of the master's tracks, in their order, as they were at an instant. The first
+    /// accepted one leaves out for good the text tracks that have a segment without map. Any refusal leaves all as it was; they
+    /// come in the order of [`LiveFault`].
+    ///
+    /// Requires that the playlists are bounded as those are that are read (`hls_media::what_is_read_is_bounded`).
+    pub fn accept(&mut self, now: Instant, medias: &MediaFiles) -> Result<Appended, LiveFault>
+        requires now { IsReadable now }
+        requires one_each { length medias.now ≡ length self.old.tracks }
+        requires bounded { All IsBounded medias.now }
+        ensures next { Gives (λ _. self.new) told result (spec.next_of self.old now medias.now) }
+        ensures same { OnErr result (self.new ≡ self.old) }
+        ensures appended { IfOk result (λ n. n.0 ≡ spec.appended_by self.old medias.now) }
+    {
+        let Round { followed, appended } = follow_round(
+            self.alloc,
+            self.master.tracks().as_slice(),
+            self.followed.as_ref(),
+            now,
+            medias.as_slice(),
+        )?;
+        self.followed = Some(followed);
+        Ok(Appended(appended))
+    }
+
+    /// The MPD that the last accepted round left. It takes no memory.
+    ///
+    /// Requires that a round was accepted.
+    pub fn view(&self) -> &LiveMpd
+        requires { IsSome self.now.followed }
+        ensures mpd { option_map (λ f. f.mpd) self.now.followed ≡ Some result.now }
+        ensures live { IsLive result.now }
+    {
+        match &self.followed {
+            Some(followed) => &followed.mpd,
+            None => unreachable!(),
+        }
+    }
+}

@@ -1,0 +1,17 @@
+//! Live playlists that are followed, and what they are as the MPD of a live presentation (RFC 8216, 6.2; ISO/IEC 23009-1, 5.3).
+#![tactic(auto)]
+
+mod fault;
+mod follow;
+mod groups;
+mod kept;
+mod laws;
+mod periods;
+mod round;
+mod rules;
+mod state;
+mod times;
+
+pub use fault::LiveFault;
+pub use follow::{Appended, Follow};
+pub use laws::{numbers_keep_their_times, sections_keep_their_starts, starts_stay};
