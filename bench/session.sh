@@ -28,7 +28,7 @@ ghost use Rattle.iso_time.specs.Instant.{IsReadable};
 ghost use Rattle.live_meaning.specs.Laws.{IsTyped};
 ghost use Rattle.mpd_rules.specs.Views.{segments_mpd};
 
-use bridge_io::{FolderStore, Ledger, Name, Steps, slurp};
+use bridge_io::{Bytes, FolderStore, Ledger, Name, Steps, slurp};
 use exact_time::Digits;
 use iso_time::Instant;
 use live_session::Session;
@@ -57,6 +57,7 @@ fn instant(count: u32) -> Instant
     Instant(1_704_067_200_000_000_000 + i128::from(count) * 2_000_000_000)
 }
 
+#[derive(Drop)]
 struct Followed {
     alloc: Global,
     base: Base,
@@ -142,7 +143,7 @@ impl Followed {
     }
 }
 
-fn content(rt: HostRuntime, alloc: Global) -> Option<Vec<u8>> {
+fn content(rt: HostRuntime, alloc: Global) -> Option<Bytes> {
     let name = Name::read(alloc, "m.mpd").ok()?;
     let mut store = FolderStore::new(rt, alloc, ".").ok()?;
     slurp(alloc, &mut store, &name, 8_388_608).ok()

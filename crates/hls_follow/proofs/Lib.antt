@@ -9,3 +9,4 @@ pub mod Counting
 pub mod Keeping
 pub mod Rounding
 pub mod Accepting
+pub mod Contiguous

@@ -22,7 +22,7 @@ use Rattle.hls_follow.specs.Laws.{NumbersKeepTheirTimes, SectionsKeepTheirStarts
 use Rattle.hls_follow.specs.Periods as periods
 use Rattle.hls_follow.specs.Rounds.{followed_by, followed_of, followed_tracks, followed_with, judged_tracks, kept_in, mpd_of}
 use Rattle.hls_follow.specs.Rounds.{mpd_or_fault, placed_of, start_of, times_in}
-use Rattle.hls_follow.specs.Rules.{judged_at}
+use Rattle.hls_follow.specs.Rules.{common_sections, judged_all, judged_at, judged_reload, judged_segments}
 use Rattle.hls_follow.specs.Times.{behind_segment, former_time, is_late, last_of, time_of, timed_all, timed_from, timed_of, unless_late}
 use Rattle.hls_follow.proofs.Steps.{steps_of}
 
@@ -35,6 +35,7 @@ pub record Parts (former : Option Followed) (new : Followed) : Type 0 where
   pub timed : List (List TimedSegment)
   pub listed : List LivePeriod
   pub start : ℤ
+  pub reloads : judged_all judged_reload (formers_of former) 0 kept ≡ Ok tt
   pub times : timed_all (formers_of former) 0 kept ≡ Ok timed
   pub periods : periods.periods_from (periods_of former) (map groups_of timed) (periods.last_end (periods_of former)) 0 sections ≡ Ok listed
   pub starts : start_of former now listed ≡ Ok start
@@ -42,9 +43,9 @@ pub record Parts (former : Option Followed) (new : Followed) : Type 0 where
   pub mpd : new.mpd ≡ mpd_of start now listed kept
 
 placed_parts : (former : Option Followed) (now : ℤ) (flags : List Bool) (kept : List Source) (sections : List ℕ) (new : Followed)
-    → placed_of former now flags kept sections ≡ Ok new → Parts former new
+    → judged_all judged_reload (formers_of former) 0 kept ≡ Ok tt → placed_of former now flags kept sections ≡ Ok new → Parts former new
 unfolding placed_of
-placed_parts former now flags kept sections new is =
+placed_parts former now flags kept sections new reloads is =
     let a = steps_of (timed_all (formers_of former) 0 kept) _ new is in
     let b = steps_of (periods.periods_from (periods_of former) (map groups_of a.value) (periods.last_end
     (periods_of former)) 0 sections) _ new a.then in
@@ -59,6 +60,7 @@ placed_parts former now flags kept sections new is =
       timed = a.value;
       listed = b.value;
       start = d.value;
+      reloads = reloads;
       times = a.first;
       periods = b.first;
       starts = d.first;
@@ -68,13 +70,17 @@ placed_parts former now flags kept sections new is =
 
 pub parts_of : (tracks : List MasterTrack) (former : Option Followed) (now : ℤ) (medias : List Media) (new : Followed)
     → followed_of tracks former now medias ≡ Ok new → Parts former new
-unfolding followed_of
+unfolding followed_of judged_tracks
 parts_of tracks former now medias new is =
     let all = sources tracks medias in
+    let kept = kept_in former all in
+    let formers = formers_of former in
     let a = steps_of (judged_at former now) (λ _. followed_by former now all) new is in
-    let b = steps_of (judged_tracks (formers_of former) (kept_in former all)) (placed_of former now (flags_of former all)
-    (kept_in former all)) new a.then in
-    placed_parts former now (flags_of former all) (kept_in former all) b.value new b.then
+    let b = steps_of (judged_tracks formers kept) (placed_of former now (flags_of former all) kept) new a.then in
+    let segments = steps_of (judged_segments kept) _ b.value b.first in
+    let sections = steps_of (common_sections kept) _ b.value segments.then in
+    let reloads = steps_of (judged_all judged_reload formers 0 kept) _ b.value sections.then in
+    placed_parts former now (flags_of former all) kept b.value new reloads.first b.then
 
 -- ---- times
 
@@ -97,7 +103,7 @@ kept_time former target number last (s ∷ segments) (suc i) time within is =
 pub record IsAt (formers : List FollowedTrack) (place : ℕ) (b : FollowedTrack) : Type 0 where
   pub is : b.times ≡ times_in (timed_of (slice_get formers place) b.media)
 
-same_by : (all timed : List TimedSegment) (late : Bool) → list_any is_late all ≡ late → unless_late all ≡ Ok timed → all ≡ timed
+pub same_by : (all timed : List TimedSegment) (late : Bool) → list_any is_late all ≡ late → unless_late all ≡ Ok timed → all ≡ timed
 same_by all timed true late is = absurd (let h : unless_late all ≡ Err Limit = rw late refl in cc)
 same_by all timed false late is = (let h : unless_late all ≡ Ok all = rw late refl in cc)
 

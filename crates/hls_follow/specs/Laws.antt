@@ -1,12 +1,14 @@
 -- What stays from one accepted round to the next.
-use Rattle.std.specs.Prelude.{◌≡◌, ℕ, ◌<◌, ◌≤◌, List, All, slice_get, Some, Ok, ℤ}
+use Rattle.std.specs.Prelude.{◌≡◌, ℕ, ◌+◌, ◌<◌, ◌≤◌, List, All, length, slice_get, Option, Some, Ok, ℤ}
 use Rattle.hls_master.specs.declared.track.MasterTrack.{MasterTrack}
 use Rattle.hls_media.specs.declared.media.Media.{Media}
+use Rattle.hls_media.specs.declared.media.MediaSegment.{MediaSegment}
 use Rattle.reload_law.specs.Rules.{end_of}
 use Rattle.dash_writer.specs.declared.live.LivePeriod.{LivePeriod}
 use Rattle.hls_follow.specs.declared.periods.Extent.{Extent}
 use Rattle.hls_follow.specs.declared.state.Followed.{Followed}
 use Rattle.hls_follow.specs.declared.state.FollowedTrack.{FollowedTrack}
+use Rattle.hls_follow.specs.Kept.{formers_of}
 use Rattle.hls_follow.specs.Periods.{known_in}
 use Rattle.hls_follow.specs.Rounds.{followed_of}
 use Rattle.hls_follow.specs.Times.{former_time}
@@ -44,3 +46,14 @@ SectionsKeepTheirStarts = (old new : Followed) → Follows old new
 -- the presentation keeps its start
 abbrev pub StartsStay : Type 0
 StartsStay = (old new : Followed) → Follows old new → new.mpd.start ≡ old.mpd.start
+
+-- A track's times are those of its segments, of which one begins where the one before it ends, in one section.
+pub record IsContiguous (track : FollowedTrack) : Type 0 where
+  pub whole : length track.times ≡ length track.media.segments
+  pub ends : (i time : ℕ) (a b : MediaSegment) → slice_get track.media.segments i ≡ Some a → slice_get track.media.segments (i + 1) ≡ Some b
+      → a.section ≡ b.section → slice_get track.times i ≡ Some time → slice_get track.times (i + 1) ≡ Some (time + a.duration)
+
+-- The first accepted round leaves contiguous times, and so does each one behind a round that left them so.
+abbrev pub TimesAreContiguous : Type 0
+TimesAreContiguous = (tracks : List MasterTrack) (former : Option Followed) (now : ℤ) (medias : List Media) (new : Followed)
+    → followed_of tracks former now medias ≡ Ok new → All IsContiguous (formers_of former) → All IsContiguous new.tracks

@@ -1,5 +1,7 @@
 //! Laws of followed playlists. The functions do nothing: what they ensure is the law.
-ghost use Rattle.hls_follow.specs.Laws.{NumbersKeepTheirTimes, SectionsKeepTheirStarts, StartsStay};
+ghost use Rattle.hls_follow.specs.Laws.{NumbersKeepTheirTimes, SectionsKeepTheirStarts, StartsStay, TimesAreContiguous};
+
+use reload_law::rules_are_sentences;
 
 /// A sequence number that an accepted round lists again keeps its time in its section.
 pub fn numbers_keep_their_times()
@@ -15,3 +17,10 @@ pub fn sections_keep_their_starts()
 pub fn starts_stay()
     ensures { StartsStay }
 {}
+
+/// A segment begins where the one before it in its section ends, in every playlist of accepted rounds.
+pub fn times_are_contiguous()
+    ensures { TimesAreContiguous }
+{
+    rules_are_sentences();
+}

@@ -14,4 +14,6 @@ mod times;
 
 pub use fault::LiveFault;
 pub use follow::{Appended, Follow};
-pub use laws::{numbers_keep_their_times, sections_keep_their_starts, starts_stay};
+pub use laws::{
+    numbers_keep_their_times, sections_keep_their_starts, starts_stay, times_are_contiguous,
+};
