@@ -46,7 +46,7 @@ impl<R: Files> Store for FolderStore<R> {
 
     ghost write_faults = { λ s. s.write_faults };
 
-    /// A folder is no file, and neither is what stands below a file.
+    /// A folder is no file, and neither is a pipe, a device or what stands below a file.
     fn has(&mut self, name: &Name) -> Result<bool, Fail> {
         let path = path_of(self.alloc, &self.folder, name)?;
         match is_file(&self.files, path.as_str()) {
@@ -98,7 +98,7 @@ fn is_absence(error: &io::Error) -> bool {
 
 fn is_file<R: Files>(files: &R, path: &str) -> io::Result<bool> {
     match files.metadata(path) {
-        Ok(metadata) => Ok(!metadata.is_dir()),
+        Ok(metadata) => Ok(metadata.is_file()),
         Err(error) if is_absence(&error) => Ok(false),
         Err(error) => Err(error),
     }
