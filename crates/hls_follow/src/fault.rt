@@ -10,7 +10,7 @@ use thiserror::Error;
 
 /// Why a round of playlists may not follow those that were accepted. They are judged in this order; the third to the fifth track
 /// by track, and for one track in this order. A track is told by its place among those that are kept.
-#[derive(Clone, Copy, Debug, Error)]
+#[derive(Clone, Copy, Debug, PartialEq, Eq, Error)]
 pub enum LiveFault {
     /// In the last accepted round every playlist was ended (RFC 8216 4.3.3.4).
     #[error("the presentation has ended")]
