@@ -1,4 +1,5 @@
 pub mod Bases
+pub mod FileTimes
 pub mod Following
 pub mod Laws
 pub mod Outcomes

@@ -17,14 +17,17 @@ use Rattle.presentation.specs.declared.fault.Spot.{Spot as AddressSpot}
 use Rattle.presentation.specs.declared.fault.Spot.TheVariants as address
 use Rattle.presentation.specs.declared.fault.PresentationFault.{PresentationFault}
 use Rattle.presentation.specs.declared.fault.PresentationFault.TheVariants as presentation
+use Rattle.hls_follow.specs.declared.fault.LiveFault.{LiveFault}
+use Rattle.hls_follow.specs.declared.fault.LiveFault.TheVariants as live
 use Rattle.bridge_report.specs.declared.spot.Spot.{Spot}
 use Rattle.bridge_report.specs.declared.spot.Spot.TheVariants.{Byte, At, Segment}
 use Rattle.bridge_report.specs.declared.refusal.Refusal.{Refusal}
 use Rattle.bridge_report.specs.declared.refusal.Refusal.TheVariants as refusal
 use Rattle.bridge_report.specs.declared.refusal.Stop.{Stop}
 use Rattle.bridge_report.specs.declared.refusal.Stop.TheVariants as stop
+use Rattle.bridge_report.specs.FileTimes.{times_spot, times_words}
 use Rattle.bridge_report.specs.Indexes.{index_spot, index_words}
-use Rattle.bridge_report.specs.Words.{text_words, rule_words, presentation_words, media_words, master_words, hls_words, frame_words, update_words}
+use Rattle.bridge_report.specs.Words.{text_words, rule_words, presentation_words, media_words, master_words, hls_words, frame_words, update_words, live_words}
 
 -- ---- where
 
@@ -139,6 +142,8 @@ spot_of (refusal.Frame fault) = frame_spot fault
 spot_of refusal.NotOpen = None
 spot_of (refusal.Session fault) = None
 spot_of (refusal.Index index) = index_spot index
+spot_of (refusal.Times times) = times_spot times
+spot_of (refusal.Live fault) = None
 
 abbrev pub spot_text : Option Spot → List ℕ
 spot_text None = []
@@ -165,6 +170,8 @@ words_of (refusal.Frame fault) = frame_words fault
 words_of refusal.NotOpen = codes "frame 4 NotOpen"
 words_of (refusal.Session fault) = update_words fault
 words_of (refusal.Index index) = index_words index
+words_of (refusal.Times times) = times_words times
+words_of (refusal.Live fault) = live_words fault
 
 -- what is told of a refusal, whatever is refused: its words, and where it stands, if that is told
 unfoldable pub refusal_text : Refusal → List ℕ
@@ -191,6 +198,14 @@ stop_of_rules fault = stop.Refused (refusal.Rules fault)
 abbrev pub stop_of_presentation : PresentationFault → Stop
 stop_of_presentation presentation.Memory = stop.Memory
 stop_of_presentation fault = stop.Refused (refusal.Presentation fault)
+
+abbrev pub stop_of_media : MediaFault → Stop
+stop_of_media media.Memory = stop.Memory
+stop_of_media fault = stop.Refused (refusal.Media fault)
+
+abbrev pub stop_of_live : LiveFault → Stop
+stop_of_live live.Memory = stop.Memory
+stop_of_live fault = stop.Refused (refusal.Live fault)
 
 -- a file that isn't read whole
 abbrev pub refusal_of_file : Unread → Refusal

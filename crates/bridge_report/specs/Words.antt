@@ -6,6 +6,8 @@ use Rattle.mpd_text.specs.declared.fault.TextFault.{TextFault}
 use Rattle.mpd_text.specs.declared.fault.TextFault.TheVariants as text
 use Rattle.mpd_profile.specs.declared.fault.RuleFault.{RuleFault}
 use Rattle.mpd_profile.specs.declared.fault.RuleFault.TheVariants as rules
+use Rattle.hls_follow.specs.declared.fault.LiveFault.{LiveFault}
+use Rattle.hls_follow.specs.declared.fault.LiveFault.TheVariants as live
 use Rattle.bridge_report.specs.declared.update_fault.UpdateFault.{UpdateFault}
 use Rattle.bridge_report.specs.declared.update_fault.UpdateFault.TheVariants as update
 use Rattle.hls_lines.specs.declared.fault.LineFault.{LineFault}
@@ -161,3 +163,17 @@ update_words update.NotDynamic = codes "session 8 NotDynamic"
 update_words update.Ended = codes "session 9 Ended"
 update_words update.Window = codes "session 10 Window"
 update_words update.Uneven = codes "session 13 Uneven"
+
+-- a rule that a round of live playlists breaks: the values that differ aren't told
+abbrev pub live_words : LiveFault → List ℕ
+live_words live.Ended = codes "live 1 Ended"
+live_words (live.ClockBack former now) = codes "live 2 ClockBack"
+live_words live.NoMap = codes "live 3 NoMap"
+live_words live.MapChanged = codes "live 4 MapChanged"
+live_words live.ZeroDuration = codes "live 5 ZeroDuration"
+live_words live.SectionsDiffer = codes "live 6 SectionsDiffer"
+live_words live.NoTracks = codes "live 7 NoTracks"
+live_words (live.Unlawful track rule) = codes "live 8 Unlawful"
+live_words (live.SectionBack track former new) = codes "live 11 SectionBack"
+live_words live.Limit = codes "live 9 Limit"
+live_words live.Memory = []

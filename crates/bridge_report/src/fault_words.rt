@@ -4,6 +4,7 @@ ghost use Rattle.bridge_report.specs.Words as spec;
 
 use crate::update_fault::UpdateFault;
 use bridge_jobs::FrameFault;
+use hls_follow::LiveFault;
 use hls_lines::LineFault;
 use hls_master::MasterFault;
 use hls_media::MediaFault;
@@ -214,5 +215,24 @@ pub fn update_words(fault: UpdateFault) -> &'static str
         UpdateFault::Ended => "session 9 Ended",
         UpdateFault::Window => "session 10 Window",
         UpdateFault::Uneven => "session 13 Uneven",
+    }
+}
+
+/// Those of a rule of followed playlists. Want of memory has none.
+pub fn live_words(fault: LiveFault) -> &'static str
+    ensures { result.now ≡ spec.live_words fault }
+{
+    match fault {
+        LiveFault::Ended => "live 1 Ended",
+        LiveFault::ClockBack { .. } => "live 2 ClockBack",
+        LiveFault::NoMap => "live 3 NoMap",
+        LiveFault::MapChanged => "live 4 MapChanged",
+        LiveFault::ZeroDuration => "live 5 ZeroDuration",
+        LiveFault::SectionsDiffer => "live 6 SectionsDiffer",
+        LiveFault::NoTracks => "live 7 NoTracks",
+        LiveFault::Unlawful { .. } => "live 8 Unlawful",
+        LiveFault::SectionBack { .. } => "live 11 SectionBack",
+        LiveFault::Limit => "live 9 Limit",
+        LiveFault::Memory => "",
     }
 }

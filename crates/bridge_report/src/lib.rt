@@ -10,6 +10,7 @@ mod lines;
 mod reading;
 mod refusal;
 mod spot;
+mod times_refusal;
 mod update_fault;
 
 pub use base::{file_url, folder_url};
@@ -22,4 +23,5 @@ pub use lines::{frame_accepted, frame_refused, stream_done, tell_line};
 pub use reading::{Halt, content_of, media_at};
 pub use refusal::{Refusal, Stop, refusal_line, refusal_text};
 pub use spot::Spot;
+pub use times_refusal::TimesRefusal;
 pub use update_fault::UpdateFault;

@@ -3,14 +3,16 @@ ghost use Rattle.std.specs.Prelude.{◌≡◌, ◌++◌, IfOk};
 ghost use Rattle.bridge_report.specs.Refusals as spec;
 
 use crate::fault_words::{
-    frame_words, hls_words, master_words, media_words, presentation_words, rule_words, text_words,
-    update_words,
+    frame_words, hls_words, live_words, master_words, media_words, presentation_words, rule_words,
+    text_words, update_words,
 };
 use crate::index_refusal::{IndexRefusal, index_spot, index_words};
 use crate::spot::Spot;
+use crate::times_refusal::{TimesRefusal, times_spot, times_words};
 use crate::update_fault::UpdateFault;
 use bridge_io::{NoMemory, Place, Text};
 use bridge_jobs::FrameFault;
+use hls_follow::LiveFault;
 use hls_lines::LineFault;
 use hls_master::MasterFault;
 use hls_media::MediaFault;
@@ -55,6 +57,10 @@ pub enum Refusal {
     Session(UpdateFault),
     /// Media files with an index inside give no presentation.
     Index(IndexRefusal),
+    /// Media files tell no times.
+    Times(TimesRefusal),
+    /// A round of live playlists may not follow those that were accepted.
+    Live(LiveFault),
 }
 
 /// Why the input of a job isn't read.
@@ -94,6 +100,26 @@ impl Stop {
         match fault {
             PresentationFault::Memory => Stop::Memory,
             _ => Stop::Refused(Refusal::Presentation(fault)),
+        }
+    }
+
+    /// A fault of a media playlist.
+    pub fn of_media(fault: MediaFault) -> Stop
+        ensures { result ≡ spec.stop_of_media fault }
+    {
+        match fault {
+            MediaFault::Memory => Stop::Memory,
+            _ => Stop::Refused(Refusal::Media(fault)),
+        }
+    }
+
+    /// Why a round of live playlists isn't taken.
+    pub fn of_live(fault: LiveFault) -> Stop
+        ensures { result ≡ spec.stop_of_live fault }
+    {
+        match fault {
+            LiveFault::Memory => Stop::Memory,
+            _ => Stop::Refused(Refusal::Live(fault)),
         }
     }
 }
@@ -159,6 +185,8 @@ fn words(refusal: Refusal) -> &'static str
         Refusal::NotOpen => "frame 4 NotOpen",
         Refusal::Session(fault) => update_words(fault),
         Refusal::Index(refusal) => index_words(refusal),
+        Refusal::Times(refusal) => times_words(refusal),
+        Refusal::Live(fault) => live_words(fault),
     }
 }
 
@@ -174,7 +202,8 @@ fn spot(refusal: Refusal) -> Option<Spot>
         | Refusal::Hls(_)
         | Refusal::NotStatic
         | Refusal::NotOpen
-        | Refusal::Session(_) => None,
+        | Refusal::Session(_)
+        | Refusal::Live(_) => None,
         Refusal::TooLong(place) => Some(Spot::At(place)),
         Refusal::Text(fault) => text_spot(fault),
         Refusal::Rules(fault) => rule_spot(fault),
@@ -183,6 +212,7 @@ fn spot(refusal: Refusal) -> Option<Spot>
         Refusal::Master(fault) => master_spot(fault),
         Refusal::Frame(fault) => frame_spot(fault),
         Refusal::Index(refusal) => index_spot(refusal),
+        Refusal::Times(refusal) => times_spot(refusal),
     }
 }
 
