@@ -109,11 +109,11 @@ after_end true is true e = refl
 after_end true true false e = absurd (cc)
 after_end true false false e = absurd (cc)
 
-abbrev ended_now : Media → Media
+abbrev pub ended_now : Media → Media
 ended_now media = record media { ended = true }
 
 -- A playlist that may take an older one's place, but that it may be short, may do so as an ended one, which may be short.
-lawful_ended : (place : ℕ) (old new : Media) → reload_told place (lawful old new) ≡ Ok tt → lawful old (ended_now new) ≡ Ok tt
+pub lawful_ended : (place : ℕ) (old new : Media) → reload_told place (lawful old new) ≡ Ok tt → lawful old (ended_now new) ≡ Ok tt
 unfolding lawful
 lawful_ended place old new is =
     let u = unbroken place (not (eqb old.target new.target)) (ltb new.sequence old.sequence) (ltb (end_of new) (end_of old))
@@ -129,7 +129,7 @@ third false q r s is = absurd (cc)
 
 -- ---- a former playlist
 
-some_at : {X : Type 0} (xs : List X) (i : ℕ) → i < length xs → (x : X) × (slice_get xs i ≡ Some x)
+pub some_at : {X : Type 0} (xs : List X) (i : ℕ) → i < length xs → (x : X) × (slice_get xs i ≡ Some x)
 some_at [] i within = absurd (omega arith)
 some_at (x ∷ xs) zero within = (x, refl)
 some_at (x ∷ xs) (suc i) within = some_at xs i (omega arith)
@@ -139,7 +139,7 @@ same_duration a b is =
     eqb-true a.duration b.duration (third (bytes_eq a.address b.address) (option_eq same_range a.range b.range)
     (eqb a.duration b.duration) (option_eq same_part a.map b.map) is)
 
-listed_at : (media : Media) (number i : ℕ) (s : MediaSegment) → media.sequence ≤ number → number - media.sequence ≡ i
+pub listed_at : (media : Media) (number i : ℕ) (s : MediaSegment) → media.sequence ≤ number → number - media.sequence ≡ i
     → slice_get media.segments i ≡ Some s → segment_at number media ≡ Some s
 listed_at media number i s from at is = rw (le-leb media.sequence number from) (ap (slice_get media.segments) at ∙ is)
 
@@ -174,7 +174,7 @@ carries_old a media times l i time x y one two same is =
 
 -- ---- all tracks
 
-length_timed : (former : Option FollowedTrack) (target number : ℕ) (last : Option Last) (segments : List MediaSegment)
+pub length_timed : (former : Option FollowedTrack) (target number : ℕ) (last : Option Last) (segments : List MediaSegment)
     → length (times_in (timed_from former target number last segments)) ≡ length segments
 length_timed former target number last [] = refl
 length_timed former target number last (s ∷ segments) = ap suc (length_timed former target (number + 1) (Some
@@ -222,4 +222,4 @@ module _ (sentences : RulesAreSentences) where
   pub times_are : TimesAreContiguous
   times_are tracks former now medias new is times =
       let p = parts_of tracks former now medias new is in
-      subst (All IsContiguous) (sym p.tracks) (tracks_are (formers_of former) 0 p.kept p.timed p.times p.reloads times)
+      subst (All IsContiguous) (sym p.tracks) (tracks_are (formers_of former) 0 p.kept p.timed p.times p.judged.reloads times)

@@ -10,3 +10,6 @@ pub mod Keeping
 pub mod Rounding
 pub mod Accepting
 pub mod Contiguous
+pub mod Sections
+pub mod Listing
+pub mod Histories

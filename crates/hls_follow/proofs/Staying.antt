@@ -22,30 +22,42 @@ use Rattle.hls_follow.specs.Laws.{NumbersKeepTheirTimes, SectionsKeepTheirStarts
 use Rattle.hls_follow.specs.Periods as periods
 use Rattle.hls_follow.specs.Rounds.{followed_by, followed_of, followed_tracks, followed_with, judged_tracks, kept_in, mpd_of}
 use Rattle.hls_follow.specs.Rounds.{mpd_or_fault, placed_of, start_of, times_in}
-use Rattle.hls_follow.specs.Rules.{common_sections, judged_all, judged_at, judged_reload, judged_segments}
+use Rattle.hls_follow.specs.Rules.{common_sections, judged_all, judged_at, judged_count, judged_reload, judged_section}
+use Rattle.hls_follow.specs.Rules.{judged_segments}
 use Rattle.hls_follow.specs.Times.{behind_segment, former_time, is_late, last_of, time_of, timed_all, timed_from, timed_of, unless_late}
 use Rattle.hls_follow.proofs.Steps.{steps_of}
 
 -- ---- the parts of what an accepted round leaves
 
-pub record Parts (former : Option Followed) (new : Followed) : Type 0 where
+-- what is judged of tracks that have these sections
+pub record Judged (formers : List FollowedTrack) (kept : List Source) (sections : List ℕ) : Type 0 where
+  pub segments : judged_segments kept ≡ Ok tt
+  pub common : common_sections kept ≡ Ok sections
+  pub reloads : judged_all judged_reload formers 0 kept ≡ Ok tt
+
+pub record Parts (former : Option Followed) (all : List Source) (new : Followed) : Type 0 where
   pub now : ℤ
   pub kept : List Source
   pub sections : List ℕ
   pub timed : List (List TimedSegment)
   pub listed : List LivePeriod
   pub start : ℤ
-  pub reloads : judged_all judged_reload (formers_of former) 0 kept ≡ Ok tt
+  pub are : kept ≡ kept_in former all
+  pub judged : Judged (formers_of former) kept sections
   pub times : timed_all (formers_of former) 0 kept ≡ Ok timed
   pub periods : periods.periods_from (periods_of former) (map groups_of timed) (periods.last_end (periods_of former)) 0 sections ≡ Ok listed
   pub starts : start_of former now listed ≡ Ok start
+  pub flags : new.kept ≡ flags_of former all
   pub tracks : new.tracks ≡ followed_tracks kept timed
   pub mpd : new.mpd ≡ mpd_of start now listed kept
 
-placed_parts : (former : Option Followed) (now : ℤ) (flags : List Bool) (kept : List Source) (sections : List ℕ) (new : Followed)
-    → judged_all judged_reload (formers_of former) 0 kept ≡ Ok tt → placed_of former now flags kept sections ≡ Ok new → Parts former new
+placed_parts : (former : Option Followed) (now : ℤ) (all : List Source) (sections : List ℕ) (new : Followed)
+    → Judged (formers_of former) (kept_in former all) sections
+    → placed_of former now (flags_of former all) (kept_in former all) sections ≡ Ok new → Parts former all new
 unfolding placed_of
-placed_parts former now flags kept sections new reloads is =
+placed_parts former now all sections new judged is =
+    let flags = flags_of former all in
+    let kept = kept_in former all in
     let a = steps_of (timed_all (formers_of former) 0 kept) _ new is in
     let b = steps_of (periods.periods_from (periods_of former) (map groups_of a.value) (periods.last_end
     (periods_of former)) 0 sections) _ new a.then in
@@ -60,16 +72,18 @@ placed_parts former now flags kept sections new reloads is =
       timed = a.value;
       listed = b.value;
       start = d.value;
-      reloads = reloads;
+      are = refl;
+      judged = judged;
       times = a.first;
       periods = b.first;
       starts = d.first;
+      flags = ap (λ (f : Followed). f.kept) (sym whole);
       tracks = ap (λ (f : Followed). f.tracks) (sym whole);
       mpd = ap (λ (f : Followed). f.mpd) (sym whole) ∙ sym mpd;
     }
 
 pub parts_of : (tracks : List MasterTrack) (former : Option Followed) (now : ℤ) (medias : List Media) (new : Followed)
-    → followed_of tracks former now medias ≡ Ok new → Parts former new
+    → followed_of tracks former now medias ≡ Ok new → Parts former (sources tracks medias) new
 unfolding followed_of judged_tracks
 parts_of tracks former now medias new is =
     let all = sources tracks medias in
@@ -80,7 +94,11 @@ parts_of tracks former now medias new is =
     let segments = steps_of (judged_segments kept) _ b.value b.first in
     let sections = steps_of (common_sections kept) _ b.value segments.then in
     let reloads = steps_of (judged_all judged_reload formers 0 kept) _ b.value sections.then in
-    placed_parts former now (flags_of former all) kept b.value new reloads.first b.then
+    let judged_sections = steps_of (judged_all judged_section formers 0 kept) _ b.value reloads.then in
+    let count = steps_of (judged_count sections.value kept) _ b.value judged_sections.then in
+    let same : sections.value ≡ b.value = (let h = count.then in cc) in
+    placed_parts former now all b.value new
+    (record { segments = segments.first; common = sections.first ∙ ap Ok same; reloads = reloads.first }) b.then
 
 -- ---- times
 

@@ -6,3 +6,5 @@ pub mod Groups
 pub mod Periods
 pub mod Rounds
 pub mod Laws
+pub mod Listed
+pub mod Histories

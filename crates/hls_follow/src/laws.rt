@@ -1,4 +1,5 @@
 //! Laws of followed playlists. The functions do nothing: what they ensure is the law.
+ghost use Rattle.hls_follow.specs.Histories.{AreContiguousFromTheFirst, LastPlaylistsAreListed, SegmentsStay, StartsStayOverRounds};
 ghost use Rattle.hls_follow.specs.Laws.{NumbersKeepTheirTimes, SectionsKeepTheirStarts, StartsStay, TimesAreContiguous};
 
 use reload_law::rules_are_sentences;
@@ -21,6 +22,32 @@ pub fn starts_stay()
 /// A segment begins where the one before it in its section ends, in every playlist of accepted rounds.
 pub fn times_are_contiguous()
     ensures { TimesAreContiguous }
+{
+    rules_are_sentences();
+}
+
+/// Over every list of accepted rounds the presentation begins when it began.
+pub fn starts_stay_over_rounds()
+    ensures { StartsStayOverRounds }
+{}
+
+/// Over every list of accepted rounds, from the first on, a segment begins where the one before it in its section ends.
+pub fn times_are_contiguous_from_the_first()
+    ensures { AreContiguousFromTheFirst }
+{
+    rules_are_sentences();
+}
+
+/// After every list of accepted rounds the MPD has a Period for each section of the last playlists, and lists of each kept track
+/// exactly the last playlist's segments in their order, with their maps, addresses, ranges, durations and times.
+pub fn last_playlists_are_listed()
+    ensures { LastPlaylistsAreListed }
+{}
+
+/// A segment that a round lists again, by its track and its sequence number, stays in the MPD as it was after every earlier round:
+/// the id and the start of its Period, and when it begins there.
+pub fn segments_stay()
+    ensures { SegmentsStay }
 {
     rules_are_sentences();
 }

@@ -1,0 +1,58 @@
+-- The segments of a track, as an MPD lists them Period by Period, and as a playlist does.
+use Rattle.std.specs.Prelude.{◌≡◌, ℕ, List, [], ◌∷◌, ◌++◌, length, map, slice_get, Option, Some, None}
+use Rattle.url_parts.specs.declared.address.Part.{Part}
+use Rattle.hls_media.specs.declared.media.MediaSegment.{MediaSegment}
+use Rattle.dash_writer.specs.declared.live.LivePeriod.{LivePeriod}
+use Rattle.dash_writer.specs.declared.live.LiveRun.{LiveRun}
+use Rattle.dash_writer.specs.declared.live.LiveSegment.{LiveSegment}
+use Rattle.hls_follow.specs.declared.state.Followed.{Followed}
+use Rattle.hls_follow.specs.declared.state.FollowedTrack.{FollowedTrack}
+use Rattle.hls_follow.specs.Rules.{sections_of}
+
+-- A segment of a section, with what its media begin with.
+pub record Listed : Type 0 where
+  pub section : ℕ
+  pub initialization : Option Part
+  pub segment : LiveSegment
+
+-- A segment of an MPD: its Period's start, and of it the section that is the Period's id.
+pub record Placed : Type 0 where
+  pub start : ℕ
+  pub listed : Listed
+
+-- ---- an MPD
+
+abbrev pub placed_as : LivePeriod → LiveRun → LiveSegment → Placed
+placed_as period run segment = record {
+  start = period.start;
+  listed = record { section = period.number; initialization = Some run.initialization; segment = segment };
+}
+
+abbrev pub placed_in : LivePeriod → Option LiveRun → List Placed
+placed_in period None = []
+placed_in period (Some run) = map (placed_as period run) run.segments
+
+-- the segments of the track at a place
+abbrev pub placed_of : (place : ℕ) → List LivePeriod → List Placed
+placed_of place [] = []
+placed_of place (period ∷ periods) = placed_in period (slice_get period.runs place) ++ placed_of place periods
+
+-- ---- a playlist
+
+abbrev pub listed_as : MediaSegment → (time : ℕ) → Listed
+listed_as s time = record {
+  section = s.section;
+  initialization = s.map;
+  segment = record { address = s.address; range = s.range; time = time; duration = s.duration };
+}
+
+abbrev pub listed_of : List MediaSegment → (times : List ℕ) → List Listed
+listed_of [] times = []
+listed_of (s ∷ segments) [] = []
+listed_of (s ∷ segments) (time ∷ times) = listed_as s time ∷ listed_of segments times
+
+-- The MPD has a Period for each section of the track at a place, and lists its segments in their order, each with its time.
+pub record ListsTrack (f : Followed) (place : ℕ) (track : FollowedTrack) : Type 0 where
+  pub sections : map (λ (period : LivePeriod). period.number) f.mpd.periods ≡ sections_of track.media
+  pub timed : length track.times ≡ length track.media.segments
+  pub segments : map (λ (p : Placed). p.listed) (placed_of place f.mpd.periods) ≡ listed_of track.media.segments track.times
