@@ -1,11 +1,10 @@
 -- The run of a followed MPD.
-use Rattle.std.specs.Prelude.{ℕ, List, Option, Some, None, option_map}
+use Rattle.std.specs.Prelude.{ℕ, List, Option, None, option_map}
 use Rattle.bridge_runs.specs.Courses.{Course}
-use Rattle.bridge_report.specs.Outcomes.{base_refused, course_by}
 use Rattle.bridge_playlists.specs.declared.place.Place.{Place}
 use Rattle.bridge_playlists.specs.Places.{place_of}
 use Rattle.live_meaning.specs.Updates.{Terms}
-use Rattle.bridge_steps.specs.Follow.{follow_course}
+use Rattle.bridge_steps.specs.Follow.{course_placed, follow_course}
 use Rattle.bridge_steps.specs.LiveMpds.{followed_mpd, frame_stream}
 use Rattle.bridge_core.specs.declared.follow.Follow.{Follow}
 
@@ -15,11 +14,6 @@ terms_at job place = record { url = place.url; digits = job.digits }
 -- the MPD is read under this place's name, and its frames from the input
 abbrev pub follow_at : Follow → (input : Option (List ℕ)) → Place → Option Course
 follow_at job input place = option_map (follow_course (followed_mpd (terms_at job place) job.out) frame_stream None) input
-
--- a base that is refused is told whatever the input tells
-abbrev pub course_placed : {P : Type 0} → (P → Option Course) → Option P → Option Course
-course_placed at None = Some (course_by base_refused)
-course_placed at (Some place) = at place
 
 unfoldable pub followed_course : Follow → (input : Option (List ℕ)) → Option Course
 followed_course job input = course_placed (follow_at job input) (place_of job.base job.name)

@@ -193,7 +193,9 @@ whole_of tracks former round new given accepted =
     (bounded_kept (flags_of former here) here (bounded_sources tracks round.1 given.bounded)) in
     let rise : (kept : List Source) → All (λ (s : Source). IsBounded s.media) kept → Rises 0 (sections_in kept) =
     λ kept. elim kept as (λ kept. All (λ (s : Source). IsBounded s.media) kept → Rises 0 (sections_in kept)) [
-      [] ↦ λ are. tt | s ∷ kept ↦ λ are. sections_rise s.media (All-head (λ (s : Source). IsBounded s.media) s kept are) ] in
+      | [] ↦ λ are. tt
+      | s ∷ kept ↦ λ are. sections_rise s.media (All-head (λ (s : Source). IsBounded s.media) s kept are)
+    ] in
     record {
       count = λ all as_many. tracks_length ∙ kept_length new.kept here all (sources_length tracks round.1 given.one_each ∙ sym as_many);
       numbers = subst (Rises 0) (first_sections p.kept p.sections p.judged.common
@@ -356,12 +358,14 @@ module _ (sentences : RulesAreSentences) (tracks : List MasterTrack) (place numb
       let old : slice_get former.tracks (0 + place) ≡ Some s.track = ap (slice_get former.tracks) e ∙ s.kept in
       let one : judged_reload (0 + place) (Some s.track) b.0.media ≡ Ok tt =
       ap (λ (t : FollowedTrack). judged_reload (0 + place) (Some s.track) t.media) t.is
-      ∙ ap (λ (o : Option FollowedTrack). judged_reload (0 + place) o t.source.media) (sym old) ∙ judged in
-      (b.0, record {
-        kept = b.1;
-        lawful = (sentences s.track.media (contiguous.ended_now b.0.media)).0
-            (contiguous.lawful_ended (0 + place) s.track.media b.0.media one);
-      })
+      ∙ ap (λ (o : Option FollowedTrack). judged_reload (0 + place) o t.source.media) (sym old) ∙ judged in (
+        b.0,
+        record {
+          kept = b.1;
+          lawful = (sentences s.track.media (contiguous.ended_now b.0.media)).0
+              (contiguous.lawful_ended (0 + place) s.track.media b.0.media one);
+        },
+      )
 
   -- what it lists again is listed as it was
   same_again : (former : Followed) (round : Playlists) (new : Followed) (s : Stays tracks place number placed former) (b : FollowedTrack)

@@ -5,7 +5,7 @@ use Rattle.bridge_steps.specs.LiveMpds.{followed_mpd, frame_stream}
 use Rattle.bridge_steps.proofs.Endings.{over}
 use Rattle.bridge_steps.proofs.Grown.{none_grown}
 use Rattle.bridge_core.specs.Follow.{follow_at, followed_course, terms_at}
-use Rattle.bridge_core.proofs.Worked.{placed_worked, unplaced_caused, unplaced_worked}
+use Rattle.bridge_steps.proofs.Unplaced.{placed_worked, unplaced_caused, unplaced_worked}
 use Rattle.bridge_core.proofs.follow.translate.Goals as goal
 
 pub returns-in-Ok-clause-work : goal.returns-in-Ok-clause-work
