@@ -25,7 +25,7 @@ behind-both place a b = ap₂ (λ (at line : ℕ). let p : Place = record { at =
     (add_assoc place.line (count_by is_lf a) (count_by is_lf b) ∙ ap (λ n. place.line + n) (sym (count_by-both a b)))
 
 -- a line and what stands behind it
-line-front : (most : ℕ) (bytes : List ℕ) → line_within most bytes ++ drop (length (line_within most bytes)) bytes ≡ bytes
+pub line-front : (most : ℕ) (bytes : List ℕ) → line_within most bytes ++ drop (length (line_within most bytes)) bytes ≡ bytes
 unfolding line_within
 line-front zero bytes = refl
 line-front (suc most) [] = refl
@@ -35,7 +35,7 @@ line-front (suc most) (b ∷ bytes) = go (line-front most bytes) (b == 10)
     go next true = refl
     go next false = ap (λ x. b ∷ x) next
 
-line-some : (most b : ℕ) (bytes : List ℕ) → 0 < length (line_within (suc most) (b ∷ bytes))
+pub line-some : (most b : ℕ) (bytes : List ℕ) → 0 < length (line_within (suc most) (b ∷ bytes))
 unfolding line_within
 line-some most b bytes = go (b == 10)
   where

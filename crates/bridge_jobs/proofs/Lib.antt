@@ -8,3 +8,4 @@ pub mod Reading
 pub mod Taken
 pub mod LengthsInTurn
 pub mod RoundsRead
+pub mod RoundsInTurn

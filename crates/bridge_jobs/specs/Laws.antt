@@ -5,6 +5,7 @@ use Rattle.bridge_io.specs.Names.{is_name}
 use Rattle.bridge_io.specs.Places.{place_of}
 use Rattle.bridge_jobs.specs.Jobs.{is_folder}
 use Rattle.bridge_jobs.specs.Frames.{Framed, frames_from, next_frame, stream_by}
+use Rattle.bridge_jobs.specs.Rounds.{next_round, rounds_by, rounds_from}
 use Rattle.bridge_jobs.specs.declared.frame.FramePos.{FramePos}
 
 -- ---- the names of the files that are written
@@ -27,12 +28,17 @@ pub record FoldersHoldFiles (folder : List ℕ) : Type 0 where
 abbrev pub FoldersHoldTheirFiles : Type 0
 FoldersHoldTheirFiles = (folder : List ℕ) → IsTrue (is_folder folder) → FoldersHoldFiles folder
 
--- ---- streams of frames
+-- ---- streams of frames, and of rounds
 
 -- the frames of a stream are its first one and those of what stands behind it, or its end
 abbrev pub FramesFollow : Type 0
 FramesFollow =
     (at : FramePos) (bytes : List ℕ) → frames_from at bytes ≡ stream_by (λ framed. frames_from framed.after framed.rest) (next_frame at bytes)
+
+-- and so are those of a stream of rounds
+abbrev pub RoundsFollow : Type 0
+RoundsFollow = (tracks : ℕ) (at : FramePos) (bytes : List ℕ)
+    → rounds_from tracks at bytes ≡ rounds_by (λ rounded. rounds_from tracks rounded.after rounded.rest) (next_round tracks at bytes)
 
 -- places are those of bytes in the whole stream
 abbrev pub PlacesAreOfTheStream : Type 0

@@ -1,5 +1,5 @@
 -- Rounds: the playlists of a live presentation, all read at one instant.
-use Rattle.std.specs.Prelude.{ℕ, ℤ, zero, suc, ◌-◌, ◌+◌, nat_le, codes, bytes_eq, List, [], ◌∷◌, ◌++◌, if◌then◌else◌, Option, Some, None, option_map, Result, Ok, Err}
+use Rattle.std.specs.Prelude.{ℕ, ℤ, zero, suc, ◌-◌, ◌+◌, nat_le, codes, bytes_eq, List, [], ◌∷◌, ◌++◌, length, if◌then◌else◌, Option, Some, None, option_map, Result, Ok, Err}
 use Rattle.bridge_io.specs.declared.place.Place.{Place}
 use Rattle.bridge_jobs.specs.Headers.{cut_at_space, length_of}
 use Rattle.bridge_jobs.specs.Jobs.{◌>>=◌, instant_in}
@@ -111,3 +111,22 @@ round_by_line tracks at line bytes = rounded_if at line bytes (header_at most_he
 -- the round that bytes begin with, none where there are no bytes; rounds are counted, and refused, as frames are
 unfoldable pub next_round : (tracks : ℕ) → FramePos → List ℕ → Result (Option Rounded) FrameFault
 next_round tracks at bytes = by_next (round_by_line tracks at) (next_line most_header at bytes)
+
+-- ---- the whole stream
+
+-- the rounds of a stream, and why it ends where it isn't whole
+abbrev pub RoundStream : Type 0
+RoundStream = List Round × Option FrameFault
+
+abbrev pub rounds_by : (Rounded → RoundStream) → Result (Option Rounded) FrameFault → RoundStream
+rounds_by more (Ok None) = ([], None)
+rounds_by more (Ok (Some rounded)) = (rounded.round ∷ (more rounded).0, (more rounded).1)
+rounds_by more (Err e) = ([], Some e)
+
+-- the rounds of bytes that begin at a place, each of which takes one of so many bytes at least
+unfoldable pub rounds_within : ℕ → (tracks : ℕ) → FramePos → List ℕ → RoundStream
+rounds_within zero tracks at bytes = ([], None)
+rounds_within (suc most) tracks at bytes = rounds_by (λ rounded. rounds_within most tracks rounded.after rounded.rest) (next_round tracks at bytes)
+
+abbrev pub rounds_from : (tracks : ℕ) → FramePos → List ℕ → RoundStream
+rounds_from tracks at bytes = rounds_within (suc (length bytes)) tracks at bytes
