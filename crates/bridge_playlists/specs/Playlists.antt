@@ -39,6 +39,10 @@ tracks_of bytes url = and_then (master_of bytes url) (λ tracks. Ok (map track_k
 unfoldable pub master_in : Place → (bytes : List ℕ) → Result (List MasterTrack) Named
 master_in place bytes = of_file place.file (told_as refusal.Master (tracks_of bytes place.url))
 
+-- the master at a place
+unfoldable pub master_at : Place → Files → Result (List MasterTrack) Named
+master_at place files = and_then (content_of place.file files) (master_in place)
+
 -- ---- the media playlists
 
 -- the playlists that are read so far, and how many segments they have in all

@@ -7,7 +7,7 @@ mod place;
 mod presented;
 mod reload;
 
-pub use medias::Medias;
+pub use medias::{Medias, base_at};
 pub use place::{Place, place_of};
-pub use presented::{presented_at, presented_in};
+pub use presented::{master_at, presented_at, presented_in};
 pub use reload::{Reload, judge};

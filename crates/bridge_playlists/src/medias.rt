@@ -112,8 +112,8 @@ fn media_under<F: Store>(
     }
 }
 
-/// An address as a base of references.
-fn base_at(alloc: Global, address: &Address) -> Result<Base, NoMemory>
+/// An address as a base of references (URL Standard, 4.4).
+pub fn base_at(alloc: Global, address: &Address) -> Result<Base, NoMemory>
     ensures { IfOk result (λ base. base ≡ address.now) }
 {
     match Base::of(alloc, address.as_str()) {

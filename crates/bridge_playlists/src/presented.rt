@@ -57,6 +57,19 @@ pub fn presented_in<F: Store>(
     presented_with(alloc, place, &master, store)
 }
 
+/// The master at a place, or why its file isn't read. [`Halt::ReadFault`] comes only where the store's count of failed reads
+/// rose.
+#[tactic(auto, unfolding(crate::specs::Playlists::master_at))]
+pub fn master_at<F: Store>(alloc: Global, place: &Place, store: &mut F) -> Result<Master, Halt>
+    ensures master { ForSome (F.files store.old) (λ files. Gives (λ master. master) halted result (spec.master_at place.now files)) }
+    ensures cause { HasCause ReadFault (F.read_faults store.old) (F.read_faults store.new) result }
+    ensures files { F.files store.new ≡ F.files store.old }
+    ensures writes { F.write_faults store.new ≡ F.write_faults store.old }
+{
+    let bytes = content_of(alloc, store, &place.file)?;
+    master_in(alloc, place, bytes.as_slice())
+}
+
 /// The master that bytes are.
 #[tactic(auto, unfolding(crate::specs::Playlists::master_in))]
 fn master_in(alloc: Global, place: &Place, bytes: &[u8]) -> Result<Master, Halt>
