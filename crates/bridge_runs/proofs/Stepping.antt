@@ -1,5 +1,6 @@
 -- A course that is worked off a step at a time.
 use Rattle.std.proofs.Common.{◌≡◌, ◌⊎◌, ℕ, suc, IsTrue, List, [], ◌∷◌, ◌++◌, take, length, slice_get, Option, None, Some, option_map, inl, inr, refl, sym, ap, ◌∙◌, subst, arith, append_assoc}
+use Rattle.std.specs.Io.KnownBytes.{append_known}
 use Rattle.std.proofs.lemmas.List.{append-nil}
 use Rattle.std.proofs.lemmas.List.Sums.{sum_by-cons}
 use Rattle.bridge_io.specs.Fault.{Rose}
@@ -13,7 +14,7 @@ use Rattle.bridge_runs.specs.declared.ending.Ending.TheVariants as ending
 use Rattle.bridge_runs.specs.Courses.{Step, End, Course, World, Whole, Reaches, last_step, files_to, lines_to}
 use Rattle.bridge_runs.specs.Runs.{Works, Finishes, NeverFalls, words_line}
 use Rattle.bridge_runs.proofs.Statuses.{rose_later}
-use Rattle.bridge_runs.specs.Steps.{with_step, only_end, first_in, first_step, StepIsDone, Outside, IsCutOff, Halts, Stops, Leads, IsCaused}
+use Rattle.bridge_runs.specs.Steps.{with_step, only_end, first_in, first_step, StepIsDone, Outside, IsCutOff, Halts, Stops, Leads, IsCaused, Work}
 
 -- ---- one after another
 
@@ -134,6 +135,98 @@ leads_on step course before mid done falls = λ told after work. record {
   never_falls = falls_then before mid after falls work.never_falls;
 }
 
+-- ---- reading before others
+
+-- nothing was done but reading
+pub record IsIdle (before after : World) : Type 0 where
+  pub files : after.files ≡ before.files
+  pub report : after.report ≡ before.report
+  pub made : after.made ≡ before.made
+
+module _ (course : Course) (before mid after : World) (idle : IsIdle before mid) where
+  whole_later : (n : ℕ) → Whole n course mid after → Whole n course before after
+  whole_later n whole = record {
+    files = whole.files ∙ ap (option_map (put_all (files_to n course))) idle.files;
+    report = whole.report ∙ ap (λ report. append_known report (lines_to n course)) idle.report;
+    made = λ counts. let made = whole.made counts in (omega (arith, made.0, idle.made), omega (arith, made.1, idle.made));
+  }
+
+abbrev reaches_later : (step : Step) (course : Course) (before mid after : World) → IsIdle before mid → Reaches course mid after step
+    → Reaches course before after step
+reaches_later step course before mid after idle reaches =
+    record { n = reaches.n; next = reaches.next; whole = whole_later course before mid after idle reaches.n reaches.whole }
+
+-- work that goes on behind reading is work of the whole
+works_later : (course : Course) (told : Ending) (before mid after : World) → IsIdle before mid → NeverFalls before mid
+    → Works course told mid after → Works course told before after
+works_later course (ending.Ended v line) before mid after idle falls works = record {
+  whole = whole_later course before mid after idle (length course.steps) works.whole;
+  verdict = works.verdict;
+  lines = works.lines;
+}
+works_later course ending.Words before mid after idle falls works = record {
+  whole = whole_later course before mid after idle (length course.steps) works.whole;
+  verdict = works.verdict;
+  lines = works.lines;
+}
+works_later course ending.ReadFault before mid after idle falls works = record {
+  mid = works.mid;
+  step = works.step;
+  reaches = reaches_later works.step course before mid works.mid idle works.reaches;
+  reads = works.reads;
+  rose = elim works.rose [
+    | inl rose ↦ inl (rose_later before.read_faults mid.read_faults after.read_faults falls.reads rose)
+    | inr rose ↦ inr (rose_later before.input_faults mid.input_faults after.input_faults falls.input rose)
+  ];
+  files = works.files;
+  made = works.made;
+  report = works.report;
+}
+works_later course ending.WriteFault before mid after idle falls works = record {
+  mid = works.mid;
+  step = works.step;
+  reaches = reaches_later works.step course before mid works.mid idle works.reaches;
+  rose = rose_later before.write_faults mid.write_faults after.write_faults falls.writes works.rose;
+  files = works.files;
+  made = works.made;
+  report = works.report;
+}
+works_later course ending.Memory before mid after idle falls works = record {
+  mid = works.mid;
+  step = works.step;
+  reaches = reaches_later works.step course before mid works.mid idle works.reaches;
+  left = works.left;
+  report = works.report;
+}
+works_later course (ending.Cut fail.Failed) before mid after idle falls works = (
+  record {
+    mid = works.0.mid;
+    step = works.0.step;
+    reaches = reaches_later works.0.step course before mid works.0.mid idle works.0.reaches;
+    owed = works.0.owed;
+    files = works.0.files;
+    made = works.0.made;
+    report = works.0.report;
+  },
+  rose_later before.report_faults mid.report_faults after.report_faults falls.report works.1,
+)
+works_later course (ending.Cut fail.Memory) before mid after idle falls works = record {
+  mid = works.mid;
+  step = works.step;
+  reaches = reaches_later works.step course before mid works.mid idle works.reaches;
+  owed = works.owed;
+  files = works.files;
+  made = works.made;
+  report = works.report;
+}
+
+pub work_later : (course : Course) (told : Ending) (before mid after : World) → IsIdle before mid → NeverFalls before mid
+    → Work course told mid after → Work course told before after
+work_later course told before mid after idle falls work = record {
+  works = works_later course told before mid after idle falls work.works;
+  never_falls = falls_then before mid after falls work.never_falls;
+}
+
 -- ---- the end of the work
 
 first_next : (steps : List Step) (end : End) → slice_get (steps ++ last_step end ∷ []) 0 ≡ Some (first_in steps end)
@@ -148,12 +241,6 @@ first_reached course w = record {
       record { files = none_put w.files w.files refl; report = none_told w.report w.report refl; made = λ counts. (omega arith, omega arith) };
 }
 
--- nothing was done but reading
-pub record IsIdle (before after : World) : Type 0 where
-  pub files : after.files ≡ before.files
-  pub report : after.report ≡ before.report
-  pub made : after.made ≡ before.made
-
 pub memory_first : (course : Course) (before after : World) → IsIdle before after → Works course ending.Memory before after
 memory_first course before after idle = record {
   mid = before;
@@ -164,13 +251,14 @@ memory_first course before after idle = record {
 }
 
 pub read_fault_first : (course : Course) (before after : World) → IsTrue (first_step course).reads
-    → Rose before.input_faults after.input_faults → IsIdle before after → Works course ending.ReadFault before after
+    → Rose before.read_faults after.read_faults ⊎ Rose before.input_faults after.input_faults → IsIdle before after
+    → Works course ending.ReadFault before after
 read_fault_first course before after reads rose idle = record {
   mid = before;
   step = first_step course;
   reaches = first_reached course before;
   reads = reads;
-  rose = inr rose;
+  rose = rose;
   files = idle.files;
   made = λ counts. (omega (arith, idle.made), omega (arith, idle.made));
   report = idle.report;

@@ -11,3 +11,4 @@ pub mod Static
 pub mod Works
 pub mod Endings
 pub mod Counted
+pub mod Unplaced

@@ -19,7 +19,7 @@ use Rattle.bridge_steps.specs.Follow.{course_of, rest_course, fault_line, IsBrok
 use Rattle.bridge_steps.specs.Streams.{Stream, with_first}
 
 module _ {S X : Type 0} (f : Followed S X) (s : S) (i a : ℕ) where
-  reads_first : (xs : List X) (end : Option (List ℕ)) → IsTrue (first_step (course_from f s i a xs end)).reads
+  pub reads_first : (xs : List X) (end : Option (List ℕ)) → IsTrue (first_step (course_from f s i a xs end)).reads
   unfolding course_from
   reads_first [] end = refl
   reads_first (x ∷ xs) end = refl
@@ -46,7 +46,7 @@ module _ {S X : Type 0} (f : Followed S X) (s : S) (i a : ℕ) where
     broken (fault.Cut place) is last rose idle = refused (fault.Cut place) is last idle
     broken (fault.TooMany place) is last rose idle = refused (fault.TooMany place) is last idle
     broken fault.Fault is last rose idle = subst (λ t. Works (course_of f s i a stream) t before after) (sym last)
-        (read_fault_first (course_of f s i a stream) before after (reads_first stream.0 (option_map fault_line stream.1)) (rose refl) idle)
+        (read_fault_first (course_of f s i a stream) before after (reads_first stream.0 (option_map fault_line stream.1)) (inr (rose refl)) idle)
     broken fault.Memory is last rose idle = subst (λ t. Works (course_of f s i a stream) t before after) (sym last)
         (memory_first (course_of f s i a stream) before after idle)
 

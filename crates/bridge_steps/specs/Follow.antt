@@ -1,5 +1,5 @@
 -- The run of what is followed: a step for each frame of a stream, and an end.
-use Rattle.std.specs.Prelude.{◌≡◌, ℕ, ◌+◌, ◌≤◌, List, codes, Option, None, option_map}
+use Rattle.std.specs.Prelude.{◌≡◌, ℕ, ◌+◌, ◌≤◌, List, codes, Option, Some, None, option_map}
 use Rattle.bridge_io.specs.Outside.{Files, Appends}
 use Rattle.bridge_jobs.specs.Frames.{IsFramePos, start}
 use Rattle.bridge_jobs.specs.declared.frame.FramePos.{FramePos}
@@ -9,7 +9,7 @@ use Rattle.bridge_runs.specs.declared.ending.Ending.{Ending}
 use Rattle.bridge_runs.specs.declared.ending.Ending.TheVariants as ending
 use Rattle.bridge_runs.specs.Courses.{Course, World}
 use Rattle.bridge_report.specs.Following.{Followed, course_from}
-use Rattle.bridge_report.specs.Outcomes.{IsRefusal}
+use Rattle.bridge_report.specs.Outcomes.{IsRefusal, base_refused, course_by}
 use Rattle.bridge_report.specs.Refusals.{refusal_line}
 use Rattle.bridge_report.specs.declared.refusal.Refusal.TheVariants as refusal
 use Rattle.bridge_steps.specs.declared.run.Following.{Following}
@@ -40,10 +40,16 @@ follow_course f stream s bytes = course_of f s 0 0 (stream start bytes)
 abbrev pub rest_course : {S X : Type 0} → Followed S X → (stream : FramePos → List ℕ → Stream X) → Following S → (bytes : List ℕ) → Course
 rest_course f stream run bytes = course_of f run.live run.at.frames run.accepted (stream run.at bytes)
 
--- a run that goes on, by how many frames were accepted
-pub record IsGoing {S : Type 0} (accepted_of : S → ℕ) (run : Following S) : Type 0 where
+-- a base that is refused is told whatever the input tells
+abbrev pub course_placed : {P : Type 0} → (P → Option Course) → Option P → Option Course
+course_placed at None = Some (course_by base_refused)
+course_placed at (Some place) = at place
+
+-- a run that goes on, by how many frames were accepted and what is known of what these left
+pub record IsGoing {S : Type 0} (accepted_of : S → ℕ) (is_kept : S → Type 0) (run : Following S) : Type 0 where
   pub at : IsFramePos run.at
   pub count : accepted_of run.live ≡ run.accepted
+  pub kept : is_kept run.live
   pub few : run.accepted ≤ run.at.frames
 
 -- ---- how it ends where no frame is read

@@ -32,6 +32,9 @@ pub trait Follow {
     /// How many frames were accepted.
     ghost accepted: { Self → Self.Live → ℕ };
 
+    /// What is known of what the accepted frames left.
+    ghost is_kept: { Self → Self.Live → Type 0 } = { λ _ _. Unit {0} };
+
     /// The stream of the bytes that begin at a place.
     ghost stream: { Self → FramePos → List ℕ → Stream Self.Frame };
 
@@ -62,20 +65,24 @@ pub trait Follow {
         steps: &mut Steps<L>,
     ) -> Result<u64, Stop>
         requires few { accepted self.now live.old < most_frames }
+        requires kept { is_kept self.now live.old }
         requires read { is_read self.now frame.now }
         ensures accepted { IfOk result (λ n. Accepts (told self.now) live.old frame.now live.new n steps.old steps.new) }
         ensures refused { IfErr result (λ stop. IfSome (refused_in stop) (λ r. (told self.now).refusal live.old frame.now ≡ Some (refusal_text r))) }
         ensures same { OnErr result (live.new ≡ live.old) }
         ensures made { OnErr result ((steps.old ≤ steps.new) × (steps.new ≤ steps.old + (told self.now).makes live.old frame.now)) }
-        ensures counts { OnOk result (accepted self.now live.new ≡ accepted self.now live.old + 1) };
+        ensures counts { OnOk result (accepted self.now live.new ≡ accepted self.now live.old + 1) }
+        ensures kept { is_kept self.now live.new };
 
-    /// Writes the files of what the accepted frames left.
+    /// Writes the files of what the accepted frames left, of which there is one.
     fn publish<F: Store>(
         &self,
         alloc: Global,
         live: &Self::Live,
         store: &mut F,
     ) -> Result<(), OutFault>
+        requires some { 0 < accepted self.now live.now }
+        requires kept { is_kept self.now live.now }
         ensures ok { OnOk result (Changes (put_all ((told self.now).files live.now)) (F.files store.old) (F.files store.new)) }
         ensures err { OnErr result (AreBegun ((told self.now).files live.now) (F.files store.old) (F.files store.new)) }
         ensures cause { HasCause WriteFault (F.write_faults store.old) (F.write_faults store.new) result }

@@ -44,7 +44,8 @@ pub fn follow<T: Follow, I: Source, F: Store, P: Sink, L: Ledger>(
     report: &mut P,
     steps: &mut Steps<L>,
 ) -> Ending
-    requires { T.accepted followed.now live ≡ 0 }
+    requires none { T.accepted followed.now live ≡ 0 }
+    requires kept { T.is_kept followed.now live }
     ensures work { ForSome (I.remaining input.old) (λ bytes. Work (follow_course (T.told followed.now) (T.stream followed.now) live bytes) result
         (world_of (F.files store.old) (P.written report.old) (I.faults input.old) (F.read_faults store.old) (F.write_faults store.old) (P.faults report.old) steps.old)
         (world_of (F.files store.new) (P.written report.new) (I.faults input.new) (F.read_faults store.new) (F.write_faults store.new) (P.faults report.new) steps.new)) }
@@ -80,7 +81,7 @@ fn follow_next<T: Follow, I: Source, F: Store, P: Sink, L: Ledger>(
     report: &mut P,
     steps: &mut Steps<L>,
 ) -> Result<(), Ending>
-    requires { IsGoing (T.accepted followed.now) run.old }
+    requires { IsGoing (T.accepted followed.now) (T.is_kept followed.now) run.old }
     ensures next { (bytes : List ℕ) → I.remaining input.old ≡ Some bytes →
         let course = rest_course (T.told followed.now) (T.stream followed.now) in
         let before = world_of (F.files store.old) (P.written report.old) (I.faults input.old) (F.read_faults store.old) (F.write_faults store.old) (P.faults report.old) steps.old in
@@ -88,7 +89,7 @@ fn follow_next<T: Follow, I: Source, F: Store, P: Sink, L: Ledger>(
         MatchResult result
         (λ _. (rest : List ℕ) × (I.remaining input.new ≡ Some rest) × Leads (course run.old bytes) (course run.new rest) before after)
         (λ told. Work (course run.old bytes) told before after) }
-    ensures going { OnOk result (IsGoing (T.accepted followed.now) run.new) }
+    ensures going { OnOk result (IsGoing (T.accepted followed.now) (T.is_kept followed.now) run.new) }
     ensures counts { OnOk result (run.new.at.frames ≡ run.old.at.frames + 1) }
     ensures caused { IfErr result (λ told. IsCaused told
         (world_of (F.files store.old) (P.written report.old) (I.faults input.old) (F.read_faults store.old) (F.write_faults store.old) (P.faults report.old) steps.old)
@@ -145,6 +146,7 @@ fn follow_frame<T: Follow, F: Store, P: Sink, L: Ledger>(
 ) -> Result<u64, Ending>
     requires count { T.accepted followed.now live.old ≡ accepted }
     requires few { accepted < most_frames }
+    requires kept { T.is_kept followed.now live.old }
     requires read { T.is_read followed.now frame.now }
     ensures done { IfOk result (λ n. StepIsDone (step_of (T.told followed.now) live.old index frame.now)
         (world_of (F.files store.old) (P.written report.old) 0 (F.read_faults store.old) (F.write_faults store.old) (P.faults report.old) steps.old)
@@ -152,6 +154,7 @@ fn follow_frame<T: Follow, F: Store, P: Sink, L: Ledger>(
     ensures next { IfOk result (λ n. (live.new ≡ next_of (T.told followed.now) live.old frame.now)
         × (n ≡ accepted_with (T.told followed.now) live.old frame.now accepted)) }
     ensures count { IfOk result (λ n. (T.accepted followed.now live.new ≡ n) × (n ≤ accepted + 1)) }
+    ensures kept { T.is_kept followed.now live.new }
     ensures stops { IfErr result (λ told. Stops (step_of (T.told followed.now) live.old index frame.now) told
         (world_of (F.files store.old) (P.written report.old) 0 (F.read_faults store.old) (F.write_faults store.old) (P.faults report.old) steps.old)
         (world_of (F.files store.new) (P.written report.new) 0 (F.read_faults store.new) (F.write_faults store.new) (P.faults report.new) steps.new)) }
@@ -171,7 +174,7 @@ fn follow_frame<T: Follow, F: Store, P: Sink, L: Ledger>(
     }
 }
 
-/// Writes the files of what the accepted frames left, and tells the line of the last one.
+/// Writes the files of what the accepted frames left, of which there is one, and tells the line of the last one.
 fn publish<T: Follow, F: Store, P: Sink>(
     alloc: Global,
     followed: &T,
@@ -181,6 +184,8 @@ fn publish<T: Follow, F: Store, P: Sink>(
     store: &mut F,
     report: &mut P,
 ) -> Result<(), Ending>
+    requires some { 0 < T.accepted followed.now live.now }
+    requires kept { T.is_kept followed.now live.now }
     ensures files { OnOk result (Changes (put_all ((T.told followed.now).files live.now)) (F.files store.old) (F.files store.new)) }
     ensures line { OnOk result (Appends (accepted_line index appended) (P.written report.old) (P.written report.new)) }
     ensures err { IfErr result (λ told. Halts ((T.told followed.now).files live.now) (accepted_line index appended) told

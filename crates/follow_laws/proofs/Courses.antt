@@ -6,10 +6,10 @@ use Rattle.url_parts.specs.Addresses.{absolute}
 use Rattle.bridge_playlists.specs.declared.place.Place.{Place}
 use Rattle.bridge_playlists.specs.Places.{place_of}
 use Rattle.bridge_jobs.specs.Frames.{frames_of}
-use Rattle.bridge_steps.specs.Follow.{fault_line, follow_course}
+use Rattle.bridge_steps.specs.Follow.{course_placed, fault_line, follow_course}
 use Rattle.bridge_steps.specs.LiveMpds.{frame_stream}
 use Rattle.bridge_core.specs.Courses.{course_of, course_of_job}
-use Rattle.bridge_core.specs.Follow.{course_placed, follow_at, followed_course}
+use Rattle.bridge_core.specs.Follow.{follow_at, followed_course}
 use Rattle.bridge_core.specs.declared.follow.Follow.{Follow}
 use Rattle.bridge_core.proofs.Lies.{lies_of}
 use Rattle.follow_laws.specs.Histories.{IsFollowing, followed_at}

@@ -14,7 +14,7 @@ invariant-loop-told g l =
     let now = world_of (store.files l.store) (sink.written l.report) (source.faults l.input) (store.read_faults l.store)
     (store.write_faults l.store) (sink.faults l.report) l.steps in
     record {
-      going : IsGoing (t.accepted l.followed) l.run;
+      going : IsGoing (t.accepted l.followed) (t.is_kept l.followed) l.run;
       leads : (bytes : List ℕ) → source.remaining l.fn.input ≡ Some bytes → (rest : List ℕ) × (source.remaining l.input ≡ Some rest)
           × Leads (follow_course (t.told l.followed) (t.stream l.followed) l.fn.live bytes) (rest_course (t.told l.followed)
           (t.stream l.followed) l.run rest) before now;
