@@ -7,6 +7,7 @@ use Rattle.mpd_rules.specs.Typed.{TypedMpd}
 use Rattle.mpd_text.specs.Meaning.{reading_of}
 use Rattle.mpd_text.specs.Trees.{Element}
 use Rattle.presentation.proofs.Filling.{steps_of, ok_under}
+use Rattle.presentation.specs.Listable.{AreListable, VerifiedAreListable}
 use Rattle.presentation.specs.Origins.{CameFromStaticMpd, StaticAreFinished}
 use Rattle.presentation.specs.Presented.{Presented, is_finished}
 use Rattle.presentation.specs.Told.{and_then, told_as, presented_of}
@@ -104,3 +105,10 @@ pub finished_read : StaticAreFinished → (live : Option Refusal) (unit : ℕ) (
     → checked_presentation live unit url now bytes ≡ Ok p → IsTrue (is_some live) → is_finished p ≡ true
 finished_read are_finished None unit url now bytes p is some = absurd (let e = some in cc)
 finished_read are_finished (Some live) unit url now bytes p is some = are_finished p (static_read live unit url now bytes p is).came
+
+-- and its segments can be gone over
+pub listable_read : VerifiedAreListable → (live : Option Refusal) (unit : ℕ) (url : List ℕ) (now : Option ℤ) (bytes : List ℕ) (p : Presented)
+    → checked_presentation live unit url now bytes ≡ Ok p → IsTrue (is_some live) → AreListable p
+listable_read are_listable None unit url now bytes p is some = absurd (let e = some in cc)
+listable_read are_listable (Some live) unit url now bytes p is some =
+    let static = static_read live unit url now bytes p is in are_listable p unit static.longest static.came static.all

@@ -9,6 +9,7 @@ ghost use Rattle.mpd_text.specs.Nodes.{root_of};
 ghost use Rattle.mpd_rules.specs.Rules.{typed_mpd_of};
 ghost use Rattle.mpd_rules.specs.Views.{segments_mpd};
 ghost use Rattle.presentation.specs.Counting.{counted, count_of_all};
+ghost use Rattle.presentation.specs.Listable.{AreListable};
 ghost use Rattle.presentation.specs.Presented.{is_finished};
 ghost use Rattle.presentation.specs.Told.{told_as};
 ghost use Rattle.presentation.specs.Verifying.{verified};
@@ -24,7 +25,7 @@ use exact_time::Digits;
 use iso_time::Instant;
 use mpd_rules::{Mpd, rules};
 use mpd_text::{Tree, read_tree};
-use presentation::{Longest, Presentation, static_mpds_are_finished};
+use presentation::{Longest, Presentation, segments_can_be_listed, static_mpds_are_finished};
 use std::alloc::Global;
 use url_parts::Base;
 
@@ -42,8 +43,8 @@ pub struct Ready {
 }
 
 /// The presentation of the MPD in the file at a place, read at an instant, whose segments all have addresses; or why the file
-/// isn't read. A live MPD is refused as `live`, if that is given, and then what is presented is finished. [`Halt::ReadFault`]
-/// comes only where the store's count of failed reads rose.
+/// isn't read. A live MPD is refused as `live`, if that is given, and then what is presented is finished, and its segments can be
+/// gone over. [`Halt::ReadFault`] comes only where the store's count of failed reads rose.
 #[tactic(auto, unfolding(crate::specs::Manifests::mpd_at))]
 pub fn mpd_at<F: Store, L: Ledger>(
     alloc: Global,
@@ -58,6 +59,7 @@ pub fn mpd_at<F: Store, L: Ledger>(
         Gives (λ ready. ready.presentation) halted result (spec.mpd_at live (10 ^ digits) now place.now files)) }
     ensures digits { IfOk result (λ ready. ready.digits ≡ digits) }
     ensures finished { IfOk result (λ ready. IsTrue (is_some live) → is_finished ready.presentation ≡ true) }
+    ensures listable { IfOk result (λ ready. IsTrue (is_some live) → AreListable ready.presentation) }
     ensures cause { HasCause ReadFault (F.read_faults store.old) (F.read_faults store.new) result }
     ensures files { F.files store.new ≡ F.files store.old }
     ensures writes { F.write_faults store.new ≡ F.write_faults store.old }
@@ -79,9 +81,11 @@ pub fn mpd_in<L: Ledger>(
     ensures mpd { Gives (λ ready. ready.presentation) halted result (spec.mpd_in live (10 ^ digits) now place.now bytes.now) }
     ensures digits { IfOk result (λ ready. ready.digits ≡ digits) }
     ensures finished { IfOk result (λ ready. IsTrue (is_some live) → is_finished ready.presentation ≡ true) }
+    ensures listable { IfOk result (λ ready. IsTrue (is_some live) → AreListable ready.presentation) }
     ensures no_fault { IsNoReadFault result }
 {
     static_mpds_are_finished();
+    segments_can_be_listed();
     match checked_presentation(alloc, &place.url, bytes, now, live, digits, steps) {
         Ok(ready) => Ok(ready),
         Err(Stop::Refused(refusal)) => Err(Halt::refused(alloc, &place.file, refusal)),
