@@ -1,8 +1,8 @@
 -- Rounds one after another.
-use Rattle.std.proofs.Common.{◌≡◌, ◌<◌, ◌≤◌, ◌==◌, ℕ, zero, suc, Bool, true, false, List, [], ◌∷◌, length, take, drop, Option, Some, None, Result, Ok, Err, nat_le, if◌then◌else◌, refl, ap, arith, length-drop}
+use Rattle.std.proofs.Common.{◌≡◌, ◌<◌, ◌≤◌, ◌+◌, ◌==◌, ℕ, zero, suc, Bool, true, false, List, [], ◌∷◌, length, take, drop, Option, Some, None, Result, Ok, Err, nat_le, if◌then◌else◌, refl, ap, arith, length-drop}
 use Rattle.bridge_io.specs.declared.place.Place.{Place}
 use Rattle.bridge_jobs.specs.Frames.{behind, by_next, header_at, line_within, most_frames, next_line, piece_of, some_of}
-use Rattle.bridge_jobs.specs.Rounds.{Bodies, Rounded, RoundStream, after_bodies, and_bodies, bodies_of, counted, header_of, most_header, next_round, round_by_line, rounded_if, rounds_by, rounds_from, rounds_within}
+use Rattle.bridge_jobs.specs.Rounds.{Bodies, Rounded, RoundStream, after_bodies, and_bodies, bodies_of, counted, header_of, most_header, next_round, round_by_line, rounded_as, rounded_if, rounds_by, rounds_from, rounds_within}
 use Rattle.bridge_jobs.specs.Laws.{RoundsFollow}
 use Rattle.bridge_jobs.specs.declared.lengths.RoundHeader.{RoundHeader}
 use Rattle.bridge_jobs.specs.declared.frame.FramePos.{FramePos}
@@ -56,7 +56,9 @@ line-leaves tracks at line rest rounded is = go (header_at most_header (header_o
     by header (Ok x) is e = omega (arith, ap length (rest-is x e), bodies-leave (behind at.place line) header.lengths rest x is)
       where
         rest-is : (x : Bodies) → counted at.frames header.now (Ok x) ≡ Ok rounded → x.2 ≡ rounded.rest
-        rest-is x e = let it : _ ≡ rounded = cc in ap (λ (r : Rounded). r.rest) it
+        rest-is x e =
+            let it : rounded_as (record { now = header.now; bodies = x.0 }) (record { place = x.1; frames = at.frames + 1 }) x.2 ≡ rounded = cc in
+            ap (λ (r : Rounded). r.rest) it
     by header (Err _) is e = absurd (cc)
 
     go : (h : Result RoundHeader FrameFault) → rounded_if at line rest h ≡ Ok rounded → length rounded.rest ≤ length rest
