@@ -1,10 +1,10 @@
 -- What stays over every list of accepted rounds.
-use Rattle.std.proofs.Common.{◌≡◌, ℕ, zero, suc, ◌+◌, ◌-◌, ◌<◌, ◌≤◌, Bool, true, false, ◌&&◌, eqb, ltb, List, [], ◌∷◌, ◌++◌, map, length}
-use Rattle.std.proofs.Common.{slice_get, All, Option, Some, None, IfSome, Result, Ok, Err, ℤ, refl, sym, ◌∙◌, ap, ap₂, subst, arith, bytes_eq, option_map}
+use Rattle.std.proofs.Common.{◌≡◌, ℕ, zero, suc, ◌+◌, ◌-◌, ◌<◌, ◌≤◌, Bool, true, false, ◌&&◌, eqb, ltb, List, [], ◌∷◌, map, length}
+use Rattle.std.proofs.Common.{slice_get, All, Option, Some, None, Result, Ok, Err, refl, sym, ◌∙◌, ap, ap₂, subst, arith}
+use Rattle.std.proofs.Common.{bytes_eq, option_map}
 use Rattle.std.specs.Option.{option_eq}
 use Rattle.std.specs.List.Sorted.{IsNonDecreasingBy}
 use Rattle.std.proofs.lemmas.Bool.{eq-eqb, eqb-true, eqb-false, le-ltb}
-use Rattle.std.proofs.lemmas.List.{length-map}
 use Rattle.std.proofs.lemmas.List.Elements.{All-nil, All-cons, All-append, All-head, All-map, All-tail}
 use Rattle.std.proofs.lemmas.Option.{get_or_from_slice_get, slice_get-map, slice_get_within}
 use Rattle.std.proofs.lemmas.Slice.Eq.{bytes_eq-Decides}
@@ -24,10 +24,11 @@ use Rattle.hls_follow.specs.declared.periods.Extent.{Extent}
 use Rattle.hls_follow.specs.declared.state.Followed.{Followed}
 use Rattle.hls_follow.specs.declared.state.FollowedTrack.{FollowedTrack}
 use Rattle.hls_follow.specs.declared.state.TimedSegment.{TimedSegment}
-use Rattle.hls_follow.specs.Histories.{AreAccepted, AreContiguousFromTheFirst, HasNumber, IsPlaced, IsRound, LastPlaylistsAreListed, Playlists}
-use Rattle.hls_follow.specs.Histories.{SegmentsStay, StartsStayOverRounds, accepted_after, if_accepted}
+use Rattle.hls_follow.specs.Histories.{AreContiguousFromTheFirst, IsPlaced, IsRound, LastPlaylistsAreListed}
+use Rattle.hls_follow.specs.Histories.{Playlists}
+use Rattle.hls_follow.specs.Histories.{SegmentsStay, StartsStayOverRounds, accepted_after}
 use Rattle.hls_follow.specs.Kept.{flags_of, formers_of, kept_by}
-use Rattle.hls_follow.specs.Laws.{Follows, IsContiguous, IsTrack, Lists}
+use Rattle.hls_follow.specs.Laws.{Follows, IsContiguous}
 use Rattle.hls_follow.specs.Listed.{Listed, ListsTrack, Placed, listed_as, listed_of, placed_as, placed_in, placed_of}
 use Rattle.hls_follow.specs.Periods.{known_in}
 use Rattle.hls_follow.specs.Rounds.{followed_of, followed_tracks}
@@ -43,7 +44,8 @@ use Rattle.hls_follow.proofs.Steps.{steps_of}
 
 -- ---- by induction over rounds
 
-record Accepted (tracks : List MasterTrack) (former : Option Followed) (round : Playlists) (rounds : List Playlists) (new : Followed) : Type 0 where
+record Accepted (tracks : List MasterTrack) (former : Option Followed) (round : Playlists) (rounds : List Playlists)
+    (new : Followed) : Type 0 where
   next : Followed
   accepted : followed_of tracks former round.0 round.1 ≡ Ok next
   later : accepted_after tracks (Some next) rounds ≡ Some new
@@ -61,7 +63,7 @@ accepted_of tracks former round rounds new is = by (followed_of tracks former ro
     by (Err fault) r = absurd (let h : accepted_after tracks former (round ∷ rounds) ≡ None = rw r refl in cc)
 
 -- what a round leaves where it holds of what was there before
-abbrev Goes : List MasterTrack → (Playlists → Type 0) → (Followed → Type 0) → Type 0
+abbrev pub Goes : List MasterTrack → (Playlists → Type 0) → (Followed → Type 0) → Type 0
 Goes tracks R P = (former : Followed) (round : Playlists) (new : Followed) → P former → R round
     → followed_of tracks (Some former) round.0 round.1 ≡ Ok new → P new
 
@@ -74,10 +76,10 @@ over tracks R P goes former (round ∷ rounds) new whole was is =
     over tracks R P goes a.next rounds new (All-tail R round rounds whole) here a.later
 
 -- and the first one
-abbrev Begins : List MasterTrack → (Playlists → Type 0) → (Followed → Type 0) → Type 0
+abbrev pub Begins : List MasterTrack → (Playlists → Type 0) → (Followed → Type 0) → Type 0
 Begins tracks R P = (round : Playlists) (new : Followed) → R round → followed_of tracks None round.0 round.1 ≡ Ok new → P new
 
-from_first : (tracks : List MasterTrack) (R : Playlists → Type 0) (P : Followed → Type 0) → Begins tracks R P → Goes tracks R P
+pub from_first : (tracks : List MasterTrack) (R : Playlists → Type 0) (P : Followed → Type 0) → Begins tracks R P → Goes tracks R P
     → (rounds : List Playlists) (new : Followed) → All R rounds → accepted_after tracks None rounds ≡ Some new → P new
 from_first tracks R P begins goes [] new whole is = absurd (cc)
 from_first tracks R P begins goes (round ∷ rounds) new whole is =
@@ -85,7 +87,7 @@ from_first tracks R P begins goes (round ∷ rounds) new whole is =
     over tracks R P goes a.next rounds new (All-tail R round rounds whole)
     (begins round a.next (All-head R round rounds whole) a.accepted) a.later
 
-abbrev Any : Playlists → Type 0
+abbrev pub Any : Playlists → Type 0
 Any round = Unit {0}
 
 pub starts_stay : StartsStayOverRounds
@@ -222,13 +224,28 @@ known_behind from q periods p least k = by (eqb q.number p.number) refl k.least
   where
     by : (b : Bool) → eqb q.number p.number ≡ b → q.number + 1 ≤ p.number → IsKnownFrom from (q ∷ periods) p
     by true b past = absurd (let same = eqb-true q.number p.number b in omega (arith, same))
-    by false b past = record { least = omega arith; known = record { extent = k.known.extent; is = rw b k.known.is; start = k.known.start } }
+    by false b past = record {
+      least = omega arith;
+      known = record {
+        extent = k.known.extent;
+        is = rw b k.known.is;
+        start = k.known.start;
+      };
+    }
 
 known_self : (from : ℕ) (periods : List LivePeriod) → Rises from (map number_of periods) → All (IsKnownFrom from periods) periods
 known_self from [] rises = All-nil (IsKnownFrom from [])
 known_self from (q ∷ periods) rises =
     All-cons (IsKnownFrom from (q ∷ periods)) q periods
-    (record { least = rises.0; known = record { extent = record { start = q.start; longest = q.longest }; is = rw (eq-eqb q.number q.number refl) refl; start = refl } })
+    (record {
+      least = rises.0;
+      known = record {
+        extent = record { start = q.start; longest = q.longest };
+        is =
+            rw (eq-eqb q.number q.number refl) refl;
+        start = refl;
+      };
+    })
     (λ i d within. known_behind from q periods _ rises.0 (known_self (q.number + 1) periods rises.1 i d within))
 
 placed_all : (Q : Placed → Type 0) (place : ℕ) (periods : List LivePeriod)
@@ -245,7 +262,7 @@ placed_all Q place (period ∷ periods) each =
     by (Some run) = All-map Q (placed_as period run) run.segments (λ i d within. All-head (λ (period : LivePeriod). (run : LiveRun)
         (segment : LiveSegment) → Q (placed_as period run segment)) period periods each run _)
 
-at_index : {X : Type 0} (P : X → Type 0) (xs : List X) (i : ℕ) (x : X) → All P xs → slice_get xs i ≡ Some x → P x
+pub at_index : {X : Type 0} (P : X → Type 0) (xs : List X) (i : ℕ) (x : X) → All P xs → slice_get xs i ≡ Some x → P x
 at_index P xs i x all is = subst P (get_or_from_slice_get xs i x x is) (all i x (slice_get_within xs i x is))
 
 -- ---- a segment that is listed again
@@ -272,7 +289,8 @@ is_listed : (segments : List MediaSegment) (times : List ℕ) (i : ℕ) (s : Med
 is_listed [] times i s time one two = absurd (cc)
 is_listed (x ∷ segments) [] i s time one two = absurd (cc)
 is_listed (x ∷ segments) (t ∷ times) zero s time one two =
-    (let a : x ≡ s = cc in let b : t ≡ time = cc in ap (λ (s : MediaSegment). Some (listed_as s t)) a ∙ ap (λ (t : ℕ). Some (listed_as s t)) b)
+    (let a : x ≡ s = cc in let b : t ≡ time = cc in ap (λ (s : MediaSegment). Some (listed_as s t)) a
+    ∙ ap (λ (t : ℕ). Some (listed_as s t)) b)
 is_listed (x ∷ segments) (t ∷ times) (suc i) s time one two = is_listed segments times i s time one two
 
 record IsFrom (placed : List Placed) (i : ℕ) (l : Listed) : Type 0 where
@@ -441,7 +459,8 @@ module _ (sentences : RulesAreSentences) (tracks : List MasterTrack) (place numb
         is = λ from.
             (let q = from_of (placed_of place new.mpd.periods) (number - b.media.sequence) placed.listed
             (same_again former round new s b t.1 given accepted from) in
-            q.at ∙ ap (λ (p : Placed). Some p) (starts_again former new s (number - s.track.media.sequence) (number - b.media.sequence) q.value
+            q.at ∙ ap (λ (p : Placed). Some p) (starts_again former new s (number - s.track.media.sequence)
+            (number - b.media.sequence) q.value
             (record { tracks = tracks; now = round.0; medias = round.1; accepted = accepted })
             (s.is (omega (arith, rising))) q.at q.is));
       }

@@ -13,3 +13,4 @@ pub mod Contiguous
 pub mod Sections
 pub mod Listing
 pub mod Histories
+pub mod Runs

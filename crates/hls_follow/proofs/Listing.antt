@@ -1,21 +1,18 @@
 -- An MPD lists what the last playlists do.
-use Rattle.std.proofs.Common.{◌≡◌, ℕ, false, zero, suc, ◌+◌, List, [], ◌∷◌, ◌++◌, map, length, slice_get, All, Option, Some, None, Ok, Err}
+use Rattle.std.proofs.Common.{◌≡◌, ℕ, false, zero, suc, ◌+◌, List, [], ◌∷◌, ◌++◌, map, length, slice_get, All, Option, Some, None, Ok}
 use Rattle.std.proofs.Common.{refl, sym, ◌∙◌, ap, subst, arith, option_map, unwrap_or}
 use Rattle.std.specs.List.{list_any}
 use Rattle.std.proofs.lemmas.List.{map-append}
 use Rattle.std.proofs.lemmas.List.Elements.{All-head, All-tail}
 use Rattle.std.proofs.lemmas.Option.{slice_get-map}
 use Rattle.url_parts.specs.declared.address.Part.{Part}
-use Rattle.hls_media.specs.declared.media.Media.{Media}
 use Rattle.hls_media.specs.declared.media.MediaSegment.{MediaSegment}
 use Rattle.hls_presentation.specs.Presenting.{flattened}
-use Rattle.hls_presentation.specs.Tracks.{Source, map_changes, sources}
+use Rattle.hls_presentation.specs.Tracks.{Source, map_changes}
 use Rattle.dash_writer.specs.declared.live.LiveMpd.{LiveMpd}
 use Rattle.dash_writer.specs.declared.live.LivePeriod.{LivePeriod}
 use Rattle.dash_writer.specs.declared.live.LiveRun.{LiveRun}
 use Rattle.dash_writer.specs.declared.live.LiveSegment.{LiveSegment}
-use Rattle.hls_master.specs.declared.track.MasterTrack.{MasterTrack}
-use Rattle.hls_follow.specs.declared.periods.Extent.{Extent}
 use Rattle.hls_follow.specs.declared.state.Followed.{Followed}
 use Rattle.hls_follow.specs.declared.state.FollowedTrack.{FollowedTrack}
 use Rattle.hls_follow.specs.declared.state.Last.{Last}
@@ -29,7 +26,7 @@ use Rattle.hls_follow.specs.Rules.{sections_behind, sections_of}
 use Rattle.hls_follow.specs.Times.{behind_segment, is_late, last_of, time_of, timed_all, timed_from, timed_of, unless_late}
 use Rattle.hls_follow.proofs.Contiguous.{length_timed}
 use Rattle.hls_follow.proofs.Sections.{AreCut, AreOf, cut, flat, segments_in, sections_at, unchanged_at}
-use Rattle.hls_follow.proofs.Staying.{Parts, parts_of, same_by}
+use Rattle.hls_follow.proofs.Staying.{Parts, same_by}
 use Rattle.hls_follow.proofs.Steps.{steps_of}
 
 -- ---- segments with their times
@@ -107,7 +104,7 @@ pub record IsPeriod (period : LivePeriod) (number : ℕ) (row : List (List Timed
   pub named : period.number ≡ number
   pub runs : periods.runs_of row ≡ Ok period.runs
 
-period_is : (known : List LivePeriod) (former number : ℕ) (row : List (List TimedSegment)) (period : LivePeriod)
+pub period_is : (known : List LivePeriod) (former number : ℕ) (row : List (List TimedSegment)) (period : LivePeriod)
     → periods.period_of known former number row ≡ Ok period → IsPeriod period number row
 period_is known former number row period is =
     let x = steps_of (periods.extent_of (periods.known_in number known) former (row_end row)) _ period is in
@@ -251,7 +248,8 @@ module _ (former : Option Followed) (all : List Source) (new : Followed) (p : Pa
       let t = track_of in
       let m = t.source.media in
       let f = slice_get (formers_of former) (0 + place) in
-      let segments : segments_in t.row ≡ m.segments = ap segments_in t.times ∙ segments_timed f m.target m.sequence (last_of f) m.segments in
+      let segments : segments_in t.row ≡ m.segments = ap segments_in t.times
+      ∙ segments_timed f m.target m.sequence (last_of f) m.segments in
       let unchanged : map_changes (segments_in t.row) ≡ false = ap map_changes segments
       ∙ unchanged_at p.kept place t.source p.judged.segments t.kept_at in
       let sections = sections_at p.kept p.sections place t.source p.judged.common t.kept_at in
@@ -265,7 +263,8 @@ module _ (former : Option Followed) (all : List Source) (new : Followed) (p : Pa
       same cut_by in
       let mpd_periods : new.mpd.periods ≡ p.listed = ap (λ (mpd : LiveMpd). mpd.periods) p.mpd in
       record {
-        sections = ap (map (λ (p : LivePeriod). p.number)) mpd_periods ∙ numbers_are _ (map groups_of p.timed) _ 0 p.sections p.listed p.periods
+        sections = ap (map (λ (p : LivePeriod). p.number)) mpd_periods
+            ∙ numbers_are _ (map groups_of p.timed) _ 0 p.sections p.listed p.periods
             ∙ sections ∙ ap (λ (t : FollowedTrack). sections_of t.media) (sym t.is);
         timed = ap (λ (t : FollowedTrack). length t.times) t.is ∙ ap (λ (row : List TimedSegment). length (times_in row)) t.times
             ∙ length_timed f m.target m.sequence (last_of f) m.segments ∙ ap (λ (t : FollowedTrack). length t.media.segments) (sym t.is);

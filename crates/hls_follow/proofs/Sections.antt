@@ -1,9 +1,9 @@
 -- The segments of a track, section by section.
-use Rattle.std.proofs.Common.{◌≡◌, ℕ, zero, suc, ◌+◌, ◌<◌, Bool, true, false, ◌&&◌, cond, eqb, List, [], ◌∷◌, ◌++◌, map, length, All}
-use Rattle.std.proofs.Common.{slice_get, Option, Some, None, Ok, Err, refl, sym, ◌∙◌, ap, ap₂, subst, arith, bytes_eq}
-use Rattle.std.specs.List.{list_all, list_any}
+use Rattle.std.proofs.Common.{◌≡◌, ℕ, zero, suc, Bool, true, false, ◌&&◌, cond, eqb, List, [], ◌∷◌, ◌++◌, map, length, All}
+use Rattle.std.proofs.Common.{slice_get, Option, Some, None, Ok, Err, refl, sym, ◌∙◌, ap, ap₂, subst, bytes_eq}
+use Rattle.std.specs.List.{list_all}
 use Rattle.std.specs.Option.{option_eq}
-use Rattle.std.proofs.lemmas.Bool.{eq-eqb, eqb-true}
+use Rattle.std.proofs.lemmas.Bool.{eqb-true}
 use Rattle.std.proofs.lemmas.List.Elements.{All-nil, All-cons}
 use Rattle.std.proofs.lemmas.Slice.Eq.{bytes_eq-Decides}
 use Rattle.url_parts.specs.declared.address.Part.{Part}

@@ -134,8 +134,7 @@ at_front formers from zero s kept first timed b here later is =
     let same : record { media = s.media; times = times_in first } ≡ b = cc in
     let e : from ≡ from + 0 = omega arith in
     subst (λ (place : ℕ). IsAt formers place b) e (subst (λ (b : FollowedTrack). IsAt formers from b) same (record {
-      is =
-          ap times_in (sym here);
+      is = ap times_in (sym here);
     }))
 at_front formers from (suc place) s kept first timed b here later is =
     let e : (from + 1) + place ≡ from + suc place = omega arith in

@@ -4,11 +4,12 @@ use Rattle.std.specs.Prelude.{Err, ℤ}
 use Rattle.hls_master.specs.declared.track.MasterTrack.{MasterTrack}
 use Rattle.hls_media.specs.Laws.{IsBounded}
 use Rattle.hls_media.specs.declared.media.Media.{Media}
+use Rattle.dash_writer.specs.declared.live.LivePeriod.{LivePeriod}
 use Rattle.hls_follow.specs.declared.fault.LiveFault.{LiveFault}
 use Rattle.hls_follow.specs.declared.state.Followed.{Followed}
 use Rattle.hls_follow.specs.declared.state.FollowedTrack.{FollowedTrack}
 use Rattle.hls_follow.specs.Laws.{IsContiguous, Lists}
-use Rattle.hls_follow.specs.Listed.{ListsTrack, Placed, placed_of}
+use Rattle.hls_follow.specs.Listed.{GoesOn, ListsTrack, Placed, placed_of}
 use Rattle.hls_follow.specs.Rounds.{followed_of}
 
 -- ---- rounds one behind another
@@ -53,6 +54,11 @@ AreContiguousFromTheFirst = (tracks : List MasterTrack) (rounds : List Playlists
 abbrev pub LastPlaylistsAreListed : Type 0
 LastPlaylistsAreListed = (tracks : List MasterTrack) (rounds : List Playlists) (new : Followed) (place : ℕ) (track : FollowedTrack)
     → accepted_after tracks None rounds ≡ Some new → slice_get new.tracks place ≡ Some track → ListsTrack new place track
+
+-- From the first round on, a segment of the MPD begins where the one before it in its run ends, so that the first one's time tells all.
+abbrev pub RunsGoOn : Type 0
+RunsGoOn = (tracks : List MasterTrack) (rounds : List Playlists) (new : Followed)
+    → accepted_after tracks None rounds ≡ Some new → All (λ (period : LivePeriod). All GoesOn period.runs) new.mpd.periods
 
 -- The last playlist of the track at a place lists a segment with this number.
 pub record HasNumber (f : Followed) (place number : ℕ) : Type 0 where

@@ -1,7 +1,8 @@
 -- The segments of a track, as an MPD lists them Period by Period, and as a playlist does.
-use Rattle.std.specs.Prelude.{◌≡◌, ℕ, List, [], ◌∷◌, ◌++◌, length, map, slice_get, Option, Some, None}
+use Rattle.std.specs.Prelude.{◌≡◌, ℕ, ◌+◌, List, [], ◌∷◌, ◌++◌, length, map, slice_get, Option, Some, None}
 use Rattle.url_parts.specs.declared.address.Part.{Part}
 use Rattle.hls_media.specs.declared.media.MediaSegment.{MediaSegment}
+use Rattle.dash_writer.specs.Live.{first_time}
 use Rattle.dash_writer.specs.declared.live.LivePeriod.{LivePeriod}
 use Rattle.dash_writer.specs.declared.live.LiveRun.{LiveRun}
 use Rattle.dash_writer.specs.declared.live.LiveSegment.{LiveSegment}
@@ -36,6 +37,17 @@ placed_in period (Some run) = map (placed_as period run) run.segments
 abbrev pub placed_of : (place : ℕ) → List LivePeriod → List Placed
 placed_of place [] = []
 placed_of place (period ∷ periods) = placed_in period (slice_get period.runs place) ++ placed_of place periods
+
+-- ---- the times of a run
+
+-- segments one behind another, of which the first one begins at a time
+abbrev pub times_from : (time : ℕ) → List LiveSegment → List ℕ
+times_from time [] = []
+times_from time (segment ∷ segments) = time ∷ times_from (time + segment.duration) segments
+
+-- the time of the first segment tells each one's
+pub record GoesOn (run : LiveRun) : Type 0 where
+  pub times : map (λ (segment : LiveSegment). segment.time) run.segments ≡ times_from (first_time run.segments) run.segments
 
 -- ---- a playlist
 

@@ -1,5 +1,6 @@
 //! Laws of followed playlists. The functions do nothing: what they ensure is the law.
-ghost use Rattle.hls_follow.specs.Histories.{AreContiguousFromTheFirst, LastPlaylistsAreListed, SegmentsStay, StartsStayOverRounds};
+ghost use Rattle.hls_follow.specs.Histories.{AreContiguousFromTheFirst, LastPlaylistsAreListed, RunsGoOn};
+ghost use Rattle.hls_follow.specs.Histories.{SegmentsStay, StartsStayOverRounds};
 ghost use Rattle.hls_follow.specs.Laws.{NumbersKeepTheirTimes, SectionsKeepTheirStarts, StartsStay, TimesAreContiguous};
 
 use reload_law::rules_are_sentences;
@@ -43,6 +44,14 @@ pub fn times_are_contiguous_from_the_first()
 pub fn last_playlists_are_listed()
     ensures { LastPlaylistsAreListed }
 {}
+
+/// After every list of accepted rounds, from the first on, each segment of the MPD begins where the one before it in its Period
+/// ends, so that the time of a run's first segment tells all (ISO/IEC 23009-1, 5.3.9.6).
+pub fn runs_go_on()
+    ensures { RunsGoOn }
+{
+    rules_are_sentences();
+}
 
 /// A segment that a round lists again, by its track and its sequence number, stays in the MPD as it was after every earlier round:
 /// the id and the start of its Period, and when it begins there.

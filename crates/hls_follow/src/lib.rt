@@ -15,7 +15,7 @@ mod times;
 pub use fault::LiveFault;
 pub use follow::{Appended, Follow};
 pub use laws::{
-    last_playlists_are_listed, numbers_keep_their_times, sections_keep_their_starts, segments_stay,
-    starts_stay, starts_stay_over_rounds, times_are_contiguous,
+    last_playlists_are_listed, numbers_keep_their_times, runs_go_on, sections_keep_their_starts,
+    segments_stay, starts_stay, starts_stay_over_rounds, times_are_contiguous,
     times_are_contiguous_from_the_first,
 };
