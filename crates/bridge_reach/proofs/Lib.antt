@@ -1,1 +1,9 @@
+pub mod Agreed
+pub mod Apart
 pub mod Came
+pub mod Counted
+pub mod Passing
+pub mod Places
+pub mod Runs
+pub mod Stated
+pub mod Timely

@@ -1,1 +1,5 @@
+pub mod Agree
+pub mod DashTimes
+pub mod FileTimes
 pub mod Index
+pub mod Promises

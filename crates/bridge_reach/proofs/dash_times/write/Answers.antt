@@ -1,0 +1,24 @@
+use Rattle.std.proofs.Common.{[], ◌∷◌, true, subst}
+use Rattle.bridge_io.specs.InOrder.{put_all, AreBegun}
+use Rattle.bridge_io.specs.Outside.{Changes}
+use Rattle.dash_writer.specs.Timed.{timed_text}
+use Rattle.bridge_steps.specs.Done.{done_line}
+use Rattle.bridge_steps.specs.Endings.{IsWritten}
+use Rattle.bridge_steps.proofs.Begun.{begun, one_put}
+use Rattle.bridge_steps.proofs.Endings.{writes}
+use Rattle.bridge_steps.proofs.Files.{on_ok_by, on_err_by}
+use Rattle.bridge_reach.specs.DashTimes.{files_of}
+use Rattle.bridge_reach.proofs.dash_times.write.Goals as goal
+
+pub returns : goal.returns
+returns g c =
+    let p = c.args.timed.now.presentation in let runs = c.args.timed.now.runs in let text = timed_text p runs in
+    let put = c.write_mpd_timed-wrote.ensures in let told = c.in-Ok.ensures in let name = c.in-Ok.name in
+    let before = g.F.Store.files c.args.store.now in let after = g.F.Store.files c.write_mpd_timed-wrote.new.store in
+    let wrote = c.write_mpd_timed-wrote.result in
+    writes (files_of c.args.job.now (p, runs)) (done_line p) true wrote c.written.result _ _
+    (on_ok_by wrote (λ ok. subst (λ name. Changes (put_all ((name, text) ∷ [])) before after) told.name
+    (one_put (name, text) before after ok)) put.ok)
+    (on_err_by wrote (λ may. subst (λ name. AreBegun ((name, text) ∷ []) before after) told.name
+    (begun (name, text) before after may)) put.err)
+    put.cause put.reads (subst (λ line. IsWritten line wrote c.written.result) told.line c.written.ensures)

@@ -1,0 +1,57 @@
+-- The times that the media files of a presentation state, and which file is refused for them (ISO/IEC 14496-12, 8.4.2 and 8.8.12).
+use Rattle.std.specs.Prelude.{ℕ, nat_lt, ◌&&◌, Bool, List, length, slice_get, if◌then◌else◌, Option, None, unwrap_or, Result}
+use Rattle.std.specs.Option.{option_and_then}
+use Rattle.bridge_io.specs.Outside.{Files}
+use Rattle.url_parts.specs.Addresses.{local_name_of}
+use Rattle.url_parts.specs.declared.address.Part.{Part}
+use Rattle.fragment_times.specs.declared.fault.SegmentSpot.{SegmentSpot}
+use Rattle.fragment_times.specs.declared.fault.TimesFault.{TimesFault}
+use Rattle.fragment_times.specs.declared.fault.TimesFault.TheVariants as fault
+use Rattle.fragment_times.specs.declared.times.SegmentTimes.{SegmentTimes}
+use Rattle.fragment_times.specs.Durations.{durations_of}
+use Rattle.fragment_times.specs.Times.{parts_of, times_of}
+use Rattle.presentation.specs.declared.fault.PresentationFault.TheVariants.{Memory}
+use Rattle.presentation.specs.declared.parts.Content.{Content}
+use Rattle.presentation.specs.Presented.{Presented, content_at, listed_at}
+use Rattle.presentation.specs.Told.{told_as}
+use Rattle.bridge_playlists.specs.declared.place.Place.{Place}
+use Rattle.bridge_report.specs.declared.refusal.Refusal.TheVariants as refusal
+use Rattle.bridge_report.specs.declared.times_refusal.TimesRefusal.TheVariants as times
+use Rattle.bridge_report.specs.Reading.{Named}
+
+-- ---- the file of a segment
+
+-- where a listed segment of a track in a section lies
+abbrev pub listed_part : Presented → SegmentSpot → Option Part
+listed_part p spot = option_and_then
+    (λ (content : Content). slice_get (parts_of content.runs (listed_at p spot.section spot.track)) spot.segment)
+    (content_at p spot.section spot.track)
+
+abbrev pub is_within : Presented → SegmentSpot → Bool
+is_within p spot = nat_lt spot.section (length p.sections) && nat_lt spot.track (length p.tracks)
+
+-- a place out of range has nothing
+abbrev pub part_at : Presented → SegmentSpot → Option Part
+part_at p spot = if is_within p spot then listed_part p spot else None
+
+abbrev pub file_at : (folder : List ℕ) → Presented → SegmentSpot → Option (List ℕ)
+file_at folder p spot = option_and_then (λ (part : Part). local_name_of folder part.address) (part_at p spot)
+
+-- ---- refusals
+
+-- A refusal names the manifest or a media file. A read that failed and want of memory are no refusals, and have no words.
+abbrev pub named_by : (manifest : Place) → Presented → TimesFault → Named
+named_by manifest p fault.OutsideBase = (manifest.file, refusal.Times times.OutsideBase)
+named_by manifest p (fault.File file told) = (file, refusal.Times (times.File told))
+named_by manifest p (fault.Segment spot told) = (unwrap_or (file_at manifest.folder p spot) manifest.file, refusal.Times (times.File told))
+named_by manifest p fault.Range = (manifest.file, refusal.Times times.Range)
+named_by manifest p fault.Fault = (manifest.file, refusal.Presentation Memory)
+named_by manifest p fault.Memory = (manifest.file, refusal.Presentation Memory)
+
+-- ---- times
+
+abbrev pub times_at : (manifest : Place) → Files → Presented → Result (List SegmentTimes) Named
+times_at manifest files p = told_as (named_by manifest p) (times_of manifest.folder files p)
+
+abbrev pub durations_at : (manifest : Place) → Presented → List SegmentTimes → Result (List (List ℕ)) Named
+durations_at manifest p times = told_as (named_by manifest p) (durations_of p times)

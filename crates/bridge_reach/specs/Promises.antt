@@ -1,0 +1,105 @@
+-- What `dash-times` promises of the MPD that it writes, and `agree` of what it tells (ISO/IEC 14496-12, 8.4.2 and 8.8.12).
+use Rattle.std.specs.Prelude.{◌≡◌, ◌⊎◌, ◌<◌, ℕ, ◌+◌, ◌*◌, Bool, true, false, List, [], ◌∷◌, length, slice_get, Some, Ok}
+use Rattle.std.specs.Option.{ForSome}
+use Rattle.bridge_io.specs.Outside.{Files}
+use Rattle.url_parts.specs.declared.address.Part.{Part}
+use Rattle.timeline.specs.Expansions.{Timing}
+use Rattle.timeline.specs.Listed.{offset_of}
+use Rattle.dash_writer.specs.declared.timed.TickRun.{TickRun}
+use Rattle.fragment_times.specs.declared.fault.SegmentSpot.{SegmentSpot}
+use Rattle.fragment_times.specs.Agreeing.{is_same}
+use Rattle.fragment_times.specs.Parts.{scale_at, start_at}
+use Rattle.fragment_times.specs.Times.{all_starts, parts_of}
+use Rattle.presentation.specs.declared.parts.Content.{Content}
+use Rattle.presentation.specs.Meanings.{part_meant}
+use Rattle.presentation.specs.Presented.{Presented, content_at, listed_at}
+use Rattle.bridge_playlists.specs.declared.place.Place.{Place}
+use Rattle.bridge_playlists.specs.Places.{place_of}
+use Rattle.bridge_playlists.specs.Playlists.{presented_at}
+use Rattle.bridge_report.specs.Outcomes.{Ends, Writes}
+use Rattle.bridge_runs.specs.declared.status.Verdict.TheVariants as verdict
+use Rattle.bridge_reach.specs.declared.agree.Agree.{Agree}
+use Rattle.bridge_reach.specs.declared.dash_times.DashTimes.{DashTimes}
+use Rattle.bridge_reach.specs.Agree.{agree_outcome, apart_text, mpd_read}
+use Rattle.bridge_reach.specs.DashTimes.{dash_times_outcome, files_of}
+
+-- ---- `dash-times`
+
+-- when segments begin that follow one another and last so long, of which the first one begins at a time
+abbrev pub starts_from : (first : ℕ) → (durations : List ℕ) → List ℕ
+starts_from first [] = []
+starts_from first (ticks ∷ later) = first ∷ starts_from (first + ticks) later
+
+-- A run counts in the timescale that the initialization part states, and its segments begin when their own files state.
+pub record AreFileTimes (folder : List ℕ) (files : Files) (initialization : Part) (segments : List Part) (run : TickRun) : Type 0 where
+  pub scale : scale_at folder files initialization ≡ Ok run.scale
+  pub starts : all_starts folder files segments ≡ Ok (starts_from run.first run.durations)
+
+-- what a track has in a section is timed so
+abbrev pub IsTimed : (folder : List ℕ) → Files → Presented → List TickRun → (s t : ℕ) → Type 0
+IsTimed folder files p runs s t = ForSome (content_at p s t) (λ content. (run : TickRun) × (slice_get runs (s * length p.tracks + t)
+    ≡ Some run)
+    × AreFileTimes folder files content.initialization (parts_of content.runs (listed_at p s t)) run)
+
+-- the MPD that is written has the times that the files of its segments state
+pub record IsWrittenTimed (job : DashTimes) (files : Files) (written : List (List ℕ × List ℕ)) : Type 0 where
+  pub place : Place
+  pub at : place_of job.base job.master ≡ Some place
+  pub presentation : Presented
+  pub read : presented_at place files ≡ Ok presentation
+  pub runs : List TickRun
+  pub text : written ≡ files_of job (presentation, runs)
+  pub timed : (s t : ℕ) → s < length presentation.sections → t < length presentation.tracks
+      → IsTimed place.folder files presentation runs s t
+
+abbrev pub WrittenAreFileTimes : Type 0
+WrittenAreFileTimes = (job : DashTimes) (files : Files) (written : List (List ℕ × List ℕ)) (line : List ℕ) (reads : Bool)
+    → dash_times_outcome job (Some files) ≡ Some (Writes written line reads) → IsWrittenTimed job files written
+
+-- ---- `agree`
+
+-- Whether a listed segment's start, with `@presentationTimeOffset` added, is the decode time that its file states over the
+-- timescale of its track's media, as fractions.
+pub record IsCompared (same : Bool) (folder : List ℕ) (files : Files) (p : Presented) (s t k : ℕ) : Type 0 where
+  pub content : Content
+  pub has : content_at p s t ≡ Some content
+  pub times : Timing
+  pub listed : slice_get (listed_at p s t) k ≡ Some times
+  pub scale : ℕ
+  pub media : scale_at folder files content.initialization ≡ Ok scale
+  pub decode : ℕ
+  pub stated : start_at folder files (part_meant content.runs times) ≡ Ok decode
+  pub is : is_same (offset_of content.runs) scale times.start decode ≡ same
+
+-- by section, track and place
+abbrev pub IsBefore : (s t k : ℕ) → SegmentSpot → Type 0
+IsBefore s t k spot = (s < spot.section) ⊎ ((s ≡ spot.section) × ((t < spot.track) ⊎ ((t ≡ spot.track) × (k < spot.segment))))
+
+-- the MPD of a job, and the listed segments of which something is so
+pub record IsRead (job : Agree) (files : Files) (Of : (folder : List ℕ) → Presented → Type 0) : Type 0 where
+  pub place : Place
+  pub at : place_of job.base job.mpd ≡ Some place
+  pub presentation : Presented
+  pub read : mpd_read place files ≡ Ok presentation
+  pub of : Of place.folder presentation
+
+-- each one is the same
+abbrev pub AllAgree : Files → (folder : List ℕ) → Presented → Type 0
+AllAgree files folder p = (s t k : ℕ) → s < length p.sections → t < length p.tracks → k < length (listed_at p s t)
+    → IsCompared true folder files p s t k
+
+-- the told one is the first that isn't
+pub record IsFirstApart (files : Files) (line : List ℕ) (folder : List ℕ) (p : Presented) : Type 0 where
+  pub spot : SegmentSpot
+  pub told : line ≡ apart_text spot.section spot.track spot.segment
+  pub apart : IsCompared false folder files p spot.section spot.track spot.segment
+  pub first : (s t k : ℕ) → IsBefore s t k spot → s < length p.sections → t < length p.tracks → k < length (listed_at p s t)
+      → IsCompared true folder files p s t k
+
+abbrev pub DoneAgrees : Type 0
+DoneAgrees = (job : Agree) (files : Files) (line : List ℕ) (reads counts : Bool)
+    → agree_outcome job (Some files) ≡ Some (Ends verdict.Done line reads counts) → IsRead job files (AllAgree files)
+
+abbrev pub DifferIsApart : Type 0
+DifferIsApart = (job : Agree) (files : Files) (line : List ℕ) (reads counts : Bool)
+    → agree_outcome job (Some files) ≡ Some (Ends verdict.Differ line reads counts) → IsRead job files (IsFirstApart files line)

@@ -1,0 +1,117 @@
+// `agree`: whether the times of an MPD are those that its media files state.
+ghost use Rattle.std.specs.Prelude.{◌≡◌, ◌≢◌, Ok, IfOk};
+ghost use Rattle.std.specs.Option.{ForSome};
+ghost use Rattle.bridge_io.specs.Answer.{Gives};
+ghost use Rattle.bridge_io.specs.Fault.{HasCause};
+ghost use Rattle.bridge_runs.specs.declared.status.Status.TheVariants as status;
+ghost use Rattle.bridge_runs.specs.Runs.{status_by};
+ghost use Rattle.presentation.specs.Counting.{counted, count_of_all};
+ghost use Rattle.bridge_report.specs.declared.reading.Halt.TheVariants.{ReadFault};
+ghost use Rattle.bridge_report.specs.Reading.{halted};
+ghost use Rattle.bridge_steps.specs.Endings.{JobEndsAs, NeverWrites, around};
+ghost use Rattle.bridge_reach.specs.Agree as spec;
+
+use crate::file_times::times_at;
+use bridge_io::{Ledger, Name, NoMemory, Steps, Store, Text};
+use bridge_playlists::Place;
+use bridge_report::{Halt, Refusal};
+use bridge_runs::{Ending, Verdict};
+use bridge_steps::{count_of, mpd_at, place_in, told};
+use exact_time::Digits;
+use fragment_times::{SegmentSpot, first_apart};
+use presentation::Presentation;
+use std::alloc::Global;
+
+/// An MPD whose times are to be compared with those that its media files state.
+#[derive(Debug, Drop)]
+pub struct Agree {
+    /// The MPD's file.
+    pub mpd: Name,
+    /// The URL of the store's root.
+    pub base: Text,
+}
+
+/// Tells whether each listed segment of a job's MPD has the decode time that its media file states (ISO/IEC 14496-12, 8.8.12),
+/// or the first one that has another, unless a file is refused. Nothing is written.
+#[tactic(auto, unfolding(crate::specs::Agree::agree_outcome))]
+pub fn judge_times<F: Store, L: Ledger>(
+    alloc: Global,
+    job: &Agree,
+    store: &mut F,
+    steps: &mut Steps<L>,
+) -> Ending
+    ensures ends { JobEndsAs (spec.agree_outcome job.now (F.files store.old)) result
+        (around (F.files store.old) (F.read_faults store.old) (F.write_faults store.old) steps.old)
+        (around (F.files store.new) (F.read_faults store.new) (F.write_faults store.new) steps.new) }
+    ensures never_writes { NeverWrites result (F.write_faults store.old) (F.write_faults store.new) }
+{
+    match place_in(alloc, &job.base, &job.mpd) {
+        Ok(place) => told(alloc, judged(alloc, &place, store, steps)),
+        Err(told) => told,
+    }
+}
+
+/// What is told of the MPD at a place, or why a file isn't read.
+#[tactic(auto, unfolding(crate::specs::Agree::judged))]
+fn judged<F: Store, L: Ledger>(
+    alloc: Global,
+    place: &Place,
+    store: &mut F,
+    steps: &mut Steps<L>,
+) -> Result<(Verdict, Text), Halt>
+    ensures told { ForSome (F.files store.old) (λ files. Gives (λ told. told) halted result (spec.judged place.now files)) }
+    ensures verdict { IfOk result (λ told. status_by told.0 ≢ status.Words) }
+    ensures cause { HasCause ReadFault (F.read_faults store.old) (F.read_faults store.new) result }
+    ensures files { F.files store.new ≡ F.files store.old }
+    ensures writes { F.write_faults store.new ≡ F.write_faults store.old }
+{
+    let live = Some(Refusal::NotStatic);
+    let ready = mpd_at(alloc, place, None, live, Digits::default(), store, steps)?;
+    let times = times_at(alloc, place, &ready.presentation, store, steps)?;
+    let apart = first_apart(&ready.presentation, &times);
+    Ok(verdict_of(alloc, &ready.presentation, apart)?)
+}
+
+/// What is told of an MPD whose first segment with another time is this one.
+fn verdict_of(
+    alloc: Global,
+    mpd: &Presentation,
+    apart: Option<SegmentSpot>,
+) -> Result<(Verdict, Text), NoMemory>
+    requires { counted mpd.now ≡ Ok (count_of_all mpd.now) }
+    ensures told { IfOk result (λ told. told ≡ spec.verdict_of mpd.now apart) }
+    ensures verdict { IfOk result (λ told. status_by told.0 ≢ status.Words) }
+{
+    match apart {
+        None => Ok((Verdict::Done, agree_line(alloc, mpd)?)),
+        Some(spot) => Ok((Verdict::Differ, apart_line(alloc, spot)?)),
+    }
+}
+
+fn agree_line(alloc: Global, mpd: &Presentation) -> Result<Text, NoMemory>
+    requires { counted mpd.now ≡ Ok (count_of_all mpd.now) }
+    ensures { IfOk result (λ line. line ≡ spec.agree_line mpd.now) }
+{
+    let tracks = mpd.tracks().len() as u64;
+    let sections = mpd.sections().len() as u64;
+    agree_text(alloc, tracks, sections, count_of(mpd))
+}
+
+#[tactic(auto, unfolding(crate::specs::Agree::agree_text))]
+fn agree_text(alloc: Global, tracks: u64, sections: u64, segments: u64) -> Result<Text, NoMemory>
+    ensures { IfOk result (λ line. line ≡ spec.agree_text tracks sections segments) }
+{
+    Ok(Text::from(format!(in alloc;
+        "agree tracks={tracks} sections={sections} segments={segments}\n"
+    )?))
+}
+
+#[tactic(auto, unfolding(crate::specs::Agree::apart_text))]
+fn apart_line(alloc: Global, spot: SegmentSpot) -> Result<Text, NoMemory>
+    ensures { IfOk result (λ line. line ≡ spec.apart_text spot.section spot.track spot.segment) }
+{
+    let (section, track, segment) = (spot.section, spot.track, spot.segment);
+    Ok(Text::from(format!(in alloc;
+        "disagree section {section} track {track} segment {segment}\n"
+    )?))
+}

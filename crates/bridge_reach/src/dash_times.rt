@@ -1,0 +1,183 @@
+// `dash-times`: from playlists to an MPD with the times that the media files state.
+ghost use Rattle.std.specs.Prelude.{◌≡◌, codes, get_or, length, Ok, Some, IfOk};
+ghost use Rattle.std.specs.Option.{ForSome};
+ghost use Rattle.bridge_io.specs.Answer.{Gives};
+ghost use Rattle.bridge_io.specs.Fault.{HasCause};
+ghost use Rattle.bridge_jobs.specs.Laws.{in_folder};
+ghost use Rattle.dash_writer.specs.Timed.{CanBeTimed};
+ghost use Rattle.presentation.specs.Counting.{counted, count_of_all};
+ghost use Rattle.presentation.specs.Origins.{CameFromPlaylists};
+ghost use Rattle.bridge_report.specs.declared.reading.Halt.TheVariants.{ReadFault};
+ghost use Rattle.bridge_report.specs.Reading.{halted};
+ghost use Rattle.bridge_steps.specs.Done as done;
+ghost use Rattle.bridge_steps.specs.Endings.{JobEndsAs, around};
+ghost use Rattle.bridge_reach.specs.DashTimes as spec;
+
+use crate::file_times::{durations_at, times_at};
+use bridge_io::{Ledger, Name, NoMemory, Steps, Store, Text};
+use bridge_playlists::{Place, presented_at};
+use bridge_report::{Halt, halted};
+use bridge_runs::Ending;
+use bridge_steps::{done_line, file_in, place_in, written};
+use dash_writer::{TickList, TickRun, TickSeq, write_mpd_timed};
+use fragment_times::SegmentTimes;
+use presentation::{Presentation, segments_can_be_listed};
+use std::alloc::Global;
+
+/// A master whose MPD is to be written with the times that the media files state.
+#[derive(Debug, Drop)]
+pub struct DashTimes {
+    /// The master's file.
+    pub master: Name,
+    /// The URL of the store's root.
+    pub base: Text,
+    /// The folder of the MPD.
+    pub out: Name,
+}
+
+/// A presentation that came from playlists, with the media times of its segments.
+#[derive(Debug, Drop)]
+struct Timed {
+    presentation: Presentation,
+    runs: TickList,
+}
+
+/// Writes the MPD of a job's master and its playlists with the decode times that the media files state (ISO/IEC 14496-12,
+/// 8.8.12), unless one of the files is refused.
+#[tactic(auto, unfolding(crate::specs::DashTimes::dash_times_outcome))]
+pub fn translate_timed<F: Store, L: Ledger>(
+    alloc: Global,
+    job: &DashTimes,
+    store: &mut F,
+    steps: &mut Steps<L>,
+) -> Ending
+    ensures { JobEndsAs (spec.dash_times_outcome job.now (F.files store.old)) result
+        (around (F.files store.old) (F.read_faults store.old) (F.write_faults store.old) steps.old)
+        (around (F.files store.new) (F.read_faults store.new) (F.write_faults store.new) steps.new) }
+{
+    match place_in(alloc, &job.base, &job.master) {
+        Ok(place) => match timed_at(alloc, &place, store, steps) {
+            Ok(timed) => write(alloc, job, &timed, store, steps),
+            Err(halt) => halted(alloc, halt),
+        },
+        Err(told) => told,
+    }
+}
+
+/// Writes the MPD of a presentation with the media times of its segments.
+fn write<F: Store, L: Ledger>(
+    alloc: Global,
+    job: &DashTimes,
+    timed: &Timed,
+    store: &mut F,
+    steps: &mut Steps<L>,
+) -> Ending
+    requires can { CanBeTimed timed.now.presentation timed.now.runs }
+    requires counted { counted timed.now.presentation ≡ Ok (count_of_all timed.now.presentation) }
+    ensures { JobEndsAs (Some (spec.outcome_of job.now (Ok (timed.now.presentation, timed.now.runs)))) result
+        (around (F.files store.old) (F.read_faults store.old) (F.write_faults store.old) steps.old)
+        (around (F.files store.new) (F.read_faults store.new) (F.write_faults store.new) steps.new) }
+{
+    let presentation = &timed.presentation;
+    let Ok((name, line)) = prepared(alloc, job, presentation) else {
+        return Ending::Memory;
+    };
+    let wrote = write_mpd_timed(alloc, presentation, &timed.runs, store, &name, steps);
+    written(line, wrote)
+}
+
+/// The name of the MPD and the line of the report, which are made before anything is written.
+fn prepared(
+    alloc: Global,
+    job: &DashTimes,
+    presentation: &Presentation,
+) -> Result<(Name, Text), NoMemory>
+    requires counted { counted presentation.now ≡ Ok (count_of_all presentation.now) }
+    ensures name { IfOk result (λ told. told.0 ≡ in_folder job.now.out (codes "manifest.mpd")) }
+    ensures line { IfOk result (λ told. told.1 ≡ done.done_line presentation.now) }
+{
+    let name = file_in(alloc, &job.out, "manifest.mpd")?;
+    Ok((name, done_line(alloc, presentation)?))
+}
+
+/// The presentation of the master at a place, with the media times that the files of its segments state; or the first refusal.
+/// [`Halt::ReadFault`] comes only where the store's count of failed reads rose.
+#[tactic(auto, unfolding(crate::specs::DashTimes::timed_at))]
+fn timed_at<F: Store, L: Ledger>(
+    alloc: Global,
+    place: &Place,
+    store: &mut F,
+    steps: &mut Steps<L>,
+) -> Result<Timed, Halt>
+    ensures timed { ForSome (F.files store.old) (λ files.
+        Gives (λ timed. (timed.presentation, timed.runs)) halted result (spec.timed_at place.now files)) }
+    ensures can { IfOk result (λ timed. CanBeTimed timed.presentation timed.runs) }
+    ensures counted { IfOk result (λ timed. counted timed.presentation ≡ Ok (count_of_all timed.presentation)) }
+    ensures cause { HasCause ReadFault (F.read_faults store.old) (F.read_faults store.new) result }
+    ensures files { F.files store.new ≡ F.files store.old }
+    ensures writes { F.write_faults store.new ≡ F.write_faults store.old }
+{
+    let presentation = presented_at(alloc, place, store)?;
+    let runs = runs_at(alloc, place, &presentation, store, steps)?;
+    Ok(Timed { presentation, runs })
+}
+
+/// The media times of a presentation's segments, as their files state them.
+#[tactic(auto, unfolding(crate::specs::DashTimes::runs_at))]
+fn runs_at<F: Store, L: Ledger>(
+    alloc: Global,
+    place: &Place,
+    presentation: &Presentation,
+    store: &mut F,
+    steps: &mut Steps<L>,
+) -> Result<TickList, Halt>
+    requires { CameFromPlaylists presentation.now }
+    ensures runs { ForSome (F.files store.old) (λ files. Gives (λ runs. runs) halted result
+        (spec.runs_at place.now files presentation.now)) }
+    ensures can { IfOk result (CanBeTimed presentation.now) }
+    ensures cause { HasCause ReadFault (F.read_faults store.old) (F.read_faults store.new) result }
+    ensures files { F.files store.new ≡ F.files store.old }
+    ensures writes { F.write_faults store.new ≡ F.write_faults store.old }
+{
+    segments_can_be_listed();
+    let times = times_at(alloc, place, presentation, store, steps)?;
+    let durations = durations_at(alloc, place, presentation, &times, steps)?;
+    let starts = times.as_slice();
+    let ticks = durations.as_slice();
+    Ok(runs_of(alloc, starts, ticks)?)
+}
+
+/// When segments begin and how long they last, in ticks.
+fn runs_of(
+    alloc: Global,
+    times: &[SegmentTimes],
+    durations: &[TickSeq],
+) -> Result<TickList, NoMemory>
+    requires { length durations.now ≡ length times.now }
+    ensures { IfOk result (λ runs. runs ≡ spec.runs_of times.now durations.now) }
+{
+    let mut runs = TickList::new(alloc);
+    for place in 0..times.len() {
+        runs.push(run_of(alloc, &times[place], &durations[place])?)?;
+    }
+    Ok(runs)
+}
+
+/// The same of a track in a section. A track without segments begins at 0.
+fn run_of(alloc: Global, times: &SegmentTimes, ticks: &TickSeq) -> Result<TickRun, NoMemory>
+    ensures { IfOk result (λ run. run ≡ spec.run_of times.now ticks.now) }
+{
+    let mut durations = TickSeq::new(alloc);
+    durations.extend(ticks.as_slice())?;
+    Ok(TickRun {
+        scale: times.scale,
+        first: first_of(times.starts.as_slice()),
+        durations,
+    })
+}
+
+fn first_of(starts: &[u64]) -> u64
+    ensures { result ≡ get_or starts.now 0 0 }
+{
+    starts.first().copied().unwrap_or(0)
+}

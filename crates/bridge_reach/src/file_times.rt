@@ -1,0 +1,123 @@
+// The times that the media files of a presentation state, and which file is refused for them.
+ghost use Rattle.std.specs.Prelude.{◌≡◌, ◌≢◌, All, IfOk, IfSome, Some, length};
+ghost use Rattle.std.specs.Option.{ForSome};
+ghost use Rattle.bridge_io.specs.Answer.{Gives};
+ghost use Rattle.bridge_io.specs.Fault.{HasCause};
+ghost use Rattle.fragment_times.specs.declared.fault.TimesFault.TheVariants.{Fault, Segment};
+ghost use Rattle.fragment_times.specs.Refusals.{refusal};
+ghost use Rattle.fragment_times.specs.Times.{FillPlaces, IsScaled};
+ghost use Rattle.presentation.specs.Listable.{AreListable};
+ghost use Rattle.bridge_report.specs.declared.reading.Halt.TheVariants.{ReadFault};
+ghost use Rattle.bridge_report.specs.Reading.{IsNoReadFault, halted};
+ghost use Rattle.bridge_reach.specs.FileTimes as spec;
+
+use crate::segment_file::file_at;
+use bridge_io::{Ledger, NoMemory, Steps, Store};
+use bridge_playlists::Place;
+use bridge_report::{Halt, Refusal, TimesRefusal};
+use fragment_times::{
+    DurationsList, FileFault, SegmentSpot, TimesFault, TimesList, durations, fragment_times,
+};
+use presentation::Presentation;
+use std::alloc::Global;
+
+/// The media times of a presentation's listed segments as the media files state them, or the first refusal, of a media file or
+/// of the manifest at the place. [`Halt::ReadFault`] comes only where the store's count of failed reads rose.
+pub(crate) fn times_at<F: Store, L: Ledger>(
+    alloc: Global,
+    manifest: &Place,
+    presentation: &Presentation,
+    store: &mut F,
+    steps: &mut Steps<L>,
+) -> Result<TimesList, Halt>
+    requires { AreListable presentation.now }
+    ensures times { ForSome (F.files store.old) (λ files.
+        Gives (λ times. times) halted result (spec.times_at manifest.now files presentation.now)) }
+    ensures filled { IfOk result (λ times. FillPlaces presentation.now (length times)) }
+    ensures scaled { IfOk result (λ times. All IsScaled times) }
+    ensures cause { HasCause ReadFault (F.read_faults store.old) (F.read_faults store.new) result }
+    ensures files { F.files store.new ≡ F.files store.old }
+    ensures writes { F.write_faults store.new ≡ F.write_faults store.old }
+{
+    match fragment_times(alloc, presentation, &manifest.folder, store, steps) {
+        Ok(times) => Ok(times),
+        Err(fault) => Err(untimed(alloc, manifest, presentation, fault, steps)),
+    }
+}
+
+/// How many ticks each segment lasts by these times, or the first refusal.
+pub(crate) fn durations_at<L: Ledger>(
+    alloc: Global,
+    manifest: &Place,
+    presentation: &Presentation,
+    times: &TimesList,
+    steps: &mut Steps<L>,
+) -> Result<DurationsList, Halt>
+    requires listable { AreListable presentation.now }
+    requires filled { FillPlaces presentation.now (length times.now) }
+    requires scaled { All IsScaled times.now }
+    ensures durations { Gives (λ durations. durations) halted result (spec.durations_at manifest.now presentation.now times.now) }
+    ensures as_many { IfOk result (λ durations. length durations ≡ length times.now) }
+    ensures no_fault { IsNoReadFault result }
+{
+    match durations(alloc, presentation, times) {
+        Ok(durations) => Ok(durations),
+        Err(fault) => Err(untimed(alloc, manifest, presentation, fault, steps)),
+    }
+}
+
+/// Which file is refused, and why.
+fn untimed<L: Ledger>(
+    alloc: Global,
+    manifest: &Place,
+    presentation: &Presentation,
+    fault: TimesFault,
+    steps: &mut Steps<L>,
+) -> Halt
+    requires { AreListable presentation.now }
+    ensures told { IfSome (halted result) (λ named.
+        (refusal fault ≡ Some fault) × (named ≡ spec.named_by manifest.now presentation.now fault)) }
+    ensures read_fault { result ≡ ReadFault → fault ≡ Fault }
+{
+    match fault {
+        TimesFault::OutsideBase => {
+            Halt::refused(
+                alloc,
+                &manifest.file,
+                Refusal::Times(TimesRefusal::OutsideBase),
+            )
+        }
+        TimesFault::File(file, fault) => {
+            Halt::refused(alloc, &file, Refusal::Times(TimesRefusal::File(fault)))
+        }
+        TimesFault::Segment(spot, fault) => {
+            segment_refused(alloc, manifest, presentation, spot, fault, steps)
+        }
+        TimesFault::Range => {
+            Halt::refused(alloc, &manifest.file, Refusal::Times(TimesRefusal::Range))
+        }
+        TimesFault::Fault => Halt::ReadFault,
+        TimesFault::Memory => Halt::Memory,
+    }
+}
+
+/// The media file of a segment is refused.
+fn segment_refused<L: Ledger>(
+    alloc: Global,
+    manifest: &Place,
+    presentation: &Presentation,
+    spot: SegmentSpot,
+    fault: FileFault,
+    steps: &mut Steps<L>,
+) -> Halt
+    requires { AreListable presentation.now }
+    ensures told { IfSome (halted result) (λ named. named ≡ spec.named_by manifest.now presentation.now (Segment spot fault)) }
+    ensures no_fault { result ≢ ReadFault }
+{
+    let refusal = Refusal::Times(TimesRefusal::File(fault));
+    match file_at(alloc, &manifest.folder, presentation, spot, steps) {
+        Ok(Some(file)) => Halt::refused(alloc, &file, refusal),
+        Ok(None) => Halt::refused(alloc, &manifest.file, refusal),
+        Err(NoMemory) => Halt::Memory,
+    }
+}
