@@ -1,5 +1,6 @@
 -- What is read of a track in a section means what was written.
-use Rattle.std.proofs.Common.{◌≡◌, ℕ, zero, suc, ◌+◌, ◌-◌, ◌<◌, ◌≤◌, max, List, [], ◌∷◌, length, map, filter, drop, get_or, Some, None, unwrap_or, refl, sym, ◌∙◌, ap, ap₂, arith}
+use Rattle.std.proofs.Common.{◌≡◌, ℕ, zero, suc, ◌+◌, ◌-◌, ◌<◌, ◌≤◌, max, List, [], ◌∷◌, length, map, filter, drop, get_or, Some, None}
+use Rattle.std.proofs.Common.{unwrap_or, refl, sym, ◌∙◌, ap, ap₂, arith}
 use Rattle.std.specs.Prelude.{slice_get}
 use Rattle.std.specs.List.{AllByRecursion}
 use Rattle.std.proofs.Math.Seq.{drop-cons}
@@ -31,11 +32,15 @@ use Rattle.mpd_read_back.proofs.Times.{all_listed, durations_are, extents_closed
 part_again : (url : List ℕ) (parts : List Part) (k : ℕ) → k < length parts → AllByRecursion IsOwnPart parts
     → listed_part url (slice_get (map name_of (map url_of parts)) k) ≡ own_part (slice_get parts k)
 part_again url [] k within own = absurd (omega (arith, within))
-part_again url (p ∷ parts) zero within own = ap (λ address. record { address = address; range = p.range }) (own_address url p.address own.0.address)
+part_again url (p ∷ parts) zero within own = ap (λ address. record {
+  address = address;
+  range = p.range;
+}) (own_address url p.address own.0.address)
 part_again url (p ∷ parts) (suc k) within own = part_again url parts k (omega (arith, within)) own.1
 
 -- the parts of segments are those from a place on
-parts_behind : (tl : SegmentTimeline) (parts : List Part) (k n : ℕ) (xs : List Extent) → tl.names ≡ names.Addresses parts → n ≡ tl.first_number + k
+parts_behind : (tl : SegmentTimeline) (parts : List Part) (k n : ℕ) (xs : List Extent) → tl.names ≡ names.Addresses parts
+    → n ≡ tl.first_number + k
     → k + length xs ≡ length parts
     → map (λ x. part_or_none (part_of_timing tl x)) (numbered n xs) ≡ drop k parts
 parts_behind tl parts k n [] named is paired = sym (drop_all k parts (omega (arith, paired)))
@@ -51,7 +56,8 @@ parts_behind tl parts k n (x ∷ xs) named is paired =
 
 -- the same segments of two timelines with the same parts
 same_segments : (tl other : SegmentTimeline) (url : List ℕ) (parts : List Part) (k n m : ℕ) (xs : List Extent)
-    → tl.names ≡ names.Addresses parts → other.names ≡ names.Shared (map name_of (map url_of parts)) url → n ≡ tl.first_number + k → m ≡ other.first_number + k
+    → tl.names ≡ names.Addresses parts → other.names ≡ names.Shared (map name_of (map url_of parts)) url → n ≡ tl.first_number + k
+    → m ≡ other.first_number + k
     → k + length xs ≤ length parts → AllByRecursion IsOwnPart parts
     → map (segment_of other) (numbered m xs) ≡ map (segment_of tl) (numbered n xs)
 unfolding part_meant
@@ -60,19 +66,28 @@ same_segments tl other url parts k n m (x ∷ xs) named referred is also within 
     let here : n - tl.first_number ≡ k = omega (arith, is) in
     let there : m - other.first_number ≡ k = omega (arith, also) in
     ap₂ (λ segment segments. segment ∷ segments)
-    (rw (named, referred, here, there) (ap (λ part. record { part = part; start = x.start; end = x.end }) (part_again url parts k (omega (arith, within)) own)))
-    (same_segments tl other url parts (k + 1) (n + 1) (m + 1) xs named referred (omega (arith, is)) (omega (arith, also)) (omega (arith, within)) own)
+    (rw (named, referred, here, there) (ap (λ part. record {
+      part = part;
+      start = x.start;
+      end = x.end;
+    }) (part_again url parts k (omega (arith, within)) own)))
+    (same_segments tl other url parts (k + 1) (n + 1) (m + 1) xs named referred (omega (arith, is)) (omega (arith, also)) (omega
+    (arith, within)) own)
 
 -- and so the same entry
 same_entries : (initialization : Part) (tl other : SegmentTimeline) (n m : ℕ) (xs : List Extent)
     → map (segment_of other) (numbered m xs) ≡ map (segment_of tl) (numbered n xs)
     → entry_with initialization other (numbered m xs) ≡ entry_with initialization tl (numbered n xs)
 same_entries initialization tl other n m [] same = refl
-same_entries initialization tl other n m (x ∷ xs) same = ap (λ segments. Some (record { initialization = initialization; segments = segments })) same
+same_entries initialization tl other n m (x ∷ xs) same = ap (λ segments. Some (record {
+  initialization = initialization;
+  segments = segments;
+})) same
 
 -- ---- a content
 
-listed_from : (from : ℕ) (c : Content) (plain : IsPlainFrom from c) → listed_in whole_window c.runs ≡ numbered c.runs.first_number (in_row c.runs.ticks from plain.durations)
+listed_from : (from : ℕ) (c : Content) (plain : IsPlainFrom from c)
+    → listed_in whole_window c.runs ≡ numbered c.runs.first_number (in_row c.runs.ticks from plain.durations)
 listed_from from c plain = rw (plain.members, extents_closed _ (in_row c.runs.ticks from plain.durations))
     (all_listed c.runs.ticks from c.runs.first_number plain.durations plain.positive plain.lasting)
 
@@ -90,7 +105,8 @@ from_start c plain = record {
   own = plain.own;
 }
 
-pub listed_is : (c : Content) (plain : IsPlain c) → listed_in whole_window c.runs ≡ numbered c.runs.first_number (in_row c.runs.ticks 0 plain.durations)
+pub listed_is : (c : Content) (plain : IsPlain c) → listed_in whole_window c.runs
+    ≡ numbered c.runs.first_number (in_row c.runs.ticks 0 plain.durations)
 listed_is c plain = listed_from 0 c (from_start c plain)
 
 whole_list : {X : Type 0} (xs : List X) → unwrap_or (if_any xs) [] ≡ xs
@@ -101,15 +117,17 @@ pub length_row : (ticks from : ℕ) (ds : List ℕ) → length (in_row ticks fro
 length_row ticks from [] = refl
 length_row ticks from (d ∷ ds) = ap suc (length_row ticks (from + d) ds)
 
-pub parts_are : (c : Content) (plain : IsPlain c) → map (λ x. part_or_none (part_of_timing c.runs x)) (listed_in whole_window c.runs) ≡ plain.parts
+pub parts_are : (c : Content) (plain : IsPlain c) → map (λ x. part_or_none (part_of_timing c.runs x)) (listed_in whole_window c.runs)
+    ≡ plain.parts
 parts_are c plain =
     ap (map (λ x. part_or_none (part_of_timing c.runs x))) (listed_is c plain)
     ∙ parts_behind c.runs plain.parts 0 c.runs.first_number (in_row c.runs.ticks 0 plain.durations) plain.named (omega arith)
     (omega (arith, length_row c.runs.ticks 0 plain.durations, plain.paired))
 
 -- what was written of it
-told_is : (c : Content) (plain : IsPlain c)
-    → told_of c.runs c.initialization (listed_in whole_window c.runs) ≡ list_told c.runs.ticks 0 0 c.initialization plain.durations plain.parts
+pub told_is : (c : Content) (plain : IsPlain c)
+    → told_of c.runs c.initialization (listed_in whole_window c.runs)
+    ≡ list_told c.runs.ticks 0 0 c.initialization plain.durations plain.parts
 told_is c plain =
     ap₂ (list_told c.runs.ticks 0 0 c.initialization)
     (ap (map duration_of) (listed_is c plain) ∙ durations_are c.runs.ticks 0 c.runs.first_number plain.durations) (parts_are c plain)
@@ -128,7 +146,8 @@ content_is c offset from plain url end d bases =
     rw (
       bases,
       own_address url c.initialization.address plain.initialization.address,
-      timeline_expands (scale_of (list_told c.runs.ticks offset (offset + from) c.initialization plain.durations plain.parts)) end (offset + from) from plain.durations refl,
+      timeline_expands (scale_of (list_told c.runs.ticks offset (offset + from) c.initialization plain.durations plain.parts)) end
+          (offset + from) from plain.durations refl,
       whole_list (map url_of plain.parts),
     ) refl
 
@@ -147,9 +166,11 @@ timed_contents c offset from url end d plain bases =
     ap (entry_of whole_window) (content_is c offset from plain url end d bases)
     ∙ ap (entry_with c.initialization other) read
     ∙ same_entries c.initialization c.runs other c.runs.first_number other.first_number row
-    (same_segments c.runs other url plain.parts 0 c.runs.first_number other.first_number row plain.named refl (omega arith) (omega arith) few plain.own)
+    (same_segments c.runs other url plain.parts 0 c.runs.first_number other.first_number row plain.named refl (omega arith)
+    (omega arith) few plain.own)
     ∙ ap (entry_with c.initialization c.runs) (sym (listed_from from c plain))
 
 pub contents_are_meant : ContentsAreMeant
 contents_are_meant c url end d plain bases =
-    ap (λ t. entry_of whole_window (content_meant url end d t)) (told_is c plain) ∙ timed_contents c 0 0 url end d (from_start c plain) bases
+    ap (λ t. entry_of whole_window (content_meant url end d t)) (told_is c plain)
+    ∙ timed_contents c 0 0 url end d (from_start c plain) bases

@@ -1,5 +1,6 @@
 -- The tree of a written MPD can be written.
-use Rattle.std.proofs.Common.{◌≡◌, ℕ, suc, ◌≤◌, ◌==◌, ◌&&◌, ◌||◌, not, Bool, true, false, List, [], ◌∷◌, ◌++◌, map, bytes_eq, Option, Some, None, IfSome, option_map, option_and_then, if◌then◌else◌, refl, ap, arith}
+use Rattle.std.proofs.Common.{◌≡◌, ℕ, suc, ◌≤◌, ◌==◌, ◌&&◌, ◌||◌, not, Bool, true, false, List, [], ◌∷◌, ◌++◌, map, bytes_eq, Option}
+use Rattle.std.proofs.Common.{Some, None, IfSome, option_map, option_and_then, if◌then◌else◌, refl, ap, arith}
 use Rattle.std.specs.List.{AllByRecursion, list_all}
 use Rattle.std.proofs.lemmas.Bool.{and_parts}
 use Rattle.bridge_io.specs.declared.media.Ratio.{Ratio}
@@ -25,7 +26,10 @@ abbrev names_in : List Attribute → List (List ℕ)
 names_in attributes = map (λ (a : Attribute). a.0) attributes
 
 legal_name : (name : List ℕ) → (is_name name && list_all is_plain name) ≡ true → IsLegalName name
-legal_name name is = let parts = and_parts (is_name name) (list_all is_plain name) is in record { named = parts.0; clean = (carried name parts.1).clean }
+legal_name name is = let parts = and_parts (is_name name) (list_all is_plain name) is in record {
+  named = parts.0;
+  clean = (carried name parts.1).clean;
+}
 
 -- values that values can carry
 abbrev pub AreCarried : List Attribute → Type 0
@@ -34,9 +38,17 @@ AreCarried attributes = AllByRecursion (λ (a : Attribute). IfSome a.1 IsCarried
 one_legal : (name : List ℕ) (value : Option (List ℕ)) (others : List (List ℕ × List ℕ)) → (is_name name && list_all is_plain name) ≡ true
     → IfSome value IsCarried → AllLegal others → AllLegal (with_attribute name value others)
 one_legal name None others is carries legal = legal
-one_legal name (Some value) others is carries legal = (record { name = legal_name name is; value = carries.clean; no_controls = carries.no_controls }, legal)
+one_legal name (Some value) others is carries legal = (
+  record {
+    name = legal_name name is;
+    value = carries.clean;
+    no_controls = carries.no_controls;
+  },
+  legal,
+)
 
-all_legal : (attributes : List Attribute) → are_names (names_in attributes) ≡ true → AreCarried attributes → AllLegal (attributes_of attributes)
+all_legal : (attributes : List Attribute) → are_names (names_in attributes) ≡ true → AreCarried attributes
+    → AllLegal (attributes_of attributes)
 all_legal [] are carry = tt
 all_legal (a ∷ more) are carry =
     let parts = and_parts (is_name a.0 && list_all is_plain a.0) (are_names (names_in more)) are in
@@ -51,7 +63,8 @@ one_absent : (name other : List ℕ) (value : Option (List ℕ)) (others : List 
 one_absent name other None others is absent = absent
 one_absent name other (Some value) others is absent = rw is absent
 
-split : (name other : List ℕ) (names : List (List ℕ)) → is_among name (other ∷ names) ≡ false → (bytes_eq other name ≡ false) × (is_among name names ≡ false)
+split : (name other : List ℕ) (names : List (List ℕ)) → is_among name (other ∷ names) ≡ false
+    → (bytes_eq other name ≡ false) × (is_among name names ≡ false)
 split name other names is = go (bytes_eq other name) (is_among name names) is where
   go : (a b : Bool) → (a || b) ≡ false → (a ≡ false) × (b ≡ false)
   go true b whole = absurd (cc)
@@ -79,7 +92,8 @@ all_differ (a ∷ more) is =
     let parts = and_parts (not (is_among a.0 (names_in more))) (differ (names_in more)) is in
     one_differs a.0 a.1 (attributes_of more) (absent a.0 more (not_true (is_among a.0 (names_in more)) parts.0)) (all_differ more parts.1)
 
-pub legal_tag : (name : List ℕ) (attributes : List Attribute) → are_names (name ∷ names_in attributes) ≡ true → differ (names_in attributes) ≡ true
+pub legal_tag : (name : List ℕ) (attributes : List Attribute) → are_names (name ∷ names_in attributes) ≡ true
+    → differ (names_in attributes) ≡ true
     → AreCarried attributes → IsLegalTag (tag_of name attributes)
 legal_tag name attributes are differs carry =
     let parts = and_parts (is_name name && list_all is_plain name) (are_names (names_in attributes)) are in
@@ -101,10 +115,12 @@ pub fine_node : (n : ℕ) (name : List ℕ) (attributes : List Attribute) (child
     → AllByRecursion (IsFine n) children → IsFine (suc n) (node name attributes children)
 fine_node n name attributes children legal fine = let inside = all_fine n children fine in (legal, inside.0, inside.1)
 
-pub fine_leaf : (n : ℕ) (name : List ℕ) (attributes : List Attribute) → IsLegalTag (tag_of name attributes) → IsFine n (leaf name attributes)
+pub fine_leaf : (n : ℕ) (name : List ℕ) (attributes : List Attribute) → IsLegalTag (tag_of name attributes)
+    → IsFine n (leaf name attributes)
 fine_leaf n name attributes legal = (legal, tt, omega arith)
 
-pub joined_fine : (n : ℕ) (xs ys : List Written) → AllByRecursion (IsFine n) xs → AllByRecursion (IsFine n) ys → AllByRecursion (IsFine n) (xs ++ ys)
+pub joined_fine : (n : ℕ) (xs ys : List Written) → AllByRecursion (IsFine n) xs → AllByRecursion (IsFine n) ys
+    → AllByRecursion (IsFine n) (xs ++ ys)
 joined_fine n [] ys first later = later
 joined_fine n (x ∷ xs) ys first later = (first.0, joined_fine n xs ys first.1 later)
 

@@ -11,3 +11,9 @@ pub mod Periods
 pub mod Plain
 pub mod Legal
 pub mod Texts
+pub mod Reading
+pub mod Given
+pub mod Shown
+pub mod Fine
+pub mod Live
+pub mod Timed

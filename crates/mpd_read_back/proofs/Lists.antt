@@ -1,5 +1,7 @@
 -- The elements of a written SegmentList are read as they were written.
-use Rattle.std.proofs.Common.{◌≡◌, ℕ, zero, suc, ◌≤◌, ◌==◌, pos, Bool, true, false, List, [], ◌∷◌, ◌++◌, length, map, filter, codes, Option, Some, None, if◌then◌else◌, IfSome, option_map, option_and_then, unwrap_or, refl, sym, ◌∙◌, ap, ap₂, subst, arith}
+use Rattle.std.proofs.Common.{◌≡◌, ℕ, zero, suc, ◌≤◌, ◌==◌, pos, Bool, true, false, List, [], ◌∷◌, ◌++◌, length, map, filter, codes}
+use Rattle.std.proofs.Common.{Option, Some, None, if◌then◌else◌, IfSome, option_map, option_and_then, unwrap_or, refl, sym, ◌∙◌, ap, ap₂}
+use Rattle.std.proofs.Common.{subst, arith}
 use Rattle.std.proofs.lemmas.List.{length-map}
 use Rattle.std.proofs.lemmas.Simd.{map-map}
 use Rattle.std.specs.Prelude.{decimal}
@@ -12,7 +14,6 @@ use Rattle.mpd_text.specs.Grammar.{past}
 use Rattle.mpd_text.specs.Views.{side_by_side}
 use Rattle.mpd_profile.specs.Heads.{is_named, or_else}
 use Rattle.mpd_values.specs.Numbers.{signed_of}
-use Rattle.mpd_levels.specs.Readings.{number_named}
 use Rattle.mpd_levels.specs.Segments.{segments_of}
 use Rattle.mpd_levels.specs.Segments as level
 use Rattle.mpd_levels.specs.declared.initialization.Initialization.{Initialization}
@@ -21,10 +22,12 @@ use Rattle.mpd_markup.specs.Placed.{placed}
 use Rattle.dash_writer.specs.Elements.{Element as Written, in_order, leaf, node}
 use Rattle.dash_writer.specs.Lists.{list_with}
 use Rattle.dash_writer.specs.Runs.{longest_runs, with_first}
-use Rattle.dash_writer.specs.Segments.{s_element, s_elements, same_duration, duration_of, part_or_none, segment_url, segment_list, initialization, list_attributes, timeline_elements}
+use Rattle.dash_writer.specs.Segments.{s_element, s_elements, same_duration, duration_of, part_or_none, segment_url, segment_list}
+use Rattle.dash_writer.specs.Segments.{initialization, list_attributes, timeline_elements}
 use Rattle.timeline.specs.Expansions.{SegmentTimeline, Timing}
 use Rattle.timeline.specs.Listed.{part_of_timing}
-use Rattle.mpd_read_back.specs.Told.{list_told, ListsAreRead, TimedListsAreRead, AreReadableTimes, told_of, read_at, run_told, runs_of, url_of, IsReadable, IsShort}
+use Rattle.mpd_read_back.specs.Told.{list_told, ListsAreRead, TimedListsAreRead, AreReadableTimes, told_of, read_at, run_told, runs_of}
+use Rattle.mpd_read_back.specs.Told.{url_of, IsReadable, IsShort}
 use Rattle.mpd_read_back.proofs.Views.{behind, none_named, nothing_above}
 use Rattle.mpd_read_back.proofs.Numbers.{number_read, signed_read, range_read}
 
@@ -33,14 +36,16 @@ use Rattle.mpd_read_back.proofs.Numbers.{number_read, signed_read, range_read}
 url_read : (here : Place) (part : Part) → IsReadable part → level.url_of (read_at here (segment_url part)) ≡ url_of part
 url_read here part readable = go part.address part.range readable where
   go : (address : List ℕ) (range : Option Range) → IsReadable (record { address = address; range = range })
-      → level.url_of (read_at here (segment_url (record { address = address; range = range }))) ≡ url_of (record { address = address; range = range })
+      → level.url_of (read_at here (segment_url (record { address = address; range = range })))
+      ≡ url_of (record { address = address; range = range })
   go address None readable = refl
   go address (Some range) readable = rw (range_read range readable) refl
 
 abbrev pub initialization_of : Part → Initialization
 initialization_of part = record { reference = Some part.address; range = part.range }
 
-pub initialization_read : (here : Place) (part : Part) → IsReadable part → level.initialization_of (read_at here (initialization part)) ≡ initialization_of part
+pub initialization_read : (here : Place) (part : Part) → IsReadable part
+    → level.initialization_of (read_at here (initialization part)) ≡ initialization_of part
 initialization_read here part readable = go part.address part.range readable where
   go : (address : List ℕ) (range : Option Range) → IsReadable (record { address = address; range = range })
       → level.initialization_of (read_at here (initialization (record { address = address; range = range })))
@@ -55,7 +60,8 @@ repeats_read zero short = refl
 repeats_read (suc repeats) short = let some : (suc repeats == 0) ≡ false = grind arith in rw (some, signed_read (suc repeats) short) refl
 
 run_with : (here : Place) (time : Option ℕ) (duration : ℕ) (repeats : Option (List ℕ)) → IfSome time IsShort → IsShort duration
-    → level.run_of (read_at here (leaf (codes "S") ((codes "t", option_map decimal time) ∷ (codes "d", Some (decimal duration)) ∷ (codes "r", repeats) ∷ [])))
+    → level.run_of (read_at here (leaf (codes "S") ((codes "t", option_map decimal time) ∷ (codes "d", Some (decimal duration)) ∷
+    (codes "r", repeats) ∷ [])))
     ≡ record { t = time; d = duration; r = unwrap_or (option_and_then signed_of repeats) (pos 0) }
 run_with here None duration None t d = rw (number_read duration d) refl
 run_with here None duration (Some text) t d = rw (number_read duration d) refl
@@ -78,12 +84,14 @@ urls_read : (here : Place) (parts : List Part) → AllByRecursion IsReadable par
     → map level.url_of (named_at (codes "SegmentURL") here (map segment_url parts)) ≡ map url_of parts
 urls_read here [] readable = refl
 urls_read here (part ∷ parts) readable =
-    ap₂ (λ url urls. url ∷ urls) (url_read (past here (codes "\n")) part readable.0) (urls_read (behind here (segment_url part)) parts readable.1)
+    ap₂ (λ url urls. url ∷ urls) (url_read (past here (codes "\n")) part readable.0) (urls_read (behind here
+    (segment_url part)) parts readable.1)
 
 abbrev IsShortRun : ℕ → List ℕ → Type 0
 IsShortRun n run = AllByRecursion IsShort run × (length run ≤ n)
 
-runs_read : (here : Place) (n : ℕ) (time : Option ℕ) (runs : List (List ℕ)) → IfSome time IsShort → IsShort n → AllByRecursion (IsShortRun n) runs
+runs_read : (here : Place) (n : ℕ) (time : Option ℕ) (runs : List (List ℕ)) → IfSome time IsShort → IsShort n
+    → AllByRecursion (IsShortRun n) runs
     → map level.run_of (named_at (codes "S") here (s_elements time runs)) ≡ runs_of time runs
 runs_read here n time [] t few short = refl
 runs_read here n time ([] ∷ runs) t few short = runs_read here n None runs tt few short.1
@@ -111,24 +119,51 @@ runs_short [] short = tt
 runs_short (d ∷ ds) short = one_more (length ds) d (longest_runs same_duration ds) short.0 (runs_short ds short.1)
 
 timeline_read : (here : Place) (first : ℕ) (ds : List ℕ) → IsShort first → AllByRecursion IsShort ds → IsShort (length ds)
-    → map level.run_of (named_at (codes "S") here (s_elements (Some first) (longest_runs same_duration ds))) ≡ runs_of (Some first) (longest_runs same_duration ds)
-timeline_read here first ds begins short few = runs_read here (length ds) (Some first) (longest_runs same_duration ds) begins few (runs_short ds short)
+    → map level.run_of (named_at (codes "S") here (s_elements (Some first) (longest_runs same_duration ds)))
+    ≡ runs_of (Some first) (longest_runs same_duration ds)
+timeline_read here first ds begins short few = runs_read here (length ds) (Some first) (longest_runs same_duration ds) begins few
+    (runs_short ds short)
 
 -- ---- the list
 
 -- its attributes, with the time of the Period's start where it is told
-attributes_read : (ticks : ℕ) (offset : Option ℕ) (first : ℕ) (part : Part) (ds : List ℕ) (parts : List Part) (here : Place) → IsShort ticks → IfSome offset IsShort
+attributes_read : (ticks : ℕ) (offset : Option ℕ) (first : ℕ) (part : Part) (ds : List ℕ) (parts : List Part) (here : Place)
+    → IsShort ticks → IfSome offset IsShort
     → level.attributes_in true (read_at here (list_with ticks offset first part ds parts) ∷ [])
     ≡ record { media = None; initialization = None; timescale = Some ticks; duration = None; start_number = None; time_offset = offset }
 attributes_read ticks None first part ds parts here short told =
-    ap (λ t. record { media = None; initialization = None; timescale = or_else t None; duration = None; start_number = None; time_offset = None }) (number_read ticks short)
+    ap (λ t. record {
+      media = None;
+      initialization = None;
+      timescale =
+          or_else t None;
+      duration = None;
+      start_number = None;
+      time_offset = None;
+    }) (number_read ticks short)
 attributes_read ticks (Some n) first part ds parts here short told =
-    ap₂ (λ t o. record { media = None; initialization = None; timescale = or_else t None; duration = None; start_number = None; time_offset = or_else o None })
+    ap₂ (λ t o. record {
+      media = None;
+      initialization = None;
+      timescale =
+          or_else t None;
+      duration = None;
+      start_number = None;
+      time_offset = or_else o None;
+    })
     (number_read ticks short) (number_read n told)
 
 -- what a list tells by its parts
 told_with : (ticks : ℕ) (offset : Option ℕ) (first : ℕ) (part : Part) (ds : List ℕ) (parts : List Part) (values : level.Values)
-    → values.attributes ≡ record { media = None; initialization = None; timescale = Some ticks; duration = None; start_number = None; time_offset = offset }
+    → values.attributes ≡ record {
+      media = None;
+      initialization = None;
+      timescale =
+          Some ticks;
+      duration = None;
+      start_number = None;
+      time_offset = offset;
+    }
     → values.initialization ≡ Some (initialization_of part) → values.timeline ≡ Some (runs_of (Some first) (longest_runs same_duration ds))
     → values.urls ≡ level.if_any (map url_of parts)
     → level.told true values ≡ list_told ticks (unwrap_or offset 0) first part ds parts
@@ -137,7 +172,8 @@ told_with ticks offset first part ds parts values attributes initialized timed n
 -- what a list says, alone
 list_values : (here : Place) (ticks : ℕ) (offset : Option ℕ) (first : ℕ) (part : Part) (ds : List ℕ) (parts : List Part)
     → AreReadableTimes ticks offset first part ds parts
-    → level.told true (level.values_in true (read_at here (list_with ticks offset first part ds parts) ∷ [])) ≡ list_told ticks (unwrap_or offset 0) first part ds parts
+    → level.told true (level.values_in true (read_at here (list_with ticks offset first part ds parts) ∷ []))
+    ≡ list_told ticks (unwrap_or offset 0) first part ds parts
 list_values here ticks offset first part ds parts readable =
     told_with ticks offset first part ds parts (level.values_in true (read_at here (list_with ticks offset first part ds parts) ∷ []))
     (attributes_read ticks offset first part ds parts here readable.ticks readable.offset)
@@ -158,10 +194,12 @@ timed_lists ticks offset first part ds parts representation set period represent
 
 -- ---- what is written of a timeline is such a list
 
-list_is : (timeline : SegmentTimeline) (part : Part) (listed : List Timing)
-    → segment_list timeline part listed ≡ list_with timeline.ticks None 0 part (map duration_of listed) (map (λ x. part_or_none (part_of_timing timeline x)) listed)
+pub list_is : (timeline : SegmentTimeline) (part : Part) (listed : List Timing)
+    → segment_list timeline part listed ≡ list_with timeline.ticks None 0 part (map duration_of listed) (map (λ x. part_or_none
+    (part_of_timing timeline x)) listed)
 list_is timeline part listed =
-    ap (λ urls. node (codes "SegmentList") (list_attributes timeline) (initialization part ∷ node (codes "SegmentTimeline") [] (timeline_elements (map duration_of listed)) ∷ urls))
+    ap (λ urls. node (codes "SegmentList") (list_attributes timeline) (initialization part ∷ node (codes "SegmentTimeline") []
+    (timeline_elements (map duration_of listed)) ∷ urls))
     (sym (map-map segment_url (λ x. part_or_none (part_of_timing timeline x)) listed))
 
 all_mapped : {X Y : Type 0} (P : Y → Type 0) (f : X → Y) (xs : List X) → AllByRecursion (λ x. P (f x)) xs → AllByRecursion P (map f xs)
@@ -183,4 +221,5 @@ lists_are_read timeline part listed representation set period representations se
     } in
     subst (λ (list : Written). segments_of (read_at a (representation, in_order (list ∷ [])) ∷ read_at b (set, in_order representations)
     ∷ read_at c (period, in_order sets) ∷ []) ≡ Some (told_of timeline part listed)) (sym (list_is timeline part listed))
-    (timed_lists timeline.ticks None 0 part ds (map part_at listed) representation set period representations sets a b c times in_set in_period)
+    (timed_lists timeline.ticks None 0 part ds (map part_at listed) representation set period representations sets a b c times in_set
+    in_period)

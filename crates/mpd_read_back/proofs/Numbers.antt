@@ -1,5 +1,6 @@
 -- Numbers and ranges are read as they were written.
-use Rattle.std.proofs.Common.{◌≡◌, ℕ, ◌+◌, ◌-◌, ◌^◌, ◌<◌, ◌≤◌, ◌==◌, ◌&&◌, not, pos, nat_lt, nat_le, Bool, true, false, List, [], ◌∷◌, ◌++◌, length, reverse, take, position, Some, refl, sym, ◌∙◌, ap, arith, length-append}
+use Rattle.std.proofs.Common.{◌≡◌, ℕ, ◌+◌, ◌-◌, ◌^◌, ◌<◌, ◌≤◌, ◌==◌, ◌&&◌, not, pos, nat_lt, nat_le, Bool, true, false, List, [], ◌∷◌}
+use Rattle.std.proofs.Common.{◌++◌, length, reverse, take, position, Some, refl, sym, ◌∙◌, ap, arith, length-append}
 use Rattle.std.specs.Prelude.{decimal}
 use Rattle.std.specs.Char.{is_ascii_digit}
 use Rattle.std.specs.List.{list_all, prefix_len, suffix_len}
@@ -22,7 +23,7 @@ use Rattle.mpd_read_back.specs.Told.{IsShort, IsSomeBytes}
 
 -- ---- nothing is dropped around a text without spaces
 
-abbrev is_solid : ℕ → Bool
+abbrev pub is_solid : ℕ → Bool
 is_solid b = not (b == 32)
 
 none_before : (text : List ℕ) → list_all is_solid text ≡ true → prefix_len (is_blank Space) text ≡ 0
@@ -131,4 +132,5 @@ range_read range is =
       take-append_seam (decimal range.first) (45 ∷ decimal (range.first + range.count - 1)),
       drop-append-add (decimal range.first) (45 ∷ decimal (range.first + range.count - 1)) 1,
     )
-    (rw (place_read range.first low, place_read (range.first + range.count - 1) low_too) (range_is range.first range.count is.some is.bounded))
+    (rw (place_read range.first low, place_read (range.first + range.count - 1) low_too)
+    (range_is range.first range.count is.some is.bounded))

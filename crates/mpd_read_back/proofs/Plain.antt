@@ -1,5 +1,6 @@
--- Texts of printable ASCII, which values can carry.
-use Rattle.std.proofs.Common.{◌≡◌, ℕ, zero, suc, ◌+◌, ◌-◌, ◌/◌, ◌%◌, ◌^◌, ◌<◌, ◌==◌, ◌&&◌, nat_le, nat_lt, Bool, true, false, List, [], ◌∷◌, ◌++◌, None, Ok, Err, option_map, if◌then◌else◌, IsUtf8, refl, ◌∙◌, ap, subst, arith}
+-- Texts of visible ASCII, which values can carry.
+use Rattle.std.proofs.Common.{◌≡◌, ℕ, zero, suc, ◌+◌, ◌-◌, ◌/◌, ◌%◌, ◌^◌, ◌<◌, ◌==◌, ◌&&◌, nat_le, nat_lt, Bool, true, false, List, []}
+use Rattle.std.proofs.Common.{◌∷◌, ◌++◌, None, Ok, Err, option_map, if◌then◌else◌, IsUtf8, refl, ◌∙◌, ap, subst, arith}
 use Rattle.std.specs.Prelude.{decimal}
 use Rattle.std.specs.Fmt.{digits, digits_onto}
 use Rattle.std.specs.List.{list_all}
@@ -18,13 +19,13 @@ use Rattle.url_parts.specs.Addresses.{IsAddress, absolute, accepted, is_address_
 use Rattle.url_parts.specs.declared.range.Range.{Range}
 use Rattle.url_parts.proofs.Bases.{bytes_from_accepted}
 use Rattle.mpd_text.specs.Characters.{begins_with_noncharacter, begins_with_bad_character, first_bad_character}
-use Rattle.dash_writer.specs.Values.{range_text, rate_text, id_text}
+use Rattle.dash_writer.specs.Values.{range_text, rate_text, id_text, seconds_text}
 use Rattle.dash_writer.specs.Outline.{mime_type}
 use Rattle.mpd_read_back.specs.Texts.{IsCarried}
 use Rattle.mpd_read_back.proofs.Addressed.{accepted_text}
 
 abbrev pub is_plain : ℕ → Bool
-is_plain b = nat_le 32 b && nat_lt b 127
+is_plain b = nat_le 33 b && nat_lt b 127
 
 abbrev pub ArePlain : List ℕ → Type 0
 ArePlain text = list_all is_plain text ≡ true
@@ -34,7 +35,8 @@ utf8 [] plain = IsUtf8-nil
 utf8 (b ∷ bs) plain =
     let parts = and_parts (is_plain b) (list_all is_plain bs) plain in
     let small : b < 128 = grind arith in
-    IsUtf8-append (b ∷ []) bs (subst IsUtf8 (encode_ascii b small) (IsUtf8-encode b (low_scalar b (omega (arith, small))))) (utf8 bs parts.1)
+    IsUtf8-append (b ∷ []) bs (subst IsUtf8 (encode_ascii b small) (IsUtf8-encode b (low_scalar b (omega (arith, small)))))
+    (utf8 bs parts.1)
 
 no_bad : (text : List ℕ) → ArePlain text → first_bad_character text ≡ None
 unfolding begins_with_bad_character begins_with_noncharacter
@@ -53,12 +55,15 @@ no_controls (b ∷ bs) plain =
     rw high (no_controls bs parts.1)
 
 pub carried : (text : List ℕ) → ArePlain text → IsCarried text
-carried text plain = record { clean = record { utf8 = utf8 text plain; no_bad_character = no_bad text plain }; no_controls = no_controls text plain }
+carried text plain = record {
+  clean = record { utf8 = utf8 text plain; no_bad_character = no_bad text plain };
+  no_controls = no_controls text plain;
+}
 
-both : (a b : List ℕ) → ArePlain a → ArePlain b → ArePlain (a ++ b)
+pub both : (a b : List ℕ) → ArePlain a → ArePlain b → ArePlain (a ++ b)
 both a b A B = list_all-append is_plain a b ∙ rw A B
 
-before : (b : ℕ) (bs : List ℕ) → is_plain b ≡ true → ArePlain bs → ArePlain (b ∷ bs)
+pub before : (b : ℕ) (bs : List ℕ) → is_plain b ≡ true → ArePlain bs → ArePlain (b ∷ bs)
 before b bs B plain = rw B plain
 
 -- ---- numbers
@@ -78,7 +83,8 @@ glyph n = if nat_lt (n % 10) 10 then 48 + n % 10 else 87 + n % 10
 onto_plain : (k n : ℕ) (acc : List ℕ) → ArePlain acc → ArePlain (digits_onto k 10 false n acc)
 onto_plain zero n acc plain = plain
 onto_plain (suc k) n acc plain =
-    go (n / 10 == 0) (before (glyph n) acc (glyph_plain n) plain) (onto_plain k (n / 10) (glyph n ∷ acc) (before (glyph n) acc (glyph_plain n) plain)) where
+    go (n / 10 == 0) (before (glyph n) acc (glyph_plain n) plain) (onto_plain k (n / 10) (glyph n ∷ acc) (before (glyph n) acc
+    (glyph_plain n) plain)) where
       go : (last : Bool) → ArePlain (glyph n ∷ acc) → ArePlain (digits_onto k 10 false (n / 10) (glyph n ∷ acc))
           → ArePlain (if last then glyph n ∷ acc else digits_onto k 10 false (n / 10) (glyph n ∷ acc))
       go true here later = here
@@ -88,7 +94,7 @@ pub decimal_plain : (n : ℕ) → ArePlain (decimal n)
 unfolding digits
 decimal_plain n = onto_plain 64 n [] refl
 
-padded_plain : (width n : ℕ) → ArePlain (padded_digits width n)
+pub padded_plain : (width n : ℕ) → ArePlain (padded_digits width n)
 unfolding padded_digits
 padded_plain zero n = refl
 padded_plain (suc width) n = before (48 + n / 10 ^ width % 10) (padded_digits width n)
@@ -114,6 +120,9 @@ pub duration_plain : (nanos : ℕ) → ArePlain (duration_text nanos)
 unfolding duration_text
 duration_plain nanos = both (decimal (nanos / 10 ^ 9) ++ nanos_text (nanos % 10 ^ 9)) (83 ∷ [])
     (both (decimal (nanos / 10 ^ 9)) (nanos_text (nanos % 10 ^ 9)) (decimal_plain (nanos / 10 ^ 9)) (nanos_plain (nanos % 10 ^ 9))) refl
+
+pub seconds_plain : (n : ℕ) → ArePlain (seconds_text n)
+seconds_plain n = both (decimal n) (83 ∷ []) (decimal_plain n) refl
 
 pub range_plain : (range : Range) → ArePlain (range_text range)
 range_plain range = both (decimal range.first) (45 ∷ decimal (range.first + range.count - 1)) (decimal_plain range.first)
@@ -143,7 +152,8 @@ bytes_plain (b ∷ bs) all =
     before b bs here (bytes_plain bs parts.1)
 
 parsed_plain : (r : Parsed _) (text : List ℕ) → accepted r ≡ Ok text → ArePlain text
-parsed_plain (Ok url) text is = bytes_plain text (subst (λ t. list_all is_address_byte t ≡ true) (accepted_text url text is) (bytes_from_accepted url text is))
+parsed_plain (Ok url) text is = bytes_plain text (subst (λ t. list_all is_address_byte t
+    ≡ true) (accepted_text url text is) (bytes_from_accepted url text is))
 parsed_plain (Err e) text is = absurd (cc)
 
 pub address_plain : (text : List ℕ) → IsAddress text → ArePlain text

@@ -1,5 +1,6 @@
 -- The sets of a Period are read as they were written.
-use Rattle.std.proofs.Common.{◌≡◌, ℕ, suc, ◌+◌, ◌==◌, Bool, true, false, ◌&&◌, ◌||◌, List, [], ◌∷◌, ◌++◌, length, map, filter, codes, bytes_eq, Option, Some, None, if◌then◌else◌, refl, sym, ◌∙◌, ap, ap₂, subst, arith, length-append}
+use Rattle.std.proofs.Common.{◌≡◌, ℕ, suc, ◌+◌, ◌==◌, Bool, true, false, ◌&&◌, ◌||◌, List, [], ◌∷◌, ◌++◌, length, map, filter, codes}
+use Rattle.std.proofs.Common.{bytes_eq, Option, Some, None, if◌then◌else◌, refl, sym, ◌∙◌, ap, ap₂, subst, arith, length-append}
 use Rattle.std.specs.Option.{option_eq}
 use Rattle.std.specs.List.{AllByRecursion}
 use Rattle.std.proofs.lemmas.Bool.{and_parts}
@@ -12,22 +13,20 @@ use Rattle.mpd_text.specs.Views.{side_by_side}
 use Rattle.mpd_text.proofs.NameLemmas.{same_bytes}
 use Rattle.mpd_profile.specs.declared.listed.Listed.TheVariants as listed
 use Rattle.mpd_profile.specs.LeftOut.{type_of, is_set_left_out}
-use Rattle.mpd_levels.specs.Segments.{segments_of}
+use Rattle.mpd_levels.specs.Segments.{Segments, segments_of}
 use Rattle.mpd_rules.specs.Kept.{is_kept, paths_in, paths_of, path_in, representations_of}
 use Rattle.mpd_rules.specs.Typed.{track_of}
 use Rattle.presentation.specs.declared.track.Track.{Track}
-use Rattle.presentation.specs.Presented.{Presented}
-use Rattle.presentation.specs.Meanings.{entry_at}
 use Rattle.presentation.specs.Rows.{is_of, same_language}
 use Rattle.mpd_markup.specs.Markup.{Tag, opening}
 use Rattle.mpd_markup.specs.Placed.{placed}
 use Rattle.dash_writer.specs.Elements.{Element as Written, in_order, tag_of}
 use Rattle.dash_writer.specs.Runs.{longest_runs, with_first}
-use Rattle.dash_writer.specs.Manifest.{adaptation_sets, all_sets, representations}
-use Rattle.dash_writer.specs.Outline.{is_video, set_attributes, stand_together}
+use Rattle.dash_writer.specs.Outline.{is_video, set_attributes, set_elements, sets_of, stand_together, track_elements}
 use Rattle.mpd_read_back.specs.Told.{AreNamed, read_at}
-use Rattle.mpd_read_back.specs.Meant.{seen_of, seen_from}
-use Rattle.mpd_read_back.proofs.Representations.{AreOf, Around, Has, HasAll, OfSet, not_left, period_in, representations_named, representations_seen}
+use Rattle.mpd_read_back.specs.Shown.{shown_row, shown_tracks}
+use Rattle.mpd_read_back.proofs.Representations.{AreOf, Around, Has, HasAll, OfSet, not_left, period_in, representations_named}
+use Rattle.mpd_read_back.proofs.Representations.{representations_shown}
 use Rattle.mpd_read_back.proofs.Views.{behind, has_none, nothing_above, value_read}
 
 -- ---- tracks that stand together are of one kind, in one language
@@ -54,19 +53,29 @@ abbrev pub IsSet : List Track → Type 0
 IsSet [] = ⊥
 IsSet (track ∷ tracks) = AreOf track.kind track.language tracks
 
-as_first : (one other : Track) (tracks : List Track) → one.kind ≡ other.kind → one.language ≡ other.language → AreOf other.kind other.language tracks
+as_first : (one other : Track) (tracks : List Track) → one.kind ≡ other.kind → one.language ≡ other.language
+    → AreOf other.kind other.language tracks
     → AreOf one.kind one.language tracks
 as_first one other [] kind language all = tt
-as_first one other (t ∷ tracks) kind language all = ((all.0.0 ∙ sym kind, all.0.1 ∙ sym language), as_first one other tracks kind language all.1)
+as_first one other (t ∷ tracks) kind language all = (
+  (
+    all.0.0 ∙ sym kind,
+    all.0.1
+        ∙ sym language,
+  ),
+  as_first one other tracks kind language all.1,
+)
 
-first_sets : (track : Track) (sets : List (List Track)) → AllByRecursion IsSet sets → AllByRecursion IsSet (with_first stand_together track sets)
+first_sets : (track : Track) (sets : List (List Track)) → AllByRecursion IsSet sets
+    → AllByRecursion IsSet (with_first stand_together track sets)
 first_sets track [] all = (tt, tt)
 first_sets track ([] ∷ sets) all = absurd (all.0)
 first_sets track ((other ∷ tracks) ∷ sets) all = go (stand_together track other) refl where
   go : (together : Bool) → stand_together track other ≡ together
       → AllByRecursion IsSet (if together then (track ∷ other ∷ tracks) ∷ sets else (track ∷ []) ∷ (other ∷ tracks) ∷ sets)
   go true is =
-      let both = and_parts (is_of track.kind other.kind && (is_video track.kind || track.set == other.set)) (same_language track.language other.language) is in
+      let both = and_parts (is_of track.kind other.kind && (is_video track.kind || track.set == other.set))
+      (same_language track.language other.language) is in
       let kinds = and_parts (is_of track.kind other.kind) (is_video track.kind || track.set == other.set) both.0 in
       let kind = same_kind track.kind other.kind kinds.0 in
       let language = one_language track.language other.language both.1 in
@@ -94,13 +103,13 @@ pub all_join : (tracks : List Track) → joined (longest_runs stand_together tra
 all_join [] = refl
 all_join (track ∷ tracks) = first_joins track (longest_runs stand_together tracks) ∙ ap (λ more. track ∷ more) (all_join tracks)
 
-seen_joins : (p : Presented) (s k : ℕ) (tracks more : List Track)
-    → seen_from p s k (tracks ++ more) ≡ seen_from p s k tracks ++ seen_from p s (k + length tracks) more
-seen_joins p s k [] more = let place : k ≡ k + 0 = omega arith in ap (λ n. seen_from p s n more) place
-seen_joins p s k (t ∷ tracks) more =
+shown_joins : (told : ℕ → Option Segments) (k : ℕ) (tracks more : List Track)
+    → shown_tracks told k (tracks ++ more) ≡ shown_tracks told k tracks ++ shown_tracks told (k + length tracks) more
+shown_joins told k [] more = let place : k ≡ k + 0 = omega arith in ap (λ n. shown_tracks told n more) place
+shown_joins told k (t ∷ tracks) more =
     let place : k + 1 + length tracks ≡ k + suc (length tracks) = omega arith in
-    ap (λ xs. record { kind = t.kind; language = t.language; entry = entry_at p s k } ∷ xs)
-    (seen_joins p s (k + 1) tracks more ∙ ap (λ n. seen_from p s (k + 1) tracks ++ seen_from p s n more) place)
+    ap (λ xs. record { kind = t.kind; language = t.language; bases = []; segments = told k } ∷ xs)
+    (shown_joins told (k + 1) tracks more ∙ ap (λ n. shown_tracks told (k + 1) tracks ++ shown_tracks told n more) place)
 
 -- ---- a set
 
@@ -113,63 +122,69 @@ says here track reps = record {
   tongue = value_read (codes "lang") (set_attributes track) (past here (codes "<" ++ codes "AdaptationSet")) ∙ nothing_above track.language;
 }
 
-set_kept : (p : Presented) (s k : ℕ) (track : Track) (tracks : List Track) (here : Place) → p.following ≡ None → Has p s k
-    → is_set_left_out (read_at here (tag_for track, in_order (representations p s k (track ∷ tracks)))) ≡ false
+set_kept : (lists : ℕ → List Written) (told : ℕ → Option Segments) (k : ℕ) (track : Track) (tracks : List Track) (here : Place)
+    → Has lists told k
+    → is_set_left_out (read_at here (tag_for track, in_order (track_elements lists k (track ∷ tracks)))) ≡ false
 unfolding is_set_left_out
-set_kept p s k track tracks here finished has =
-    let reps = representations p s k (track ∷ tracks) in
+set_kept lists told k track tracks here has =
+    let reps = track_elements lists k (track ∷ tracks) in
     let inside = past here (opening (tag_for track) ++ codes ">") in
     let type = type_of (read_at here (tag_for track, in_order reps)).head in
     rw (
-      has_none (codes "Representation") (codes "EssentialProperty") refl inside reps (representations_named p s k (track ∷ tracks)),
-      not_left p s k track track.kind type (past inside (codes "\n")) finished has (says here track reps).type,
+      has_none (codes "Representation") (codes "EssentialProperty") refl inside reps (representations_named lists k (track ∷ tracks)),
+      not_left lists told k track track.kind type (past inside (codes "\n")) has (says here track reps).type,
     ) refl
 
 -- ---- sets in order
 
-pub sets_named : (p : Presented) (s k : ℕ) (sets : List (List Track)) → AreNamed (codes "AdaptationSet") (adaptation_sets p s k sets)
-sets_named p s k [] = refl
-sets_named p s k ([] ∷ sets) = sets_named p s (k + 0) sets
-sets_named p s k ((track ∷ tracks) ∷ sets) = sets_named p s (k + suc (length tracks)) sets
+pub sets_named : (lists : ℕ → List Written) (k : ℕ) (sets : List (List Track))
+    → AreNamed (codes "AdaptationSet") (set_elements lists k sets)
+sets_named lists k [] = refl
+sets_named lists k ([] ∷ sets) = sets_named lists (k + 0) sets
+sets_named lists k ((track ∷ tracks) ∷ sets) = sets_named lists (k + suc (length tracks)) sets
 
-sets_seen : (r : Around) (k place : ℕ) (sets : List (List Track)) (here : Place) → HasAll r.p r.section k (length (joined sets)) → AllByRecursion IsSet sets
-    → map (seen_of r.url r.end) (map (track_of segments_of) (paths_in r.mpd (period_in r) place
+sets_shown : (r : Around) (k place : ℕ) (sets : List (List Track)) (here : Place) → HasAll r.lists r.told k (length (joined sets))
+    → AllByRecursion IsSet sets
+    → map shown_row (map (track_of segments_of) (paths_in r.mpd (period_in r) place
     (filter (is_kept listed.AdaptationSet (codes "AdaptationSet") (period_in r).head)
-    (side_by_side (placed here (in_order (adaptation_sets r.p r.section k sets)))))))
-    ≡ seen_from r.p r.section k (joined sets)
-sets_seen r k place [] here has all = refl
-sets_seen r k place ([] ∷ sets) here has all = absurd (all.0)
-sets_seen r k place ((track ∷ tracks) ∷ sets) here has all =
-    let reps = representations r.p r.section k (track ∷ tracks) in
+    (side_by_side (placed here (in_order (set_elements r.lists k sets)))))))
+    ≡ shown_tracks r.told k (joined sets)
+sets_shown r k place [] here has all = refl
+sets_shown r k place ([] ∷ sets) here has all = absurd (all.0)
+sets_shown r k place ((track ∷ tracks) ∷ sets) here has all =
+    let reps = track_elements r.lists k (track ∷ tracks) in
     let from = past here (codes "\n") in
     let set = read_at from (tag_for track, in_order reps) in
     let next = k + suc (length tracks) in
-    let size : suc (length tracks) + length (joined sets) ≡ length ((track ∷ tracks) ++ joined sets) = omega (arith, length-append tracks (joined sets)) in
-    let own : HasAll r.p r.section k (suc (length tracks)) = λ i start below. has i start (omega (arith, below, size)) in
-    let later : HasAll r.p r.section next (length (joined sets)) = λ i start below. has i (omega (arith, start)) (omega (arith, below, size)) in
+    let size : suc (length tracks) + length (joined sets) ≡ length ((track ∷ tracks)
+    ++ joined sets) = omega (arith, length-append tracks (joined sets)) in
+    let own : HasAll r.lists r.told k (suc (length tracks)) = λ i start below. has i start (omega (arith, below, size)) in
+    let later : HasAll r.lists r.told next (length (joined sets)) =
+    λ i start below. has i (omega (arith, start)) (omega (arith, below, size)) in
     let firsts = map (path_in r.mpd (period_in r) set place) (representations_of set) in
     let others = paths_in r.mpd (period_in r) (place + 1)
     (filter (is_kept listed.AdaptationSet (codes "AdaptationSet") (period_in r).head)
-    (side_by_side (placed (behind here (tag_for track, in_order reps)) (in_order (adaptation_sets r.p r.section next sets))))) in
-    rw (set_kept r.p r.section k track tracks from r.finished (own k (omega arith) (omega arith)))
-    (ap (map (seen_of r.url r.end)) (map-append (track_of segments_of) firsts others)
-    ∙ map-append (seen_of r.url r.end) (map (track_of segments_of) firsts) (map (track_of segments_of) others)
+    (side_by_side (placed (behind here (tag_for track, in_order reps)) (in_order (set_elements r.lists next sets))))) in
+    rw (set_kept r.lists r.told k track tracks from (own k (omega arith) (omega arith)))
+    (ap (map shown_row) (map-append (track_of segments_of) firsts others)
+    ∙ map-append shown_row (map (track_of segments_of) firsts) (map (track_of segments_of) others)
     ∙ ap₂ (λ xs ys. xs ++ ys)
-    (representations_seen r k place (track ∷ tracks) track.kind track.language (tag_for track) reps (past from (opening (tag_for track) ++ codes ">")) from own
-    (representations_named r.p r.section k (track ∷ tracks)) (says from track reps) ((refl, refl), all.0))
-    (sets_seen r next (place + 1) sets (behind here (tag_for track, in_order reps)) later all.1)
-    ∙ sym (seen_joins r.p r.section k (track ∷ tracks) (joined sets)))
+    (representations_shown r k place (track ∷ tracks) track.kind track.language (tag_for track) reps (past from (opening
+    (tag_for track) ++ codes ">")) from own
+    (representations_named r.lists k (track ∷ tracks)) (says from track reps) ((refl, refl), all.0))
+    (sets_shown r next (place + 1) sets (behind here (tag_for track, in_order reps)) later all.1)
+    ∙ sym (shown_joins r.told k (track ∷ tracks) (joined sets)))
 
 -- ---- a Period
 
 -- a Period with the sets of all tracks
-pub tracks_seen : (r : Around) → HasAll r.p r.section 0 (length r.p.tracks) → r.sets ≡ all_sets r.p r.section
-    → map (seen_of r.url r.end) (map (track_of segments_of) (paths_of r.mpd (period_in r))) ≡ seen_from r.p r.section 0 r.p.tracks
-tracks_seen r has are =
-    let sets = longest_runs stand_together r.p.tracks in
-    let whole = all_join r.p.tracks in
+pub tracks_shown : (r : Around) (tracks : List Track) → HasAll r.lists r.told 0 (length tracks) → r.sets ≡ sets_of r.lists tracks
+    → map shown_row (map (track_of segments_of) (paths_of r.mpd (period_in r))) ≡ shown_tracks r.told 0 tracks
+tracks_shown r tracks has are =
+    let sets = longest_runs stand_together tracks in
+    let whole = all_join tracks in
     let inside = past r.at (opening r.tag ++ codes ">") in
-    ap (λ xs. map (seen_of r.url r.end) (map (track_of segments_of) (paths_in r.mpd (period_in r) 0
+    ap (λ xs. map shown_row (map (track_of segments_of) (paths_in r.mpd (period_in r) 0
     (filter (is_kept listed.AdaptationSet (codes "AdaptationSet") (period_in r).head) (side_by_side (placed inside (in_order xs))))))) are
-    ∙ sets_seen r 0 0 sets inside (subst (HasAll r.p r.section 0) (ap length (sym whole)) has) (all_sets_are r.p.tracks)
-    ∙ ap (seen_from r.p r.section 0) whole
+    ∙ sets_shown r 0 0 sets inside (subst (HasAll r.lists r.told 0) (ap length (sym whole)) has) (all_sets_are tracks)
+    ∙ ap (shown_tracks r.told 0) whole

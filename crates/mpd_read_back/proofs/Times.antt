@@ -1,5 +1,6 @@
 -- The times of a written SegmentTimeline are those that it was written of.
-use Rattle.std.proofs.Common.{◌≡◌, ℕ, suc, ◌+◌, ◌*◌, ◌<◌, ℤ, pos, ◌-ℤ◌, ◌+ℤ◌, Bool, true, false, List, [], ◌∷◌, ◌++◌, length, map, filter, Option, Some, None, if◌then◌else◌, unwrap_or, refl, sym, ◌∙◌, ap, ap₂, arith}
+use Rattle.std.proofs.Common.{◌≡◌, ℕ, suc, ◌+◌, ◌*◌, ◌<◌, ℤ, pos, ◌-ℤ◌, ◌+ℤ◌, Bool, true, false, List, [], ◌∷◌, ◌++◌, length, map, filter}
+use Rattle.std.proofs.Common.{Option, Some, None, if◌then◌else◌, unwrap_or, refl, sym, ◌∙◌, ap, ap₂, arith}
 use Rattle.std.specs.List.{AllByRecursion}
 use Rattle.std.proofs.lemmas.Int.{ints}
 use Rattle.std.proofs.lemmas.List.{map-append}
@@ -19,7 +20,11 @@ use Rattle.mpd_read_back.specs.Told.{runs_of}
 
 -- ---- durations
 
-pub duration_is : (from d n ticks : ℕ) → duration_of (record { start = in_units ticks from; end = in_units ticks (from + d); number = n }) ≡ d
+pub duration_is : (from d n ticks : ℕ) → duration_of (record {
+  start = in_units ticks from;
+  end = in_units ticks (from + d);
+  number = n;
+}) ≡ d
 duration_is from d n ticks = let same : pos (from + d) -ℤ pos from ≡ pos d = omega (arith, ints) in ap natural same
 
 pub durations_are : (ticks from n : ℕ) (ds : List ℕ) → map duration_of (numbered n (in_row ticks from ds)) ≡ ds
@@ -98,7 +103,8 @@ repeat_is ticks from d =
     ap (λ (z : ℤ). record { start = in_units ticks (from + d); end = record { ticks = z; scale = ticks } }) same
 
 run_is : (ticks from d : ℕ) (others : List ℕ) → AllByRecursion (λ e. e ≡ d) others
-    → repeated (suc (length others)) (record { start = in_units ticks from; end = in_units ticks (from + d) }) ≡ in_row ticks from (d ∷ others)
+    → repeated (suc (length others)) (record { start = in_units ticks from; end = in_units ticks (from + d) })
+    ≡ in_row ticks from (d ∷ others)
 unfolding repeated
 run_is ticks from d [] all = refl
 run_is ticks from d (e ∷ others) all =
@@ -129,6 +135,8 @@ runs_expand scale end told former time from ((d ∷ others) ∷ runs) is begins 
     ∙ ap (map Closed) (sym (row_joins scale.ticks from d (d ∷ others) (joined runs) (refl, all.0))))
 
 pub timeline_expands : (scale : Scale) (end : End) (first from : ℕ) (ds : List ℕ) → first ≡ scale.offset + from
-    → expansion_of_timeline scale end (entries_of (runs_of (Some first) (longest_runs same_duration ds))) ≡ map Closed (in_row scale.ticks from ds)
+    → expansion_of_timeline scale end (entries_of (runs_of (Some first) (longest_runs same_duration ds)))
+    ≡ map Closed (in_row scale.ticks from ds)
 timeline_expands scale end first from ds is =
-    runs_expand scale end (Some first) 0 first from (longest_runs same_duration ds) is refl (all_run ds) ∙ ap (λ es. map Closed (in_row scale.ticks from es)) (all_join ds)
+    runs_expand scale end (Some first) 0 first from (longest_runs same_duration ds) is refl (all_run ds)
+    ∙ ap (λ es. map Closed (in_row scale.ticks from es)) (all_join ds)

@@ -1,5 +1,6 @@
 -- What elements that are written say when they are read.
-use Rattle.std.proofs.Common.{◌≡◌, ℕ, Bool, true, false, List, [], ◌∷◌, ◌++◌, codes, find, bytes_eq, Option, Some, None, option_map, if◌then◌else◌, refl, ◌∙◌, ap}
+use Rattle.std.proofs.Common.{◌≡◌, ℕ, Bool, true, false, List, [], ◌∷◌, ◌++◌, codes, find, bytes_eq, Option, Some, None, option_map}
+use Rattle.std.proofs.Common.{if◌then◌else◌, refl, ◌∙◌, ap}
 use Rattle.std.specs.List.{list_all}
 use Rattle.std.proofs.lemmas.Bool.{and_parts}
 use Rattle.bridge_io.specs.declared.place.Place.{Place}
@@ -41,7 +42,11 @@ one_more : (name n : List ℕ) (value : Option (List ℕ)) (more : List Attribut
     → (here : Place) → value_at name (attributes_at here (attributes_of ((n, value) ∷ more))) ≡ value_in name ((n, value) ∷ more)
 one_more name n None more behind here = behind here ∙ either_way (bytes_eq n name) (value_in name more)
 one_more name n (Some value) more behind here = by_name (bytes_eq n name) where
-  by_name : (b : Bool) → option_map (λ (a : tree.Attribute). a.value) (if b then Some (record { name = n; value = value; place = past here (codes " ") })
+  by_name : (b : Bool) → option_map (λ (a : tree.Attribute). a.value) (if b then Some (record {
+    name = n;
+    value = value;
+    place = past here (codes " ");
+  })
       else find (λ (a : tree.Attribute). bytes_eq a.name name) (attributes_at (past here (attribute_text (n, value))) (attributes_of more)))
       ≡ (if b then or_else (Some value) (value_in name more) else value_in name more)
   by_name true = refl

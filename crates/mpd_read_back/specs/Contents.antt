@@ -48,11 +48,13 @@ pub record IsPlainFrom (from : ℕ) (c : Content) : Type 0 where
 -- whatever the URL of the MPD and the end of the Period
 abbrev pub ContentsAreMeant : Type 0
 ContentsAreMeant = (c : Content) (url : List ℕ) (end : End) (d : Description) → IsPlain c → d.bases ≡ []
-    → entry_of whole_window (content_meant url end d (told_of c.runs c.initialization (listed_in whole_window c.runs))) ≡ entry_of whole_window c
+    → entry_of whole_window (content_meant url end d (told_of c.runs c.initialization (listed_in whole_window c.runs)))
+    ≡ entry_of whole_window c
 
 -- and at any media time of the section's start
 abbrev pub TimedContentsAreMeant : Type 0
 TimedContentsAreMeant = (c : Content) (offset from : ℕ) (url : List ℕ) (end : End) (d : Description) (plain : IsPlainFrom from c)
     → d.bases ≡ []
-    → entry_of whole_window (content_meant url end d (list_told c.runs.ticks offset (offset + from) c.initialization plain.durations plain.parts))
+    → entry_of whole_window (content_meant url end d (list_told c.runs.ticks offset
+    (offset + from) c.initialization plain.durations plain.parts))
     ≡ entry_of whole_window c

@@ -3,3 +3,6 @@ pub mod Rows
 pub mod Contents
 pub mod Meant
 pub mod Texts
+pub mod Shown
+pub mod Live
+pub mod Timed

@@ -22,7 +22,11 @@ pub record Seen : Type 0 where
   pub entry : Option Entry
 
 abbrev pub seen_of : (url : List ℕ) → End → Row → Seen
-seen_of url end row = record { kind = row.description.kind; language = row.description.language; entry = entry_of whole_window (content_of_row url end row) }
+seen_of url end row = record {
+  kind = row.description.kind;
+  language = row.description.language;
+  entry = entry_of whole_window (content_of_row url end row);
+}
 
 -- tracks in a section, of which the first one has a place
 abbrev pub seen_from : Presented → (section place : ℕ) → List Track → List Seen
@@ -60,4 +64,5 @@ pub record IsWritable (p : Presented) : Type 0 where
 
 -- at any URL and instant
 abbrev pub TreesMean : Type 0
-TreesMean = (p : Presented) (url : List ℕ) (now : Option ℤ) → IsWritable p → mpd_meaning (dash_values (read_at root_place (root_of p))) url now ≡ meaning_of p
+TreesMean = (p : Presented) (url : List ℕ) (now : Option ℤ) → IsWritable p
+    → mpd_meaning (dash_values (read_at root_place (root_of p))) url now ≡ meaning_of p

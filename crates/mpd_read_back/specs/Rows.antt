@@ -6,4 +6,5 @@ use Rattle.timeline.specs.Expansions.{Extent}
 -- segments that last so many ticks each, one behind another
 abbrev pub in_row : (ticks from : ℕ) → List ℕ → List Extent
 in_row ticks from [] = []
-in_row ticks from (d ∷ durations) = record { start = in_units ticks from; end = in_units ticks (from + d) } ∷ in_row ticks (from + d) durations
+in_row ticks from (d ∷ durations) =
+    record { start = in_units ticks from; end = in_units ticks (from + d) } ∷ in_row ticks (from + d) durations

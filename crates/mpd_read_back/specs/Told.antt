@@ -1,5 +1,6 @@
 -- What is read of the segments of a Representation that are listed (ISO/IEC 23009-1, 5.3.9).
-use Rattle.std.specs.Prelude.{◌≡◌, ℕ, ◌+◌, ◌^◌, ◌<◌, ◌≤◌, pos, Bool, true, List, [], ◌∷◌, ◌++◌, length, map, codes, bytes_eq, Option, Some, None, unwrap_or, IfSome}
+use Rattle.std.specs.Prelude.{◌≡◌, ℕ, ◌+◌, ◌^◌, ◌<◌, ◌≤◌, pos, Bool, true, List, [], ◌∷◌, ◌++◌, length, map, codes, bytes_eq, Option}
+use Rattle.std.specs.Prelude.{Some, None, unwrap_or, IfSome}
 use Rattle.std.specs.List.{list_all, AllByRecursion}
 use Rattle.bridge_io.specs.declared.place.Place.{Place}
 use Rattle.url_parts.specs.declared.address.Part.{Part}
@@ -80,7 +81,8 @@ pub record AreReadable (timeline : SegmentTimeline) (part : Part) (listed : List
   pub parts : AllByRecursion (λ x. IsReadable (part_or_none (part_of_timing timeline x))) listed
 
 -- the same of a list with times of its own
-pub record AreReadableTimes (scale : ℕ) (start : Option ℕ) (begin : ℕ) (map_part : Part) (lengths : List ℕ) (files : List Part) : Type 0 where
+pub record AreReadableTimes (scale : ℕ) (start : Option ℕ) (begin : ℕ) (map_part : Part) (lengths : List ℕ)
+    (files : List Part) : Type 0 where
   pub ticks : IsShort scale
   pub offset : IfSome start IsShort
   pub first : IsShort begin
@@ -105,10 +107,12 @@ AreNamed name xs = list_all (is_named name) xs ≡ true
 
 -- Its only child is the list; its set has Representations alone, and its Period sets.
 abbrev pub ListsAreRead : Type 0
-ListsAreRead = (timeline : SegmentTimeline) (part : Part) (listed : List Timing) (representation set period : Tag) (representations sets : List Written)
+ListsAreRead = (timeline : SegmentTimeline) (part : Part) (listed : List Timing) (representation set period : Tag)
+    (representations sets : List Written)
     (a b c : Place)
     → AreReadable timeline part listed → AreNamed (codes "Representation") representations → AreNamed (codes "AdaptationSet") sets
-    → segments_of (read_at a (representation, in_order (segment_list timeline part listed ∷ [])) ∷ read_at b (set, in_order representations) ∷ read_at c
+    → segments_of (read_at a (representation, in_order (segment_list timeline part listed ∷ [])) ∷ read_at b
+    (set, in_order representations) ∷ read_at c
     (period, in_order sets) ∷ [])
     ≡ Some (told_of timeline part listed)
 

@@ -1,9 +1,12 @@
 // Laws of written MPDs.
 ghost use Rattle.mpd_read_back.specs.Told.{ListsAreRead, TimedListsAreRead};
 ghost use Rattle.mpd_read_back.specs.Contents.{ContentsAreMeant, TimedContentsAreMeant};
+ghost use Rattle.mpd_read_back.specs.Live.{LiveTextsAreRead};
 ghost use Rattle.mpd_read_back.specs.Meant.{TreesMean};
 ghost use Rattle.mpd_read_back.specs.Texts.{TextsMean};
+ghost use Rattle.mpd_read_back.specs.Timed.{TimedTextsAreRead, TimedTextsMean};
 
+use iso_time::laws::{durations_are_read_again, instants_are_read_again};
 use mpd_markup::printed_trees_are_read;
 
 /// The segments of a Representation whose only child is a written SegmentList, where neither its set nor its Period has a
@@ -44,4 +47,35 @@ pub fn written_texts_mean_the_same()
     ensures { TextsMean }
 {
     printed_trees_are_read();
+}
+
+/// The text of an MPD with the times of its files means the same tracks, files and initialization parts, in sections that last as
+/// long as their longest track: each segment begins with its media time less that of the section's start, and lasts as long as its
+/// file states (ISO/IEC 23009-1, 5.3.9.2 and 5.3.9.6).
+pub fn timed_texts_mean_their_times()
+    ensures { TimedTextsMean }
+{
+    printed_trees_are_read();
+}
+
+/// Of each track in each section it says the scale, the media time of the section's start, which is that of the first segment, and
+/// each one's duration, address and range, with the initialization part; of each section when it begins.
+pub fn timed_texts_are_read()
+    ensures { TimedTextsAreRead }
+{
+    printed_trees_are_read();
+    durations_are_read_again();
+}
+
+/// The text of a live MPD says what the MPD says, whatever may be played at an instant: until it is ended that it is dynamic, when
+/// the presentation begins and when the text was made, in whole milliseconds; each Period's id and start; and of each track in each
+/// Period the list of its segments, whose first S has the time of the first one, with the durations, the addresses, the ranges and
+/// the initialization part as they were written (ISO/IEC 23009-1, 5.3.1 to 5.3.9). Languages and codes are texts that a value can
+/// carry.
+pub fn live_texts_are_read()
+    ensures { LiveTextsAreRead }
+{
+    printed_trees_are_read();
+    durations_are_read_again();
+    instants_are_read_again();
 }
