@@ -1,4 +1,4 @@
--- Texts of visible ASCII, which values can carry.
+-- Texts of printable ASCII, which values can carry.
 use Rattle.std.proofs.Common.{◌≡◌, ℕ, zero, suc, ◌+◌, ◌-◌, ◌/◌, ◌%◌, ◌^◌, ◌<◌, ◌==◌, ◌&&◌, nat_le, nat_lt, Bool, true, false, List, []}
 use Rattle.std.proofs.Common.{◌∷◌, ◌++◌, None, Ok, Err, option_map, if◌then◌else◌, IsUtf8, refl, ◌∙◌, ap, subst, arith}
 use Rattle.std.specs.Prelude.{decimal}
@@ -25,7 +25,7 @@ use Rattle.mpd_read_back.specs.Texts.{IsCarried}
 use Rattle.mpd_read_back.proofs.Addressed.{accepted_text}
 
 abbrev pub is_plain : ℕ → Bool
-is_plain b = nat_le 33 b && nat_lt b 127
+is_plain b = nat_le 32 b && nat_lt b 127
 
 abbrev pub ArePlain : List ℕ → Type 0
 ArePlain text = list_all is_plain text ≡ true
@@ -60,69 +60,104 @@ carried text plain = record {
   no_controls = no_controls text plain;
 }
 
-pub both : (a b : List ℕ) → ArePlain a → ArePlain b → ArePlain (a ++ b)
+both : (a b : List ℕ) → ArePlain a → ArePlain b → ArePlain (a ++ b)
 both a b A B = list_all-append is_plain a b ∙ rw A B
 
-pub before : (b : ℕ) (bs : List ℕ) → is_plain b ≡ true → ArePlain bs → ArePlain (b ∷ bs)
+before : (b : ℕ) (bs : List ℕ) → is_plain b ≡ true → ArePlain bs → ArePlain (b ∷ bs)
 before b bs B plain = rw B plain
+
+-- ---- those without spaces
+
+abbrev pub is_visible : ℕ → Bool
+is_visible b = nat_le 33 b && nat_lt b 127
+
+abbrev pub AreVisible : List ℕ → Type 0
+AreVisible text = list_all is_visible text ≡ true
+
+pub plain_of : (text : List ℕ) → AreVisible text → ArePlain text
+plain_of [] visible = refl
+plain_of (b ∷ bs) visible =
+    let parts = and_parts (is_visible b) (list_all is_visible bs) visible in
+    let here : is_plain b ≡ true = grind arith in
+    before b bs here (plain_of bs parts.1)
+
+both_visible : (a b : List ℕ) → AreVisible a → AreVisible b → AreVisible (a ++ b)
+both_visible a b A B = list_all-append is_visible a b ∙ rw A B
+
+next_visible : (b : ℕ) (bs : List ℕ) → is_visible b ≡ true → AreVisible bs → AreVisible (b ∷ bs)
+next_visible b bs B visible = rw B visible
+
+pub joined_visible : (a : List ℕ) (b : ℕ) (bs : List ℕ) → AreVisible a → is_visible b ≡ true → AreVisible bs → AreVisible (a ++ b ∷ bs)
+joined_visible a b bs front B visible = both_visible a (b ∷ bs) front (next_visible b bs B visible)
 
 -- ---- numbers
 
-digit_plain : (d : ℕ) → d < 10 → is_plain (48 + d) ≡ true
-digit_plain d h = grind arith
+digit_visible : (d : ℕ) → d < 10 → is_visible (48 + d) ≡ true
+digit_visible d h = grind arith
 
-glyph_plain : (n : ℕ) → is_plain (if nat_lt (n % 10) 10 then 48 + n % 10 else 87 + n % 10) ≡ true
-glyph_plain n =
+glyph_visible : (n : ℕ) → is_visible (if nat_lt (n % 10) 10 then 48 + n % 10 else 87 + n % 10) ≡ true
+glyph_visible n =
     let below = mod_below n 10 (omega arith) in
     let is : nat_lt (n % 10) 10 ≡ true = grind arith in
-    rw is (digit_plain (n % 10) below)
+    rw is (digit_visible (n % 10) below)
 
 abbrev glyph : ℕ → ℕ
 glyph n = if nat_lt (n % 10) 10 then 48 + n % 10 else 87 + n % 10
 
-onto_plain : (k n : ℕ) (acc : List ℕ) → ArePlain acc → ArePlain (digits_onto k 10 false n acc)
-onto_plain zero n acc plain = plain
-onto_plain (suc k) n acc plain =
-    go (n / 10 == 0) (before (glyph n) acc (glyph_plain n) plain) (onto_plain k (n / 10) (glyph n ∷ acc) (before (glyph n) acc
-    (glyph_plain n) plain)) where
-      go : (last : Bool) → ArePlain (glyph n ∷ acc) → ArePlain (digits_onto k 10 false (n / 10) (glyph n ∷ acc))
-          → ArePlain (if last then glyph n ∷ acc else digits_onto k 10 false (n / 10) (glyph n ∷ acc))
+onto_visible : (k n : ℕ) (acc : List ℕ) → AreVisible acc → AreVisible (digits_onto k 10 false n acc)
+onto_visible zero n acc visible = visible
+onto_visible (suc k) n acc visible =
+    go (n / 10 == 0) (next_visible (glyph n) acc (glyph_visible n) visible) (onto_visible k (n / 10) (glyph n ∷ acc) (next_visible
+    (glyph n) acc
+    (glyph_visible n) visible)) where
+      go : (last : Bool) → AreVisible (glyph n ∷ acc) → AreVisible (digits_onto k 10 false (n / 10) (glyph n ∷ acc))
+          → AreVisible (if last then glyph n ∷ acc else digits_onto k 10 false (n / 10) (glyph n ∷ acc))
       go true here later = here
       go false here later = later
 
-pub decimal_plain : (n : ℕ) → ArePlain (decimal n)
+decimal_visible : (n : ℕ) → AreVisible (decimal n)
 unfolding digits
-decimal_plain n = onto_plain 64 n [] refl
+decimal_visible n = onto_visible 64 n [] refl
 
-pub padded_plain : (width n : ℕ) → ArePlain (padded_digits width n)
+pub padded_visible : (width n : ℕ) → AreVisible (padded_digits width n)
 unfolding padded_digits
-padded_plain zero n = refl
-padded_plain (suc width) n = before (48 + n / 10 ^ width % 10) (padded_digits width n)
-    (digit_plain (n / 10 ^ width % 10) (mod_below (n / 10 ^ width) 10 (omega arith))) (padded_plain width n)
+padded_visible zero n = refl
+padded_visible (suc width) n = next_visible (48 + n / 10 ^ width % 10) (padded_digits width n)
+    (digit_visible (n / 10 ^ width % 10) (mod_below (n / 10 ^ width) 10 (omega arith))) (padded_visible width n)
 
-zeros_plain : (ds : List ℕ) → ArePlain ds → ArePlain (without_zeros ds)
+zeros_visible : (ds : List ℕ) → AreVisible ds → AreVisible (without_zeros ds)
 unfolding without_zeros
-zeros_plain [] plain = refl
-zeros_plain (d ∷ ds) plain =
-    let parts = and_parts (is_plain d) (list_all is_plain ds) plain in
-    go ((d == 48) && is_empty (without_zeros ds)) parts.0 (zeros_plain ds parts.1) where
-      go : (none : Bool) → is_plain d ≡ true → ArePlain (without_zeros ds) → ArePlain (if none then [] else d ∷ without_zeros ds)
+zeros_visible [] visible = refl
+zeros_visible (d ∷ ds) visible =
+    let parts = and_parts (is_visible d) (list_all is_visible ds) visible in
+    go ((d == 48) && is_empty (without_zeros ds)) parts.0 (zeros_visible ds parts.1) where
+      go : (none : Bool) → is_visible d ≡ true → AreVisible (without_zeros ds) → AreVisible (if none then [] else d ∷ without_zeros ds)
       go true here later = refl
-      go false here later = before d (without_zeros ds) here later
+      go false here later = next_visible d (without_zeros ds) here later
 
-nanos_plain : (nanos : ℕ) → ArePlain (nanos_text nanos)
-nanos_plain nanos = go (nanos == 0) where
-  go : (none : Bool) → ArePlain (if none then [] else 46 ∷ without_zeros (padded_digits 9 nanos))
+nanos_visible : (nanos : ℕ) → AreVisible (nanos_text nanos)
+nanos_visible nanos = go (nanos == 0) where
+  go : (none : Bool) → AreVisible (if none then [] else 46 ∷ without_zeros (padded_digits 9 nanos))
   go true = refl
-  go false = zeros_plain (padded_digits 9 nanos) (padded_plain 9 nanos)
+  go false = zeros_visible (padded_digits 9 nanos) (padded_visible 9 nanos)
+
+pub duration_visible : (nanos : ℕ) → AreVisible (duration_text nanos)
+unfolding duration_text
+duration_visible nanos = both_visible (decimal (nanos / 10 ^ 9) ++ nanos_text (nanos % 10 ^ 9)) (83 ∷ [])
+    (both_visible (decimal (nanos / 10 ^ 9)) (nanos_text (nanos % 10 ^ 9)) (decimal_visible (nanos / 10 ^ 9)) (nanos_visible
+    (nanos % 10 ^ 9))) refl
+
+seconds_visible : (n : ℕ) → AreVisible (seconds_text n)
+seconds_visible n = both_visible (decimal n) (83 ∷ []) (decimal_visible n) refl
+
+pub decimal_plain : (n : ℕ) → ArePlain (decimal n)
+decimal_plain n = plain_of (decimal n) (decimal_visible n)
 
 pub duration_plain : (nanos : ℕ) → ArePlain (duration_text nanos)
-unfolding duration_text
-duration_plain nanos = both (decimal (nanos / 10 ^ 9) ++ nanos_text (nanos % 10 ^ 9)) (83 ∷ [])
-    (both (decimal (nanos / 10 ^ 9)) (nanos_text (nanos % 10 ^ 9)) (decimal_plain (nanos / 10 ^ 9)) (nanos_plain (nanos % 10 ^ 9))) refl
+duration_plain nanos = plain_of (duration_text nanos) (duration_visible nanos)
 
 pub seconds_plain : (n : ℕ) → ArePlain (seconds_text n)
-seconds_plain n = both (decimal n) (83 ∷ []) (decimal_plain n) refl
+seconds_plain n = plain_of (seconds_text n) (seconds_visible n)
 
 pub range_plain : (range : Range) → ArePlain (range_text range)
 range_plain range = both (decimal range.first) (45 ∷ decimal (range.first + range.count - 1)) (decimal_plain range.first)

@@ -14,15 +14,15 @@ use Rattle.iso_time.specs.Laws.{DurationsAreReadAgain, InstantsAreReadAgain, flo
 use Rattle.iso_time.specs.declared.duration.DurationFault.TheVariants.{Calendar, Range, Shape}
 use Rattle.mpd_rules.specs.Readings.{duration_in, instant_in, nanos_unless_months}
 use Rattle.mpd_read_back.proofs.Numbers.{is_solid, solid_stays}
-use Rattle.mpd_read_back.proofs.Plain.{ArePlain, before, both, duration_plain, is_plain, padded_plain}
+use Rattle.mpd_read_back.proofs.Plain.{ArePlain, AreVisible, duration_visible, is_visible, joined_visible, padded_visible, plain_of}
 
 -- visible bytes are no spaces
-solid_plain : (text : List ℕ) → ArePlain text → list_all is_solid text ≡ true
-solid_plain [] plain = refl
-solid_plain (b ∷ bs) plain =
-    let parts = and_parts (is_plain b) (list_all is_plain bs) plain in
+solid : (text : List ℕ) → AreVisible text → list_all is_solid text ≡ true
+solid [] visible = refl
+solid (b ∷ bs) visible =
+    let parts = and_parts (is_visible b) (list_all is_visible bs) visible in
     let other : (b == 32) ≡ false = grind arith in
-    rw other (solid_plain bs parts.1)
+    rw other (solid bs parts.1)
 
 -- ---- durations
 
@@ -44,38 +44,37 @@ pub duration_read : DurationsAreReadAgain → (n : ℕ) → n < 10 ^ 19 → dura
 unfolding duration_of
 duration_read again n low =
     let told = parts_answered (parts_of (duration_text n)) n (again n low) in
-    rw (solid_stays (duration_text n) (solid_plain (duration_text n) (duration_plain n)), told.1)
+    rw (solid_stays (duration_text n) (solid (duration_text n) (duration_visible n)), told.1)
     (answered told.0 n (months_of told.0 == 0) (nat_lt (nanos_of told.0) (10 ^ 19)) refl refl told.2)
 
 -- ---- instants
 
-joined : (a : List ℕ) (b : ℕ) (bs : List ℕ) → ArePlain a → is_plain b ≡ true → ArePlain bs → ArePlain (a ++ b ∷ bs)
-joined a b bs front B plain = both a (b ∷ bs) front (before b bs B plain)
-
-moment_plain : (year month day hour minute second millis : ℕ) → ArePlain (moment_text year month day hour minute second millis)
+moment_visible : (year month day hour minute second millis : ℕ) → AreVisible (moment_text year month day hour minute second millis)
 unfolding moment_text padded_digits
-moment_plain year month day hour minute second millis =
+moment_visible year month day hour minute second millis =
     let parts = padded_digits 3 millis ++ 90 ∷ [] in
     let seconds = padded_digits 2 second ++ 46 ∷ parts in
     let minutes = padded_digits 2 minute ++ 58 ∷ seconds in
     let hours = padded_digits 2 hour ++ 58 ∷ minutes in
     let days = padded_digits 2 day ++ 84 ∷ hours in
     let months = padded_digits 2 month ++ 45 ∷ days in
-    joined (padded_digits 4 year) 45 months (padded_plain 4 year) refl
-    (joined (padded_digits 2 month) 45 days (padded_plain 2 month) refl
-    (joined (padded_digits 2 day) 84 hours (padded_plain 2 day) refl
-    (joined (padded_digits 2 hour) 58 minutes (padded_plain 2 hour) refl
-    (joined (padded_digits 2 minute) 58 seconds (padded_plain 2 minute) refl
-    (joined (padded_digits 2 second) 46 parts (padded_plain 2 second) refl
-    (joined (padded_digits 3 millis) 90 [] (padded_plain 3 millis) refl refl))))))
+    joined_visible (padded_digits 4 year) 45 months (padded_visible 4 year) refl
+    (joined_visible (padded_digits 2 month) 45 days (padded_visible 2 month) refl
+    (joined_visible (padded_digits 2 day) 84 hours (padded_visible 2 day) refl
+    (joined_visible (padded_digits 2 hour) 58 minutes (padded_visible 2 hour) refl
+    (joined_visible (padded_digits 2 minute) 58 seconds (padded_visible 2 minute) refl
+    (joined_visible (padded_digits 2 second) 46 parts (padded_visible 2 second) refl
+    (joined_visible (padded_digits 3 millis) 90 [] (padded_visible 3 millis) refl refl))))))
+
+instant_visible : (instant : ℤ) → AreVisible (instant_text instant)
+unfolding instant_text
+instant_visible instant = moment_visible _ _ _ _ _ _ _
 
 pub instant_plain : (instant : ℤ) → ArePlain (instant_text instant)
-unfolding instant_text
-instant_plain instant = moment_plain _ _ _ _ _ _ _
+instant_plain instant = plain_of (instant_text instant) (instant_visible instant)
 
 pub instant_read : InstantsAreReadAgain → (instant : ℤ) → IsReadable instant
     → instant_in (instant_text instant) ≡ Some (floor_millis instant)
 instant_read again instant readable =
-    ap (λ text. result_ok (instant_of text)) (solid_stays (instant_text instant) (solid_plain (instant_text instant)
-    (instant_plain instant)))
+    ap (λ text. result_ok (instant_of text)) (solid_stays (instant_text instant) (solid (instant_text instant) (instant_visible instant)))
     ∙ ap result_ok (again instant readable)
