@@ -1,7 +1,6 @@
 -- What the text of an MPD with the times of its files means.
 use Rattle.std.specs.Prelude.{◌≡◌, ℕ, ◌+◌, ◌*◌, ◌<◌, ℤ, false, List, [], ◌∷◌, All, length, map, slice_get, decimal, Option, Some, None}
-use Rattle.std.specs.Prelude.{option_map}
-use Rattle.std.specs.Prelude.{option_and_then}
+use Rattle.std.specs.Prelude.{option_map, option_and_then}
 use Rattle.std.specs.List.{AllByRecursion}
 use Rattle.std.specs.Result.{result_ok}
 use Rattle.url_parts.specs.declared.address.Part.{Part}
