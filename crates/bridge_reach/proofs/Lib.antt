@@ -7,3 +7,6 @@ pub mod Places
 pub mod Runs
 pub mod Stated
 pub mod Timely
+pub mod Accepted
+pub mod Rounding
+pub mod Working

@@ -1,14 +1,20 @@
-//! Commands that read more of a presentation than its manifest: the indexes of its media files, or the times that these state.
+//! Commands that read more of a presentation than its manifest: the indexes of its media files, the times that these state, and
+//! rounds of its live playlists.
 #![tactic(auto)]
 
 mod agree;
 mod dash_times;
 mod file_times;
+mod follow_hls;
 mod index;
 mod laws;
+mod round_laws;
+mod rounds;
 mod segment_file;
 
 pub use agree::{Agree, judge_times};
 pub use dash_times::{DashTimes, translate_timed};
+pub use follow_hls::{FollowHls, follow_playlists};
 pub use index::{HlsIndex, translate_indexed};
 pub use laws::{what_agrees_has_the_files_times, what_is_written_has_the_files_times};
+pub use round_laws::the_mpd_is_of_the_accepted_rounds;

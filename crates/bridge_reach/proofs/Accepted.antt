@@ -1,0 +1,93 @@
+-- What rounds leave that are accepted one behind another.
+use Rattle.std.proofs.Common.{◌≡◌, ℕ, cond, List, [], ◌∷◌, take, Option, None, Some, option_map, Result, Ok, Err, refl, sym, ap, ◌∙◌, subst}
+use Rattle.std.specs.Prelude.{IsSome, codes}
+use Rattle.std.proofs.lemmas.Slice.Eq.{bytes_eq-Decides}
+use Rattle.std.specs.Option.{option_map_or}
+use Rattle.std.specs.Result.{result_err, result_unwrap_or}
+use Rattle.bridge_io.specs.InOrder.{put_all}
+use Rattle.bridge_io.specs.Outside.{Files, Changes}
+use Rattle.hls_master.specs.declared.track.MasterTrack.{MasterTrack}
+use Rattle.hls_follow.specs.declared.state.Followed.{Followed}
+use Rattle.dash_writer.specs.Live.{live_text}
+use Rattle.presentation.proofs.Filling.{steps_of}
+use Rattle.bridge_jobs.specs.Frames.{start}
+use Rattle.bridge_jobs.specs.Laws.{in_folder}
+use Rattle.bridge_jobs.specs.declared.round.Round.{Round}
+use Rattle.bridge_runs.specs.Courses.{files_to}
+use Rattle.bridge_report.specs.Following.{unless_refused}
+use Rattle.bridge_report.specs.Laws.{FileIsOfAccepted, IsRewritten, accepted_in, state_after}
+use Rattle.bridge_report.specs.Refusals.{refusal_text}
+use Rattle.bridge_report.specs.declared.refusal.Refusal.{Refusal}
+use Rattle.bridge_steps.specs.Follow.{fault_line}
+use Rattle.bridge_reach.specs.RoundLaws.{AcceptedLeaveAnMpd, FileIsOfTheHistory, accepted_among, left_by}
+use Rattle.bridge_reach.specs.Rounds.{course_with, followed_rounds, hls_of, medias_of, mpd_text, no_rounds, round_state, round_stream, taken}
+use Rattle.bridge_reach.specs.declared.rounds.LiveHls.{LiveHls}
+use Rattle.bridge_reach.specs.declared.rounds.LiveRounds.{LiveRounds}
+use Rattle.bridge_reach.proofs.Rounding.{IsOneMore, one_more}
+
+abbrev HasMpd : LiveRounds → Type 0
+HasMpd s = IsSome s.follow.followed
+
+module _ (hls : LiveHls) where
+  one_of : (s s' : LiveRounds) (x : Round) → round_state hls s x ≡ Ok s' → IsOneMore s s'
+  unfolding round_state
+  one_of s s' x is = let read = steps_of (medias_of hls.urls x.bodies) (taken s x.now) s' is in one_more s s' x.now read.value read.then
+
+  -- what an accepted round leaves
+  pub after_one : (s : LiveRounds) (x : Round) → (followed_rounds hls).refusal s x ≡ None → IsOneMore s ((followed_rounds hls).after s x)
+  after_one s x is = go (round_state hls s x) refl is
+    where
+      go : (r : Result LiveRounds Refusal) → round_state hls s x ≡ r → option_map refusal_text (result_err r) ≡ None
+          → IsOneMore s (result_unwrap_or r s)
+      go (Ok s') e accepted = one_of s s' x e
+      go (Err why) e accepted = absurd (cc)
+
+  -- an MPD stays
+  mpd_stays : (xs : List Round) (s : LiveRounds) → HasMpd s
+      → HasMpd (state_after (followed_rounds hls) s (accepted_in (followed_rounds hls) s xs))
+  mpd_stays [] s some = some
+  mpd_stays (x ∷ xs) s some = go ((followed_rounds hls).refusal s x) refl (λ t. mpd_stays xs t)
+    where
+      go : (r : Option (List ℕ)) → (followed_rounds hls).refusal s x ≡ r
+          → ((t : LiveRounds) → HasMpd t → HasMpd (state_after (followed_rounds hls) t (accepted_in (followed_rounds hls) t xs)))
+          → HasMpd (state_after (followed_rounds hls) s (unless_refused r (x ∷ accepted_in (followed_rounds hls)
+          ((followed_rounds hls).after s x) xs) (accepted_in (followed_rounds hls) s xs)))
+      go None e next = next ((followed_rounds hls).after s x) (after_one s x e).mpd
+      go (Some why) e next = next s some
+
+  -- the first accepted round leaves one
+  mpd_comes : (xs : List Round) (s : LiveRounds) (y : Round) (ys : List Round) → accepted_in (followed_rounds hls) s xs ≡ y ∷ ys
+      → HasMpd (state_after (followed_rounds hls) s (accepted_in (followed_rounds hls) s xs))
+  mpd_comes [] s y ys is = absurd (cc)
+  mpd_comes (x ∷ xs) s y ys is = go ((followed_rounds hls).refusal s x) refl is (mpd_comes xs s y ys)
+    where
+      go : (r : Option (List ℕ)) → (followed_rounds hls).refusal s x ≡ r
+          → unless_refused r (x ∷ accepted_in (followed_rounds hls) ((followed_rounds hls).after s x) xs)
+          (accepted_in (followed_rounds hls) s xs) ≡ y ∷ ys
+          → (accepted_in (followed_rounds hls) s xs ≡ y ∷ ys → HasMpd (state_after (followed_rounds hls) s (accepted_in
+          (followed_rounds hls) s xs)))
+          → HasMpd (state_after (followed_rounds hls) s (unless_refused r (x ∷ accepted_in (followed_rounds hls)
+          ((followed_rounds hls).after s x) xs) (accepted_in (followed_rounds hls) s xs)))
+      go None e some next = mpd_stays xs ((followed_rounds hls).after s x) (after_one s x e).mpd
+      go (Some why) e some next = next some
+
+pub leave_an_mpd : AcceptedLeaveAnMpd
+leave_an_mpd out tracks bytes n round more is = let hls = hls_of out tracks in
+    mpd_comes hls (take n (round_stream hls start bytes).0) (no_rounds tracks) round more is
+
+-- the one file is written anew
+rewritten : (hls : LiveHls) → IsRewritten (followed_rounds hls) hls.name mpd_text
+rewritten hls s x files = let text = mpd_text ((followed_rounds hls).after s x) in
+    ap (λ b. cond b (Some text) (files hls.name)) ((bytes_eq-Decides hls.name hls.name).1 refl)
+
+pub file_is : FileIsOfAccepted LiveRounds Round → FileIsOfTheHistory
+file_is law out tracks bytes n followed first last left puts = go (accepted_among out tracks bytes n) refl left
+  where
+    go : (xs : List Round) → accepted_among out tracks bytes n ≡ xs
+        → (state_after (followed_rounds (hls_of out tracks)) (no_rounds tracks) xs).follow.followed ≡ Some followed
+        → last (in_folder out (codes "live.mpd")) ≡ Some (live_text followed.mpd)
+    go [] e none = absurd (cc)
+    go (x ∷ more) e left = let stream = round_stream (hls_of out tracks) start bytes in
+        law (followed_rounds (hls_of out tracks)) (in_folder out (codes "live.mpd")) mpd_text (rewritten (hls_of out tracks)) (no_rounds tracks)
+        0 0 stream.0 (option_map fault_line stream.1) n x more first last e puts
+        ∙ ap (λ (o : Option Followed). Some (option_map_or (λ f. live_text f.mpd) o [])) left

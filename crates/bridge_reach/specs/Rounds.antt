@@ -1,0 +1,136 @@
+-- `follow-hls`: from rounds of live playlists to an MPD (RFC 8216, 6.2; ISO/IEC 23009-1, 5.3).
+use Rattle.std.specs.Prelude.{◌≡◌, ◌⊎◌, ℕ, ℤ, ◌+◌, ◌<◌, true, codes, List, [], ◌∷◌, ◌++◌, length, map, Option, Some, None, option_map, IsSome, Result, Ok, Err}
+use Rattle.std.specs.Option.{option_and_then, option_map_or}
+use Rattle.std.specs.Result.{result_err, result_ok, result_unwrap_or}
+use Rattle.bridge_io.specs.Fault.{Rose}
+use Rattle.bridge_io.specs.Outside.{Files}
+use Rattle.iso_time.specs.Instant.{IsReadable}
+use Rattle.hls_master.specs.declared.track.MasterTrack.{MasterTrack}
+use Rattle.hls_media.specs.Media.{media_of}
+use Rattle.hls_media.specs.declared.media.Media.{Media}
+use Rattle.hls_follow.specs.Rounds.{appended_by, next_of}
+use Rattle.dash_writer.specs.Live.{live_text}
+use Rattle.presentation.specs.Told.{and_then, told_as}
+use Rattle.bridge_jobs.specs.Laws.{in_folder}
+use Rattle.bridge_jobs.specs.Rounds.{rounds_from}
+use Rattle.bridge_jobs.specs.declared.frame.FramePos.{FramePos}
+use Rattle.bridge_jobs.specs.declared.round.Round.{Round}
+use Rattle.bridge_runs.specs.Courses.{Course, World}
+use Rattle.bridge_runs.specs.Steps.{IsCaused}
+use Rattle.bridge_runs.specs.declared.ending.Ending.{Ending}
+use Rattle.bridge_runs.specs.declared.ending.Ending.TheVariants as ending
+use Rattle.bridge_runs.specs.declared.status.Verdict.TheVariants as verdict
+use Rattle.bridge_report.specs.Following.{Followed}
+use Rattle.bridge_report.specs.Outcomes.{Ends, base_refused, course_by}
+use Rattle.bridge_report.specs.Reading.{Named}
+use Rattle.bridge_report.specs.Refusals.{refusal_line, refusal_text}
+use Rattle.bridge_report.specs.declared.refusal.Refusal.{Refusal}
+use Rattle.bridge_report.specs.declared.refusal.Refusal.TheVariants as refusal
+use Rattle.bridge_playlists.specs.Places.{place_of}
+use Rattle.bridge_playlists.specs.Playlists.{master_at}
+use Rattle.bridge_playlists.specs.declared.place.Place.{Place}
+use Rattle.bridge_steps.specs.Follow.{course_placed, follow_course}
+use Rattle.bridge_steps.specs.Streams.{Stream}
+use Rattle.bridge_reach.specs.declared.follow_hls.FollowHls.{FollowHls}
+use Rattle.bridge_reach.specs.declared.rounds.LiveHls.{LiveHls}
+use Rattle.bridge_reach.specs.declared.rounds.LiveRounds.{LiveRounds}
+
+-- ---- the playlists of a round
+
+abbrev pub media_in : (url body : List ℕ) → Result Media Refusal
+media_in url body = told_as refusal.Media (media_of body url)
+
+-- one more playlist, which is at this URL
+unfoldable pub medias_with : List Media → (url body : List ℕ) → Result (List Media) Refusal
+medias_with medias url body = and_then (media_in url body) (λ media. Ok (medias ++ media ∷ []))
+
+-- behind some playlists those that bodies are, each at its URL, or the first fault
+abbrev pub medias_behind : List Media → (urls bodies : List (List ℕ)) → Result (List Media) Refusal
+medias_behind medias [] bodies = Ok medias
+medias_behind medias (url ∷ urls) [] = Ok medias
+medias_behind medias (url ∷ urls) (body ∷ bodies) = and_then (medias_with medias url body) (λ more. medias_behind more urls bodies)
+
+abbrev pub medias_of : (urls bodies : List (List ℕ)) → Result (List Media) Refusal
+medias_of urls bodies = medias_behind [] urls bodies
+
+-- ---- what a round leaves
+
+-- one more round is accepted, or its playlists may not follow those before
+unfoldable pub taken : LiveRounds → (now : ℤ) → List Media → Result LiveRounds Refusal
+taken s now medias =
+    and_then (told_as refusal.Live (next_of s.follow now medias)) (λ follow. Ok (record { follow = follow; accepted = s.accepted + 1 }))
+
+-- each playlist is read, also one of a track that is left out, before any is judged
+unfoldable pub round_state : LiveHls → LiveRounds → Round → Result LiveRounds Refusal
+round_state hls s round = and_then (medias_of hls.urls round.bodies) (taken s round.now)
+
+-- how many segments it appends
+unfoldable pub round_appends : LiveHls → LiveRounds → Round → ℕ
+round_appends hls s round = option_map_or (appended_by s.follow) (result_ok (medias_of hls.urls round.bodies)) 0
+
+-- the MPD of what the accepted rounds left
+abbrev pub mpd_text : LiveRounds → List ℕ
+mpd_text s = option_map_or (λ followed. live_text followed.mpd) s.follow.followed []
+
+-- ---- what is followed
+
+-- the one file is the MPD, and no segment is made
+abbrev pub followed_rounds : LiveHls → Followed LiveRounds Round
+followed_rounds hls = record {
+  refusal = λ s round. option_map refusal_text (result_err (round_state hls s round));
+  after = λ s round. result_unwrap_or (round_state hls s round) s;
+  files = λ s. (hls.name, mpd_text s) ∷ [];
+  appended = round_appends hls;
+  makes = λ s round. 0;
+}
+
+-- the rounds of a stream of bytes, with a body for each track
+abbrev pub round_stream : LiveHls → FramePos → List ℕ → Stream Round
+round_stream hls at bytes = rounds_from (length hls.urls) at bytes
+
+-- a round that is read has a body for each track
+pub record IsRead (hls : LiveHls) (round : Round) : Type 0 where
+  pub now : IsReadable round.now
+  pub one_each : length round.bodies ≡ length hls.urls
+
+-- each track has its URL, and where a round was accepted, there is an MPD
+pub record IsKept (hls : LiveHls) (s : LiveRounds) : Type 0 where
+  pub one_each : length s.follow.tracks ≡ length hls.urls
+  pub mpd : 0 < s.accepted → IsSome s.follow.followed
+
+-- ---- the command
+
+abbrev pub urls_of : List MasterTrack → List (List ℕ)
+urls_of tracks = map (λ (track : MasterTrack). track.address) tracks
+
+-- the playlists of a master's tracks, with the MPD in a folder
+abbrev pub hls_of : (out : List ℕ) → List MasterTrack → LiveHls
+hls_of out tracks = record { urls = urls_of tracks; name = in_folder out (codes "live.mpd") }
+
+abbrev pub no_rounds : List MasterTrack → LiveRounds
+no_rounds tracks = record { follow = record { tracks = tracks; followed = None }; accepted = 0 }
+
+-- the rounds of these bytes are followed
+abbrev pub course_with : (out : List ℕ) → List MasterTrack → (bytes : List ℕ) → Course
+course_with out tracks bytes = let hls = hls_of out tracks in
+    follow_course (followed_rounds hls) (round_stream hls) (no_rounds tracks) bytes
+
+-- a master that is refused is told whatever the input tells
+abbrev pub rounds_of : (out : List ℕ) → (input : Option (List ℕ)) → Result (List MasterTrack) Named → Option Course
+rounds_of out input (Ok tracks) = option_map (course_with out tracks) input
+rounds_of out input (Err named) = Some (course_by (Ends verdict.Refused (refusal_line named.0 named.1) true true))
+
+-- the master is at this place, and its rounds come from the input
+abbrev pub rounds_at : (out : List ℕ) → Option Files → (input : Option (List ℕ)) → Place → Option Course
+rounds_at out files input place = option_and_then (λ files. rounds_of out input (master_at place files)) files
+
+unfoldable pub rounds_course : FollowHls → Option Files → (input : Option (List ℕ)) → Option Course
+rounds_course job files input = course_placed (rounds_at job.out files input) (place_of job.base job.master)
+
+-- ---- causes
+
+-- a fault has its cause, of reading in the input or in the store, and no work ends with Words
+abbrev pub IsCausedByEither : Ending → (before after : World) → Type 0
+IsCausedByEither ending.ReadFault before after =
+    Rose before.input_faults after.input_faults ⊎ Rose before.read_faults after.read_faults
+IsCausedByEither told before after = IsCaused told before after

@@ -1,0 +1,147 @@
+// `follow-hls`: from rounds of live playlists to an MPD.
+ghost use Rattle.std.specs.Prelude.{◌≡◌, IfOk};
+ghost use Rattle.std.specs.Option.{ForSome};
+ghost use Rattle.bridge_runs.specs.Runs.{NeverFalls};
+ghost use Rattle.bridge_runs.specs.Steps.{Work, IsCaused};
+ghost use Rattle.bridge_steps.specs.Follow.{Grows, follow_course, world_of};
+ghost use Rattle.bridge_reach.specs.Rounds as spec;
+
+use crate::rounds::{BaseList, LiveHls, LiveRounds};
+use bridge_io::{Ledger, Name, NoMemory, Sink, Source, Steps, Store, Text};
+use bridge_playlists::{Place, base_at, master_at};
+use bridge_report::halted;
+use bridge_runs::Ending;
+use bridge_steps::{file_in, follow, place_in};
+use hls_follow::Follow;
+use hls_master::{Master, MasterTrack};
+use std::alloc::Global;
+
+/// A master whose live playlists are to be followed.
+#[derive(Debug, Drop)]
+pub struct FollowHls {
+    /// The master's file.
+    pub master: Name,
+    /// The URL of the store's root.
+    pub base: Text,
+    /// The folder of the MPD.
+    pub out: Name,
+}
+
+/// Works off the rounds of the input over the tracks of the job's master, which is read once and first: the MPD of each accepted
+/// one is written as `live.mpd`, and each round has a line. [`Ending::ReadFault`] comes only where the store's count of failed
+/// reads rose, or the input's.
+#[tactic(auto, unfolding(crate::specs::Rounds::rounds_course))]
+pub fn follow_playlists<I: Source, F: Store, P: Sink, L: Ledger>(
+    alloc: Global,
+    job: FollowHls,
+    input: &mut I,
+    store: &mut F,
+    report: &mut P,
+    steps: &mut Steps<L>,
+) -> Ending
+    ensures work { ForSome (spec.rounds_course job (F.files store.old) (I.remaining input.old)) (λ course. Work course result
+        (world_of (F.files store.old) (P.written report.old) (I.faults input.old) (F.read_faults store.old) (F.write_faults store.old) (P.faults report.old) steps.old)
+        (world_of (F.files store.new) (P.written report.new) (I.faults input.new) (F.read_faults store.new) (F.write_faults store.new) (P.faults report.new) steps.new)) }
+    ensures caused { spec.IsCausedByEither result
+        (world_of (F.files store.old) (P.written report.old) (I.faults input.old) (F.read_faults store.old) (F.write_faults store.old) (P.faults report.old) steps.old)
+        (world_of (F.files store.new) (P.written report.new) (I.faults input.new) (F.read_faults store.new) (F.write_faults store.new) (P.faults report.new) steps.new) }
+    ensures never_falls { NeverFalls
+        (world_of (F.files store.old) (P.written report.old) (I.faults input.old) (F.read_faults store.old) (F.write_faults store.old) (P.faults report.old) steps.old)
+        (world_of (F.files store.new) (P.written report.new) (I.faults input.new) (F.read_faults store.new) (F.write_faults store.new) (P.faults report.new) steps.new) }
+    ensures told { Grows (P.written report.old) (P.written report.new) }
+{
+    match place_in(alloc, &job.base, &job.master) {
+        Ok(place) => follow_at(alloc, &place, &job.out, input, store, report, steps),
+        Err(told) => told,
+    }
+}
+
+/// The same of the master at a place.
+fn follow_at<I: Source, F: Store, P: Sink, L: Ledger>(
+    alloc: Global,
+    place: &Place,
+    out: &Name,
+    input: &mut I,
+    store: &mut F,
+    report: &mut P,
+    steps: &mut Steps<L>,
+) -> Ending
+    ensures work { ForSome (spec.rounds_at out.now (F.files store.old) (I.remaining input.old) place.now) (λ course. Work course result
+        (world_of (F.files store.old) (P.written report.old) (I.faults input.old) (F.read_faults store.old) (F.write_faults store.old) (P.faults report.old) steps.old)
+        (world_of (F.files store.new) (P.written report.new) (I.faults input.new) (F.read_faults store.new) (F.write_faults store.new) (P.faults report.new) steps.new)) }
+    ensures caused { spec.IsCausedByEither result
+        (world_of (F.files store.old) (P.written report.old) (I.faults input.old) (F.read_faults store.old) (F.write_faults store.old) (P.faults report.old) steps.old)
+        (world_of (F.files store.new) (P.written report.new) (I.faults input.new) (F.read_faults store.new) (F.write_faults store.new) (P.faults report.new) steps.new) }
+    ensures never_falls { NeverFalls
+        (world_of (F.files store.old) (P.written report.old) (I.faults input.old) (F.read_faults store.old) (F.write_faults store.old) (P.faults report.old) steps.old)
+        (world_of (F.files store.new) (P.written report.new) (I.faults input.new) (F.read_faults store.new) (F.write_faults store.new) (P.faults report.new) steps.new) }
+    ensures told { Grows (P.written report.old) (P.written report.new) }
+{
+    match master_at(alloc, place, store) {
+        Ok(master) => follow_master(alloc, master, out, input, store, report, steps),
+        Err(halt) => halted(alloc, halt),
+    }
+}
+
+/// Works off the rounds of the input over a master's tracks.
+fn follow_master<I: Source, F: Store, P: Sink, L: Ledger>(
+    alloc: Global,
+    master: Master,
+    out: &Name,
+    input: &mut I,
+    store: &mut F,
+    report: &mut P,
+    steps: &mut Steps<L>,
+) -> Ending
+    ensures work { ForSome (I.remaining input.old) (λ bytes. Work (spec.course_with out.now master bytes) result
+        (world_of (F.files store.old) (P.written report.old) (I.faults input.old) (F.read_faults store.old) (F.write_faults store.old) (P.faults report.old) steps.old)
+        (world_of (F.files store.new) (P.written report.new) (I.faults input.new) (F.read_faults store.new) (F.write_faults store.new) (P.faults report.new) steps.new)) }
+    ensures caused { IsCaused result
+        (world_of (F.files store.old) (P.written report.old) (I.faults input.old) (F.read_faults store.old) (F.write_faults store.old) (P.faults report.old) steps.old)
+        (world_of (F.files store.new) (P.written report.new) (I.faults input.new) (F.read_faults store.new) (F.write_faults store.new) (P.faults report.new) steps.new) }
+    ensures never_falls { NeverFalls
+        (world_of (F.files store.old) (P.written report.old) (I.faults input.old) (F.read_faults store.old) (F.write_faults store.old) (P.faults report.old) steps.old)
+        (world_of (F.files store.new) (P.written report.new) (I.faults input.new) (F.read_faults store.new) (F.write_faults store.new) (P.faults report.new) steps.new) }
+    ensures told { Grows (P.written report.old) (P.written report.new) }
+{
+    match begin(alloc, master, out) {
+        Ok(begun) => {
+            let Begun { hls, rounds } = begun;
+            follow(alloc, &hls, rounds, input, store, report, steps)
+        }
+        Err(NoMemory) => Ending::Memory,
+    }
+}
+
+/// What is followed, and no round that was accepted.
+#[derive(Drop)]
+struct Begun {
+    hls: LiveHls,
+    rounds: LiveRounds,
+}
+
+fn begin(alloc: Global, master: Master, out: &Name) -> Result<Begun, NoMemory>
+    ensures { IfOk result (λ begun. begun ≡ record { hls = spec.hls_of out.now master; rounds = spec.no_rounds master }) }
+{
+    let urls = urls_of(alloc, master.tracks().as_slice())?;
+    let name = file_in(alloc, out, "live.mpd")?;
+    let follow = Follow::new(alloc, master)?;
+    Ok(Begun {
+        hls: LiveHls { urls, name },
+        rounds: LiveRounds {
+            follow,
+            accepted: 0,
+        },
+    })
+}
+
+/// The URLs of tracks, in order.
+fn urls_of(alloc: Global, tracks: &[MasterTrack]) -> Result<BaseList, NoMemory>
+    ensures { IfOk result (λ urls. urls ≡ spec.urls_of tracks.now) }
+{
+    let mut urls = BaseList::new(alloc);
+    for track in tracks {
+        urls.push(base_at(alloc, &track.address)?)?;
+    }
+    Ok(urls)
+}

@@ -1,0 +1,172 @@
+// Live playlists that are followed.
+ghost use Rattle.std.specs.Prelude.{◌≡◌, ◌+◌, ◌<◌, All, length, IfOk, OnErr};
+ghost use Rattle.bridge_io.specs.Answer.{Gives};
+ghost use Rattle.iso_time.specs.Instant.{IsReadable};
+ghost use Rattle.hls_media.specs.Laws.{IsBounded};
+ghost use Rattle.hls_follow.specs.Rounds.{appended_by};
+ghost use Rattle.bridge_jobs.specs.Frames.{most_frames};
+ghost use Rattle.bridge_report.specs.Refusals.{refused_in};
+ghost use Rattle.bridge_reach.specs.Rounds as spec;
+
+use bridge_io::{Bytes, Ledger, Name, Sequence, Source, Steps, Store};
+use bridge_jobs::laws::rounds_follow;
+use bridge_jobs::{BodyList, FrameFault, FramePos, Round, read_round};
+use bridge_report::Stop;
+use bridge_steps::Follow;
+use dash_writer::write_live_mpd;
+use file_pieces::OutFault;
+use hls_media::{Media, read_media, what_is_read_is_bounded};
+use hls_presentation::MediaFiles;
+use iso_time::Instant;
+use std::alloc::Global;
+use url_parts::Base;
+
+/// The URLs of playlists.
+pub type BaseList = Sequence<Base>;
+
+/// Live playlists that are followed, by rounds of them.
+#[derive(Debug, Drop)]
+pub struct LiveHls {
+    /// The playlists' URLs, by the tracks of the master.
+    pub urls: BaseList,
+    /// The file of the MPD.
+    pub name: Name,
+}
+
+/// What the accepted rounds left.
+#[derive(Drop)]
+pub struct LiveRounds {
+    /// The presentation.
+    pub follow: hls_follow::Follow,
+    /// How many rounds were accepted.
+    pub accepted: u64,
+}
+
+impl Follow for LiveHls {
+    type Frame = Round;
+
+    type Live = LiveRounds;
+
+    ghost told = { λ hls. spec.followed_rounds hls };
+
+    ghost accepted = { λ hls live. live.accepted };
+
+    ghost is_kept = { λ hls live. spec.IsKept hls live };
+
+    ghost stream = { λ hls. spec.round_stream hls };
+
+    ghost is_read = { λ hls round. spec.IsRead hls round };
+
+    fn next<I: Source>(
+        &self,
+        alloc: Global,
+        input: &mut I,
+        at: &mut FramePos,
+    ) -> Result<Option<Round>, FrameFault> {
+        rounds_follow();
+        read_round(alloc, input, self.urls.len(), at)
+    }
+
+    fn accept<L: Ledger>(
+        &self,
+        alloc: Global,
+        live: &mut LiveRounds,
+        round: &Round,
+        _steps: &mut Steps<L>,
+    ) -> Result<u64, Stop> {
+        match round_medias(alloc, self, &round.bodies) {
+            Ok(medias) => take(live, round.now, &medias),
+            Err(stop) => Err(stop),
+        }
+    }
+
+    fn publish<F: Store>(
+        &self,
+        alloc: Global,
+        live: &LiveRounds,
+        store: &mut F,
+    ) -> Result<(), OutFault> {
+        write_live_mpd(alloc, live.follow.view(), store, &self.name)
+    }
+}
+
+/// Takes a round's playlists, and answers how many segments it appended; or why it is refused, and then nothing is changed.
+#[tactic(auto, unfolding(crate::specs::Rounds::taken))]
+fn take(live: &mut LiveRounds, now: Instant, medias: &MediaFiles) -> Result<u64, Stop>
+    requires now { IsReadable now }
+    requires one_each { length medias.now ≡ length live.old.follow.tracks }
+    requires bounded { All IsBounded medias.now }
+    requires few { live.old.accepted < most_frames }
+    ensures next { Gives (λ _. live.new) refused_in result (spec.taken live.old now medias.now) }
+    ensures same { OnErr result (live.new ≡ live.old) }
+    ensures appended { IfOk result (λ n. n ≡ appended_by live.old.follow medias.now) }
+{
+    match live.follow.accept(now, medias) {
+        Ok(appended) => {
+            live.accepted += 1;
+            Ok(appended.0)
+        }
+        Err(fault) => Err(Stop::of_live(fault)),
+    }
+}
+
+/// Reads the playlists of a round, also those of tracks that are left out.
+fn round_medias(alloc: Global, hls: &LiveHls, bodies: &BodyList) -> Result<MediaFiles, Stop>
+    requires { length bodies.now ≡ length hls.now.urls }
+    ensures medias { Gives (λ medias. medias) refused_in result (spec.medias_of hls.now.urls bodies.now) }
+    ensures one_each { IfOk result (λ medias. length medias ≡ length hls.now.urls) }
+    ensures bounded { IfOk result (All IsBounded) }
+{
+    medias_of(alloc, hls.urls.as_slice(), bodies.as_slice())
+}
+
+/// Reads playlists in order, each of which is at its URL (RFC 8216, 4).
+fn medias_of(alloc: Global, mut urls: &[Base], mut bodies: &[Bytes]) -> Result<MediaFiles, Stop>
+    requires { length bodies.now ≡ length urls.now }
+    ensures medias { Gives (λ medias. medias) refused_in result (spec.medias_of urls.entry.now bodies.entry.now) }
+    ensures one_each { IfOk result (λ medias. length medias ≡ length urls.entry.now) }
+    ensures bounded { IfOk result (All IsBounded) }
+{
+    let mut medias = MediaFiles::new(alloc);
+    while let (Some((url, later_urls)), Some((body, later_bodies))) = (
+        urls.split_first(),
+        bodies.split_first(),
+    ) {
+        medias = medias_with(alloc, medias, url, body.as_slice())?;
+        (urls, bodies) = (later_urls, later_bodies);
+    }
+    Ok(medias)
+}
+
+/// Adds the playlist that bytes at a URL are.
+#[tactic(auto, unfolding(crate::specs::Rounds::medias_with))]
+fn medias_with(
+    alloc: Global,
+    medias: MediaFiles,
+    url: &Base,
+    body: &[u8],
+) -> Result<MediaFiles, Stop>
+    requires { All IsBounded medias }
+    ensures medias { Gives (λ medias. medias) refused_in result (spec.medias_with medias url.now body.now) }
+    ensures one_more { IfOk result (λ more. length more ≡ length medias + 1) }
+    ensures bounded { IfOk result (All IsBounded) }
+{
+    let media = media_in(alloc, url, body)?;
+    let mut medias = medias;
+    match medias.push(media) {
+        Ok(()) => Ok(medias),
+        Err(_) => Err(Stop::Memory),
+    }
+}
+
+/// The media playlist that bytes at a URL are.
+fn media_in(alloc: Global, url: &Base, body: &[u8]) -> Result<Media, Stop>
+    ensures media { Gives (λ media. media) refused_in result (spec.media_in url.now body.now) }
+    ensures bounded { IfOk result IsBounded }
+{
+    what_is_read_is_bounded();
+    match read_media(alloc, body, url) {
+        Ok(media) => Ok(media),
+        Err(fault) => Err(Stop::of_media(fault)),
+    }
+}
