@@ -15,9 +15,10 @@ use Rattle.bridge_runs.specs.Runs.{NeverFalls, TellsAs, status_of}
 use Rattle.bridge_runs.specs.Steps.{IsCaused}
 use Rattle.bridge_runs.proofs.Statuses.{no_fault, rose_later}
 use Rattle.bridge_report.specs.Outcomes.{Outcome, course_by}
-use Rattle.bridge_steps.specs.Endings.{EndsAs}
+use Rattle.bridge_steps.specs.Endings.{JobEndsAs}
 use Rattle.bridge_steps.proofs.Works.{met}
-use Rattle.bridge_core.specs.Courses.{Follows, IsBlamed, IsUnbuilt, ReadRose, course_of_job, outcome_of_job}
+use Rattle.bridge_reach.specs.Rounds.{IsCausedByEither}
+use Rattle.bridge_core.specs.Courses.{Follows, IsBlamed, ReadRose, ReadsInputAlone, WritesNoPlaylists, WritesNothing, course_of_job, outcome_of_job}
 
 -- ---- of a job that follows
 
@@ -62,42 +63,102 @@ follow_blamed name base out digits told before after caused falls = record {
   report = falls.report;
 }
 
+-- of one that follows playlists reading either may have failed
+either_caused : (told : Ending) (before after : World) → IsCausedByEither told before after → IsCaused told before after
+    ⊎ ((told ≡ ending.ReadFault) × (Rose before.input_faults after.input_faults ⊎ Rose before.read_faults after.read_faults))
+either_caused (ending.Ended v line) before after caused = inl caused
+either_caused ending.Words before after caused = inl caused
+either_caused ending.ReadFault before after caused = inr (refl, caused)
+either_caused ending.WriteFault before after caused = inl caused
+either_caused ending.Memory before after caused = inl caused
+either_caused (ending.Cut fail) before after caused = inl caused
+
+no_other : (told : Ending) (other : Status) → told ≡ ending.ReadFault → status_of told ≡ other → status.ReadFault ≡ other
+no_other told other is ends = subst (λ (t : Ending). status_of t ≡ other) is ends
+
+pub rounds_blamed : (master base out : List ℕ) (told : Ending) (before after : World) → IsCausedByEither told before after
+    → NeverFalls before after → IsBlamed (Some (job.FollowHls master base out)) told before after
+rounds_blamed master base out told before after caused falls = let causes = either_caused told before after caused in record {
+  read_fault = λ is. elim causes [
+    | inl one ↦ inl (caused_read told before after one is)
+    | inr either ↦ either.1
+  ];
+  write_fault = λ is. elim causes [
+    | inl one ↦ caused_write told before after one is
+    | inr either ↦ absurd (let e = no_other told status.WriteFault either.0 is in (cc))
+  ];
+  words = λ is. elim causes [
+    | inl one ↦ absurd (caused_words told before after one is)
+    | inr either ↦ absurd (let e = no_other told status.Words either.0 is in (cc))
+  ];
+  report = falls.report;
+}
+
 -- ---- of any other job
 
--- a job that is no such one, and one that no command is built for
-pub not_followed : (j : Job) → ((name base out : List ℕ) (digits : ℕ) → j ≡ job.Follow name base out digits → ⊥) → Follows (Some j) → ⊥
-not_followed (job.Hls mpd base now out digits) other f = f
-not_followed (job.Dash master base out) other f = f
-not_followed (job.Follow name base out digits) other f = other name base out digits refl
-not_followed (job.Show file base now digits) other f = f
-not_followed (job.Check mpd master base digits) other f = f
-not_followed (job.Reload old new base) other f = f
-not_followed (job.Make seed out digits) other f = f
-not_followed (job.HlsIndex mpd base out digits) other f = f
-not_followed (job.DashTimes master base out) other f = f
-not_followed (job.Agree mpd base) other f = f
-not_followed (job.FollowHls master base out) other f = f
+-- a job that is no such one
+pub not_followed : (j : Job) → ((name base out : List ℕ) (digits : ℕ) → j ≡ job.Follow name base out digits → ⊥)
+    → ((master base out : List ℕ) → j ≡ job.FollowHls master base out → ⊥)
+    → Follows (Some j) → ⊥
+not_followed (job.Hls mpd base now out digits) one other f = f
+not_followed (job.Dash master base out) one other f = f
+not_followed (job.Follow name base out digits) one other f = one name base out digits refl
+not_followed (job.Show file base now digits) one other f = f
+not_followed (job.Check mpd master base digits) one other f = f
+not_followed (job.Reload old new base) one other f = f
+not_followed (job.Make seed out digits) one other f = f
+not_followed (job.HlsIndex mpd base out digits) one other f = f
+not_followed (job.DashTimes master base out) one other f = f
+not_followed (job.Agree mpd base) one other f = f
+not_followed (job.FollowHls master base out) one other f = other master base out refl
 
-pub left_unbuilt : (j : Job)
+-- one that writes no playlists
+pub left_mpd : (j : Job)
     → ((mpd base : List ℕ) (now : Option ℤ) (out : List ℕ) (digits : ℕ) → j ≡ job.Hls mpd base now out digits → ⊥)
-    → ((master base out : List ℕ) → j ≡ job.Dash master base out → ⊥)
-    → ((file base : List ℕ) (now : Option ℤ) (digits : ℕ) → j ≡ job.Show file base now digits → ⊥)
-    → ((mpd master base : List ℕ) (digits : ℕ) → j ≡ job.Check mpd master base digits → ⊥)
-    → ((old new base : List ℕ) → j ≡ job.Reload old new base → ⊥)
-    → ((seed : ℕ) (out : List ℕ) (digits : ℕ) → j ≡ job.Make seed out digits → ⊥)
     → ((mpd base out : List ℕ) (digits : ℕ) → j ≡ job.HlsIndex mpd base out digits → ⊥)
-    → (Follows (Some j) → ⊥) → IsUnbuilt j
-left_unbuilt (job.Hls mpd base now out digits) a b c d e f g other = a mpd base now out digits refl
-left_unbuilt (job.Dash master base out) a b c d e f g other = b master base out refl
-left_unbuilt (job.Follow name base out digits) a b c d e f g other = other tt
-left_unbuilt (job.Show file base now digits) a b c d e f g other = c file base now digits refl
-left_unbuilt (job.Check mpd master base digits) a b c d e f g other = d mpd master base digits refl
-left_unbuilt (job.Reload old new base) a b c d e f g other = e old new base refl
-left_unbuilt (job.Make seed out digits) a b c d e f g other = f seed out digits refl
-left_unbuilt (job.HlsIndex mpd base out digits) a b c d e f g other = g mpd base out digits refl
-left_unbuilt (job.DashTimes master base out) a b c d e f g other = tt
-left_unbuilt (job.Agree mpd base) a b c d e f g other = tt
-left_unbuilt (job.FollowHls master base out) a b c d e f g other = tt
+    → ((seed : ℕ) (out : List ℕ) (digits : ℕ) → j ≡ job.Make seed out digits → ⊥)
+    → (Follows (Some j) → ⊥) → WritesNoPlaylists j
+left_mpd (job.Hls mpd base now out digits) a b c other = absurd (a mpd base now out digits refl)
+left_mpd (job.Dash master base out) a b c other = tt
+left_mpd (job.Follow name base out digits) a b c other = absurd (other tt)
+left_mpd (job.Show file base now digits) a b c other = tt
+left_mpd (job.Check mpd master base digits) a b c other = tt
+left_mpd (job.Reload old new base) a b c other = tt
+left_mpd (job.Make seed out digits) a b c other = absurd (c seed out digits refl)
+left_mpd (job.HlsIndex mpd base out digits) a b c other = absurd (b mpd base out digits refl)
+left_mpd (job.DashTimes master base out) a b c other = tt
+left_mpd (job.Agree mpd base) a b c other = tt
+left_mpd (job.FollowHls master base out) a b c other = absurd (other tt)
+
+-- and no MPD
+pub left_judged : (j : Job) → ((master base out : List ℕ) → j ≡ job.Dash master base out → ⊥)
+    → ((master base out : List ℕ) → j ≡ job.DashTimes master base out → ⊥)
+    → WritesNoPlaylists j → WritesNothing j
+left_judged (job.Hls mpd base now out digits) a b writes = writes
+left_judged (job.Dash master base out) a b writes = absurd (a master base out refl)
+left_judged (job.Follow name base out digits) a b writes = writes
+left_judged (job.Show file base now digits) a b writes = writes
+left_judged (job.Check mpd master base digits) a b writes = writes
+left_judged (job.Reload old new base) a b writes = writes
+left_judged (job.Make seed out digits) a b writes = writes
+left_judged (job.HlsIndex mpd base out digits) a b writes = writes
+left_judged (job.DashTimes master base out) a b writes = absurd (b master base out refl)
+left_judged (job.Agree mpd base) a b writes = writes
+left_judged (job.FollowHls master base out) a b writes = writes
+
+-- one that reads the input alone follows
+pub alone_follows : (j : Job) → ReadsInputAlone (Some j) → Follows (Some j)
+alone_follows (job.Hls mpd base now out digits) alone = absurd alone
+alone_follows (job.Dash master base out) alone = absurd alone
+alone_follows (job.Follow name base out digits) alone = tt
+alone_follows (job.Show file base now digits) alone = absurd alone
+alone_follows (job.Check mpd master base digits) alone = absurd alone
+alone_follows (job.Reload old new base) alone = absurd alone
+alone_follows (job.Make seed out digits) alone = absurd alone
+alone_follows (job.HlsIndex mpd base out digits) alone = absurd alone
+alone_follows (job.DashTimes master base out) alone = absurd alone
+alone_follows (job.Agree mpd base) alone = absurd alone
+alone_follows (job.FollowHls master base out) alone = absurd alone
 
 store_read : (j : Job) → (Follows (Some j) → ⊥) → (i i' r r' : ℕ) → Rose r r' → ReadRose (Some j) i i' r r'
 store_read (job.Hls mpd base now out digits) other i i' r r' rose = rose
@@ -110,7 +171,7 @@ store_read (job.Make seed out digits) other i i' r r' rose = rose
 store_read (job.HlsIndex mpd base out digits) other i i' r r' rose = rose
 store_read (job.DashTimes master base out) other i i' r r' rose = rose
 store_read (job.Agree mpd base) other i i' r r' rose = rose
-store_read (job.FollowHls master base out) other i i' r r' rose = rose
+store_read (job.FollowHls master base out) other i i' r r' rose = absurd (other tt)
 
 -- its course is that of its outcome
 pub other_course : (j : Job) → (Follows (Some j) → ⊥) → (files : Option Files) (input : Option (List ℕ))
@@ -125,15 +186,14 @@ other_course (job.Make seed out digits) other files input = refl
 other_course (job.HlsIndex mpd base out digits) other files input = refl
 other_course (job.DashTimes master base out) other files input = refl
 other_course (job.Agree mpd base) other files input = refl
-other_course (job.FollowHls master base out) other files input = refl
+other_course (job.FollowHls master base out) other files input = absurd (other tt)
 
 pub command_blamed : (o : Option Outcome) (j : Job) (told : Ending) (before after : World) → (Follows (Some j) → ⊥)
-    → EndsAs o told (met before) (met after) → (status_of told ≡ status.Words → IsUnbuilt j) → after.report_faults ≡ before.report_faults
-    → IsBlamed (Some j) told before after
-command_blamed o j told before after other ends words faults = record {
-  read_fault = λ is. store_read j other _ _ _ _ (ends.read_fault is);
-  write_fault = λ is. inl (ends.write_fault is);
-  words = λ is. λ other_job same. subst IsUnbuilt (let e : j ≡ other_job = cc in e) (words is);
+    → JobEndsAs o told (met before) (met after) → after.report_faults ≡ before.report_faults → IsBlamed (Some j) told before after
+command_blamed o j told before after other done faults = record {
+  read_fault = λ is. store_read j other _ _ _ _ (done.ends.read_fault is);
+  write_fault = λ is. inl (done.ends.write_fault is);
+  words = λ is. absurd (done.job is);
   report = omega (arith, faults);
 }
 
@@ -143,7 +203,7 @@ none_blamed : (w : World) → IsBlamed None ending.Words w w
 none_blamed w = record {
   read_fault = λ is. absurd (cc);
   write_fault = λ is. absurd (cc);
-  words = λ is. λ j none. absurd (cc);
+  words = λ is. refl;
   report = omega arith;
 }
 

@@ -10,3 +10,4 @@ pub mod CheckPromises
 pub mod Blamed
 pub mod Worked
 pub mod IndexPromises
+pub mod TimesPromises

@@ -1,20 +1,14 @@
 -- Work of words that are no job, and of commands.
-use Rattle.std.proofs.Common.{◌≡◌, ℕ, List, Option, None, Some, inl, inr, refl, subst, sym, arith}
+use Rattle.std.proofs.Common.{◌≡◌, ℕ, List, Option, None, Some, refl, subst, sym}
 use Rattle.std.specs.Option.{ForSome}
-use Rattle.std.specs.Prelude.{codes}
 use Rattle.bridge_io.specs.Outside.{Files}
 use Rattle.bridge_jobs.specs.declared.jobs.Job.{Job}
 use Rattle.bridge_runs.specs.declared.ending.Ending.{Ending}
 use Rattle.bridge_runs.specs.declared.ending.Ending.TheVariants as ending
-use Rattle.bridge_runs.specs.declared.status.Verdict.TheVariants as verdict
 use Rattle.bridge_runs.specs.Courses.{Course, World}
-use Rattle.bridge_runs.specs.Runs.{NeverFalls}
-use Rattle.bridge_runs.specs.Steps.{IsCaused, Work}
-use Rattle.bridge_runs.proofs.Stepping.{memory_first}
-use Rattle.bridge_report.specs.Outcomes.{base_refused, course_by}
-use Rattle.bridge_report.specs.Refusals.{refusal_line}
-use Rattle.bridge_report.specs.declared.refusal.Refusal.TheVariants as refusal
-use Rattle.bridge_steps.specs.Endings.{EndsAs, IsUnplaced}
+use Rattle.bridge_runs.specs.Steps.{Work}
+use Rattle.bridge_report.specs.Outcomes.{course_by}
+use Rattle.bridge_steps.specs.Endings.{JobEndsAs}
 use Rattle.bridge_steps.proofs.Works.{met, work_of, works}
 use Rattle.bridge_core.specs.Courses.{Follows, course_of_job, no_job, outcome_of_job}
 use Rattle.bridge_core.proofs.Blamed.{other_course}
@@ -42,8 +36,8 @@ same_worked j found files input told w w' is work =
 
 -- a job that isn't followed does what its outcome says
 pub command_worked : (j : Job) (other : Follows (Some j) → ⊥) (files : Option Files) (input : Option (List ℕ)) (told : Ending) (w w' : World)
-    → EndsAs (outcome_of_job (Some j) files) told (met w) (met w') → w'.input_faults ≡ w.input_faults → w'.report_faults ≡ w.report_faults
+    → JobEndsAs (outcome_of_job (Some j) files) told (met w) (met w') → w'.input_faults ≡ w.input_faults → w'.report_faults ≡ w.report_faults
     → w'.report ≡ w.report → ForSome (course_of_job (Some j) files input) (λ course. Work course told w w')
-command_worked j other files input told w w' ends inputs reports report =
+command_worked j other files input told w w' done inputs reports report =
     subst (λ o. ForSome o (λ course. Work course told w w')) (sym (other_course j other files input))
-    (work_of (outcome_of_job (Some j) files) told w w' ends inputs reports report)
+    (work_of (outcome_of_job (Some j) files) told w w' done.ends inputs reports report)

@@ -9,3 +9,4 @@ pub mod Promises
 pub mod Reports
 pub mod Show
 pub mod Source
+pub mod TimesPromises

@@ -1,8 +1,10 @@
 //! Laws of the program's runs. The functions do nothing: what they ensure is the law.
 ghost use Rattle.bridge_core.specs.IndexPromises.{WrittenMeansTheIndexes};
 ghost use Rattle.bridge_core.specs.Promises.{DifferIsApart, DoneIsAgreed, WrittenMeansTheMpd, WrittenMpdMeansThePlaylists};
+ghost use Rattle.bridge_core.specs.TimesPromises.{DifferHasAnother, DoneHasTheFilesTimes, WrittenHasTheFilesTimes};
 
 use bridge_jobs::laws::folders_hold_their_files;
+use bridge_reach::{what_agrees_has_the_files_times, what_is_written_has_the_files_times};
 use bridge_runs::{a_verdict_keeps_the_steps, done_is_whole};
 use hls_media::what_is_read_is_bounded;
 use hls_read::presented_mean_their_files;
@@ -81,4 +83,26 @@ pub fn what_is_checked_agrees()
     read_tracks_can_be_written();
     presented_mean_their_files();
     agreeing_has_no_difference();
+}
+
+/// Where a run of `dash-times` is done, the files are the former ones with its MPD, in which each SegmentList counts in the timescale
+/// that its initialization part states, and each segment begins at the decode time that its own file states (ISO/IEC 14496-12,
+/// 8.4.2 and 8.8.12).
+pub fn what_is_timed_has_the_files_times()
+    ensures { WrittenHasTheFilesTimes }
+{
+    done_is_whole();
+    a_verdict_keeps_the_steps();
+    what_is_written_has_the_files_times();
+}
+
+/// Where a run of `agree` is done, each listed segment of its MPD begins, with the presentation time offset added, at the decode
+/// time that its file states over the timescale of its track's media. Where it ends as Differ, the run's line tells the first one,
+/// by section, track and place, that doesn't.
+pub fn what_agrees_begins_as_its_files_state()
+    ensures done { DoneHasTheFilesTimes }
+    ensures differ { DifferHasAnother }
+{
+    a_verdict_keeps_the_steps();
+    what_agrees_has_the_files_times();
 }

@@ -15,7 +15,8 @@ mod source;
 
 pub use bridge_runs::Status;
 pub use laws::{
-    what_is_checked_agrees, what_is_written_means_the_indexes, what_is_written_means_the_mpd,
-    what_is_written_means_the_playlists,
+    what_agrees_begins_as_its_files_state, what_is_checked_agrees,
+    what_is_timed_has_the_files_times, what_is_written_means_the_indexes,
+    what_is_written_means_the_mpd, what_is_written_means_the_playlists,
 };
 pub use run::bridge;

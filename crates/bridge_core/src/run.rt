@@ -1,15 +1,16 @@
 // The top call.
-ghost use Rattle.std.specs.Prelude.{◌≡◌, ◌⊎◌, Some};
+ghost use Rattle.std.specs.Prelude.{◌≡◌, ◌⊎◌, None, Some};
 ghost use Rattle.std.specs.Option.{ForSome};
 ghost use Rattle.bridge_io.specs.Fault.{Rose};
 ghost use Rattle.bridge_jobs.specs.Jobs.{HasReadableNow, job_of};
 ghost use Rattle.bridge_runs.specs.declared.status.Status.TheVariants as status;
-ghost use Rattle.bridge_runs.specs.Runs.{IsRun, NeverFalls, status_by, status_of};
+ghost use Rattle.bridge_runs.specs.Runs.{IsRun, status_by};
 ghost use Rattle.bridge_runs.specs.Laws.{IsCalm};
 ghost use Rattle.bridge_runs.specs.Steps.{Work};
-ghost use Rattle.bridge_steps.specs.Endings.{EndsAs, around};
+ghost use Rattle.bridge_steps.specs.Endings.{JobEndsAs, around};
 ghost use Rattle.bridge_steps.specs.Follow.{Grows, world_of};
-ghost use Rattle.bridge_core.specs.Courses.{Follows, IsBlamed, IsUnbuilt, ReadRose, course_of, course_of_job, outcome_of_job};
+ghost use Rattle.bridge_core.specs.Courses.{Follows, IsBlamed, ReadRose, ReadsInputAlone, WritesNoPlaylists, WritesNothing};
+ghost use Rattle.bridge_core.specs.Courses.{course_of, course_of_job, outcome_of_job};
 ghost use Rattle.bridge_core.specs.Reports.{TellsItsEnd};
 
 use crate::check::{self, Check};
@@ -21,22 +22,29 @@ use crate::show::{self, Show};
 use bridge_io::{Ledger, NoMemory, Sink, Source, Steps, Store, Text};
 use bridge_jobs::{Job, job};
 use bridge_playlists::{Reload, judge};
-use bridge_reach::{HlsIndex, translate_indexed};
+use bridge_reach::{
+    Agree, DashTimes, FollowHls, HlsIndex, follow_playlists, judge_times, translate_indexed,
+    translate_timed,
+};
 use bridge_runs::{Ending, Status, tell};
 use std::alloc::Global;
 
 /// Runs the command that the words are, without the program's own name: it reads and writes the files of the store,
-/// and reports how it ends, in one line but for `show` and `follow`. The input is left as it was, but for `follow`.
+/// and reports how it ends, in one line but for `show`, `follow` and `follow-hls`. The input is left as it was, but for these two last.
 ///
-/// Eight commands are built yet. `hls` writes the playlists of an MPD, `t0.m3u8` and so on for each track and `master.m3u8` for
-/// all, to a folder, the master last; of a live one those that `follow` would write of it at an instant. `hls-index` writes the same
-/// of an MPD whose media files have an index inside, and of these files. `dash` writes the MPD of a master and its playlists,
-/// `manifest.mpd`. None of them writes anything before every refusal is ruled out. `follow` reads frames from the input, each a
-/// version of a live MPD or an instant, and after each accepted one writes the playlists again, which slide; each frame has a line.
-/// It reads nothing of the store. `show` tells the tracks and sections of an MPD or of a master, a line for each track in each
-/// section. `check` tells whether an MPD and a master agree, or where they differ first. `reload` reads two media playlists and
-/// tells whether the second may take the first one's place, or the first rule that it breaks. `make` writes an MPD that is made
+/// `hls` writes the playlists of an MPD, `t0.m3u8` and so on for each track and `master.m3u8` for all, to a folder, the master last; of
+/// a live one those that `follow` would write of it at an instant. `hls-index` writes the same of an MPD whose media files have an index
+/// inside, and of these files. `dash` writes the MPD of a master and its playlists, `manifest.mpd`, and `dash-times` the same with the
+/// times that the media files state. None of them writes anything before every refusal is ruled out. `make` writes an MPD that is made
 /// from a seed, `source.mpd`, and then what `hls` writes of it, and reads nothing.
+///
+/// `follow` reads frames from the input, each a version of a live MPD or an instant, and after each accepted one writes the playlists
+/// again, which slide; it reads nothing of the store. `follow-hls` reads a master and then rounds of its live playlists from the input,
+/// and after each accepted one writes the live MPD again, `live.mpd`. Each frame and each round has a line.
+///
+/// `show` tells the tracks and sections of an MPD or of a master, a line for each track in each section. `check` tells whether an MPD
+/// and a master agree, or where they differ first, and `agree` whether an MPD has the times that its media files state. `reload` reads
+/// two media playlists and tells whether the second may take the first one's place, or the first rule that it breaks.
 pub fn bridge<I: Source, F: Store, P: Sink, L: Ledger>(
     alloc: Global,
     words: &[Text],
@@ -58,7 +66,7 @@ pub fn bridge<I: Source, F: Store, P: Sink, L: Ledger>(
         IsCalm before after → (result ≡ status_by course.end.verdict) ⊎ (result ≡ status.Memory)) }
 
     // Words are told only of words that are no job, whatever the store tells.
-    ensures words { result ≡ status.Words → ForSome (job_of words.now) IsUnbuilt }
+    ensures words { result ≡ status.Words → job_of words.now ≡ None }
 
     // A fault has a cause: of reading in what the job reads.
     ensures read_fault { result ≡ status.ReadFault → ReadRose (job_of words.now) (I.faults input.old) (I.faults input.new) (F.read_faults store.old) (F.read_faults store.new) }
@@ -67,9 +75,9 @@ pub fn bridge<I: Source, F: Store, P: Sink, L: Ledger>(
     // How it ends is told, whatever the store tells.
     ensures told { TellsItsEnd result (P.faults report.old) (P.faults report.new) (P.written report.old) (P.written report.new) }
 
-    // The input is read by a job that follows alone, which never reads the store.
+    // The input is read by a job that follows alone, and the store never by one that follows an MPD.
     ensures input { (Follows (job_of words.now) → ⊥) → input.new ≡ input.old }
-    ensures reads { Follows (job_of words.now) → F.read_faults store.new ≡ F.read_faults store.old }
+    ensures reads { ReadsInputAlone (job_of words.now) → F.read_faults store.new ≡ F.read_faults store.old }
 {
     let ending = work(alloc, words, input, store, report, steps);
     tell(&ending, report)
@@ -93,7 +101,7 @@ fn work<I: Source, F: Store, P: Sink, L: Ledger>(
         (world_of (F.files store.new) (P.written report.new) (I.faults input.new) (F.read_faults store.new) (F.write_faults store.new) (P.faults report.new) steps.new) }
     ensures told { Grows (P.written report.old) (P.written report.new) }
     ensures input { (Follows (job_of words.now) → ⊥) → input.new ≡ input.old }
-    ensures reads { Follows (job_of words.now) → F.read_faults store.new ≡ F.read_faults store.old }
+    ensures reads { ReadsInputAlone (job_of words.now) → F.read_faults store.new ≡ F.read_faults store.old }
 {
     match job(alloc, words) {
         Ok(Some(job)) => run_job(alloc, job, input, store, report, steps),
@@ -119,7 +127,7 @@ fn run_job<I: Source, F: Store, P: Sink, L: Ledger>(
         (world_of (F.files store.new) (P.written report.new) (I.faults input.new) (F.read_faults store.new) (F.write_faults store.new) (P.faults report.new) steps.new) }
     ensures told { Grows (P.written report.old) (P.written report.new) }
     ensures input { (Follows (Some job) → ⊥) → input.new ≡ input.old }
-    ensures reads { Follows (Some job) → F.read_faults store.new ≡ F.read_faults store.old }
+    ensures reads { ReadsInputAlone (Some job) → F.read_faults store.new ≡ F.read_faults store.old }
 {
     match job {
         Job::Follow {
@@ -136,6 +144,10 @@ fn run_job<I: Source, F: Store, P: Sink, L: Ledger>(
             };
             follow::translate(alloc, job, input, store, report, steps)
         }
+        Job::FollowHls { master, base, out } => {
+            let job = FollowHls { master, base, out };
+            follow_playlists(alloc, job, input, store, report, steps)
+        }
         other => run_command(alloc, other, store, steps),
     }
 }
@@ -149,10 +161,9 @@ fn run_command<F: Store, L: Ledger>(
 ) -> Ending
     requires readable { HasReadableNow job }
     requires other { Follows (Some job) → ⊥ }
-    ensures ends { EndsAs (outcome_of_job (Some job) (F.files store.old)) result
+    ensures { JobEndsAs (outcome_of_job (Some job) (F.files store.old)) result
         (around (F.files store.old) (F.read_faults store.old) (F.write_faults store.old) steps.old)
         (around (F.files store.new) (F.read_faults store.new) (F.write_faults store.new) steps.new) }
-    ensures words { status_of result ≡ status.Words → IsUnbuilt job }
 {
     match job {
         Job::Hls {
@@ -171,9 +182,65 @@ fn run_command<F: Store, L: Ledger>(
             };
             hls::translate(alloc, &job, store, steps)
         }
+        Job::HlsIndex {
+            mpd,
+            base,
+            out,
+            digits,
+        } => {
+            let job = HlsIndex {
+                mpd,
+                base,
+                out,
+                digits,
+            };
+            translate_indexed(alloc, &job, store, steps)
+        }
+        Job::Make { seed, out, digits } => {
+            make::translate(alloc, &Make { seed, out, digits }, store, steps)
+        }
+        other => run_mpd_command(alloc, other, store, steps),
+    }
+}
+
+/// The same of one that writes no playlists.
+fn run_mpd_command<F: Store, L: Ledger>(
+    alloc: Global,
+    job: Job,
+    store: &mut F,
+    steps: &mut Steps<L>,
+) -> Ending
+    requires readable { HasReadableNow job }
+    requires mpd { WritesNoPlaylists job }
+    ensures { JobEndsAs (outcome_of_job (Some job) (F.files store.old)) result
+        (around (F.files store.old) (F.read_faults store.old) (F.write_faults store.old) steps.old)
+        (around (F.files store.new) (F.read_faults store.new) (F.write_faults store.new) steps.new) }
+{
+    match job {
         Job::Dash { master, base, out } => {
             dash::translate(alloc, &Dash { master, base, out }, store, steps)
         }
+        Job::DashTimes { master, base, out } => {
+            translate_timed(alloc, &DashTimes { master, base, out }, store, steps)
+        }
+        other => run_judgement(alloc, other, store, steps),
+    }
+}
+
+/// The same of one that writes nothing.
+fn run_judgement<F: Store, L: Ledger>(
+    alloc: Global,
+    job: Job,
+    store: &mut F,
+    steps: &mut Steps<L>,
+) -> Ending
+    requires readable { HasReadableNow job }
+    requires judges { WritesNothing job }
+    ensures { JobEndsAs (outcome_of_job (Some job) (F.files store.old)) result
+        (around (F.files store.old) (F.read_faults store.old) (F.write_faults store.old) steps.old)
+        (around (F.files store.new) (F.read_faults store.new) (F.write_faults store.new) steps.new) }
+{
+    match job {
         Job::Show {
             file,
             base,
@@ -202,24 +269,8 @@ fn run_command<F: Store, L: Ledger>(
             };
             check::judge(alloc, &job, store, steps)
         }
+        Job::Agree { mpd, base } => judge_times(alloc, &Agree { mpd, base }, store, steps),
         Job::Reload { old, new, base } => judge(alloc, &Reload { old, new, base }, store),
-        Job::Make { seed, out, digits } => {
-            make::translate(alloc, &Make { seed, out, digits }, store, steps)
-        }
-        Job::HlsIndex {
-            mpd,
-            base,
-            out,
-            digits,
-        } => {
-            let job = HlsIndex {
-                mpd,
-                base,
-                out,
-                digits,
-            };
-            translate_indexed(alloc, &job, store, steps)
-        }
-        _ => Ending::Words,
+        _ => unreachable!(),
     }
 }

@@ -1,0 +1,17 @@
+use Rattle.std.proofs.Common.{refl, arith}
+use Rattle.bridge_core.proofs.run.run_judgement.Goals as goal
+
+pub returns-in-Reload : goal.returns-in-Reload
+returns-in-Reload g c = let told = c.judge-in-Reload.ensures in
+    rw c.in-Reload.is
+    (record {
+      ends = record {
+        ending = told.ending;
+        made = λ o e counts. refl;
+        read_fault = told.read_fault;
+        write_fault = λ e. absurd (told.write_fault e);
+        reads = told.reads;
+        writes = omega (arith, told.writes);
+      };
+      job = told.job;
+    })
