@@ -1,49 +1,20 @@
 #!/usr/bin/env bash
-# Refuses each allocation of `bridge` in turn: those of `hls` over one Period and over two, of `hls-index`, `dash`, `show`, `check` and
-# `reload`, and of `follow` over an MPD, an instant, a refused address and a reset. Each run ends as one whose memory is ample, with the
-# same lines and the same files, or as 5, with each file a front of its text, none begun before the one in front of it is whole, and no
-# other file; of `follow`, with the lines and files of the frames so far, and such fronts of the next one's. A run that does anything else
-# is told, and the script's status is then 1.
+# Refuses each allocation of `bridge` in turn: those of `hls` over one Period and over two, of `hls-index`, `dash`, `dash-times`, `show`,
+# `check`, `agree` and `reload`, of `follow` over an MPD, an instant, a refused address and a reset, and of `follow-hls` over three rounds,
+# of which one is refused. Each run ends as one whose memory is ample, with the same lines and the same files, or as 5, with each file a
+# front of its text, none begun before the one in front of it is whole, and no other file; of what is followed, with the lines and files of
+# the frames so far, and such fronts of the next one's. A run that does anything else is told, and the script's status is then 1.
 #
 # It wants `rt`, python3 and cc, and proves the program first where that isn't kept. glibc is taken for the C library.
 set -euo pipefail
 source "$(dirname "$0")/program.sh"
 
-cat > "$work/refuse.c" <<'C'
-/* The call whose number from 1 on REFUSED names gets no memory, and that is told on standard error. */
-#include <stdlib.h>
-#include <unistd.h>
-
-extern void *__libc_malloc(size_t), *__libc_realloc(void *, size_t);
-
-static long refused, calls;
-
-__attribute__((constructor)) static void begin(void)
-{
-    const char *number = getenv("REFUSED");
-    refused = number ? atol(number) : 0;
-    calls = 0;
-}
-
-static int refuses(void)
-{
-    return ++calls == refused && write(2, "refused\n", 8) == 8;
-}
-
-void *malloc(size_t size)
-{
-    return refuses() ? NULL : __libc_malloc(size);
-}
-
-void *realloc(void *former, size_t size)
-{
-    return refuses() ? NULL : __libc_realloc(former, size);
-}
-C
-cc -O2 -shared -fPIC -o "$work/refuse.so" "$work/refuse.c"
+cc -O2 -shared -fPIC -o "$work/refuse.so" "$here/bench/refuse.c"
 
 cat > "$work/allocations.py" <<'PY'
 import itertools, os, struct, subprocess, sys, tempfile
+
+from media import fragment, initial
 
 bridge, library, data = sys.argv[1:]
 
@@ -62,6 +33,11 @@ VIDEO = ('#EXTM3U\n#EXT-X-TARGETDURATION:9\n#EXT-X-MAP:URI="i.mp4"\n#EXTINF:9.00
 INDEXED = ('<MPD xmlns="urn:mpeg:dash:schema:mpd:2011"><Period><AdaptationSet mimeType="video/mp4"><Representation id="v" bandwidth="1000">'
            '<BaseURL>f.mp4</BaseURL><SegmentBase indexRange="100-155"/></Representation></AdaptationSet></Period></MPD>')
 INDEX = bytes(100) + struct.pack(">I4s12I", 56, b"sidx", 0, 1, 1000, 0, 0, 2, 1000, 2000, 9 << 28, 500, 1500, 9 << 28)
+TIMED = {"m.m3u8": MASTER, "v.m3u8": VIDEO, "i.mp4": initial(90_000), "s0.m4s": fragment(900_000), "s1.m4s": fragment(1_710_810),
+         "s2.m4s": fragment(2_521_620)}
+TIMES = ('<MPD xmlns="urn:mpeg:dash:schema:mpd:2011"><Period duration="PT2S"><AdaptationSet mimeType="video/mp4"><Representation id="v" '
+         'bandwidth="1000"><SegmentTemplate duration="1" initialization="i.mp4" media="s$Number$.m4s" startNumber="0"/></Representation>'
+         '</AdaptationSet></Period></MPD>')
 PERIODS = '<MPD xmlns="urn:mpeg:dash:schema:mpd:2011">' + period("") + period("<BaseURL>p2/</BaseURL>") + "</MPD>"
 
 # What is run over which files, its line, and the files that it writes in turn.
@@ -74,13 +50,15 @@ RUNS = {
                   ["out/t0.m3u8", "out/master.m3u8"]),
     "dash": (["dash", "m.m3u8"], {"m.m3u8": MASTER, "v.m3u8": VIDEO}, "done tracks=1 sections=1 segments=3 left-out=0\n",
              ["out/manifest.mpd"]),
+    "dash-times": (["dash-times", "m.m3u8"], TIMED, "done tracks=1 sections=1 segments=3 left-out=0\n", ["out/manifest.mpd"]),
+    "agree": (["agree", "m.mpd"], {**TIMED, "m.mpd": TIMES}, "disagree section 0 track 0 segment 0\n", []),
     "show": (["show", "m.m3u8"], {"m.m3u8": MASTER, "v.m3u8": VIDEO}, "hls tracks=1 sections=1 segments=3 left-out=0\n"
              "track 0 video - section 0 segments=3 length=21.021000\n", []),
     "check": (["check", "m.mpd", "m.m3u8"], {"m.mpd": text("m.mpd"), "m.m3u8": MASTER, "v.m3u8": VIDEO},
               "differ address section 0 track 0 segment 0\n", []),
     "reload": (["reload", "v.m3u8", "v.m3u8"], {"v.m3u8": VIDEO}, "lawful kept=3 added=0 removed=0\n", []),
 }
-STATUS = {"check": 6}
+STATUS = {"check": 6, "agree": 6}
 
 # Frames that are followed, and what is told of each.
 LIVE = ('<MPD xmlns="urn:mpeg:dash:schema:mpd:2011" type="dynamic" availabilityStartTime="2024-01-01T00:00:00Z" timeShiftBufferDepth="PT12S">'
@@ -98,6 +76,22 @@ FRAMES = [
     (frame("tick", 26), "frame 3 ok appended=1\n"),
     (frame("reset", 30, LIVE.format("s")), "frame 4 ok appended=2\n"),
 ]
+
+# Rounds of a live playlist.
+def round_of(second, sequence, *segments):
+    body = f'#EXTM3U\n#EXT-X-TARGETDURATION:4\n#EXT-X-MEDIA-SEQUENCE:{sequence}\n#EXT-X-MAP:URI="i.mp4"\n'
+    body += "".join(f"#EXTINF:4,\n{name}.m4s\n" for name in segments)
+    return f"round 2024-01-01T00:00:{second}Z {len(body)}\n{body}"
+
+ROUNDS = [
+    (round_of("20", 10, "a", "b", "c"), "frame 0 ok appended=3\n"),
+    (round_of("24", 9, "z", "a", "b"), "frame 1 refused live 8 Unlawful\n"),
+    (round_of("28", 12, "c", "d", "e"), "frame 2 ok appended=2\n"),
+]
+FOLLOWED = {
+    "follow": (["follow", "live.mpd"], {}, FRAMES, ["out/t0.m3u8"], ["out/t0.m3u8", "out/master.m3u8"]),
+    "follow-hls": (["follow-hls", "m.m3u8"], {"m.m3u8": MASTER}, ROUNDS, ["out/live.mpd"], ["out/live.mpd"]),
+}
 
 def left(folder):
     """The files below a folder."""
@@ -137,8 +131,8 @@ def is_begun(now, before, after, written):
     return (is_begun(now, whole, after, later) or now == before
             or front is not None and after[first].startswith(front) and now == {**before, first: front})
 
-def stopped(ended, told, states):
-    """Whether a run that ended as 5 left what some frames left, and fronts of the next one's files."""
+def stopped(ended, told, states, written, first):
+    """Whether a run that ended as 5 left what some frames left, and fronts of the next one's files, which are others of the first one."""
     status, lines, now = ended
     lines = lines.removesuffix("out of memory\n")
     count = lines.count("\n")
@@ -146,8 +140,8 @@ def stopped(ended, told, states):
         return False
     following = min(count + 1, len(told))
     accepted = " ok " in "".join(told[count:following])
-    written = ["out/t0.m3u8", "out/master.m3u8"][:1 + (count == 0)] if accepted else []
-    return is_begun(now, states[count], states[following], written)
+    begun = (written if count else first) if accepted else []
+    return is_begun(now, states[count], states[following], begun)
 
 def tried(label, words, files, whole, gives_up, given=""):
     """How many runs did what they may not do, with each allocation refused in turn."""
@@ -173,14 +167,15 @@ for label, (words, files, line, written) in RUNS.items():
         sys.exit(f"{label}: with ample memory it ends as {whole[:2]} and leaves {sorted(whole[2])}")
     bad += tried(label, words, files, whole, lambda ended: gave_up(ended, whole[2], files, written))
 
-told = [line for _, line in FRAMES]
-streams = ["".join(text for text, _ in FRAMES[:count]) for count in range(len(FRAMES) + 1)]
-ends = [run(["follow", "live.mpd"], {}, 0, stream)[0] for stream in streams]
-for count, (status, lines, _) in enumerate(ends):
-    if (status, lines.rpartition("done")[0]) != (0, "".join(told[:count])):
-        sys.exit(f"follow: with ample memory {count} frames end as {status} with {lines}")
-states = [files for _, _, files in ends]
-bad += tried("follow", ["follow", "live.mpd"], {}, ends[-1], lambda ended: stopped(ended, told, states), streams[-1])
+for label, (words, files, frames, written, first) in FOLLOWED.items():
+    told = [line for _, line in frames]
+    streams = ["".join(text for text, _ in frames[:count]) for count in range(len(frames) + 1)]
+    ends = [run(words, files, 0, stream)[0] for stream in streams]
+    for count, (status, lines, _) in enumerate(ends):
+        if (status, lines.rpartition("done")[0]) != (0, "".join(told[:count])):
+            sys.exit(f"{label}: with ample memory {count} frames end as {status} with {lines}")
+    states = [left for _, _, left in ends]
+    bad += tried(label, words, files, ends[-1], lambda ended: stopped(ended, told, states, written, first), streams[-1])
 sys.exit(bad != 0)
 PY
 python3 "$work/allocations.py" "$bridge" "$work/refuse.so" "$here/crates/bridge/data"

@@ -1,8 +1,9 @@
 #!/usr/bin/env bash
 # Times `bridge follow` of 5,000 frames behind the first one, by turns a tick and the MPD again, each two seconds later than the one before:
 # 30 segments are kept, and 852,033,600 lie before the first of them. Beside it a loop in C that rewrites a file of the playlist's size and
-# prints a line for each frame. Then the first thousand frames beside all of them, and the same with 10^9 more earlier segments. Files lie
-# in a memory file system. The shortest of eleven runs counts, with its largest memory.
+# prints a line for each frame. Then the first thousand frames beside all of them, and the same with 10^9 more earlier segments. Then
+# `bridge follow-hls` of 5,001 rounds of a playlist of six segments that slides, beside such a loop, and its first thousand rounds. Files
+# lie in a memory file system. The shortest of eleven runs counts, with its largest memory.
 #
 # It wants `rt`, python3, cc and /dev/shm, and proves the program first where that isn't kept.
 set -euo pipefail
@@ -72,13 +73,43 @@ assert sum(int(line.rpartition("=")[2]) for line in told[:-1]) == 5_030, told[-1
 assert told[-1] == "done frames=5001 accepted=5001" and "#EXT-X-MEDIA-SEQUENCE:5000\n" in playlist
 assert (names[0], names[-1], len(names)) == ("s852038571.m4s", "s852038600.m4s", 30)
 
-yard, _ = measure([rewrites, str(len(playlist)), "5001"])
-few, few_mib = followed("thousand")
-whole, whole_mib = followed("all")
+def beside(what, size, count, run, first, first_count):
+    """Tells a run beside the loop that rewrites a file of its size, and its first thousand."""
+    yard, _ = measure([rewrites, str(size), str(count)])
+    few, few_mib = run(first)
+    whole, whole_mib = run("all")
+    print(f"a loop that rewrites {size} bytes and prints a line, {count:,} times: {yard:.1f} ms")
+    print(f"{what}, {count:,} of them: {whole:.1f} ms, {whole / count * 1000:.1f} us each, {whole_mib:.1f} MiB, "
+          f"{whole / yard:.1f} of the loop's time")
+    print(f"the first {first_count:,}: {few:.1f} ms, {few / first_count * 1000:.1f} us each, {few_mib:.1f} MiB")
+
+beside("frames of follow", len(playlist), 5_001, followed, "thousand", 1_001)
 more, more_mib = followed("more")
-print(f"a loop that rewrites {len(playlist)} bytes and prints a line, 5,001 times: {yard:.1f} ms")
-print(f"follow, 5,001 frames: {whole:.1f} ms, {whole / 5.001:.1f} us a frame, {whole_mib:.1f} MiB, {whole / yard:.1f} of the loop's time")
-print(f"its first 1,001 frames: {few:.1f} ms, {few / 1.001:.1f} us a frame, {few_mib:.1f} MiB")
 print(f"with 10^9 more earlier segments: {more:.1f} ms, {more_mib:.1f} MiB")
+
+with open("m.m3u8", "w") as it:
+    it.write('#EXTM3U\n#EXT-X-STREAM-INF:BANDWIDTH=800000,CODECS="avc1.64001f"\nv.m3u8\n')
+
+def rounds(name, count):
+    """So many rounds of six segments, each a segment further than the one before."""
+    with open(name, "w") as it:
+        for k in range(count):
+            body = f'#EXTM3U\n#EXT-X-TARGETDURATION:2\n#EXT-X-MEDIA-SEQUENCE:{k}\n#EXT-X-MAP:URI="i.mp4"\n'
+            body += "".join(f"#EXTINF:2,\ns{n}.m4s\n" for n in range(k, k + 6))
+            now = (START + datetime.timedelta(seconds=2 * k)).strftime("%Y-%m-%dT%H:%M:%SZ")
+            it.write(f"round {now} {len(body)}\n{body}")
+
+def taken(name):
+    """Milliseconds and MiB of taking rounds."""
+    return measure(["sh", "-c", f"exec {bridge} follow-hls m.m3u8 {BASE} < {name}"])
+
+rounds("thousand", 1_001)
+rounds("all", 5_001)
+run = subprocess.run([bridge, "follow-hls", "m.m3u8", BASE], stdin=open("all"), capture_output=True, text=True, check=True)
+told = run.stdout.splitlines()
+mpd = open("out/live.mpd").read()
+assert told[0] == "frame 0 ok appended=6" and told[-2:] == ["frame 5000 ok appended=1", "done frames=5001 accepted=5001"], told[-2:]
+assert '<S t="10000000000000" d="2000000000" r="5"/>' in mpd and "s5005.m4s" in mpd
+beside("rounds of follow-hls", len(mpd), 5_001, taken, "thousand", 1_001)
 PY
 python3 "$work/follow.py" "$bridge" "$work/rewrites" "$shm"

@@ -20,17 +20,15 @@ else
 fi
 
 cat > "$work/index.py" <<'PY'
-import http.server, os, re, shutil, struct, subprocess, sys, threading
+import os, shutil, struct, sys
 
 from measure import answers, measure
+from media import box, decoded, put, ran, served
 
 bridge, work = sys.argv[1:]
 os.chdir(work)
 BASE = "https://h.example/"
 MPD = '<MPD xmlns="urn:mpeg:dash:schema:mpd:2011" mediaPresentationDuration="PT100000S">{}</MPD>'
-
-def box(kind, body):
-    return struct.pack(">I4s", 8 + len(body), kind) + body
 
 def sidx(references, timescale=1000, first_offset=0, version=0):
     """A segment index (ISO/IEC 14496-12, 8.16.3) of references, each a size and a duration."""
@@ -44,11 +42,6 @@ def period(representations):
 def indexed(name, file, begin, count, inside='<Initialization range="0-99"/>'):
     return (f'<Representation id="{name}" bandwidth="1000"><BaseURL>{file}</BaseURL>'
             f'<SegmentBase indexRange="{begin}-{begin + count - 1}">{inside}</SegmentBase></Representation>')
-
-def put(name, content):
-    with open(name, "wb") as it:
-        it.write(content if isinstance(content, bytes) else content.encode())
-    return name
 
 # ---- time
 
@@ -110,9 +103,6 @@ for what, file, count, representations in cases:
 
 # ---- real files
 
-def run(*command):
-    return subprocess.run(command, check=True, stdout=subprocess.PIPE, stderr=subprocess.DEVNULL, timeout=120).stdout
-
 def boxes(content):
     """The boxes of a file: their kinds, their places and their sizes."""
     at = 0
@@ -130,46 +120,17 @@ def described(name, file, kind, codecs):
             f'<SegmentBase indexRange="{index[0]}-{sum(index) - 1}"><Initialization range="0-{index[0] - 1}"/></SegmentBase>'
             "</Representation></AdaptationSet>")
 
-def decoded(source, stream):
-    return run("ffmpeg", "-i", source, "-map", f"0:{stream}:0", "-f", "framemd5", "-fps_mode", "passthrough", "-")
-
-def sums(frames):
-    return re.findall(rb", ([0-9a-f]{32})$", frames, re.M)
-
-class Quiet(http.server.SimpleHTTPRequestHandler):
-    """Answers a range of bytes, as players ask for it."""
-    def log_message(self, *_):
-        pass
-
-    def do_GET(self):
-        asked = re.fullmatch(r"bytes=(\d+)-(\d*)", self.headers.get("Range", ""))
-        try:
-            with open(self.translate_path(self.path), "rb") as it:
-                content = it.read()
-        except OSError:
-            return self.send_error(404)
-        first, last = (int(asked[1]), int(asked[2] or len(content) - 1)) if asked else (0, len(content) - 1)
-        part = content[first:last + 1]
-        self.send_response(206 if asked else 200)
-        self.send_header("Content-Length", str(len(part)))
-        if asked:
-            self.send_header("Content-Range", f"bytes {first}-{first + len(part) - 1}/{len(content)}")
-        self.end_headers()
-        self.wfile.write(part)
-
 if shutil.which("ffmpeg"):
     make = ["-t", "10", "-movflags", "+dash+global_sidx", "-frag_duration", "2000000"]
-    run("ffmpeg", "-f", "lavfi", "-i", "testsrc2=size=320x180:rate=30000/1001", "-c:v", "libx264", "-preset", "ultrafast", "-g", "60",
+    ran("ffmpeg", "-f", "lavfi", "-i", "testsrc2=size=320x180:rate=30000/1001", "-c:v", "libx264", "-preset", "ultrafast", "-g", "60",
         "-pix_fmt", "yuv420p", *make, "video.mp4")
-    run("ffmpeg", "-f", "lavfi", "-i", "sine=frequency=440:sample_rate=48000", "-c:a", "aac", *make, "audio.mp4")
-    server = http.server.ThreadingHTTPServer(("127.0.0.1", 0), Quiet)
-    threading.Thread(target=server.serve_forever, daemon=True).start()
-    base = f"http://127.0.0.1:{server.server_port}/"
+    ran("ffmpeg", "-f", "lavfi", "-i", "sine=frequency=440:sample_rate=48000", "-c:a", "aac", *make, "audio.mp4")
+    server, base = served()
     sets = described("v", "video.mp4", "video", "avc1.42c01e") + described("a", "audio.mp4", "audio", "mp4a.40.2")
     put("real.mpd", MPD.format(f"<Period>{sets}</Period>"))
-    print("\n" + run(bridge, "hls-index", "real.mpd", f"--base={base}", "--out=real").decode(), end="")
+    print("\n" + ran(bridge, "hls-index", "real.mpd", f"--base={base}", "--out=real").decode(), end="")
     for file, stream in (("video.mp4", "v"), ("audio.mp4", "a")):
-        own, played = sums(decoded(file, stream)), sums(decoded(f"{base}real/master.m3u8", stream))
+        own, played = decoded(file, stream), decoded(f"{base}real/master.m3u8", stream)
         print(f"{file}: {len(own)} frames, of which {sum(a == b for a, b in zip(own, played))} are played")
         assert own and own == played, file
     server.shutdown()

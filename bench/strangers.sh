@@ -1,8 +1,8 @@
 #!/usr/bin/env bash
 # Runs the bridge on files of up to 8 MB as a stranger may make them, each with as many of one thing as fit: variants, renditions, Periods,
 # S that thousands of Representations share, SegmentURLs. The longest of three runs counts, with its largest memory. Each is to be answered
-# within 5 seconds and 600 MB. Then `bridge follow` of streams as a stranger may make them: each frame within 5 seconds, and the run within
-# 1,200 MB.
+# within 5 seconds and 600 MB. Then `bridge follow` and `bridge follow-hls` of streams as a stranger may make them: each frame and each
+# round within 5 seconds, and the run within 1,200 MB.
 #
 # It wants `rt` and python3, and proves the program first where that isn't kept.
 set -euo pipefail
@@ -100,9 +100,41 @@ streams = [
      "1,000 Periods with ids of 8 kB that begin alike, three times"),
     (stream("addresses", [(100_000, numbers), (100_002, None), (100_004, numbers)]), LONG_BASE, "100,000 segments kept, with addresses of 2 kB"),
 ]
+def rounds(name, texts):
+    """A stream of rounds, each the playlists of all tracks."""
+    def parts():
+        for k, bodies in enumerate(texts):
+            yield f"round {instant(2 * k)} {' '.join(str(len(body)) for body in bodies)}\n"
+            yield from bodies
+    return file(name, *parts())
+
+def playlist(sequence, count, address, more=""):
+    """A live playlist of so many segments."""
+    head = f'#EXTM3U\n#EXT-X-TARGETDURATION:2\n#EXT-X-MEDIA-SEQUENCE:{sequence}\n#EXT-X-MAP:URI="i.mp4"\n'
+    return head + more + "".join(f"#EXTINF:2,\n{address}{sequence + k}.m4s\n" for k in range(count))
+
+def sections(count):
+    """One of so many sections with a segment each."""
+    return '#EXTM3U\n#EXT-X-TARGETDURATION:2\n#EXT-X-MAP:URI="i.mp4"\n' + "".join(
+        f"#EXTINF:2,\ns{k}.m4s\n#EXT-X-DISCONTINUITY\n" for k in range(count - 1)) + f"#EXTINF:2,\ns{count - 1}.m4s\n"
+
+file("one.m3u8", "#EXTM3U\n", VARIANT % 0)
+master("many.m3u8", (VARIANT % k for k in range(200)))
+padded = "#" + "p" * 331_000 + "\n"
+large = "f" * 60
+hls = [
+    (rounds("bodies", ([playlist(k, 6, "s", padded if k % 2 else "") for _ in range(200)] for k in range(8))), "many.m3u8",
+     "200 tracks, by turns 67 MB of comments and 40 kB"),
+    (rounds("listed", ([playlist(k, 2_500, large) for _ in range(200)] for k in range(3))), "many.m3u8",
+     "200 tracks of 2,500 segments each, three times"),
+    (rounds("long", ([playlist(k, 100_000, large)] for k in range(3))), "one.m3u8", "a track of 100,000 segments, three times"),
+    (rounds("sections", ([sections(1_000) for _ in range(200)] for k in range(3))), "many.m3u8", "200 tracks of 1,000 sections, three times"),
+]
+streams = [(name, ["follow", "live.mpd"], base, what) for name, base, what in streams]
+streams += [(name, ["follow-hls", master], BASE, what) for name, master, what in hls]
 print("\n| stream | MB | last line | s, the longest frame | MB of memory |\n|---|---|---|---|---|")
-for name, base, what in streams:
-    seconds, megabytes, last = framed(name, [bridge, "follow", "live.mpd", f"--base={base}"])
+for name, words, base, what in streams:
+    seconds, megabytes, last = framed(name, [bridge, *words, f"--base={base}"])
     print(f"| {what} | {os.path.getsize(name) / 1e6:.1f} | `{last}` | {seconds:.2f} | {megabytes:.0f} |")
     assert seconds <= 5 and megabytes <= 1_200, what
 PY

@@ -1,0 +1,49 @@
+#!/usr/bin/env bash
+# Polls the playlists of a live HLS presentation and gives each round of them to `bridge follow-hls`. After each round that is accepted it
+# puts the MPD into the folder <live> by one rename, so that a server never has half of it. It is for a master whose variants are video, and
+# whose renditions have names of their own. In the folder whose URL is the base, where the master lies:
+#   follow-hls.sh <base> <name of the master there> <folder of the MPD> <seconds between polls> <polls>
+set -euo pipefail
+base=$1 master=$2 live=$3 seconds=$4 polls=$5
+mkdir -p "$live"
+fetched=$(mktemp -d)
+trap 'rm -rf "$fetched"' EXIT
+
+renditions() {
+    sed -n "/^#EXT-X-MEDIA:.*TYPE=$1/s/.*URI=\"\([^\"]*\)\".*/\1/p" "$master"
+}
+mapfile -t tracks < <({
+    grep -v '^#' "$master"
+    renditions AUDIO
+    renditions SUBTITLES
+} | awk 'NF && !seen[$0]++')
+
+fetch() {
+    for k in "${!tracks[@]}"; do
+        curl -sf --max-time 5 -o "$fetched/$k" "$base${tracks[k]}" || return 1
+    done
+}
+
+# The header tells the instant and the length of each playlist; the playlists stand behind it in the tracks' order.
+round() {
+    echo "round $(date -u +%FT%T.%3NZ) $(for k in "${!tracks[@]}"; do wc -c < "$fetched/$k"; done | paste -s -d ' ')"
+    for k in "${!tracks[@]}"; do cat "$fetched/$k"; done
+}
+
+coproc bridge follow-hls "$master" --base="$base" --out="$live-written"
+from=${COPROC[0]} to=${COPROC[1]}
+for ((poll = 0; poll < polls; poll++)); do
+    [ "$poll" = 0 ] || sleep "$seconds"
+    fetch || continue
+    round >&"$to"
+    read -r line <&"$from"
+    echo "$line"
+    case $line in
+    *" ok "*)
+        cp "$live-written/live.mpd" "$live/.new"
+        mv "$live/.new" "$live/live.mpd"
+        ;;
+    esac
+done
+exec {to}>&-
+cat <&"$from"
