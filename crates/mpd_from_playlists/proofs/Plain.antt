@@ -30,7 +30,7 @@ same_row : (ticks from : ℕ) (ds : List ℕ) → in_row ticks from ds ≡ writt
 same_row ticks from [] = refl
 same_row ticks from (d ∷ ds) = ap (λ xs. record { start = in_units ticks from; end = in_units ticks (from + d) } ∷ xs) (same_row ticks (from + d) ds)
 
-by_recursion : {X : Type 0} (P : X → Type 0) (xs : List X) → All P xs → AllByRecursion P xs
+pub by_recursion : {X : Type 0} (P : X → Type 0) (xs : List X) → All P xs → AllByRecursion P xs
 by_recursion P [] all = tt
 by_recursion P (x ∷ xs) all = (All-head P x xs all, by_recursion P xs (All-tail P x xs all))
 
@@ -64,17 +64,17 @@ pub record IsPlainSegment (s : MediaSegment) : Type 0 where
   pub bounded : IsBoundedSegment s
   pub addresses : HasAddresses s
 
-range_readable : (range : Option Range) → IfSome range IsBoundedRange → IfSome range IsSomeBytes
+pub range_readable : (range : Option Range) → IfSome range IsBoundedRange → IfSome range IsSomeBytes
 range_readable None bounded = tt
 range_readable (Some range) bounded = record { some = bounded.count; bounded = omega (arith, bounded.ends) }
 
-own_parts : (group : List MediaSegment) → All IsPlainSegment group → AllByRecursion IsOwnPart (parts_of group)
+pub own_parts : (group : List MediaSegment) → All IsPlainSegment group → AllByRecursion IsOwnPart (parts_of group)
 own_parts [] all = tt
 own_parts (s ∷ rest) all =
     let one = All-head IsPlainSegment s rest all in
     (record { address = one.addresses.own; readable = range_readable s.range one.bounded.range }, own_parts rest (All-tail IsPlainSegment s rest all))
 
-map_own : (map : Option Part) → IfSome map IsBoundedPart → IfSome map (λ (part : Part). IsAddress part.address) → IfSome map IsOwnPart
+pub map_own : (map : Option Part) → IfSome map IsBoundedPart → IfSome map (λ (part : Part). IsAddress part.address) → IfSome map IsOwnPart
 map_own None bounded own = tt
 map_own (Some part) bounded own = record { address = own; readable = range_readable part.range bounded }
 

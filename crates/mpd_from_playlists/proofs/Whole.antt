@@ -23,7 +23,7 @@ use Rattle.mpd_from_playlists.proofs.Plain.{IsPlainSegment, all_plain, ticks_by}
 
 -- ---- what is so of tracks and playlists is so of both together
 
-sources_all : (P : MasterTrack → Type 0) (Q : Media → Type 0) (tracks : List MasterTrack) (medias : List Media) → All P tracks → All Q medias
+pub sources_all : (P : MasterTrack → Type 0) (Q : Media → Type 0) (tracks : List MasterTrack) (medias : List Media) → All P tracks → All Q medias
     → All (λ (s : Source). P s.track × Q s.media) (sources tracks medias)
 sources_all P Q [] medias tell have = All-nil _
 sources_all P Q (track ∷ tracks) [] tell have = All-nil _
@@ -59,24 +59,24 @@ not_false false is = absurd (cc)
 -- ---- the whole
 
 -- what is asked of a track with its playlist
-abbrev IsFit : Source → Type 0
+abbrev pub IsFit : Source → Type 0
 IsFit s = CanBeTold s.track × (IsBounded s.media × HaveAddresses s.media)
 
-plain_segments : (media : Media) → IsBounded media × HaveAddresses media → All IsPlainSegment media.segments
+pub plain_segments : (media : Media) → IsBounded media × HaveAddresses media → All IsPlainSegment media.segments
 plain_segments media is = λ k d here. record { bounded = is.0.segments k d here; addresses = is.1 k d here }
 
-both : {X : Type 0} (P Q : X → Type 0) (xs : List X) → All P xs → All Q xs → All (λ x. P x × Q x) xs
+pub both : {X : Type 0} (P Q : X → Type 0) (xs : List X) → All P xs → All Q xs → All (λ x. P x × Q x) xs
 both P Q xs all also = λ k d here. (all k d here, also k d here)
 
 some_sections : (n : ℕ) → (n == 0) ≡ false → 0 < n
 some_sections n is = grind arith
 
 -- the presentation can be written, and its tracks told
-record CanBeWritten (p : Presented) : Type 0 where
-  written : IsWritable p
-  told : All IsTellable p.tracks
+pub record CanBeWritten (p : Presented) : Type 0 where
+  pub written : IsWritable p
+  pub told : All IsTellable p.tracks
 
-can_be_written : (tracks : List MasterTrack) (medias : List Media) (p : Presented) → All IsBounded medias → All HaveAddresses medias
+pub can_be_written : (tracks : List MasterTrack) (medias : List Media) (p : Presented) → All IsBounded medias → All HaveAddresses medias
     → are_in_order (map (λ (track : MasterTrack). track.kind) tracks) ≡ true → All CanBeTold tracks → hls_presented_of tracks medias ≡ Ok p → CanBeWritten p
 unfolding hls_presented_of presented_of_kept presented_from
 can_be_written tracks medias p bounded have ordered tell is =
