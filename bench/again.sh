@@ -15,40 +15,32 @@ grep -v '^\(bridge\|run_table\|leaf_table\|base_rows\):' "$here/crates.txt" > "$
 for crate in $(sed 's/:.*//' "$work/ours/crates.txt"); do
     cp -r "$here/crates/$crate" "$work/ours/crates/"
 done
-echo 'again: bridge_io exact_time file_pieces iso_time live_judge live_meaning live_session mpd_rules mpd_text url_parts' >> "$work/ours/crates.txt"
+echo 'again: bridge_io bridge_steps exact_time file_pieces iso_time live_judge live_meaning live_session mpd_rules url_parts' >> "$work/ours/crates.txt"
 again=$work/ours/crates/again
 mkdir -p "$again/src" "$again/proofs/main"
 cat > "$again/src/main.rt" <<'RS'
 //! Takes updates of an MPD, each of them again where memory was wanting, and writes its playlist behind each.
 #![tactic(auto)]
 
-ghost use Rattle.std.specs.Prelude.{◌≡◌, ◌<◌, Some, IfSome, length};
+ghost use Rattle.std.specs.Prelude.{◌≡◌, ◌<◌, Some};
 ghost use Rattle.iso_time.specs.Instant.{IsReadable};
 ghost use Rattle.live_meaning.specs.Laws.{IsTyped};
 ghost use Rattle.mpd_rules.specs.Views.{segments_mpd};
 
-use bridge_io::{Bytes, FolderStore, Ledger, Name, Steps, Store, slurp};
+use bridge_io::{FolderStore, Ledger, Name, Steps, Store, slurp};
+use bridge_steps::values_of;
 use exact_time::Digits;
 use file_pieces::OutFault;
 use iso_time::Instant;
 use live_judge::RefreshFault;
 use live_session::Session;
-use mpd_rules::{Mpd, rules};
-use mpd_text::read_tree;
+use mpd_rules::Mpd;
 use std::alloc::Global;
 use std::env;
 use std::marker::Brand;
 use std::process::ExitCode;
 use std::sync::ledger::Blank;
 use url_parts::Base;
-
-/// The values of an MPD's bytes.
-fn values(alloc: Global, bytes: &[u8]) -> Option<Mpd>
-    ensures { IfSome result (λ mpd. IsTyped (Some (segments_mpd mpd))) }
-{
-    let tree = read_tree(alloc, bytes).ok()?;
-    rules(alloc, &tree).ok()
-}
 
 /// So many seconds behind 2024-01-01T00:00:00Z.
 fn instant(seconds: u32) -> Instant
@@ -99,39 +91,29 @@ fn write<F: Store>(session: &Session, store: &mut F, name: &Name) -> Option<()> 
     }
 }
 
-/// What is made before the session begins.
-#[derive(Drop)]
-struct Prepared {
-    mpd: Mpd,
-    base: Base,
-    names: [Name; 4],
-    ghost typed: { IsTyped (Some (segments_mpd mpd)) },
+/// The files of the playlists.
+type Names = [Name; 4];
+
+fn names(alloc: Global) -> Option<Names> {
+    Some([
+        Name::read(alloc, "first.m3u8").ok()?,
+        Name::read(alloc, "tick.m3u8").ok()?,
+        Name::read(alloc, "later.m3u8").ok()?,
+        Name::read(alloc, "reset.m3u8").ok()?,
+    ])
 }
 
-fn prepared<F: Store>(alloc: Global, store: &mut F) -> Option<Prepared> {
-    let name = Name::read(alloc, "m.mpd").ok()?;
-    let content: Bytes = slurp(alloc, store, &name, 8_388_608).ok()?;
-    Some(Prepared {
-        mpd: values(alloc, content.as_slice())?,
-        base: Base::of(alloc, "https://h.example/m.mpd").ok()?,
-        names: [
-            Name::read(alloc, "first.m3u8").ok()?,
-            Name::read(alloc, "tick.m3u8").ok()?,
-            Name::read(alloc, "later.m3u8").ok()?,
-            Name::read(alloc, "reset.m3u8").ok()?,
-        ],
-    })
-}
-
-fn follow<F: Store, L: Ledger>(alloc: Global, prepared: &Prepared, store: &mut F, steps: &mut Steps<L>) -> Option<()> {
-    let [first, tick, later, behind] = &prepared.names;
-    let mut session = begin(alloc, &prepared.mpd, &prepared.base, Digits::of(6)?, steps)?;
+fn follow<F: Store, L: Ledger>(alloc: Global, mpd: &Mpd, base: &Base, names: &Names, store: &mut F, steps: &mut Steps<L>) -> Option<()>
+    requires { IsTyped (Some (segments_mpd mpd.now)) }
+{
+    let [first, tick, later, behind] = names;
+    let mut session = begin(alloc, mpd, base, Digits::of(6)?, steps)?;
     write(&session, store, first)?;
     refresh(&mut session, None, 24, steps)?;
     write(&session, store, tick)?;
-    refresh(&mut session, Some(&prepared.mpd), 26, steps)?;
+    refresh(&mut session, Some(mpd), 26, steps)?;
     write(&session, store, later)?;
-    reset(&mut session, &prepared.mpd, 60, steps)?;
+    reset(&mut session, mpd, 60, steps)?;
     write(&session, store, behind)
 }
 
@@ -143,12 +125,15 @@ fn run<L: Ledger>(rt: HostRuntime, blank: Blank) -> Option<()>
     let alloc = rt.alloc();
     let prepares = env::args(&rt).ok()?.len() > 1;
     let mut store = FolderStore::new(rt, alloc, ".").ok()?;
-    let prepared = prepared(alloc, &mut store)?;
+    let content = slurp(alloc, &mut store, &Name::read(alloc, "m.mpd").ok()?, 8_388_608).ok()?;
+    let mpd = values_of(alloc, content.as_slice()).ok()?;
+    let base = Base::of(alloc, "https://h.example/m.mpd").ok()?;
+    let names = names(alloc)?;
     let mut steps = Steps::<L>::new(blank);
     if prepares {
         return Some(());
     }
-    follow(alloc, &prepared, &mut store, &mut steps)
+    follow(alloc, &mpd, &base, &names, &mut store, &mut steps)
 }
 
 fn main(rt: HostRuntime) -> ExitCode {

@@ -16,24 +16,22 @@ for crate in $(sed 's/:.*//' "$work/ours/crates.txt"); do
     cp -r "$here/crates/$crate" "$work/ours/crates/"
     rm -rf "$work/ours/crates/$crate/out"
 done
-echo 'sessions: bridge_io exact_time iso_time live_meaning live_session mpd_rules mpd_text presentation url_parts' >> "$work/ours/crates.txt"
+echo 'sessions: bridge_io bridge_steps exact_time iso_time live_session mpd_rules presentation url_parts' >> "$work/ours/crates.txt"
 sessions=$work/ours/crates/sessions
 mkdir -p "$sessions/src" "$sessions/proofs/main"
 cat > "$sessions/src/main.rt" <<'RS'
 //! Follows an MPD of six tracks as its word says.
 #![tactic(auto)]
 
-ghost use Rattle.std.specs.Prelude.{◌≡◌, ◌<◌, Some, IfSome};
+ghost use Rattle.std.specs.Prelude.{◌≡◌, ◌<◌};
 ghost use Rattle.iso_time.specs.Instant.{IsReadable};
-ghost use Rattle.live_meaning.specs.Laws.{IsTyped};
-ghost use Rattle.mpd_rules.specs.Views.{segments_mpd};
 
 use bridge_io::{Bytes, FolderStore, Ledger, Name, Steps, slurp};
+use bridge_steps::values_of;
 use exact_time::Digits;
 use iso_time::Instant;
 use live_session::Session;
-use mpd_rules::{Mpd, rules};
-use mpd_text::read_tree;
+use mpd_rules::Mpd;
 use presentation::Presentation;
 use std::alloc::Global;
 use std::env;
@@ -41,14 +39,6 @@ use std::marker::Brand;
 use std::process::ExitCode;
 use std::sync::ledger::Blank;
 use url_parts::Base;
-
-/// The values of an MPD's bytes.
-fn values(alloc: Global, bytes: &[u8]) -> Option<Mpd>
-    ensures { IfSome result (λ mpd. IsTyped (Some (segments_mpd mpd))) }
-{
-    let tree = read_tree(alloc, bytes).ok()?;
-    rules(alloc, &tree).ok()
-}
 
 /// Two seconds times `count` behind 2024-01-01T00:00:00Z.
 fn instant(count: u32) -> Instant
@@ -67,7 +57,7 @@ struct Followed {
 impl Followed {
     fn begin<L: Ledger>(alloc: Global, bytes: &[u8], steps: &mut Steps<L>) -> Option<Followed> {
         let base = Base::of(alloc, "https://h.example/videos/main/live.mpd").ok()?;
-        let mpd = values(alloc, bytes)?;
+        let mpd = values_of(alloc, bytes).ok()?;
         let session = Session::begin(alloc, &mpd, &base, instant(0), Digits::of(6)?, steps).ok()?;
         Some(Followed {
             alloc,
@@ -118,7 +108,7 @@ impl Followed {
         steps: &mut Steps<L>,
     ) -> Option<()> {
         for count in 0..times {
-            let mpd = values(self.alloc, bytes)?;
+            let mpd = values_of(self.alloc, bytes).ok()?;
             self.go_on(Some(&mpd), count.saturating_add(1), 6, steps)?;
         }
         Some(())
@@ -127,7 +117,7 @@ impl Followed {
     /// Reads the MPD so many times.
     fn read(&self, bytes: &[u8], times: u32) -> Option<()> {
         for count in 0..times {
-            let mpd = values(self.alloc, bytes)?;
+            let mpd = values_of(self.alloc, bytes).ok()?;
             let now = instant(count.saturating_add(1));
             Presentation::from_mpd(self.alloc, &mpd, &self.base, Some(now)).ok()?;
         }
