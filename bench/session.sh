@@ -57,7 +57,9 @@ struct Followed {
 impl Followed {
     fn begin<L: Ledger>(alloc: Global, bytes: &[u8], steps: &mut Steps<L>) -> Option<Followed> {
         let base = Base::of(alloc, "https://h.example/videos/main/live.mpd").ok()?;
-        let mpd = values_of(alloc, bytes).ok()?;
+        let Ok(mpd) = values_of(alloc, bytes) else {
+            return None;
+        };
         let session = Session::begin(alloc, &mpd, &base, instant(0), Digits::of(6)?, steps).ok()?;
         Some(Followed {
             alloc,
@@ -108,7 +110,9 @@ impl Followed {
         steps: &mut Steps<L>,
     ) -> Option<()> {
         for count in 0..times {
-            let mpd = values_of(self.alloc, bytes).ok()?;
+            let Ok(mpd) = values_of(self.alloc, bytes) else {
+                return None;
+            };
             self.go_on(Some(&mpd), count.saturating_add(1), 6, steps)?;
         }
         Some(())
@@ -117,7 +121,9 @@ impl Followed {
     /// Reads the MPD so many times.
     fn read(&self, bytes: &[u8], times: u32) -> Option<()> {
         for count in 0..times {
-            let mpd = values_of(self.alloc, bytes).ok()?;
+            let Ok(mpd) = values_of(self.alloc, bytes) else {
+                return None;
+            };
             let now = instant(count.saturating_add(1));
             Presentation::from_mpd(self.alloc, &mpd, &self.base, Some(now)).ok()?;
         }
