@@ -1,7 +1,7 @@
 #!/usr/bin/env bash
 # Refuses each allocation of a session of live_session in turn, over an MPD, an instant, a later MPD, a reset and the playlists of each.
-# Where a call answers want of memory, it is made again with memory: each run is to leave the playlists of the run in which none was refused,
-# so that the session was as before.
+# Where a call answers want of memory, it is made again with memory: each run is to leave the playlists of the run in which none was
+# refused, so that the session was as before.
 #
 # It wants `rt`, python3 and cc, and proves the crates first where that isn't kept. glibc is taken for the C library.
 set -euo pipefail

@@ -2,8 +2,8 @@
 # Times `bridge dash` of a master with a media playlist of 100,000 segments, of equal durations and of durations that differ, and beside it
 # `bridge reload` of that playlist with itself, which reads it twice and writes nothing: what `dash` takes more than half of that is the
 # presentation and the written MPD. `bridge check` reads the MPD that was written and the playlist, and compares them; `bridge show` reads
-# either. Each command is run eleven times, the shortest run counts, with its largest memory. Where GStreamer's hlsdemux2 is installed, it plays the same playlists from
-# a server on this machine, and the shortest of five runs counts up to its first request for media.
+# either. Each command is run eleven times, the shortest run counts, with its largest memory. Where GStreamer's hlsdemux2 is installed, it
+# plays the same playlists from a server on this machine, and the shortest of five runs counts up to its first request for media.
 #
 # It wants `rt` and python3, and proves the program first where that isn't kept.
 set -euo pipefail

@@ -2,8 +2,9 @@
 # Times `bridge follow` of 5,000 frames behind the first one, by turns a tick and the MPD again, each two seconds later than the one before:
 # 30 segments are kept, and 852,033,600 lie before the first of them. Beside it a loop in C that rewrites a file of the playlist's size and
 # prints a line for each frame. Then the first thousand frames beside all of them, and the same with 10^9 more earlier segments. Then
-# `bridge follow-hls` of 5,001 rounds of a playlist of six segments that slides, beside such a loop, and its first thousand rounds. Files
-# lie in a memory file system. The shortest of eleven runs counts, with its largest memory.
+# `bridge follow-hls` of 5,001 rounds of a playlist of six segments that slides, beside such a loop, its first thousand rounds, and as many
+# that are refused once their playlist is read. Files lie in a memory file system. The shortest of eleven runs counts, with its largest
+# memory.
 #
 # It wants `rt`, python3, cc and /dev/shm, and proves the program first where that isn't kept.
 set -euo pipefail
@@ -90,12 +91,12 @@ print(f"with 10^9 more earlier segments: {more:.1f} ms, {more_mib:.1f} MiB")
 with open("m.m3u8", "w") as it:
     it.write('#EXTM3U\n#EXT-X-STREAM-INF:BANDWIDTH=800000,CODECS="avc1.64001f"\nv.m3u8\n')
 
-def rounds(name, count):
-    """So many rounds of six segments, each a segment further than the one before."""
+def rounds(name, count, last=""):
+    """So many rounds of six segments, each a segment further than the one before, with a last line behind those of the first."""
     with open(name, "w") as it:
         for k in range(count):
             body = f'#EXTM3U\n#EXT-X-TARGETDURATION:2\n#EXT-X-MEDIA-SEQUENCE:{k}\n#EXT-X-MAP:URI="i.mp4"\n'
-            body += "".join(f"#EXTINF:2,\ns{n}.m4s\n" for n in range(k, k + 6))
+            body += "".join(f"#EXTINF:2,\ns{n}.m4s\n" for n in range(k, k + 6)) + (last if k else "")
             now = (START + datetime.timedelta(seconds=2 * k)).strftime("%Y-%m-%dT%H:%M:%SZ")
             it.write(f"round {now} {len(body)}\n{body}")
 
@@ -111,5 +112,10 @@ mpd = open("out/live.mpd").read()
 assert told[0] == "frame 0 ok appended=6" and told[-2:] == ["frame 5000 ok appended=1", "done frames=5001 accepted=5001"], told[-2:]
 assert '<S t="10000000000000" d="2000000000" r="5"/>' in mpd and "s5005.m4s" in mpd
 beside("rounds of follow-hls", len(mpd), 5_001, taken, "thousand", 1_001)
+rounds("unfinished", 5_001, "#EXTINF:2,\n")
+read, _ = taken("unfinished")
+whole, _ = taken("all")
+print(f"the same rounds, each refused at the end of its playlist: {read / 5_001 * 1000:.1f} us each; "
+      f"{(whole - read) / 5_001 * 1000:.1f} us less")
 PY
 python3 "$work/follow.py" "$bridge" "$work/rewrites" "$shm"

@@ -1,7 +1,7 @@
 #!/usr/bin/env bash
-# Times `bridge hls` of an MPD of 4 MB with 100,000 S, and beside it on the same file whatever is installed of xmllint, ffprobe,
-# GStreamer's gst-discoverer-1.0, and the readers of yt-dlp and streamlink; then how time and memory grow with the number of S. Each command is run eleven times, the shortest
-# run counts, with its largest memory. The tables go to docs/PERFORMANCE.md, whose other sections stay.
+# Times `bridge hls` of an MPD of 4 MB with 100,000 S, and beside it on the same file whatever is installed of xmllint, ffprobe, GStreamer's
+# gst-discoverer-1.0, and the readers of yt-dlp and streamlink; then how time and memory grow with the number of S. Each command is run
+# eleven times, the shortest run counts, with its largest memory. The tables go to docs/PERFORMANCE.md, whose other sections stay.
 #
 # It wants `rt` and python3, and proves the program first where that isn't kept.
 set -euo pipefail

@@ -1,8 +1,8 @@
 #!/usr/bin/env bash
-# Times segments in order: a million addresses joined; a million segments made by a template, and from addresses that are there
-# already; a list of 230,000 equal segments laid out; and a timeline of 700,000 S elements that 200 Representations of different
-# timescales share; and a million times the count of 10^18 segments and the run that they are. Each run is a program of its own; the shortest of eleven runs counts, with its largest memory. The word `none`
-# does nothing.
+# Times segments in order: a million addresses joined; a million segments made by a template, and from addresses that are there already; a
+# list of 230,000 equal segments laid out; and a timeline of 700,000 S elements that 200 Representations of different timescales share; and
+# a million times the count of 10^18 segments and the run that they are. Each run is a program of its own; the shortest of eleven runs
+# counts, with its largest memory. The word `none` does nothing.
 #
 # It wants `rt` and python3.
 set -euo pipefail
