@@ -12,7 +12,7 @@ use url_parts::{Base, Part, Range};
 
 /// A segment by the reference of its address, its map's reference, and its other parts, with its date in nanoseconds.
 #[derive(Clone, Copy)]
-struct Told {
+struct ItemRow {
     reference: &'static str,
     range: Option<Range>,
     map: &'static str,
@@ -23,8 +23,8 @@ struct Told {
 }
 
 /// A segment of 2 s with six digits in the section 0, which begins so many seconds into 2024.
-fn two_seconds(reference: &'static str, seconds: u8) -> Told {
-    Told {
+fn two_seconds(reference: &'static str, seconds: u8) -> ItemRow {
+    ItemRow {
         reference,
         range: None,
         map: "i.mp4",
@@ -35,7 +35,7 @@ fn two_seconds(reference: &'static str, seconds: u8) -> Told {
     }
 }
 
-fn item_of(alloc: Global, base: &Base, segment: &Told) -> Result<MediaItem, Fail>
+fn item_of(alloc: Global, base: &Base, segment: &ItemRow) -> Result<MediaItem, Fail>
     ensures { IfOk result (λ item. IsWritable item.date) }
 {
     let date = segment.date;
@@ -55,7 +55,7 @@ fn item_of(alloc: Global, base: &Base, segment: &Told) -> Result<MediaItem, Fail
     })
 }
 
-fn items_of(alloc: Global, segments: &[Told]) -> Result<ItemList, Fail>
+fn items_of(alloc: Global, segments: &[ItemRow]) -> Result<ItemList, Fail>
     ensures { IfOk result (All (λ item. IsWritable item.date)) }
 {
     let base = Base::of(alloc, "https://h.example/")?;
@@ -68,7 +68,7 @@ fn items_of(alloc: Global, segments: &[Told]) -> Result<ItemList, Fail>
 }
 
 /// The bytes that a call writes.
-fn written(alloc: Global, head: &MediaHead, segments: &[Told]) -> Result<Vec<u8>, Fail> {
+fn written(alloc: Global, head: &MediaHead, segments: &[ItemRow]) -> Result<Vec<u8>, Fail> {
     let name = Name::read(alloc, "out/t0.m3u8")?;
     let mut store = MemStore::new(alloc, CallList::new(alloc), CallList::new(alloc));
     let items = items_of(alloc, segments)?;
@@ -166,7 +166,7 @@ fn followed_playlists(rt: HostRuntime) -> Result<(), Fail> {
 fn sections_and_ranges(rt: HostRuntime) -> Result<(), Fail> {
     let alloc = rt.alloc();
     let range = |first, count| Some(Range { first, count });
-    let first = Told {
+    let first = ItemRow {
         reference: "f.mp4",
         range: range(1000, 1000),
         map: "f.mp4",
@@ -175,7 +175,7 @@ fn sections_and_ranges(rt: HostRuntime) -> Result<(), Fail> {
         section: 4,
         date: 946_684_799_999_999_999,
     };
-    let second = Told {
+    let second = ItemRow {
         reference: "!$&'()*+,-./0;=@A[]_a|~?^`{}x=%22&y#z!",
         range: None,
         map_range: range(u64::MAX, 900),
@@ -184,7 +184,7 @@ fn sections_and_ranges(rt: HostRuntime) -> Result<(), Fail> {
         date: -30_610_224_000_000_000_000,
         ..first
     };
-    let third = Told {
+    let third = ItemRow {
         reference: "s.m4s",
         duration: u64::MAX,
         date: 253_402_300_799_999_999_999,
@@ -193,7 +193,7 @@ fn sections_and_ranges(rt: HostRuntime) -> Result<(), Fail> {
     let text = written(alloc, &head(9, 4, false, 9)?, &[first, second, third])?;
     assert_eq!(rt; text.as_slice(), SECTIONS.as_bytes());
     for (digits, line) in [(3, "\n#EXTINF:2.005,\n"), (6, "\n#EXTINF:0.002005,\n")] {
-        let segment = Told {
+        let segment = ItemRow {
             duration: 2005,
             ..first
         };

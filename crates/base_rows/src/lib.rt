@@ -4,10 +4,6 @@
 #[cfg(test)]
 mod followed;
 #[cfg(test)]
-mod indexed;
-#[cfg(test)]
 mod outside;
 #[cfg(test)]
 mod places;
-#[cfg(test)]
-mod words;

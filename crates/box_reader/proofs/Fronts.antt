@@ -25,8 +25,8 @@ drop_front k n xs less =
     let same : k + (n - k) ≡ n = omega arith in
     ap (λ m. drop k (take m xs)) (sym same) ∙ drop-take k (n - k) xs
 
-same_bytes : (count place n : ℕ) (bytes : List ℕ) → place + count ≤ n → bytes_at count place (take n bytes) ≡ bytes_at count place bytes
-same_bytes count place n bytes within =
+bytes_at_front : (count place n : ℕ) (bytes : List ℕ) → place + count ≤ n → bytes_at count place (take n bytes) ≡ bytes_at count place bytes
+bytes_at_front count place n bytes within =
     ap (take count) (drop_front place n bytes (omega arith)) ∙ take_less count (n - place) (drop place bytes) (omega arith)
 
 -- ---- heads of boxes
@@ -56,7 +56,7 @@ module _ (at n : ℕ) (bytes : List ℕ) (head : BoxHead) where
       go false true s l is = cc
       go false false s l is =
           let fits : nat_lt (length bytes) size ≡ false = grind (arith, nat_tests, short_front) in
-          let kind : bytes_at 4 4 front ≡ bytes_at 4 4 bytes = same_bytes 4 4 n bytes (omega (arith, short_front)) in
+          let kind : bytes_at 4 4 front ≡ bytes_at 4 4 bytes = bytes_at_front 4 4 n bytes (omega (arith, short_front)) in
           rw fits (ap (λ k. Ok (head_with header size k)) (sym kind) ∙ is)
 
   of_size : (header size : ℕ) → fitted at front header size ≡ Ok head → head.size ≡ size
@@ -79,7 +79,7 @@ module _ (at n : ℕ) (bytes : List ℕ) (head : BoxHead) where
       go false s is =
           let within : 16 ≤ length front = grind (arith, nat_tests) in
           let long : nat_lt (length bytes) 16 ≡ false = grind (arith, nat_tests, short_front) in
-          let size : u64_at 8 front ≡ u64_at 8 bytes = ap (from_be_bytes w64) (same_bytes 8 8 n bytes (omega (arith, short_front))) in
+          let size : u64_at 8 front ≡ u64_at 8 bytes = ap (from_be_bytes w64) (bytes_at_front 8 8 n bytes (omega (arith, short_front))) in
           rw long (subst (λ size. fitted at bytes 16 size ≡ Ok head) size (fitted_whole 16 (u64_at 8 front) enough is))
 
   head_whole : head_at at front ≡ Ok head → head.size < length front → head_at at bytes ≡ Ok head
@@ -96,7 +96,7 @@ module _ (at n : ℕ) (bytes : List ℕ) (head : BoxHead) where
           let enough : 8 ≤ length front = grind (arith, nat_tests) in
           let long : nat_lt (length bytes) 8 ≡ false = grind (arith, nat_tests, short_front) in
           let size : u32_at 0 bytes ≡ u32_at 0 front =
-          ap (from_be_bytes w32) (sym (same_bytes 4 0 n bytes (omega (arith, short_front, enough)))) in
+          ap (from_be_bytes w32) (sym (bytes_at_front 4 0 n bytes (omega (arith, short_front, enough)))) in
           rw (long, size, w, d) (wider wide enough is)
         where
           wider : (wide : Bool) → 8 ≤ length front

@@ -9,7 +9,9 @@ use Rattle.bridge_jobs.specs.declared.verb.Verb.{Verb}
 use Rattle.bridge_jobs.specs.declared.verb.Verb.TheVariants as verb
 use Rattle.clap.specs.Words.{Row, first_of}
 use Rattle.bridge_io.specs.Names.{is_name}
-use Rattle.bridge_jobs.specs.Jobs.{◌>>=◌, name_in, job_of, job_by, hls_of, dash_of, follow_of, show_of, check_of, reload_of, make_of, hls_index_of, dash_times_of, agree_of, follow_hls_of, is_folder, folder_in, digits_in, digits_of, digits_or_six, file_of, base_of, now_of, out_of, seed_of, first_verb}
+use Rattle.bridge_jobs.specs.Jobs.{◌>>=◌, name_in, job_of, job_by, hls_of, dash_of, follow_of, show_of, check_of, reload_of, make_of}
+use Rattle.bridge_jobs.specs.Jobs.{hls_index_of, dash_times_of, agree_of, follow_hls_of, is_folder, folder_in, digits_in, digits_of}
+use Rattle.bridge_jobs.specs.Jobs.{digits_or_six, file_of, base_of, now_of, out_of, seed_of, first_verb}
 use Rattle.bridge_jobs.specs.Verbs.{values_of}
 
 -- a job's folder leaves room for the names of its files, its digits are few, and a master's file has a name
@@ -60,7 +62,7 @@ few_in (c ∷ []) digits is = elim (cases_Bool (nat_le 51 c && nat_le c 57)) [
 ]
 few_in (c ∷ (d ∷ text)) digits is = absurd (cc)
 
-few_or_six : (text : Option (List ℕ)) (digits : ℕ) → digits_or_six text ≡ Some digits → digits ≤ 9
+pub few_or_six : (text : Option (List ℕ)) (digits : ℕ) → digits_or_six text ≡ Some digits → digits ≤ 9
 few_or_six None digits is = (let same : 6 ≡ digits = cc in omega (arith, same))
 few_or_six (Some text) digits is = few_in text digits is
 

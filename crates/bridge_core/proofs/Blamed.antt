@@ -5,20 +5,21 @@ use Rattle.bridge_io.specs.Outside.{Files}
 use Rattle.bridge_io.specs.declared.outside.Fail.TheVariants as fail
 use Rattle.bridge_jobs.specs.declared.jobs.Job.{Job}
 use Rattle.bridge_jobs.specs.declared.jobs.Job.TheVariants as job
-use Rattle.bridge_runs.specs.declared.ending.Ending.{Ending}
-use Rattle.bridge_runs.specs.declared.ending.Ending.TheVariants as ending
-use Rattle.bridge_runs.specs.declared.status.Status.TheVariants as status
-use Rattle.bridge_runs.specs.declared.status.Verdict.TheVariants as verdict
-use Rattle.bridge_runs.specs.Courses.{World}
-use Rattle.bridge_runs.specs.declared.status.Status.{Status}
-use Rattle.bridge_runs.specs.Runs.{NeverFalls, TellsAs, status_of}
-use Rattle.bridge_runs.specs.Steps.{IsCaused}
-use Rattle.bridge_runs.proofs.Statuses.{no_fault, rose_later}
+use Rattle.bridge_courses.specs.declared.ending.Ending.{Ending}
+use Rattle.bridge_courses.specs.declared.ending.Ending.TheVariants as ending
+use Rattle.bridge_courses.specs.declared.status.Status.TheVariants as status
+use Rattle.bridge_courses.specs.declared.status.Verdict.TheVariants as verdict
+use Rattle.bridge_courses.specs.Courses.{World}
+use Rattle.bridge_courses.specs.declared.status.Status.{Status}
+use Rattle.bridge_courses.specs.Executions.{NeverFalls, TellsAs, status_of}
+use Rattle.bridge_courses.specs.Steps.{IsCaused}
+use Rattle.bridge_courses.proofs.Statuses.{no_fault, rose_later}
 use Rattle.bridge_report.specs.Outcomes.{Outcome, course_by}
 use Rattle.bridge_steps.specs.Endings.{JobEndsAs}
 use Rattle.bridge_steps.proofs.Works.{met}
 use Rattle.bridge_reach.specs.Rounds.{IsCausedByEither}
-use Rattle.bridge_core.specs.Courses.{Follows, IsBlamed, ReadRose, ReadsInputAlone, WritesNoPlaylists, WritesNothing, course_of_job, outcome_of_job}
+use Rattle.bridge_core.specs.Courses.{Follows, IsBlamed, ReadRose, ReadsInputAlone, WritesNoPlaylists, WritesNothing, course_of_job}
+use Rattle.bridge_core.specs.Courses.{outcome_of_job}
 
 -- ---- of a job that follows
 

@@ -1,29 +1,30 @@
 -- What `check` promises, from what its parts say.
 use Rattle.std.proofs.Common.{◌≡◌, ◌^◌, ℕ, List, IsTrue, Option, None, Some, IfSome, option_map, Result, Ok, Err, refl, sym, ◌∙◌, ap, subst}
 use Rattle.std.specs.Prelude.{◌↔◌}
+use Rattle.bridge_io.proofs.AndThen.{steps_of}
 use Rattle.bridge_io.specs.Names.{is_name}
 use Rattle.bridge_io.specs.Outside.{Files}
-use Rattle.hls_read.specs.Files.{PresentedMeanTheirFiles}
+use Rattle.laws_of_mpds.specs.PresentedFiles.{PresentedMeanTheirFiles}
 use Rattle.meaning.specs.Differences.{first_difference}
 use Rattle.meaning.specs.Meanings.{Meaning}
 use Rattle.meaning.specs.Same.{Agrees}
 use Rattle.meaning.specs.declared.difference.Difference.{Difference}
-use Rattle.mpd_from_playlists.specs.Written.{ReadHaveRates}
-use Rattle.presentation.proofs.Filling.{steps_of, ok_under}
+use Rattle.laws_of_mpds.specs.Written.{ReadHaveRates}
+use Rattle.presentation.proofs.Filling.{ok_under}
 use Rattle.presentation.specs.MeaningLaws.{TextsAreMeant}
 use Rattle.presentation.specs.Meanings.{dash_meaning, meaning_of}
 use Rattle.presentation.specs.Presented.{Presented}
 use Rattle.presentation.specs.Told.{presented_of}
-use Rattle.bridge_runs.specs.Courses.{Course}
-use Rattle.bridge_runs.specs.Laws.{VerdictKeepsSteps}
-use Rattle.bridge_runs.specs.declared.status.Verdict.{Verdict}
-use Rattle.bridge_runs.specs.declared.status.Verdict.TheVariants as verdict
+use Rattle.bridge_courses.specs.Courses.{Course}
+use Rattle.bridge_courses.specs.Laws.{VerdictKeepsSteps}
+use Rattle.bridge_courses.specs.declared.status.Verdict.{Verdict}
+use Rattle.bridge_courses.specs.declared.status.Verdict.TheVariants as verdict
 use Rattle.bridge_report.specs.Outcomes.{base_refused, course_by, outcome_told}
 use Rattle.bridge_report.specs.Reading.{Named, content_of}
 use Rattle.bridge_report.specs.declared.refusal.Refusal.TheVariants.{NotStatic}
-use Rattle.bridge_playlists.specs.Places.{place_of}
+use Rattle.bridge_playlists.specs.Places.{store_place_of}
 use Rattle.bridge_playlists.specs.Playlists.{presented_at}
-use Rattle.bridge_playlists.specs.declared.place.Place.{Place}
+use Rattle.bridge_playlists.specs.declared.place.StorePlace.{StorePlace}
 use Rattle.bridge_core.specs.Check.{check_at, check_outcome, compared, differ_line, judged, places_of, both_with, verdict_of}
 use Rattle.bridge_core.specs.Courses.{course_of, course_of_job, outcome_of_job}
 use Rattle.bridge_steps.specs.Endings.{placed}
@@ -53,22 +54,22 @@ by_told (Ok what) course goes is_open =
 by_told (Err named) course goes is_open = absurd (is_open (ap (λ (c : Course). c.end.verdict) goes))
 
 -- where both lie
-placed_by : (job : Check) (places : Place × Place) (mpd master : Option Place) → place_of job.base job.mpd ≡ mpd
-    → place_of job.base job.master ≡ master
-    → places_of job ≡ Some places → (place_of job.base job.mpd ≡ Some places.0) × (place_of job.base job.master ≡ Some places.1)
+placed_by : (job : Check) (places : StorePlace × StorePlace) (mpd master : Option StorePlace) → store_place_of job.base job.mpd ≡ mpd
+    → store_place_of job.base job.master ≡ master
+    → places_of job ≡ Some places → (store_place_of job.base job.mpd ≡ Some places.0) × (store_place_of job.base job.master ≡ Some places.1)
 unfolding places_of
 placed_by job places None master at there is = absurd (let e = rw at at is in cc)
 placed_by job places (Some mpd) None at there is = absurd (let e = rw (at, there) at is in cc)
 placed_by job places (Some mpd) (Some master) at there is =
     let same : both_with mpd master ≡ places = (let e = rw (at, there) at is in cc) in
-    (at ∙ ap (λ (p : Place × Place). Some p.0) same, there ∙ ap (λ (p : Place × Place). Some p.1) same)
+    (at ∙ ap (λ (p : StorePlace × StorePlace). Some p.0) same, there ∙ ap (λ (p : StorePlace × StorePlace). Some p.1) same)
 
 -- both are read, and this is told of them
 record IsCompared (job : Check) (files : Files) (course : Course) : Type 0 where
-  source : Place
-  source_at : place_of job.base job.mpd ≡ Some source
-  master : Place
-  master_at : place_of job.base job.master ≡ Some master
+  source : StorePlace
+  source_at : store_place_of job.base job.mpd ≡ Some source
+  master : StorePlace
+  master_at : store_place_of job.base job.master ≡ Some master
   mpd : Presented
   mpd_read : mpd_at (Some NotStatic) (10 ^ job.digits) None source files ≡ Ok mpd
   playlists : Presented
@@ -76,7 +77,7 @@ record IsCompared (job : Check) (files : Files) (course : Course) : Type 0 where
   verdict : course.end.verdict ≡ (compared (10 ^ job.digits) mpd playlists).0
   line : course.end.lines ≡ (compared (10 ^ job.digits) mpd playlists).1
 
-by_places : (job : Check) (files : Files) (course : Course) (places : Option (Place × Place)) → places_of job ≡ places
+by_places : (job : Check) (files : Files) (course : Course) (places : Option (StorePlace × StorePlace)) → places_of job ≡ places
     → option_map course_by (placed (check_at job (Some files)) places) ≡ Some course → IsOpen course → IsCompared job files course
 unfolding judged
 by_places job files course None at goes is_open =
@@ -85,7 +86,7 @@ by_places job files course None at goes is_open =
 by_places job files course (Some places) at goes is_open =
     let told : course_by (outcome_told (judged job places.0 places.1 files)) ≡ course = cc in
     let by = by_told (judged job places.0 places.1 files) course (sym told) is_open in
-    let lie = placed_by job places (place_of job.base job.mpd) (place_of job.base job.master) refl refl at in
+    let lie = placed_by job places (store_place_of job.base job.mpd) (store_place_of job.base job.master) refl refl at in
     let first = steps_of (mpd_at (Some NotStatic) (10 ^ job.digits) None places.0 files) _ by.what by.is in
     let second = steps_of (presented_at places.1 files) (λ playlists. Ok (compared (10 ^ job.digits) first.value playlists)) by.what
     first.then in
@@ -191,7 +192,8 @@ module _ (keeps : VerdictKeepsSteps) (texts : TextsAreMeant) (rates : ReadHaveRa
   differ_is_apart words job input course before after files asks was goes run =
       let asked : IfSome (Some (check_asked job)) IsBounded = subst (λ asked. IfSome asked IsBounded) asks (bounded words) in
       let ends = (keeps course verdict.Differ before after run).0 in
-      let by = ended job course verdict.Differ files (subst (λ asked. course_of_job asked (Some files) input ≡ Some course) asks goes) ends (λ is. absurd (cc)) in
+      let by = ended job course verdict.Differ files (subst (λ asked. course_of_job asked (Some files) input ≡ Some course) asks goes) ends
+      (λ is. absurd (cc)) in
       let are = are_meant job files course asked by in
       let some = differ_some by.mpd (first_difference (10 ^ job.digits) (meaning_of by.mpd) (meaning_of by.playlists)) (ends ∙ by.verdict)
       in

@@ -1,5 +1,6 @@
 -- The files that are written, by their names.
-use Rattle.std.proofs.Common.{◌≡◌, ℕ, zero, suc, ◌+◌, ◌^◌, ◌<◌, ◌≤◌, List, [], ◌∷◌, ◌++◌, map, length, None, Option, Some, bytes_eq, eqb, refl, sym, ◌∙◌, ap, arith, inl, inr, append_assoc}
+use Rattle.std.proofs.Common.{◌≡◌, ℕ, zero, suc, ◌+◌, ◌^◌, ◌<◌, ◌≤◌, List, [], ◌∷◌, ◌++◌, map, length, None, Option, Some, bytes_eq, eqb}
+use Rattle.std.proofs.Common.{refl, sym, ◌∙◌, ap, arith, inl, inr, append_assoc}
 use Rattle.std.specs.Prelude.{codes, decimal, option_map, slice_get}
 use Rattle.std.specs.List.{range_with_len}
 use Rattle.std.specs.Option.{option_map_or}
@@ -8,17 +9,17 @@ use Rattle.std.proofs.lemmas.Bool.Decides.{nat_tests}
 use Rattle.std.proofs.lemmas.Fmt.{decimal_injective}
 use Rattle.std.proofs.lemmas.List.{append_cancel_left, append_cancel_right}
 use Rattle.std.proofs.lemmas.Option.{slice_get_within}
+use Rattle.bridge_io.proofs.Texts.{same_bytes, equals_itself}
 use Rattle.bridge_io.specs.InOrder.{put_all}
 use Rattle.bridge_io.specs.Outside.{Files, put}
 use Rattle.bridge_jobs.specs.Laws.{in_folder, playlist_of}
-use Rattle.mpd_text.proofs.NameLemmas.{same_bytes, equals_itself}
 use Rattle.presentation.specs.Presented.{Presented}
 use Rattle.hls_writer.specs.Finished.{media_text}
 use Rattle.hls_writer.specs.Master.{master_text}
-use Rattle.read_back.specs.SameFiles.{AreWritten, master_name}
+use Rattle.laws_of_playlists.specs.SameFiles.{AreWritten, master_name}
 use Rattle.live_meaning.specs.States.{State, Track}
 use Rattle.live_meaning.specs.Playlists.{FollowedPlaylist, live_text, playlist_of as followed_of, playlist_with}
-use Rattle.live_reloads.specs.First.{HoldState}
+use Rattle.laws_of_reloads.specs.First.{HoldState}
 use Rattle.live_session.specs.Sessions.{text_of}
 use Rattle.bridge_steps.specs.LiveMpds.{live_files}
 use Rattle.bridge_steps.specs.Playlists.{playlists}
@@ -101,7 +102,8 @@ module _ (out : List ℕ) (texts : ℕ → List ℕ) where
     pub playlist_there : (t : ℕ) → t < n → all ((out ++ 47 ∷ []) ++ playlist_of t) ≡ Some (texts t)
     playlist_there t less =
         ap all (append_assoc out (47 ∷ []) (playlist_of t)) ∙ ap (λ fs. fs (in_folder out (playlist_of t))) last
-        ∙ put_elsewhere (in_folder out master_name) (in_folder out (playlist_of t)) master (put_all (map file (range_with_len 0 n)) files) (no_master out t)
+        ∙ put_elsewhere (in_folder out master_name) (in_folder out (playlist_of t)) master (put_all (map file (range_with_len 0 n)) files)
+        (no_master out t)
         ∙ file_there 0 n files t (omega (arith, few)) (omega (arith)) (omega (arith, less))
 
 -- ---- the playlists of a static MPD, and of a first live one
@@ -113,10 +115,12 @@ are_written out digits p files few = record {
   playlists = playlist_there out (media_text p digits) (master_text p) (length p.tracks) few files;
 }
 
-read_text : (o : Option FollowedPlaylist) (playlist : FollowedPlaylist) → o ≡ Some playlist → option_map_or live_text o [] ≡ live_text playlist
+read_text : (o : Option FollowedPlaylist) (playlist : FollowedPlaylist) → o ≡ Some playlist
+    → option_map_or live_text o [] ≡ live_text playlist
 read_text o playlist is = ap (λ o. option_map_or live_text o []) is
 
-some_track : (tracks : List Track) (t : ℕ) (o : Option Track) (f : Track → FollowedPlaylist) (playlist : FollowedPlaylist) → slice_get tracks t ≡ o
+some_track : (tracks : List Track) (t : ℕ) (o : Option Track) (f : Track → FollowedPlaylist) (playlist : FollowedPlaylist)
+    → slice_get tracks t ≡ o
     → option_map f o ≡ Some playlist → t < length tracks
 some_track tracks t None f playlist found is = absurd (cc)
 some_track tracks t (Some track) f playlist found is = slice_get_within tracks t track found

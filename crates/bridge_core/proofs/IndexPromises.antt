@@ -4,20 +4,20 @@ use Rattle.std.proofs.lemmas.List.{append-nil}
 use Rattle.bridge_io.specs.InOrder.{put_all}
 use Rattle.bridge_io.specs.Outside.{Files}
 use Rattle.bridge_jobs.specs.Laws.{FoldersHoldTheirFiles}
-use Rattle.bridge_runs.specs.Courses.{Course, World, files_of}
-use Rattle.bridge_runs.specs.Laws.{DoneIsWhole, VerdictKeepsSteps}
-use Rattle.bridge_runs.specs.Runs.{IsRun}
-use Rattle.bridge_runs.specs.declared.status.Status.TheVariants as status
+use Rattle.bridge_courses.specs.Courses.{Course, World, files_of}
+use Rattle.bridge_courses.specs.Laws.{DoneIsWhole, VerdictKeepsSteps}
+use Rattle.bridge_courses.specs.Executions.{IsExecution}
+use Rattle.bridge_courses.specs.declared.status.Status.TheVariants as status
 use Rattle.hls_meaning.specs.Meanings.{hls_meaning}
 use Rattle.hls_writer.specs.Verified.{IsVerified}
 use Rattle.index_parts.specs.Meanings.{indexed_meaning}
-use Rattle.index_read.specs.Meant.{IndexedTextsAreMeant}
-use Rattle.index_read.specs.Origins.{IndexedAreFew}
-use Rattle.index_read.specs.Written.{WrittenMeansTheIndex}
+use Rattle.laws_of_playlists.specs.IndexMeant.{IndexedTextsAreMeant}
+use Rattle.laws_of_playlists.specs.IndexOrigins.{IndexedAreFew}
+use Rattle.laws_of_playlists.specs.IndexWritten.{WrittenMeansTheIndex}
 use Rattle.presentation.specs.Meanings.{meaning_of}
-use Rattle.read_back.specs.Origins.{IsFound, OwnTextsAreAddresses, ReadingsAreOfBytes}
-use Rattle.read_back.specs.SameFiles.{AreWritten, FoldersHoldFiles, master_name}
-use Rattle.bridge_playlists.specs.Places.{place_of}
+use Rattle.laws_of_playlists.specs.Origins.{IsFound, OwnTextsAreAddresses, ReadingsAreOfBytes}
+use Rattle.laws_of_playlists.specs.SameFiles.{AreWritten, FoldersHoldFiles, master_name}
+use Rattle.bridge_playlists.specs.Places.{store_place_of}
 use Rattle.bridge_steps.specs.Done.{done_line}
 use Rattle.bridge_steps.specs.Playlists.{playlists}
 use Rattle.bridge_reach.specs.declared.index.HlsIndex.{HlsIndex}
@@ -36,7 +36,8 @@ module _ (done : DoneIsWhole) (keeps : VerdictKeepsSteps) (names : FoldersHoldTh
     (reads : ReadingsAreOfBytes) (own : OwnTextsAreAddresses) (fewer : IndexedAreFew) where
   promised : (job : HlsIndex) (course : Course) (before after : World) (first last : Files) → IsBounded (index_asked job)
       → before.files ≡ Some first → after.files ≡ Some last
-      → IsDoneAt (outcome_of job) (presented job) (place_of job.base job.mpd) first course → IsRun course status.Done before after
+      → IsDoneAt (outcome_of job) (presented job) (store_place_of job.base job.mpd) first course
+      → IsExecution course status.Done before after
       → IndexMeansTheSame job first last
   promised job course before after first last few_digits was is by run =
       let place = by.found in let p = by.value in
@@ -77,6 +78,7 @@ module _ (done : DoneIsWhole) (keeps : VerdictKeepsSteps) (names : FoldersHoldTh
   unfolding course_of index_outcome
   written_means words job input course before after first last asks was is goes run =
       let asked : IfSome (Some (index_asked job)) IsBounded = subst (λ asked. IfSome asked IsBounded) asks (bounded words) in
-      let by = done_at (playlists job.out job.digits) done_line (presented job) keeps before after (place_of job.base job.mpd) first course
+      let by = done_at (playlists job.out job.digits) done_line (presented job) keeps before after
+      (store_place_of job.base job.mpd) first course
       (subst (λ asked. course_of_job asked (Some first) input ≡ Some course) asks goes) run in
       promised job course before after first last asked was is by run

@@ -1,19 +1,20 @@
 -- Where a file lies under a base, and what is read there.
-use Rattle.std.proofs.Common.{◌≡◌, ◌&&◌, ℕ, List, ◌++◌, length, Option, None, Some, option_map, Result, Ok, Err, bytes_eq, inl, inr, refl, sym, ◌∙◌, ap, subst}
+use Rattle.std.proofs.Common.{◌≡◌, ◌&&◌, ℕ, List, ◌++◌, length, Option, None, Some, option_map, Result, Ok, Err, bytes_eq, inl, inr, refl}
+use Rattle.std.proofs.Common.{sym, ◌∙◌, ap, subst}
 use Rattle.std.specs.Prelude.{is_some, nat_lt, true}
 use Rattle.std.specs.Option.{option_and_then}
 use Rattle.std.proofs.lemmas.Bool.{cases_Bool}
+use Rattle.bridge_io.proofs.Texts.{same_bytes}
 use Rattle.bridge_io.specs.Outside.{Files}
 use Rattle.bridge_io.specs.Slurped.{whole_file, within}
-use Rattle.mpd_text.proofs.NameLemmas.{same_bytes}
 use Rattle.presentation.specs.Told.{told_as}
 use Rattle.presentation.proofs.Filling.{ok_under}
 use Rattle.url_parts.specs.Addresses.{absolute}
 use Rattle.bridge_report.specs.Bases.{file_url, folder_url, if_written_so, is_folder, own_address}
 use Rattle.bridge_report.specs.Reading.{content_of, manifest_limit}
 use Rattle.bridge_report.specs.Refusals.{refusal_of_file}
-use Rattle.bridge_playlists.specs.declared.place.Place.{Place}
-use Rattle.bridge_playlists.specs.Places.{place_of, place_with}
+use Rattle.bridge_playlists.specs.declared.place.StorePlace.{StorePlace}
+use Rattle.bridge_playlists.specs.Places.{store_place_of, store_place_with}
 
 -- ---- what is read
 
@@ -53,7 +54,7 @@ url_written base file url is = elim (cases_Bool (is_folder base && is_some (own_
   | inr other ↦ absurd (let e = rw other at is in cc)
 ]
 
-pub record Lies (base name : List ℕ) (place : Place) : Type 0 where
+pub record Lies (base name : List ℕ) (place : StorePlace) : Type 0 where
   pub is_base : is_folder base ≡ true
   pub folder : place.folder ≡ base
   pub file : place.file ≡ name
@@ -61,20 +62,20 @@ pub record Lies (base name : List ℕ) (place : Place) : Type 0 where
   pub url : place.url ≡ base ++ name
   pub own : absolute place.url ≡ Ok place.url
 
-pub in_folder_is : (base name : List ℕ) (place : Place) → Lies base name place → place.url ≡ place.folder ++ place.file
+pub in_folder_is : (base name : List ℕ) (place : StorePlace) → Lies base name place → place.url ≡ place.folder ++ place.file
 in_folder_is base name place lies =
     lies.url ∙ ap (λ folder. folder ++ name) (sym lies.folder) ∙ ap (λ file. place.folder ++ file) (sym lies.file)
 
-lies_with : (base file : List ℕ) (folder url : Option (List ℕ)) (place : Place) → folder_url base ≡ folder → file_url base file ≡ url
-    → option_and_then (λ folder. option_map (place_with file folder) url) folder ≡ Some place → Lies base file place
+lies_with : (base file : List ℕ) (folder url : Option (List ℕ)) (place : StorePlace) → folder_url base ≡ folder → file_url base file ≡ url
+    → option_and_then (λ folder. option_map (store_place_with file folder) url) folder ≡ Some place → Lies base file place
 lies_with base file None url place at there is = absurd (cc)
 lies_with base file (Some folder) None place at there is = absurd (cc)
 lies_with base file (Some folder) (Some url) place at there is =
-    let same : place_with file folder url ≡ place = cc in
+    let same : store_place_with file folder url ≡ place = cc in
     let under = folder_written base folder at in
     let own = url_written base file url there in
     subst (Lies base file) same (record { is_base = under.0; folder = under.1; file = refl; at = there; url = own.1; own = own.0 })
 
-pub lies_of : (base file : List ℕ) (place : Place) → place_of base file ≡ Some place → Lies base file place
-unfolding place_of
+pub lies_of : (base file : List ℕ) (place : StorePlace) → store_place_of base file ≡ Some place → Lies base file place
+unfolding store_place_of
 lies_of base file place is = lies_with base file (folder_url base) (file_url base file) place refl refl is

@@ -1,10 +1,13 @@
 -- What `dash` promises, from what its parts say.
-use Rattle.std.proofs.Common.{◌≡◌, ◌<◌, ℕ, List, [], ◌∷◌, ◌++◌, map, All, IsTrue, Option, None, Some, IfSome, option_map, Ok, inl, inr, refl, sym, ◌∙◌, ap, subst, append_assoc, arith}
+use Rattle.std.proofs.Common.{◌≡◌, ◌<◌, ℕ, List, [], ◌∷◌, ◌++◌, map, All, IsTrue, Option, None, Some, IfSome, option_map, Ok, inl, inr}
+use Rattle.std.proofs.Common.{refl, sym, ◌∙◌, ap, subst, append_assoc, arith}
 use Rattle.std.specs.Prelude.{codes, nat_lt}
 use Rattle.std.specs.Option.{option_and_then}
 use Rattle.std.proofs.lemmas.Bool.{cases_Bool}
 use Rattle.std.proofs.lemmas.List.{append-nil}
 use Rattle.std.proofs.lemmas.List.Elements.{All-nil, All-cons, All-head, All-tail}
+use Rattle.bridge_io.proofs.AndThen.{steps_of}
+use Rattle.bridge_io.specs.Answer.{and_then}
 use Rattle.bridge_io.specs.InOrder.{put_all}
 use Rattle.bridge_io.specs.Names.{is_name}
 use Rattle.bridge_io.specs.Outside.{Files}
@@ -20,33 +23,34 @@ use Rattle.hls_master.specs.SeenTracks.{track_seen}
 use Rattle.hls_master.specs.Tracks.{TrackValue}
 use Rattle.hls_presentation.specs.Presenting.{hls_presented_of}
 use Rattle.hls_meaning.specs.Meanings.{file_at}
-use Rattle.hls_read.specs.Files.{ArePlaylists, IsMaster, IsPlaylist, PresentedMeanTheirFiles}
+use Rattle.laws_of_mpds.specs.PresentedFiles.{ArePlaylists, IsMaster, IsPlaylist, PresentedMeanTheirFiles}
 use Rattle.meaning.specs.Same.{IsSameTime}
 use Rattle.meaning.proofs.SameLemmas.{Same-wider}
 use Rattle.presentation.specs.Presented.{Presented}
 use Rattle.presentation.specs.Scales.{rate_of}
-use Rattle.presentation.specs.Told.{and_then, told_as}
-use Rattle.presentation.proofs.Filling.{steps_of, ok_under}
-use Rattle.read_back.proofs.SameFolders.{file_under}
+use Rattle.presentation.specs.Told.{told_as}
+use Rattle.presentation.proofs.Filling.{ok_under}
+use Rattle.laws_of_playlists.proofs.SameFolders.{file_under}
 use Rattle.bridge_report.specs.Reading.{content_of, media_at, media_in}
 use Rattle.bridge_report.specs.declared.refusal.Refusal.TheVariants as refusal
 use Rattle.bridge_playlists.specs.declared.medias.Medias.{Medias}
-use Rattle.bridge_playlists.specs.declared.place.Place.{Place}
-use Rattle.bridge_playlists.specs.Playlists.{master_in, media_named, media_under, medias_of, medias_with, none_read, presented_at, presented_by, presented_with, segment_limit, track_kept, tracks_of, with_media, within_limit}
+use Rattle.bridge_playlists.specs.declared.place.StorePlace.{StorePlace}
+use Rattle.bridge_playlists.specs.Playlists.{master_in, media_named, media_under, medias_of, medias_with, none_read, presented_at}
+use Rattle.bridge_playlists.specs.Playlists.{presented_by, presented_with, segment_limit, track_kept, tracks_of, with_media, within_limit}
 use Rattle.bridge_jobs.specs.Laws.{in_folder}
-use Rattle.bridge_runs.specs.Courses.{Course, World, files_of as course_files}
-use Rattle.bridge_runs.specs.Laws.{DoneIsWhole, VerdictKeepsSteps}
-use Rattle.bridge_runs.specs.Runs.{IsRun}
-use Rattle.bridge_runs.specs.declared.status.Status.TheVariants as status
+use Rattle.bridge_courses.specs.Courses.{Course, World, files_of as course_files}
+use Rattle.bridge_courses.specs.Laws.{DoneIsWhole, VerdictKeepsSteps}
+use Rattle.bridge_courses.specs.Executions.{IsExecution}
+use Rattle.bridge_courses.specs.declared.status.Status.TheVariants as status
 use Rattle.dash_writer.specs.Manifest.{manifest_text}
-use Rattle.mpd_from_playlists.specs.Written.{HaveAddresses, ReadHaveAddresses, ReadHaveRates, ReadMeanTheSame, TracksAreOfBytes}
+use Rattle.laws_of_mpds.specs.Written.{HaveAddresses, ReadHaveAddresses, ReadHaveRates, ReadMeanTheSame, TracksAreOfBytes}
 use Rattle.presentation.specs.Meanings.{meaning_of}
 use Rattle.bridge_report.specs.Outcomes.{course_by}
-use Rattle.bridge_playlists.specs.Places.{place_of}
+use Rattle.bridge_playlists.specs.Places.{store_place_of}
 use Rattle.bridge_steps.specs.Done.{done_line}
 use Rattle.bridge_core.specs.Courses.{course_of, course_of_job, outcome_of_job}
 use Rattle.bridge_core.specs.Dash.{dash_outcome, files_of, outcome_of}
-use Rattle.read_back.specs.Origins.{OwnTextsAreAddresses}
+use Rattle.laws_of_playlists.specs.Origins.{OwnTextsAreAddresses}
 use Rattle.bridge_core.specs.Promises.{MpdMeansTheSame, WrittenMpdMeansThePlaylists, mpd_asked}
 use Rattle.bridge_core.specs.declared.dash.Dash.{Dash}
 use Rattle.bridge_core.proofs.Asked.{IsBounded, bounded as bounded_words}
@@ -73,7 +77,7 @@ media_read file url files media is =
           step.then);
     }
 
-named_read : (place : Place) (files : Files) (address : List ℕ) (name : Option (List ℕ)) (media : Media)
+named_read : (place : StorePlace) (files : Files) (address : List ℕ) (name : Option (List ℕ)) (media : Media)
     → local_name_of place.folder address ≡ name
     → media_named place files address name ≡ Ok media → IsPlaylist files place.folder address media
 named_read place files address None media at is = absurd (cc)
@@ -81,24 +85,24 @@ named_read place files address (Some file) media at is =
     let read = media_read file address files media is in
     record { bytes = read.bytes; found = ap (option_and_then files) at ∙ read.found; read = read.read }
 
-playlist_read : (place : Place) (files : Files) (address : List ℕ) (media : Media) → media_under place files address ≡ Ok media
+playlist_read : (place : StorePlace) (files : Files) (address : List ℕ) (media : Media) → media_under place files address ≡ Ok media
     → IsPlaylist files place.folder address media
 unfolding media_under
 playlist_read place files address media is = named_read place files address (local_name_of place.folder address) media refl is
 
-few_enough : (place : Place) (medias next : Medias) → within_limit place medias ≡ Ok next → medias ≡ next
+few_enough : (place : StorePlace) (medias next : Medias) → within_limit place medias ≡ Ok next → medias ≡ next
 few_enough place medias next is = elim (cases_Bool (nat_lt segment_limit medias.segments)) [
   | inl many ↦ absurd (let e = rw many at is in cc)
   | inr few ↦ (let e = rw few at is in cc)
 ]
 
 -- playlists that are read behind others
-record AreGathered (place : Place) (files : Files) (before : Medias) (tracks : List MasterTrack) (all : Medias) : Type 0 where
+record AreGathered (place : StorePlace) (files : Files) (before : Medias) (tracks : List MasterTrack) (all : Medias) : Type 0 where
   later : List Media
   behind : all.files ≡ before.files ++ later
   playlists : ArePlaylists files place.folder tracks later
 
-one_read : (place : Place) (files : Files) (before : Medias) (track : MasterTrack) (next : Medias)
+one_read : (place : StorePlace) (files : Files) (before : Medias) (track : MasterTrack) (next : Medias)
     → medias_with place files before track ≡ Ok next
     → (media : Media) × ((next.files ≡ before.files ++ media ∷ []) × IsPlaylist files place.folder track.address media)
 unfolding medias_with
@@ -111,7 +115,7 @@ one_read place files before track next is =
       ),
     )
 
-gathered : (place : Place) (files : Files) (before : Medias) (tracks : List MasterTrack) (all : Medias)
+gathered : (place : StorePlace) (files : Files) (before : Medias) (tracks : List MasterTrack) (all : Medias)
     → medias_of place files before tracks ≡ Ok all → AreGathered place files before tracks all
 gathered place files before [] all is =
     let same : before ≡ all = cc in
@@ -146,7 +150,7 @@ all_seen_again (track ∷ seen) all =
 
 -- ---- the presentation that is read
 
-pub record IsReadFrom (place : Place) (files : Files) (p : Presented) : Type 0 where
+pub record IsReadFrom (place : StorePlace) (files : Files) (p : Presented) : Type 0 where
   pub tracks : List MasterTrack
   pub medias : List Media
   pub master : IsMaster files place.folder place.url tracks
@@ -154,7 +158,7 @@ pub record IsReadFrom (place : Place) (files : Files) (p : Presented) : Type 0 w
   pub presented : hls_presented_of tracks medias ≡ Ok p
 
 module _ (rates : ReadHaveRates) where
-  master_read : (place : Place) (bytes : List ℕ) (tracks : List MasterTrack) → master_in place bytes ≡ Ok tracks
+  master_read : (place : StorePlace) (bytes : List ℕ) (tracks : List MasterTrack) → master_in place bytes ≡ Ok tracks
       → master_of bytes place.url ≡ Ok (map track_seen tracks)
   unfolding master_in
   master_read place bytes tracks is =
@@ -164,7 +168,7 @@ module _ (rates : ReadHaveRates) where
       let kept : map track_kept step.value ≡ tracks = (let e = step.then in cc) in
       step.first ∙ ap Ok (sym (all_seen_again step.value (rates bytes place.url step.value step.first)) ∙ ap (map track_seen) kept)
 
-  pub presentation_read : (place : Place) (files : Files) (p : Presented) → IsTrue (is_name place.file)
+  pub presentation_read : (place : StorePlace) (files : Files) (p : Presented) → IsTrue (is_name place.file)
       → place.url ≡ place.folder ++ place.file → presented_at place files ≡ Ok p
       → IsReadFrom place files p
   unfolding presented_at presented_with presented_by
@@ -226,7 +230,8 @@ module _ (done : DoneIsWhole) (keeps : VerdictKeepsSteps) (own : OwnTextsAreAddr
     (bounded : ReadIsBounded) (addresses : ReadHaveAddresses) (same : ReadMeanTheSame) where
   promised : (job : Dash) (course : Course) (before after : World) (first last : Files) → IsTrue (is_name job.master)
       → before.files ≡ Some first → after.files ≡ Some last
-      → IsDoneAt (outcome_of job) presented_at (place_of job.base job.master) first course → IsRun course status.Done before after
+      → IsDoneAt (outcome_of job) presented_at (store_place_of job.base job.master) first course
+      → IsExecution course status.Done before after
       → MpdMeansTheSame job first last
   promised job course before after first last named was is by run =
       let lies = lies_of job.base job.master by.found by.at in
@@ -259,6 +264,6 @@ module _ (done : DoneIsWhole) (keeps : VerdictKeepsSteps) (own : OwnTextsAreAddr
   unfolding course_of dash_outcome
   written_mpd_means words job input course before after first last asks was is goes run =
       let asked : IfSome (Some (mpd_asked job)) IsBounded = subst (λ asked. IfSome asked IsBounded) asks (bounded_words words) in
-      let by = done_at (files_of job) done_line presented_at keeps before after (place_of job.base job.master) first course
+      let by = done_at (files_of job) done_line presented_at keeps before after (store_place_of job.base job.master) first course
       (subst (λ asked. course_of_job asked (Some first) input ≡ Some course) asks goes) run in
       promised job course before after first last asked was is by run

@@ -1,5 +1,7 @@
 -- What is written means what the MPD means.
-use Rattle.std.proofs.Common.{◌≡◌, ◌⊎◌, ℕ, ℤ, ◌+◌, ◌-◌, ◌^◌, ◌<◌, ◌≤◌, not, Bool, true, false, IsTrue, List, [], ◌∷◌, ◌++◌, length, map, take, if◌then◌else◌, Option, None, Some, option_map, Result, Ok, Err, IfSome, refl, sym, ◌∙◌, ap, subst, arith, inl, inr, append_assoc, take_all}
+use Rattle.std.proofs.Common.{◌≡◌, ◌⊎◌, ℕ, ℤ, ◌+◌, ◌-◌, ◌^◌, ◌<◌, ◌≤◌, not, Bool, true, false, IsTrue, List, [], ◌∷◌, ◌++◌, length, map}
+use Rattle.std.proofs.Common.{take, if◌then◌else◌, Option, None, Some, option_map, Result, Ok, Err, IfSome, refl, sym, ◌∙◌, ap, subst}
+use Rattle.std.proofs.Common.{arith, inl, inr, append_assoc, take_all}
 use Rattle.std.specs.Prelude.{nat_le, nat_lt}
 use Rattle.std.proofs.lemmas.Bool.{cases_Bool, and_parts}
 use Rattle.std.proofs.lemmas.List.{append-nil, take_more, length-map}
@@ -11,45 +13,47 @@ use Rattle.std.specs.List.{list_all, list_any}
 use Rattle.std.specs.Str.{is_utf8}
 use Rattle.std.proofs.lemmas.Bool.{ltb-true, eqb-true}
 use Rattle.std.proofs.lemmas.Str.{IsUtf8-from_is_utf8}
+use Rattle.bridge_io.proofs.AndThen.{steps_of}
 use Rattle.bridge_io.specs.InOrder.{put_all}
 use Rattle.bridge_io.specs.Names.{is_name}
 use Rattle.bridge_io.specs.Outside.{Files}
 use Rattle.bridge_jobs.specs.Jobs.{is_folder}
 use Rattle.bridge_jobs.specs.Laws.{FoldersHoldTheirFiles}
-use Rattle.bridge_runs.specs.Courses.{Course, World, files_of as course_files}
-use Rattle.bridge_runs.specs.Laws.{DoneIsWhole, VerdictKeepsSteps}
-use Rattle.bridge_runs.specs.Runs.{IsRun}
-use Rattle.bridge_runs.specs.declared.status.Status.TheVariants as status
+use Rattle.bridge_courses.specs.Courses.{Course, World, files_of as course_files}
+use Rattle.bridge_courses.specs.Laws.{DoneIsWhole, VerdictKeepsSteps}
+use Rattle.bridge_courses.specs.Executions.{IsExecution}
+use Rattle.bridge_courses.specs.declared.status.Status.TheVariants as status
 use Rattle.mpd_text.proofs.NameLemmas.{not_true}
 use Rattle.mpd_text.specs.Meaning.{reading_of}
 use Rattle.mpd_text.specs.Trees.{Element}
 use Rattle.mpd_text.specs.declared.fault.TextFault.{TextFault}
-use Rattle.mpd_from_playlists.proofs.Bytes.{all_bytes, utf8_bytes}
-use Rattle.presentation.proofs.Filling.{steps_of, ok_under}
+use Rattle.laws_of_mpds.proofs.Bytes.{all_bytes, utf8_bytes}
+use Rattle.presentation.proofs.Filling.{ok_under}
 use Rattle.presentation.specs.Counting.{tracks_of}
 use Rattle.presentation.specs.MeaningLaws.{TextsAreMeant}
 use Rattle.presentation.specs.Meanings.{dash_meaning, meaning_of}
 use Rattle.presentation.specs.Presented.{Presented}
 use Rattle.presentation.specs.Told.{presented_of, told_as}
 use Rattle.url_parts.specs.Addresses.{IsAddress, folder_of, is_tail}
-use Rattle.read_back.proofs.SameFolders.{no_tail, own_with_slash}
+use Rattle.laws_of_playlists.proofs.SameFolders.{no_tail, own_with_slash}
 use Rattle.hls_meaning.specs.Meanings.{hls_meaning}
-use Rattle.read_back.specs.Origins.{HaveFewTracks, IsFound, IsOfBytes, ReadingsAreOfBytes, OwnTextsAreAddresses, of_static}
-use Rattle.read_back.specs.SameFiles.{FoldersHoldFiles, HoldsFiles, MeanTheSame, master_name}
-use Rattle.read_back.specs.SameStatic.{WrittenMeansTheSame}
+use Rattle.laws_of_playlists.specs.Origins.{HaveFewTracks, IsFound, IsOfBytes, ReadingsAreOfBytes, OwnTextsAreAddresses, of_static}
+use Rattle.laws_of_playlists.specs.SameFiles.{FoldersHoldFiles, HoldsFiles, MeanTheSame, master_name}
+use Rattle.laws_of_playlists.specs.SameStatic.{WrittenMeansTheSame}
 use Rattle.live_meaning.specs.Updates.{Refresh, Update, Values, mpd_of, unit_of}
 use Rattle.live_meaning.specs.Histories.{Common, begun_common, begun_past, begun_with}
 use Rattle.live_meaning.specs.States.{State, shown, track_of}
 use Rattle.live_meaning.specs.Refusals.{begun_of}
-use Rattle.live_reloads.specs.First.{FirstFilesMeanTheSame}
-use Rattle.live_reloads.specs.Laws.{IsFollowed, IsRead, IsReadIfAny}
-use Rattle.live_reloads.proofs.FirstFiles.{begun_is}
+use Rattle.laws_of_reloads.specs.First.{FirstFilesMeanTheSame}
+use Rattle.laws_of_reloads.specs.Laws.{IsFollowed, IsRead, IsReadIfAny}
+use Rattle.laws_of_reloads.proofs.FirstFiles.{begun_is}
 use Rattle.bridge_report.specs.Bases.{ends_in_slash, is_folder as is_base}
 use Rattle.bridge_core.specs.Courses.{course_of, course_of_job}
-use Rattle.bridge_core.specs.Hls.{Live, Static, Translation, files_of, hls_outcome, line_of, live_translation, outcome_of, static_translation, terms_at, translation_at, translation_by, translation_of}
+use Rattle.bridge_core.specs.Hls.{Live, Static, Translation, files_of, hls_outcome, line_of, live_translation, outcome_of}
+use Rattle.bridge_core.specs.Hls.{static_translation, terms_at, translation_at, translation_by, translation_of}
 use Rattle.bridge_report.specs.Reading.{content_of, of_file}
-use Rattle.bridge_playlists.specs.declared.place.Place.{Place}
-use Rattle.bridge_playlists.specs.Places.{place_of}
+use Rattle.bridge_playlists.specs.declared.place.StorePlace.{StorePlace}
+use Rattle.bridge_playlists.specs.Places.{store_place_of}
 use Rattle.bridge_steps.specs.LiveMpds.{live_files, told_of}
 use Rattle.bridge_steps.specs.Manifests.{ready_of, values_of}
 use Rattle.bridge_steps.specs.Playlists.{playlists}
@@ -90,7 +94,8 @@ static_at job url bytes mpd value read static is =
       is = (let same : Static job.digits ready.value ≡ value = (let told = ready.then in cc) in sym same);
     }
 
-live_at : (job : Hls) (url bytes : List ℕ) (mpd : Values) (now : Option ℤ) (value : Translation) → values_of bytes ≡ Ok mpd → job.instant ≡ now
+live_at : (job : Hls) (url bytes : List ℕ) (mpd : Values) (now : Option ℤ) (value : Translation) → values_of bytes ≡ Ok mpd
+    → job.instant ≡ now
     → live_translation job url now mpd ≡ Ok value → IsLiveAt job url bytes value
 unfolding live_translation
 live_at job url bytes mpd None value read at is = absurd (cc)
@@ -106,7 +111,8 @@ live_at job url bytes mpd (Some now) value read at is =
       is = (let same : Live told.value ≡ value = (let rest = told.then in cc) in sym same);
     }
 
-by_kind : (job : Hls) (url bytes : List ℕ) (mpd : Values) (live : Bool) (value : Translation) → values_of bytes ≡ Ok mpd → mpd.facts.live ≡ live
+by_kind : (job : Hls) (url bytes : List ℕ) (mpd : Values) (live : Bool) (value : Translation) → values_of bytes ≡ Ok mpd
+    → mpd.facts.live ≡ live
     → (if live then live_translation job url job.instant mpd else static_translation job url mpd) ≡ Ok value
     → IsStaticAt job url bytes value ⊎ IsLiveAt job url bytes value
 by_kind job url bytes mpd true value read kind is = inr (live_at job url bytes mpd job.instant value read refl is)
@@ -177,9 +183,10 @@ first_tracks c =
     length-map (map (begun_past c) (tracks_of c.opened)) (track_of (unit_of c.terms)) ∙ length-map (tracks_of c.opened) (begun_past c)
     ∙ length-range_with_len 0 (length c.opened.tracks)
 
-module _ (names : FoldersHoldTheirFiles) (hold : FoldersHoldFiles) (meant : TextsAreMeant) (same : WrittenMeansTheSame) (first_same : FirstFilesMeanTheSame)
+module _ (names : FoldersHoldTheirFiles) (hold : FoldersHoldFiles) (meant : TextsAreMeant) (same : WrittenMeansTheSame)
+    (first_same : FirstFilesMeanTheSame)
     (reads : ReadingsAreOfBytes) (own : OwnTextsAreAddresses) (fewer : HaveFewTracks) where
-  module _ (job : Hls) (place : Place) (first : Files) (asked : IsBounded (job_asked job)) (lies : Lies job.base job.mpd place) where
+  module _ (job : Hls) (place : StorePlace) (first : Files) (asked : IsBounded (job_asked job)) (lies : Lies job.base job.mpd place) where
     abbrev prefix : List ℕ
     prefix = job.out ++ 47 ∷ []
 
@@ -253,12 +260,14 @@ module _ (names : FoldersHoldTheirFiles) (hold : FoldersHoldFiles) (meant : Text
   module _ (done : DoneIsWhole) (keeps : VerdictKeepsSteps) where
     promised : (job : Hls) (course : Course) (before after : World) (first last : Files) → IsBounded (job_asked job)
         → before.files ≡ Some first → after.files ≡ Some last
-        → IsDoneAt (outcome_of job) (translation_at job) (place_of job.base job.mpd) first course → IsRun course status.Done before after
+        → IsDoneAt (outcome_of job) (translation_at job) (store_place_of job.base job.mpd) first course
+        → IsExecution course status.Done before after
         → MeansTheSame job first last
     unfolding translation_at
     promised job course before after first last asked was is by run =
         let place = by.found in let lies = lies_of job.base job.mpd place by.at in
-        let read = steps_of (content_of place.file first) (λ bytes. of_file place.file (translation_of job place.url bytes)) by.value by.is in
+        let read = steps_of (content_of place.file first)
+        (λ bytes. of_file place.file (translation_of job place.url bytes)) by.value by.is in
         let there : first job.mpd ≡ Some read.value = ap first (sym lies.file) ∙ content_read place.file first read.value read.first in
         let kind = kind_of job place.url read.value by.value (ok_under _ (translation_of job place.url read.value) by.value read.then) in
         let pieces : List (List ℕ × List ℕ) = files_of job.out by.value in
@@ -285,6 +294,6 @@ module _ (names : FoldersHoldTheirFiles) (hold : FoldersHoldFiles) (meant : Text
     unfolding course_of hls_outcome
     written_means words job input course before after first last asks was is goes run =
         let asked : IfSome (Some (job_asked job)) IsBounded = subst (λ asked. IfSome asked IsBounded) asks (bounded words) in
-        let by = done_at (files_of job.out) line_of (translation_at job) keeps before after (place_of job.base job.mpd) first course
+        let by = done_at (files_of job.out) line_of (translation_at job) keeps before after (store_place_of job.base job.mpd) first course
         (subst (λ asked. course_of_job asked (Some first) input ≡ Some course) asks goes) run in
         promised job course before after first last asked was is by run

@@ -3,16 +3,16 @@ use Rattle.std.proofs.Common.{◌≡◌, ℕ, Bool, true, false, List, Option, N
 use Rattle.std.proofs.lemmas.List.{append-nil}
 use Rattle.bridge_io.specs.InOrder.{put_all}
 use Rattle.bridge_io.specs.Outside.{Files}
-use Rattle.bridge_runs.specs.Courses.{Course, World, files_of}
-use Rattle.bridge_runs.specs.Laws.{DoneIsWhole, VerdictKeepsSteps}
-use Rattle.bridge_runs.specs.Runs.{IsRun, status_by}
-use Rattle.bridge_runs.specs.declared.status.Status.TheVariants as status
-use Rattle.bridge_runs.specs.declared.status.Verdict.{Verdict}
-use Rattle.bridge_runs.specs.declared.status.Verdict.TheVariants as verdict
+use Rattle.bridge_courses.specs.Courses.{Course, World, files_of}
+use Rattle.bridge_courses.specs.Laws.{DoneIsWhole, VerdictKeepsSteps}
+use Rattle.bridge_courses.specs.Executions.{IsExecution, status_by}
+use Rattle.bridge_courses.specs.declared.status.Status.TheVariants as status
+use Rattle.bridge_courses.specs.declared.status.Verdict.{Verdict}
+use Rattle.bridge_courses.specs.declared.status.Verdict.TheVariants as verdict
 use Rattle.bridge_report.specs.Outcomes.{Ends, Outcome, Writes, base_refused, course_by, outcome_told}
 use Rattle.bridge_report.specs.Reading.{Named}
-use Rattle.bridge_playlists.specs.declared.place.Place.{Place}
-use Rattle.bridge_playlists.specs.Places.{place_of}
+use Rattle.bridge_playlists.specs.declared.place.StorePlace.{StorePlace}
+use Rattle.bridge_playlists.specs.Places.{store_place_of}
 use Rattle.bridge_steps.specs.Endings.{placed}
 use Rattle.bridge_reach.specs.Agree.{agree_at, agree_outcome, judged}
 use Rattle.bridge_reach.specs.DashTimes.{Timed, dash_times_at, dash_times_outcome, files_of as timed_files, line_of, outcome_of, timed_at}
@@ -26,14 +26,14 @@ use Rattle.bridge_core.proofs.DoneAt.{IsDoneAt, done_at}
 -- ---- `dash-times`
 
 module _ (done : DoneIsWhole) (keeps : VerdictKeepsSteps) (timed : WrittenAreFileTimes) where
-  outcome_there : (job : DashTimes) (first : Files) (place : Option Place) (found : Place) (value : Timed) → place ≡ Some found
+  outcome_there : (job : DashTimes) (first : Files) (place : Option StorePlace) (found : StorePlace) (value : Timed) → place ≡ Some found
       → timed_at found first ≡ Ok value → placed (dash_times_at job (Some first)) place ≡ Some (outcome_of job (Ok value))
   outcome_there job first place found value at is =
       ap (λ p. placed (dash_times_at job (Some first)) p) at ∙ ap (λ r. Some (outcome_of job r)) is
 
   left_by : (job : DashTimes) (course : Course) (before after : World) (first last : Files) → before.files ≡ Some first
-      → after.files ≡ Some last → IsDoneAt (outcome_of job) timed_at (place_of job.base job.master) first course
-      → IsRun course status.Done before after → HasTheFilesTimes job first last
+      → after.files ≡ Some last → IsDoneAt (outcome_of job) timed_at (store_place_of job.base job.master) first course
+      → IsExecution course status.Done before after → HasTheFilesTimes job first last
   unfolding dash_times_outcome
   left_by job course before after first last was is by run =
       let pieces : List (List ℕ × List ℕ) = timed_files job by.value in
@@ -43,14 +43,14 @@ module _ (done : DoneIsWhole) (keeps : VerdictKeepsSteps) (timed : WrittenAreFil
       ∙ ap (option_map (put_all pieces)) was in
       record {
         written = pieces;
-        timed = timed job first pieces _ _ (outcome_there job first (place_of job.base job.master) by.found by.value by.at by.is);
+        timed = timed job first pieces _ _ (outcome_there job first (store_place_of job.base job.master) by.found by.value by.at by.is);
         left = cc;
       }
 
   pub written_has_times : WrittenHasTheFilesTimes
   unfolding course_of dash_times_outcome
   written_has_times words job input course before after first last asks was is goes run =
-      let by = done_at (timed_files job) line_of timed_at keeps before after (place_of job.base job.master) first course
+      let by = done_at (timed_files job) line_of timed_at keeps before after (store_place_of job.base job.master) first course
       (subst (λ asked. course_of_job asked (Some first) input ≡ Some course) asks goes) run in
       left_by job course before after first last was is by run
 
@@ -77,7 +77,7 @@ told_so (Err named) course is = record {
       ≡ Some (Ends c.end.verdict c.end.lines true false)) is refl;
 }
 
-told_at : (place : Option Place) (files : Files) (course : Course)
+told_at : (place : Option StorePlace) (files : Files) (course : Course)
     → option_map course_by (placed (agree_at (Some files)) place) ≡ Some course
     → IsToldAs (placed (agree_at (Some files)) place) course.end.verdict course.end.lines
 told_at None files course goes = record {
@@ -91,12 +91,12 @@ told_at (Some place) files course goes =
 
 module _ (keeps : VerdictKeepsSteps) where
   told_of : (job : Agree) (v : Verdict) (course : Course) (before after : World) (files : Files)
-      → option_map course_by (agree_outcome job (Some files)) ≡ Some course → IsRun course (status_by v) before after
+      → option_map course_by (agree_outcome job (Some files)) ≡ Some course → IsExecution course (status_by v) before after
       → IsToldAs (agree_outcome job (Some files)) v course.end.lines
   unfolding agree_outcome
   told_of job v course before after files goes run =
       subst (λ end. IsToldAs (agree_outcome job (Some files)) end course.end.lines) (sym (keeps course v before after run).0)
-      (told_at (place_of job.base job.mpd) files course goes)
+      (told_at (store_place_of job.base job.mpd) files course goes)
 
   pub done_has_times : DoneAgrees → DoneHasTheFilesTimes
   unfolding course_of

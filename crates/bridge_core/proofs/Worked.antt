@@ -3,10 +3,10 @@ use Rattle.std.proofs.Common.{◌≡◌, ℕ, List, Option, None, Some, refl, su
 use Rattle.std.specs.Option.{ForSome}
 use Rattle.bridge_io.specs.Outside.{Files}
 use Rattle.bridge_jobs.specs.declared.jobs.Job.{Job}
-use Rattle.bridge_runs.specs.declared.ending.Ending.{Ending}
-use Rattle.bridge_runs.specs.declared.ending.Ending.TheVariants as ending
-use Rattle.bridge_runs.specs.Courses.{Course, World}
-use Rattle.bridge_runs.specs.Steps.{Work}
+use Rattle.bridge_courses.specs.declared.ending.Ending.{Ending}
+use Rattle.bridge_courses.specs.declared.ending.Ending.TheVariants as ending
+use Rattle.bridge_courses.specs.Courses.{Course, World}
+use Rattle.bridge_courses.specs.Steps.{Work}
 use Rattle.bridge_report.specs.Outcomes.{course_by}
 use Rattle.bridge_steps.specs.Endings.{JobEndsAs}
 use Rattle.bridge_steps.proofs.Works.{met, work_of, works}
@@ -35,8 +35,10 @@ same_worked j found files input told w w' is work =
     subst (λ j. ForSome (course_of_job j files input) (λ course. Work course told w w')) is work
 
 -- a job that isn't followed does what its outcome says
-pub command_worked : (j : Job) (other : Follows (Some j) → ⊥) (files : Option Files) (input : Option (List ℕ)) (told : Ending) (w w' : World)
-    → JobEndsAs (outcome_of_job (Some j) files) told (met w) (met w') → w'.input_faults ≡ w.input_faults → w'.report_faults ≡ w.report_faults
+pub command_worked : (j : Job) (other : Follows (Some j) → ⊥) (files : Option Files) (input : Option (List ℕ)) (told : Ending)
+    (w w' : World)
+    → JobEndsAs (outcome_of_job (Some j) files) told (met w) (met w') → w'.input_faults ≡ w.input_faults
+    → w'.report_faults ≡ w.report_faults
     → w'.report ≡ w.report → ForSome (course_of_job (Some j) files input) (λ course. Work course told w w')
 command_worked j other files input told w w' done inputs reports report =
     subst (λ o. ForSome o (λ course. Work course told w w')) (sym (other_course j other files input))

@@ -1,6 +1,7 @@
 -- Whether an MPD and a master with its playlists agree.
 use Rattle.std.specs.Prelude.{ℕ, ◌^◌, List, ◌++◌, length, codes, decimal, Option, Some, None, option_map, Result, Ok}
 use Rattle.std.specs.Option.{option_and_then}
+use Rattle.bridge_io.specs.Answer.{and_then}
 use Rattle.bridge_io.specs.Outside.{Files}
 use Rattle.meaning.specs.Differences.{first_difference}
 use Rattle.meaning.specs.declared.difference.Aspect.{Aspect}
@@ -9,14 +10,13 @@ use Rattle.meaning.specs.declared.difference.Difference.{Difference}
 use Rattle.presentation.specs.Counting.{count_of_all}
 use Rattle.presentation.specs.Meanings.{meaning_of}
 use Rattle.presentation.specs.Presented.{Presented}
-use Rattle.presentation.specs.Told.{and_then}
-use Rattle.bridge_runs.specs.declared.status.Verdict.{Verdict}
-use Rattle.bridge_runs.specs.declared.status.Verdict.TheVariants as verdict
+use Rattle.bridge_courses.specs.declared.status.Verdict.{Verdict}
+use Rattle.bridge_courses.specs.declared.status.Verdict.TheVariants as verdict
 use Rattle.bridge_report.specs.Outcomes.{Outcome, outcome_told}
 use Rattle.bridge_report.specs.Reading.{Named}
 use Rattle.bridge_report.specs.declared.refusal.Refusal.TheVariants as refusal
-use Rattle.bridge_playlists.specs.declared.place.Place.{Place}
-use Rattle.bridge_playlists.specs.Places.{place_of}
+use Rattle.bridge_playlists.specs.declared.place.StorePlace.{StorePlace}
+use Rattle.bridge_playlists.specs.Places.{store_place_of}
 use Rattle.bridge_playlists.specs.Playlists.{presented_at}
 use Rattle.bridge_steps.specs.Endings.{placed}
 use Rattle.bridge_steps.specs.Manifests.{mpd_at}
@@ -57,22 +57,22 @@ verdict_of mpd (Some d) = (verdict.Differ, differ_line d)
 -- ---- how the command ends
 
 -- where the MPD and the master of a job lie
-abbrev pub both_with : (mpd master : Place) → Place × Place
+abbrev pub both_with : (mpd master : StorePlace) → StorePlace × StorePlace
 both_with mpd master = (mpd, master)
 
-unfoldable pub places_of : Check → Option (Place × Place)
-places_of job = option_and_then (λ mpd. option_map (both_with mpd) (place_of job.base job.master)) (place_of job.base job.mpd)
+unfoldable pub places_of : Check → Option (StorePlace × StorePlace)
+places_of job = option_and_then (λ mpd. option_map (both_with mpd) (store_place_of job.base job.master)) (store_place_of job.base job.mpd)
 
 abbrev pub compared : (unit : ℕ) → (mpd playlists : Presented) → Verdict × List ℕ
 compared unit mpd playlists = verdict_of mpd (first_difference unit (meaning_of mpd) (meaning_of playlists))
 
 -- the MPD first, of which a live one is refused behind its rules, and then the playlists
-unfoldable pub judged : Check → (mpd master : Place) → Files → Result (Verdict × List ℕ) Named
+unfoldable pub judged : Check → (mpd master : StorePlace) → Files → Result (Verdict × List ℕ) Named
 judged job mpd master files =
     and_then (mpd_at (Some refusal.NotStatic) (10 ^ job.digits) None mpd files) (λ p.
     and_then (presented_at master files) (λ playlists. Ok (compared (10 ^ job.digits) p playlists)))
 
-abbrev pub check_at : Check → Option Files → Place × Place → Option Outcome
+abbrev pub check_at : Check → Option Files → StorePlace × StorePlace → Option Outcome
 check_at job files places = option_map (λ files. outcome_told (judged job places.0 places.1 files)) files
 
 unfoldable pub check_outcome : Check → Option Files → Option Outcome

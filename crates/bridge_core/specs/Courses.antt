@@ -5,11 +5,11 @@ use Rattle.bridge_io.specs.Outside.{Files}
 use Rattle.bridge_jobs.specs.declared.jobs.Job.{Job}
 use Rattle.bridge_jobs.specs.declared.jobs.Job.TheVariants as job
 use Rattle.bridge_jobs.specs.Jobs.{job_of}
-use Rattle.bridge_runs.specs.declared.status.Verdict.TheVariants as verdict
-use Rattle.bridge_runs.specs.declared.ending.Ending.{Ending}
-use Rattle.bridge_runs.specs.declared.status.Status.TheVariants as status
-use Rattle.bridge_runs.specs.Runs.{status_of, words_line}
-use Rattle.bridge_runs.specs.Courses.{Course, World}
+use Rattle.bridge_courses.specs.declared.status.Verdict.TheVariants as verdict
+use Rattle.bridge_courses.specs.declared.ending.Ending.{Ending}
+use Rattle.bridge_courses.specs.declared.status.Status.TheVariants as status
+use Rattle.bridge_courses.specs.Executions.{status_of, words_line}
+use Rattle.bridge_courses.specs.Courses.{Course, World}
 use Rattle.bridge_report.specs.Outcomes.{Outcome, Ends, course_by}
 use Rattle.bridge_core.specs.Check.{check_outcome}
 use Rattle.bridge_core.specs.Dash.{dash_outcome}
@@ -94,7 +94,8 @@ ReadRose None input input' reads reads' = ⊥
 
 -- a fault has its cause, and Words are told of no job
 pub record IsBlamed (job : Option Job) (told : Ending) (before after : World) : Type 0 where
-  pub read_fault : status_of told ≡ status.ReadFault → ReadRose job before.input_faults after.input_faults before.read_faults after.read_faults
+  pub read_fault : status_of told ≡ status.ReadFault
+      → ReadRose job before.input_faults after.input_faults before.read_faults after.read_faults
   pub write_fault : status_of told ≡ status.WriteFault
       → Rose before.write_faults after.write_faults ⊎ Rose before.report_faults after.report_faults
   pub words : status_of told ≡ status.Words → job ≡ None

@@ -6,8 +6,8 @@ use Rattle.dash_writer.specs.Manifest.{manifest_text}
 use Rattle.presentation.specs.Presented.{Presented}
 use Rattle.bridge_report.specs.Outcomes.{Outcome}
 use Rattle.bridge_report.specs.Reading.{Named}
-use Rattle.bridge_playlists.specs.declared.place.Place.{Place}
-use Rattle.bridge_playlists.specs.Places.{place_of}
+use Rattle.bridge_playlists.specs.declared.place.StorePlace.{StorePlace}
+use Rattle.bridge_playlists.specs.Places.{store_place_of}
 use Rattle.bridge_playlists.specs.Playlists.{presented_at}
 use Rattle.bridge_steps.specs.Done.{done_line}
 use Rattle.bridge_steps.specs.Endings.{outcome_written, placed}
@@ -24,8 +24,8 @@ abbrev pub outcome_of : Dash → Result Presented Named → Outcome
 outcome_of job read = outcome_written (files_of job) done_line read
 
 -- the master is at this place
-abbrev pub dash_at : Dash → Option Files → Place → Option Outcome
+abbrev pub dash_at : Dash → Option Files → StorePlace → Option Outcome
 dash_at job files place = option_map (λ files. outcome_of job (presented_at place files)) files
 
 unfoldable pub dash_outcome : Dash → Option Files → Option Outcome
-dash_outcome job files = placed (dash_at job files) (place_of job.base job.master)
+dash_outcome job files = placed (dash_at job files) (store_place_of job.base job.master)

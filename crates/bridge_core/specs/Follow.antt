@@ -1,19 +1,19 @@
 -- The run of a followed MPD.
 use Rattle.std.specs.Prelude.{ℕ, List, Option, None, option_map}
-use Rattle.bridge_runs.specs.Courses.{Course}
-use Rattle.bridge_playlists.specs.declared.place.Place.{Place}
-use Rattle.bridge_playlists.specs.Places.{place_of}
+use Rattle.bridge_courses.specs.Courses.{Course}
+use Rattle.bridge_playlists.specs.declared.place.StorePlace.{StorePlace}
+use Rattle.bridge_playlists.specs.Places.{store_place_of}
 use Rattle.live_meaning.specs.Updates.{Terms}
 use Rattle.bridge_steps.specs.Follow.{course_placed, follow_course}
 use Rattle.bridge_steps.specs.LiveMpds.{followed_mpd, frame_stream}
 use Rattle.bridge_core.specs.declared.follow.Follow.{Follow}
 
-abbrev pub terms_at : Follow → Place → Terms
+abbrev pub terms_at : Follow → StorePlace → Terms
 terms_at job place = record { url = place.url; digits = job.digits }
 
 -- the MPD is read under this place's name, and its frames from the input
-abbrev pub follow_at : Follow → (input : Option (List ℕ)) → Place → Option Course
+abbrev pub follow_at : Follow → (input : Option (List ℕ)) → StorePlace → Option Course
 follow_at job input place = option_map (follow_course (followed_mpd (terms_at job place) job.out) frame_stream None) input
 
 unfoldable pub followed_course : Follow → (input : Option (List ℕ)) → Option Course
-followed_course job input = course_placed (follow_at job input) (place_of job.base job.name)
+followed_course job input = course_placed (follow_at job input) (store_place_of job.base job.name)

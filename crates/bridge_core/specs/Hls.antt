@@ -1,8 +1,9 @@
 -- From an MPD to playlists.
 use Rattle.std.specs.Prelude.{ℕ, ℤ, ◌^◌, List, if◌then◌else◌, Option, Some, None, option_map, Result, Ok, Err}
+use Rattle.bridge_io.specs.Answer.{and_then}
 use Rattle.bridge_io.specs.Outside.{Files}
 use Rattle.presentation.specs.Presented.{Presented}
-use Rattle.presentation.specs.Told.{and_then, told_as}
+use Rattle.presentation.specs.Told.{told_as}
 use Rattle.presentation.specs.declared.fault.PresentationFault.TheVariants.{NeedsNow}
 use Rattle.live_meaning.specs.Refusals.{begun_of}
 use Rattle.live_meaning.specs.States.{State}
@@ -11,8 +12,8 @@ use Rattle.bridge_report.specs.declared.refusal.Refusal.{Refusal}
 use Rattle.bridge_report.specs.declared.refusal.Refusal.TheVariants as refusal
 use Rattle.bridge_report.specs.Outcomes.{Outcome}
 use Rattle.bridge_report.specs.Reading.{Named, content_of, of_file}
-use Rattle.bridge_playlists.specs.declared.place.Place.{Place}
-use Rattle.bridge_playlists.specs.Places.{place_of}
+use Rattle.bridge_playlists.specs.declared.place.StorePlace.{StorePlace}
+use Rattle.bridge_playlists.specs.Places.{store_place_of}
 use Rattle.bridge_steps.specs.Done.{done_line}
 use Rattle.bridge_steps.specs.Endings.{outcome_written, placed}
 use Rattle.bridge_steps.specs.LiveMpds.{live_files, told_of}
@@ -50,7 +51,7 @@ unfoldable pub translation_of : Hls → (url bytes : List ℕ) → Result Transl
 translation_of job url bytes = and_then (values_of bytes) (translation_by job url)
 
 -- the MPD is the file at this place
-unfoldable pub translation_at : Hls → Place → Files → Result Translation Named
+unfoldable pub translation_at : Hls → StorePlace → Files → Result Translation Named
 translation_at job place files =
     and_then (content_of place.file files) (λ bytes. of_file place.file (translation_of job place.url bytes))
 
@@ -72,8 +73,8 @@ abbrev pub outcome_of : Hls → Result Translation Named → Outcome
 outcome_of job read = outcome_written (files_of job.out) line_of read
 
 -- the MPD is at this place
-abbrev pub hls_at : Hls → Option Files → Place → Option Outcome
+abbrev pub hls_at : Hls → Option Files → StorePlace → Option Outcome
 hls_at job files place = option_map (λ files. outcome_of job (translation_at job place files)) files
 
 unfoldable pub hls_outcome : Hls → Option Files → Option Outcome
-hls_outcome job files = placed (hls_at job files) (place_of job.base job.mpd)
+hls_outcome job files = placed (hls_at job files) (store_place_of job.base job.mpd)

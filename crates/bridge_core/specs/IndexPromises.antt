@@ -5,9 +5,9 @@ use Rattle.bridge_jobs.specs.Jobs.{job_of}
 use Rattle.bridge_jobs.specs.Laws.{in_folder}
 use Rattle.bridge_jobs.specs.declared.jobs.Job.{Job}
 use Rattle.bridge_jobs.specs.declared.jobs.Job.TheVariants as jobs
-use Rattle.bridge_runs.specs.Courses.{Course, World}
-use Rattle.bridge_runs.specs.Runs.{IsRun}
-use Rattle.bridge_runs.specs.declared.status.Status.TheVariants as status
+use Rattle.bridge_courses.specs.Courses.{Course, World}
+use Rattle.bridge_courses.specs.Executions.{IsExecution}
+use Rattle.bridge_courses.specs.declared.status.Status.TheVariants as status
 use Rattle.hls_meaning.specs.Meanings.{hls_meaning}
 use Rattle.index_parts.specs.Meanings.{indexed_meaning}
 use Rattle.meaning.specs.Meanings.{Meaning}
@@ -45,4 +45,4 @@ abbrev pub WrittenMeansTheIndexes : Type 0
 WrittenMeansTheIndexes = (words : List (List ℕ)) (job : HlsIndex) (input : Option (List ℕ)) (course : Course) (before after : World)
     (first last : Files)
     → AsksForIndex words job → before.files ≡ Some first → after.files ≡ Some last
-    → course_of words (Some first) input ≡ Some course → IsRun course status.Done before after → IndexMeansTheSame job first last
+    → course_of words (Some first) input ≡ Some course → IsExecution course status.Done before after → IndexMeansTheSame job first last

@@ -1,16 +1,17 @@
 -- From a made MPD to playlists.
-use Rattle.std.specs.Prelude.{ℕ, ◌^◌, ◌&&◌, nat_lt, false, List, ◌∷◌, ◌++◌, length, codes, if◌then◌else◌, Option, Some, None, Result, Ok, Err}
+use Rattle.std.specs.Prelude.{ℕ, ◌^◌, ◌&&◌, nat_lt, false, List, ◌∷◌, ◌++◌, length, codes, if◌then◌else◌, Option, Some, None, Result, Ok}
+use Rattle.std.specs.Prelude.{Err}
 use Rattle.bridge_jobs.specs.Laws.{in_folder}
 use Rattle.hls_writer.specs.Lines.{seconds_bytes}
 use Rattle.presentation.specs.Presented.{Presented, listed_at}
 use Rattle.presentation.specs.Verifying.{length_of}
-use Rattle.bridge_runs.specs.declared.status.Verdict.TheVariants as verdict
+use Rattle.bridge_courses.specs.declared.status.Verdict.TheVariants as verdict
 use Rattle.bridge_report.specs.Outcomes.{Outcome, Ends, Writes}
 use Rattle.bridge_report.specs.Reading.{Named}
 use Rattle.bridge_report.specs.Refusals.{refusal_line}
 use Rattle.bridge_report.specs.declared.refusal.Refusal.TheVariants.{NotStatic}
-use Rattle.bridge_playlists.specs.declared.place.Place.{Place}
-use Rattle.bridge_playlists.specs.Places.{place_of}
+use Rattle.bridge_playlists.specs.declared.place.StorePlace.{StorePlace}
+use Rattle.bridge_playlists.specs.Places.{store_place_of}
 use Rattle.bridge_steps.specs.Endings.{placed}
 use Rattle.bridge_steps.specs.Manifests.{mpd_in}
 use Rattle.bridge_steps.specs.Playlists.{playlists}
@@ -52,13 +53,13 @@ outcome_of job (Ok p) = Writes (made_files job p) (made_line job.digits p) false
 outcome_of job (Err named) = Ends verdict.Refused (refusal_line named.0 named.1) false false
 
 -- the presentation of the MPD as if it were at this place
-abbrev pub made_presentation : Make → Place → Result Presented Named
+abbrev pub made_presentation : Make → StorePlace → Result Presented Named
 made_presentation job place = mpd_in (Some NotStatic) (10 ^ job.digits) None place (source_text job.seed)
 
-abbrev pub source_place : Option Place
-source_place = place_of (codes "https://make.example/") source_name
+abbrev pub source_place : Option StorePlace
+source_place = store_place_of (codes "https://make.example/") source_name
 
-abbrev pub make_at : Make → Place → Option Outcome
+abbrev pub make_at : Make → StorePlace → Option Outcome
 make_at job place = Some (outcome_of job (made_presentation job place))
 
 -- No file is read.

@@ -5,17 +5,17 @@ use Rattle.bridge_jobs.specs.Jobs.{job_of}
 use Rattle.bridge_jobs.specs.Laws.{in_folder}
 use Rattle.bridge_jobs.specs.declared.jobs.Job.{Job}
 use Rattle.bridge_jobs.specs.declared.jobs.Job.TheVariants as jobs
-use Rattle.bridge_runs.specs.Courses.{Course, World}
-use Rattle.bridge_runs.specs.Runs.{IsRun}
-use Rattle.bridge_runs.specs.declared.status.Status.TheVariants as status
+use Rattle.bridge_courses.specs.Courses.{Course, World}
+use Rattle.bridge_courses.specs.Executions.{IsExecution}
+use Rattle.bridge_courses.specs.declared.status.Status.TheVariants as status
 use Rattle.hls_meaning.specs.Meanings.{hls_meaning}
 use Rattle.meaning.specs.Meanings.{Meaning}
 use Rattle.meaning.specs.Differences.{first_difference}
 use Rattle.meaning.specs.Same.{Agrees, SameExact, SameFloor}
 use Rattle.meaning.specs.declared.difference.Difference.{Difference}
 use Rattle.presentation.specs.Meanings.{dash_meaning}
-use Rattle.bridge_playlists.specs.declared.place.Place.{Place}
-use Rattle.bridge_playlists.specs.Places.{place_of}
+use Rattle.bridge_playlists.specs.declared.place.StorePlace.{StorePlace}
+use Rattle.bridge_playlists.specs.Places.{store_place_of}
 use Rattle.bridge_core.specs.Check.{differ_line}
 use Rattle.bridge_core.specs.declared.check.Check.{Check}
 use Rattle.bridge_core.specs.declared.dash.Dash.{Dash}
@@ -49,17 +49,18 @@ AsksFor words job = job_of words ≡ Some (job_asked job)
 
 -- Where such a run is done, what it wrote means what the MPD means.
 abbrev pub WrittenMeansTheMpd : Type 0
-WrittenMeansTheMpd = (words : List (List ℕ)) (job : Hls) (input : Option (List ℕ)) (course : Course) (before after : World) (first last : Files)
+WrittenMeansTheMpd = (words : List (List ℕ)) (job : Hls) (input : Option (List ℕ)) (course : Course) (before after : World)
+    (first last : Files)
     → AsksFor words job → before.files ≡ Some first → after.files ≡ Some last
-    → course_of words (Some first) input ≡ Some course → IsRun course status.Done before after → MeansTheSame job first last
+    → course_of words (Some first) input ≡ Some course → IsExecution course status.Done before after → MeansTheSame job first last
 
 -- ---- `dash`
 
 -- A job's master and its playlists mean something (RFC 8216, 4.3), the MPD that is written means something at any URL and
 -- instant (ISO/IEC 23009-1, 5.3), and that is the same.
 pub record MpdMeansTheSame (job : Dash) (before after : Files) : Type 0 where
-  pub place : Place
-  pub at : place_of job.base job.master ≡ Some place
+  pub place : StorePlace
+  pub at : store_place_of job.base job.master ≡ Some place
   pub playlists : Meaning
   pub means : hls_meaning before place.folder place.url ≡ Some playlists
   pub text : List ℕ
@@ -77,21 +78,22 @@ AsksForMpd words job = job_of words ≡ Some (mpd_asked job)
 
 -- Where such a run is done, the MPD that it wrote means what the playlists mean.
 abbrev pub WrittenMpdMeansThePlaylists : Type 0
-WrittenMpdMeansThePlaylists = (words : List (List ℕ)) (job : Dash) (input : Option (List ℕ)) (course : Course) (before after : World) (first last : Files)
+WrittenMpdMeansThePlaylists = (words : List (List ℕ)) (job : Dash) (input : Option (List ℕ)) (course : Course) (before after : World)
+    (first last : Files)
     → AsksForMpd words job → before.files ≡ Some first → after.files ≡ Some last
-    → course_of words (Some first) input ≡ Some course → IsRun course status.Done before after → MpdMeansTheSame job first last
+    → course_of words (Some first) input ≡ Some course → IsExecution course status.Done before after → MpdMeansTheSame job first last
 
 -- ---- `check`
 
 -- A job's MPD means something at its URL (ISO/IEC 23009-1, 5.3), and its master and playlists mean something (RFC 8216, 4.3).
 pub record AreMeant (job : Check) (files : Files) (mpd playlists : Meaning) : Type 0 where
-  pub source : Place
-  pub source_at : place_of job.base job.mpd ≡ Some source
+  pub source : StorePlace
+  pub source_at : store_place_of job.base job.mpd ≡ Some source
   pub bytes : List ℕ
   pub there : files job.mpd ≡ Some bytes
   pub means : dash_meaning bytes source.url None ≡ Some mpd
-  pub master : Place
-  pub master_at : place_of job.base job.master ≡ Some master
+  pub master : StorePlace
+  pub master_at : store_place_of job.base job.master ≡ Some master
   pub told : hls_meaning files master.folder master.url ≡ Some playlists
 
 -- and these agree
@@ -121,13 +123,15 @@ AsksToCheck words job = job_of words ≡ Some (check_asked job)
 -- Where such a run is done, the MPD and the playlists agree.
 abbrev pub DoneIsAgreed : Type 0
 DoneIsAgreed =
-    (words : List (List ℕ)) (job : Check) (input : Option (List ℕ)) (course : Course) (before after : World) (files : Files) → AsksToCheck words job
+    (words : List (List ℕ)) (job : Check) (input : Option (List ℕ)) (course : Course) (before after : World) (files : Files)
+    → AsksToCheck words job
     → before.files ≡ Some files
-    → course_of words (Some files) input ≡ Some course → IsRun course status.Done before after → AreAgreed job files
+    → course_of words (Some files) input ≡ Some course → IsExecution course status.Done before after → AreAgreed job files
 
 -- Where it ends as Differ, they don't, and its line, of which the report may have a front, tells where they differ first.
 abbrev pub DifferIsApart : Type 0
 DifferIsApart =
-    (words : List (List ℕ)) (job : Check) (input : Option (List ℕ)) (course : Course) (before after : World) (files : Files) → AsksToCheck words job
+    (words : List (List ℕ)) (job : Check) (input : Option (List ℕ)) (course : Course) (before after : World) (files : Files)
+    → AsksToCheck words job
     → before.files ≡ Some files
-    → course_of words (Some files) input ≡ Some course → IsRun course status.Differ before after → AreApart job files course.end.lines
+    → course_of words (Some files) input ≡ Some course → IsExecution course status.Differ before after → AreApart job files course.end.lines

@@ -1,21 +1,22 @@
 -- What is told of the tracks and sections of an MPD or of a master.
-use Rattle.std.specs.Prelude.{ℕ, ◌^◌, ◌==◌, ◌&&◌, ◌||◌, nat_le, Bool, false, List, [], ◌∷◌, ◌++◌, length, codes, decimal, drop, flat_map, slice_get, slice_index, if◌then◌else◌, Option, Some, None, option_map, Result, Ok}
+use Rattle.std.specs.Prelude.{ℕ, ◌^◌, ◌==◌, ◌&&◌, ◌||◌, nat_le, Bool, false, List, [], ◌∷◌, ◌++◌, length, codes, decimal, drop, flat_map}
+use Rattle.std.specs.Prelude.{slice_get, slice_index, if◌then◌else◌, Option, Some, None, option_map, Result, Ok}
 use Rattle.std.specs.Option.{option_map_or}
+use Rattle.bridge_io.specs.Answer.{and_then}
 use Rattle.bridge_io.specs.Outside.{Files}
 use Rattle.bridge_io.specs.declared.media.Kind.{Kind}
 use Rattle.bridge_io.specs.declared.media.Kind.TheVariants.{Video, Audio, Text}
 use Rattle.hls_writer.specs.Lines.{seconds_bytes}
 use Rattle.presentation.specs.Counting.{sections_of, tracks_of}
 use Rattle.presentation.specs.Presented.{Presented, listed_at}
-use Rattle.presentation.specs.Told.{and_then}
 use Rattle.presentation.specs.Verifying.{length_of}
 use Rattle.presentation.specs.declared.track.Track.{Track}
-use Rattle.bridge_runs.specs.declared.status.Verdict.{Verdict}
-use Rattle.bridge_runs.specs.declared.status.Verdict.TheVariants as verdict
+use Rattle.bridge_courses.specs.declared.status.Verdict.{Verdict}
+use Rattle.bridge_courses.specs.declared.status.Verdict.TheVariants as verdict
 use Rattle.bridge_report.specs.Outcomes.{Outcome, outcome_told}
 use Rattle.bridge_report.specs.Reading.{Named, content_of}
-use Rattle.bridge_playlists.specs.declared.place.Place.{Place}
-use Rattle.bridge_playlists.specs.Places.{place_of}
+use Rattle.bridge_playlists.specs.declared.place.StorePlace.{StorePlace}
+use Rattle.bridge_playlists.specs.Places.{store_place_of}
 use Rattle.bridge_playlists.specs.Playlists.{presented_in}
 use Rattle.bridge_steps.specs.Done.{counts_line}
 use Rattle.bridge_steps.specs.Endings.{placed}
@@ -82,19 +83,19 @@ abbrev pub told : Show → (word : List ℕ) → Presented → Result (Verdict �
 told job word p = Ok (verdict.Done, shown word job.digits p)
 
 -- an MPD, live or not
-abbrev pub mpd_told : Show → Place → (bytes : List ℕ) → Result (Verdict × List ℕ) Named
+abbrev pub mpd_told : Show → StorePlace → (bytes : List ℕ) → Result (Verdict × List ℕ) Named
 mpd_told job place bytes = and_then (mpd_in None (10 ^ job.digits) job.instant place bytes) (told job (codes "mpd"))
 
-abbrev pub master_told : Show → Place → Files → (bytes : List ℕ) → Result (Verdict × List ℕ) Named
+abbrev pub master_told : Show → StorePlace → Files → (bytes : List ℕ) → Result (Verdict × List ℕ) Named
 master_told job place files bytes = and_then (presented_in place files bytes) (told job (codes "hls"))
 
-unfoldable pub shown_at : Show → Place → Files → Result (Verdict × List ℕ) Named
+unfoldable pub shown_at : Show → StorePlace → Files → Result (Verdict × List ℕ) Named
 shown_at job place files =
     and_then (content_of place.file files) (λ bytes. if is_mpd bytes then mpd_told job place bytes else master_told job place files bytes)
 
 -- the file is at this place
-abbrev pub show_at : Show → Option Files → Place → Option Outcome
+abbrev pub show_at : Show → Option Files → StorePlace → Option Outcome
 show_at job files place = option_map (λ files. outcome_told (shown_at job place files)) files
 
 unfoldable pub show_outcome : Show → Option Files → Option Outcome
-show_outcome job files = placed (show_at job files) (place_of job.base job.file)
+show_outcome job files = placed (show_at job files) (store_place_of job.base job.file)

@@ -24,11 +24,13 @@ runs_text side seed count = flat_map (run_at side seed) (range_with_len 0 count)
 abbrev pub set_head : Side → List ℕ
 set_head Video =
     codes "<AdaptationSet mimeType=\"video/mp4\" codecs=\"avc1.64001f\">\n"
-    ++ codes "<SegmentTemplate timescale=\"90000\" initialization=\"$RepresentationID$/i.mp4\" media=\"$RepresentationID$/$Number%06d$.m4s\">\n"
+    ++ codes
+    "<SegmentTemplate timescale=\"90000\" initialization=\"$RepresentationID$/i.mp4\" media=\"$RepresentationID$/$Number%06d$.m4s\">\n"
     ++ codes "<SegmentTimeline>\n"
 set_head Audio =
     codes "<AdaptationSet mimeType=\"audio/mp4\" codecs=\"mp4a.40.2\" lang=\"en\">\n"
-    ++ codes "<SegmentTemplate timescale=\"48000\" initialization=\"$RepresentationID$/i.mp4\" media=\"$RepresentationID$/$Number%06d$.m4s\">\n"
+    ++ codes
+    "<SegmentTemplate timescale=\"48000\" initialization=\"$RepresentationID$/i.mp4\" media=\"$RepresentationID$/$Number%06d$.m4s\">\n"
     ++ codes "<SegmentTimeline>\n"
 
 -- the lines behind them

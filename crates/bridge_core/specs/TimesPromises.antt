@@ -5,10 +5,10 @@ use Rattle.bridge_io.specs.Outside.{Files}
 use Rattle.bridge_jobs.specs.Jobs.{job_of}
 use Rattle.bridge_jobs.specs.declared.jobs.Job.{Job}
 use Rattle.bridge_jobs.specs.declared.jobs.Job.TheVariants as jobs
-use Rattle.bridge_runs.specs.Courses.{Course, World}
-use Rattle.bridge_runs.specs.Runs.{IsRun}
-use Rattle.bridge_runs.specs.declared.status.Status.{Status}
-use Rattle.bridge_runs.specs.declared.status.Status.TheVariants as status
+use Rattle.bridge_courses.specs.Courses.{Course, World}
+use Rattle.bridge_courses.specs.Executions.{IsExecution}
+use Rattle.bridge_courses.specs.declared.status.Status.{Status}
+use Rattle.bridge_courses.specs.declared.status.Status.TheVariants as status
 use Rattle.bridge_reach.specs.Promises.{AllAgree, IsFirstApart, IsRead, IsWrittenTimed}
 use Rattle.bridge_reach.specs.declared.agree.Agree.{Agree}
 use Rattle.bridge_reach.specs.declared.dash_times.DashTimes.{DashTimes}
@@ -34,7 +34,7 @@ abbrev pub WrittenHasTheFilesTimes : Type 0
 WrittenHasTheFilesTimes = (words : List (List ℕ)) (job : DashTimes) (input : Option (List ℕ)) (course : Course) (before after : World)
     (first last : Files)
     → AsksForTimes words job → before.files ≡ Some first → after.files ≡ Some last
-    → course_of words (Some first) input ≡ Some course → IsRun course status.Done before after → HasTheFilesTimes job first last
+    → course_of words (Some first) input ≡ Some course → IsExecution course status.Done before after → HasTheFilesTimes job first last
 
 -- ---- `agree`
 
@@ -47,9 +47,10 @@ AsksToAgree words job = job_of words ≡ Some (agree_asked job)
 
 -- What is so of the job and the line of its course where such a run ends with a status.
 abbrev pub TellsOfTimes : Status → (Agree → Files → (line : List ℕ) → Type 0) → Type 0
-TellsOfTimes end Of = (words : List (List ℕ)) (job : Agree) (input : Option (List ℕ)) (course : Course) (before after : World) (files : Files)
+TellsOfTimes end Of = (words : List (List ℕ)) (job : Agree) (input : Option (List ℕ)) (course : Course) (before after : World)
+    (files : Files)
     → AsksToAgree words job → before.files ≡ Some files
-    → course_of words (Some files) input ≡ Some course → IsRun course end before after → Of job files course.end.lines
+    → course_of words (Some files) input ≡ Some course → IsExecution course end before after → Of job files course.end.lines
 
 -- Where it is done, each listed segment begins when its file states.
 abbrev pub DoneHasTheFilesTimes : Type 0

@@ -3,8 +3,8 @@ ghost use Rattle.std.specs.Prelude.{◌≡◌, ◌≢◌, ◌^◌, Ok, IfOk, tru
 ghost use Rattle.std.specs.Option.{ForSome};
 ghost use Rattle.bridge_io.specs.Answer.{Gives};
 ghost use Rattle.bridge_io.specs.Fault.{HasCause};
-ghost use Rattle.bridge_runs.specs.declared.status.Status.TheVariants as status;
-ghost use Rattle.bridge_runs.specs.Runs.{status_by};
+ghost use Rattle.bridge_courses.specs.declared.status.Status.TheVariants as status;
+ghost use Rattle.bridge_courses.specs.Executions.{status_by};
 ghost use Rattle.presentation.specs.Counting.{counted, count_of_all};
 ghost use Rattle.presentation.specs.Origins.{CameFromPlaylists};
 ghost use Rattle.presentation.specs.Presented.{is_finished};
@@ -13,10 +13,10 @@ ghost use Rattle.bridge_report.specs.Reading.{halted};
 ghost use Rattle.bridge_steps.specs.Endings.{IsPlaced, JobEndsAs, NeverWrites, around};
 ghost use Rattle.bridge_core.specs.Check as spec;
 
+use bridge_courses::{Ending, Verdict};
 use bridge_io::{Ledger, Name, NoMemory, Steps, Store, Text};
-use bridge_playlists::{Place, presented_at};
+use bridge_playlists::{StorePlace, presented_at};
 use bridge_report::{Halt, Refusal};
-use bridge_runs::{Ending, Verdict};
 use bridge_steps::{Ready, count_of, mpd_at, place_in, told};
 use comparison::compare;
 use exact_time::Digits;
@@ -40,7 +40,7 @@ pub struct Check {
 /// Tells whether the playlists of a job's master mean what its MPD means, or where they differ first, unless one of the files is
 /// refused. Nothing is written.
 #[tactic(auto, unfolding(crate::specs::Check::check_outcome))]
-pub fn judge<F: Store, L: Ledger>(
+pub fn run<F: Store, L: Ledger>(
     alloc: Global,
     job: &Check,
     store: &mut F,
@@ -59,7 +59,7 @@ pub fn judge<F: Store, L: Ledger>(
 
 /// Where the MPD and the master of a job lie.
 #[tactic(auto, unfolding(crate::specs::Check::places_of))]
-fn places_of(alloc: Global, job: &Check) -> Result<(Place, Place), Ending>
+fn places_of(alloc: Global, job: &Check) -> Result<(StorePlace, StorePlace), Ending>
     ensures { IsPlaced (spec.places_of job.now) result }
 {
     let mpd = place_in(alloc, &job.base, &job.mpd)?;
@@ -72,12 +72,13 @@ fn places_of(alloc: Global, job: &Check) -> Result<(Place, Place), Ending>
 fn judged<F: Store, L: Ledger>(
     alloc: Global,
     job: &Check,
-    mpd: &Place,
-    master: &Place,
+    mpd: &StorePlace,
+    master: &StorePlace,
     store: &mut F,
     steps: &mut Steps<L>,
 ) -> Result<(Verdict, Text), Halt>
-    ensures told { ForSome (F.files store.old) (λ files. Gives (λ told. told) halted result (spec.judged job.now mpd.now master.now files)) }
+    ensures told { ForSome (F.files store.old) (λ files. Gives (λ told. told) halted result
+        (spec.judged job.now mpd.now master.now files)) }
     ensures verdict { IfOk result (λ told. status_by told.0 ≢ status.Words) }
     ensures cause { HasCause ReadFault (F.read_faults store.old) (F.read_faults store.new) result }
     ensures files { F.files store.new ≡ F.files store.old }

@@ -1,17 +1,15 @@
 // From playlists to an MPD.
-ghost use Rattle.std.specs.Prelude.{◌≡◌, codes, Ok, Some, IfOk};
-ghost use Rattle.bridge_jobs.specs.Laws.{in_folder};
+ghost use Rattle.std.specs.Prelude.{◌≡◌, Ok, Some};
 ghost use Rattle.presentation.specs.Counting.{counted, count_of_all};
 ghost use Rattle.presentation.specs.Origins.{CameFromPlaylists};
-ghost use Rattle.bridge_steps.specs.Done as done;
 ghost use Rattle.bridge_steps.specs.Endings.{JobEndsAs, around};
 ghost use Rattle.bridge_core.specs.Dash as spec;
 
-use bridge_io::{Ledger, Name, NoMemory, Steps, Store, Text};
+use bridge_courses::Ending;
+use bridge_io::{Ledger, Name, Steps, Store, Text};
 use bridge_playlists::presented_at;
 use bridge_report::halted;
-use bridge_runs::Ending;
-use bridge_steps::{done_line, file_in, place_in, written};
+use bridge_steps::{mpd_and_line, place_in, written};
 use dash_writer::write_mpd;
 use presentation::Presentation;
 use std::alloc::Global;
@@ -29,7 +27,7 @@ pub struct Dash {
 
 /// Writes the MPD of a job's master and its playlists, unless one of them is refused.
 #[tactic(auto, unfolding(crate::specs::Dash::dash_outcome))]
-pub fn translate<F: Store, L: Ledger>(
+pub fn run<F: Store, L: Ledger>(
     alloc: Global,
     job: &Dash,
     store: &mut F,
@@ -62,22 +60,8 @@ fn write<F: Store, L: Ledger>(
         (around (F.files store.old) (F.read_faults store.old) (F.write_faults store.old) steps.old)
         (around (F.files store.new) (F.read_faults store.new) (F.write_faults store.new) steps.new) }
 {
-    let Ok((name, line)) = prepared(alloc, job, presentation) else {
+    let Ok((name, line)) = mpd_and_line(alloc, &job.out, presentation) else {
         return Ending::Memory;
     };
     written(line, write_mpd(alloc, presentation, store, &name, steps))
-}
-
-/// The name of the MPD and the line of the report, which are made before anything is written.
-fn prepared(
-    alloc: Global,
-    job: &Dash,
-    presentation: &Presentation,
-) -> Result<(Name, Text), NoMemory>
-    requires counted { counted presentation.now ≡ Ok (count_of_all presentation.now) }
-    ensures name { IfOk result (λ told. told.0 ≡ in_folder job.now.out (codes "manifest.mpd")) }
-    ensures line { IfOk result (λ told. told.1 ≡ done.done_line presentation.now) }
-{
-    let name = file_in(alloc, &job.out, "manifest.mpd")?;
-    Ok((name, done_line(alloc, presentation)?))
 }

@@ -1,13 +1,13 @@
 // From the frames of a live MPD to playlists that slide.
 ghost use Rattle.std.specs.Prelude.{◌≡◌};
 ghost use Rattle.std.specs.Option.{ForSome};
-ghost use Rattle.bridge_runs.specs.Runs.{NeverFalls};
-ghost use Rattle.bridge_runs.specs.Steps.{Work, IsCaused};
+ghost use Rattle.bridge_courses.specs.Executions.{NeverFalls};
+ghost use Rattle.bridge_courses.specs.Steps.{Work, IsCaused};
 ghost use Rattle.bridge_steps.specs.Follow.{Grows, world_of};
 ghost use Rattle.bridge_core.specs.Follow as spec;
 
+use bridge_courses::Ending;
 use bridge_io::{Ledger, Name, Sink, Source, Steps, Store, Text};
-use bridge_runs::Ending;
 use bridge_steps::{LiveMpd, follow, place_in};
 use exact_time::Digits;
 use std::alloc::Global;
@@ -27,7 +27,7 @@ pub struct Follow {
 
 /// Works off the frames of the input: each accepted one's playlists are written, and each one has a line.
 #[tactic(auto, unfolding(crate::specs::Follow::followed_course))]
-pub fn translate<I: Source, F: Store, P: Sink, L: Ledger>(
+pub fn run<I: Source, F: Store, P: Sink, L: Ledger>(
     alloc: Global,
     job: Follow,
     input: &mut I,
@@ -36,14 +36,20 @@ pub fn translate<I: Source, F: Store, P: Sink, L: Ledger>(
     steps: &mut Steps<L>,
 ) -> Ending
     ensures work { ForSome (spec.followed_course job (I.remaining input.old)) (λ course. Work course result
-        (world_of (F.files store.old) (P.written report.old) (I.faults input.old) (F.read_faults store.old) (F.write_faults store.old) (P.faults report.old) steps.old)
-        (world_of (F.files store.new) (P.written report.new) (I.faults input.new) (F.read_faults store.new) (F.write_faults store.new) (P.faults report.new) steps.new)) }
+        (world_of (F.files store.old) (P.written report.old) (I.faults input.old) (F.read_faults store.old) (F.write_faults store.old)
+        (P.faults report.old) steps.old)
+        (world_of (F.files store.new) (P.written report.new) (I.faults input.new) (F.read_faults store.new) (F.write_faults store.new)
+        (P.faults report.new) steps.new)) }
     ensures caused { IsCaused result
-        (world_of (F.files store.old) (P.written report.old) (I.faults input.old) (F.read_faults store.old) (F.write_faults store.old) (P.faults report.old) steps.old)
-        (world_of (F.files store.new) (P.written report.new) (I.faults input.new) (F.read_faults store.new) (F.write_faults store.new) (P.faults report.new) steps.new) }
+        (world_of (F.files store.old) (P.written report.old) (I.faults input.old) (F.read_faults store.old) (F.write_faults store.old)
+        (P.faults report.old) steps.old)
+        (world_of (F.files store.new) (P.written report.new) (I.faults input.new) (F.read_faults store.new) (F.write_faults store.new)
+        (P.faults report.new) steps.new) }
     ensures never_falls { NeverFalls
-        (world_of (F.files store.old) (P.written report.old) (I.faults input.old) (F.read_faults store.old) (F.write_faults store.old) (P.faults report.old) steps.old)
-        (world_of (F.files store.new) (P.written report.new) (I.faults input.new) (F.read_faults store.new) (F.write_faults store.new) (P.faults report.new) steps.new) }
+        (world_of (F.files store.old) (P.written report.old) (I.faults input.old) (F.read_faults store.old) (F.write_faults store.old)
+        (P.faults report.old) steps.old)
+        (world_of (F.files store.new) (P.written report.new) (I.faults input.new) (F.read_faults store.new) (F.write_faults store.new)
+        (P.faults report.new) steps.new) }
     ensures told { Grows (P.written report.old) (P.written report.new) }
     ensures reads { F.read_faults store.new ≡ F.read_faults store.old }
 {

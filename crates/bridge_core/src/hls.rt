@@ -5,7 +5,7 @@ ghost use Rattle.bridge_io.specs.Answer.{Gives};
 ghost use Rattle.bridge_io.specs.Fault.{HasCause};
 ghost use Rattle.bridge_io.specs.InOrder.{put_all, AreBegun};
 ghost use Rattle.bridge_io.specs.Outside.{Changes};
-ghost use Rattle.file_pieces.specs.declared.fault.OutFault.TheVariants.{WriteFault};
+ghost use Rattle.bridge_io.specs.declared.out_fault.OutFault.TheVariants.{WriteFault};
 ghost use Rattle.iso_time.specs.Instant.{IsReadable};
 ghost use Rattle.mpd_rules.specs.Views.{segments_mpd};
 ghost use Rattle.live_meaning.specs.Laws.{IsTyped};
@@ -15,10 +15,10 @@ ghost use Rattle.bridge_report.specs.declared.reading.Halt.TheVariants.{ReadFaul
 ghost use Rattle.bridge_steps.specs.Endings.{JobEndsAs, around};
 ghost use Rattle.bridge_core.specs.Hls as spec;
 
+use bridge_courses::Ending;
 use bridge_io::{Ledger, Name, NoMemory, Steps, Store, Text};
-use bridge_playlists::Place;
+use bridge_playlists::StorePlace;
 use bridge_report::{Halt, Refusal, Stop, content_of, halted};
-use bridge_runs::Ending;
 use bridge_steps::{
     Ready, begin_session, done_line, place_in, ready_of, values_of, write_live_files,
     write_playlists, written,
@@ -59,7 +59,7 @@ pub enum Translation {
 /// Writes the playlists of a job's MPD, unless it is refused. Of a live one they are those that `follow` writes behind a first
 /// frame at the job's instant.
 #[tactic(auto, unfolding(crate::specs::Hls::hls_outcome))]
-pub fn translate<F: Store, L: Ledger>(
+pub fn run<F: Store, L: Ledger>(
     alloc: Global,
     job: &Hls,
     store: &mut F,
@@ -85,12 +85,13 @@ pub fn translate<F: Store, L: Ledger>(
 fn translation_at<F: Store, L: Ledger>(
     alloc: Global,
     job: &Hls,
-    place: &Place,
+    place: &StorePlace,
     store: &mut F,
     steps: &mut Steps<L>,
 ) -> Result<Translation, Halt>
     requires { IfSome job.now.instant IsReadable }
-    ensures translation { ForSome (F.files store.old) (λ files. Gives spec.translated halted result (spec.translation_at job.now place.now files)) }
+    ensures translation { ForSome (F.files store.old) (λ files. Gives spec.translated halted result
+        (spec.translation_at job.now place.now files)) }
     ensures cause { HasCause ReadFault (F.read_faults store.old) (F.read_faults store.new) result }
     ensures files { F.files store.new ≡ F.files store.old }
     ensures writes { F.write_faults store.new ≡ F.write_faults store.old }
@@ -182,8 +183,10 @@ fn write_files<F: Store, L: Ledger>(
     store: &mut F,
     steps: &mut Steps<L>,
 ) -> Result<(), OutFault>
-    ensures ok { OnOk result (Changes (put_all (spec.files_of out.now (spec.translated translation.now))) (F.files store.old) (F.files store.new)) }
-    ensures err { OnErr result (AreBegun (spec.files_of out.now (spec.translated translation.now)) (F.files store.old) (F.files store.new)) }
+    ensures ok { OnOk result (Changes (put_all (spec.files_of out.now (spec.translated translation.now))) (F.files store.old)
+        (F.files store.new)) }
+    ensures err { OnErr result (AreBegun (spec.files_of out.now (spec.translated translation.now)) (F.files store.old)
+        (F.files store.new)) }
     ensures cause { HasCause WriteFault (F.write_faults store.old) (F.write_faults store.new) result }
     ensures reads { F.read_faults store.new ≡ F.read_faults store.old }
 {

@@ -3,25 +3,22 @@ ghost use Rattle.bridge_core.specs.IndexPromises.{WrittenMeansTheIndexes};
 ghost use Rattle.bridge_core.specs.Promises.{DifferIsApart, DoneIsAgreed, WrittenMeansTheMpd, WrittenMpdMeansThePlaylists};
 ghost use Rattle.bridge_core.specs.TimesPromises.{DifferHasAnother, DoneHasTheFilesTimes, WrittenHasTheFilesTimes};
 
+use bridge_courses::{a_verdict_keeps_the_steps, done_is_whole};
 use bridge_jobs::laws::folders_hold_their_files;
 use bridge_reach::{what_agrees_has_the_files_times, what_is_written_has_the_files_times};
-use bridge_runs::{a_verdict_keeps_the_steps, done_is_whole};
 use hls_media::what_is_read_is_bounded;
-use hls_read::presented_mean_their_files;
-use index_read::{
-    indexed_parts_can_be_written, indexes_mean_what_they_list,
-    what_is_written_means_the_indexes as written_indexes_mean_the_same,
-};
-use live_reloads::first_files_mean_the_same;
-use meaning::agreeing_has_no_difference;
-use mpd_from_playlists::{
-    read_tracks_can_be_written, what_is_read_has_addresses,
+use laws_of_mpds::{
+    presented_mean_their_files, read_tracks_can_be_written, what_is_read_has_addresses,
     written_playlists_mean_the_same as written_mpds_mean_the_same,
 };
-use presentation::presentations_mean_what_they_list;
-use read_back::{
-    read_trees_are_of_bytes, tracks_are_writable, tracks_mean_the_same, written_means_the_same,
+use laws_of_playlists::{
+    indexed_parts_can_be_written, indexes_mean_what_they_list, read_trees_are_of_bytes,
+    tracks_are_writable, tracks_mean_the_same,
+    what_is_written_means_the_indexes as written_indexes_mean_the_same, written_means_the_same,
 };
+use laws_of_reloads::first_files_mean_the_same;
+use meaning::agreeing_has_no_difference;
+use presentation::presentations_mean_what_they_list;
 
 /// Where a run of `hls` is done, the master and the playlists that it wrote mean what the MPD means, a live one at the job's
 /// instant: the same tracks, addresses and ranges in order, and each time rounded down to the unit of the printed durations

@@ -13,7 +13,7 @@ mod seconds;
 mod show;
 mod source;
 
-pub use bridge_runs::Status;
+pub use bridge_courses::Status;
 pub use laws::{
     what_agrees_begins_as_its_files_state, what_is_checked_agrees,
     what_is_timed_has_the_files_times, what_is_written_means_the_indexes,

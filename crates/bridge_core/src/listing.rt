@@ -34,7 +34,8 @@ fn push_tracks(
     digits: Digits,
 ) -> Result<(), AllocError>
     requires counted { counted presentation.now ≡ Ok (count_of_all presentation.now) }
-    ensures { OnOk result (string_bytes lines.new ≡ string_bytes lines.old ++ flat_map (spec.track_lines digits presentation.now) (tracks_of presentation.now)) }
+    ensures { OnOk result (string_bytes lines.new ≡ string_bytes lines.old ++ flat_map (spec.track_lines digits presentation.now)
+        (tracks_of presentation.now)) }
 {
     for track in 0..presentation.tracks().len() {
         push_track(lines, presentation, track, digits)?;
@@ -87,7 +88,8 @@ fn push_entry(
     requires track { track < length presentation.now.tracks }
     requires section { section < length presentation.now.sections }
     requires counted { counted presentation.now ≡ Ok (count_of_all presentation.now) }
-    ensures { OnOk result (string_bytes lines.new ≡ string_bytes lines.old ++ spec.entry_line digits presentation.now track section told.now) }
+    ensures { OnOk result (string_bytes lines.new ≡ string_bytes lines.old
+        ++ spec.entry_line digits presentation.now track section told.now) }
 {
     answers_allow_listings();
     let extent = presentation.extent(section, track, digits);
@@ -103,7 +105,8 @@ fn push_head(
     section: usize,
     segments: u64,
 ) -> Result<(), AllocError>
-    ensures { OnOk result (string_bytes lines.new ≡ string_bytes lines.old ++ spec.entry_text track (spec.kind_word told.now.kind) (spec.language_word told.now.language) section segments) }
+    ensures { OnOk result (string_bytes lines.new ≡ string_bytes lines.old ++ spec.entry_text track (spec.kind_word told.now.kind)
+        (spec.language_word told.now.language) section segments) }
 {
     push_words(
         lines,

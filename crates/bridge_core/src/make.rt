@@ -4,7 +4,7 @@ ghost use Rattle.std.specs.String.{string_bytes};
 ghost use Rattle.bridge_io.specs.Fault.{HasCause};
 ghost use Rattle.bridge_io.specs.InOrder.{put_all, MayBegin, AreBegun};
 ghost use Rattle.bridge_io.specs.Outside.{put, Changes};
-ghost use Rattle.file_pieces.specs.declared.fault.OutFault.TheVariants.{WriteFault};
+ghost use Rattle.bridge_io.specs.declared.out_fault.OutFault.TheVariants.{WriteFault};
 ghost use Rattle.bridge_jobs.specs.Laws.{in_folder};
 ghost use Rattle.bridge_steps.specs.Endings.{IsPlaced, JobEndsAs, NeverReads, around};
 ghost use Rattle.bridge_core.specs.Make as spec;
@@ -12,10 +12,10 @@ ghost use Rattle.bridge_core.specs.Source.{source_text};
 
 use crate::seconds::push_seconds;
 use crate::source::source_text;
+use bridge_courses::Ending;
 use bridge_io::{FileWriter, Ledger, Name, NoMemory, Steps, Store, Text};
-use bridge_playlists::Place;
+use bridge_playlists::StorePlace;
 use bridge_report::{Refusal, halted};
-use bridge_runs::Ending;
 use bridge_steps::{Ready, file_in, mpd_in, place_in, write_playlists, written};
 use exact_time::Digits;
 use hls_writer::OutFault;
@@ -41,7 +41,7 @@ pub struct Make {
 
 /// Writes the MPD that is made from a job's seed, and then its playlists. Nothing is read.
 #[tactic(auto, unfolding(crate::specs::Make::make_outcome))]
-pub fn translate<F: Store, L: Ledger>(
+pub fn run<F: Store, L: Ledger>(
     alloc: Global,
     job: &Make,
     store: &mut F,
@@ -67,7 +67,7 @@ pub fn translate<F: Store, L: Ledger>(
 }
 
 /// Where the MPD is thought to lie.
-fn source_place(alloc: Global) -> Result<Place, Ending>
+fn source_place(alloc: Global) -> Result<StorePlace, Ending>
     ensures { IsPlaced spec.source_place result }
 {
     match (Text::copy_of(alloc, BASE), Name::read(alloc, SOURCE)) {

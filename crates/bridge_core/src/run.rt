@@ -3,10 +3,10 @@ ghost use Rattle.std.specs.Prelude.{◌≡◌, ◌⊎◌, None, Some};
 ghost use Rattle.std.specs.Option.{ForSome};
 ghost use Rattle.bridge_io.specs.Fault.{Rose};
 ghost use Rattle.bridge_jobs.specs.Jobs.{HasReadableNow, job_of};
-ghost use Rattle.bridge_runs.specs.declared.status.Status.TheVariants as status;
-ghost use Rattle.bridge_runs.specs.Runs.{IsRun, status_by};
-ghost use Rattle.bridge_runs.specs.Laws.{IsCalm};
-ghost use Rattle.bridge_runs.specs.Steps.{Work};
+ghost use Rattle.bridge_courses.specs.declared.status.Status.TheVariants as status;
+ghost use Rattle.bridge_courses.specs.Executions.{IsExecution, status_by};
+ghost use Rattle.bridge_courses.specs.Laws.{IsCalm};
+ghost use Rattle.bridge_courses.specs.Steps.{Work};
 ghost use Rattle.bridge_steps.specs.Endings.{JobEndsAs, around};
 ghost use Rattle.bridge_steps.specs.Follow.{Grows, world_of};
 ghost use Rattle.bridge_core.specs.Courses.{Follows, IsBlamed, ReadRose, ReadsInputAlone, WritesNoPlaylists, WritesNothing};
@@ -19,14 +19,13 @@ use crate::follow::{self, Follow};
 use crate::hls::{self, Hls};
 use crate::make::{self, Make};
 use crate::show::{self, Show};
+use bridge_courses::{Ending, Status, tell};
 use bridge_io::{Ledger, NoMemory, Sink, Source, Steps, Store, Text};
 use bridge_jobs::{Job, job};
-use bridge_playlists::{Reload, judge};
+use bridge_playlists::{Reload, run_reload};
 use bridge_reach::{
-    Agree, DashTimes, FollowHls, HlsIndex, follow_playlists, judge_times, translate_indexed,
-    translate_timed,
+    Agree, DashTimes, FollowHls, HlsIndex, run_agree, run_dash_times, run_follow_hls, run_hls_index,
 };
-use bridge_runs::{Ending, Status, tell};
 use std::alloc::Global;
 
 /// Runs the command that the words are, without the program's own name: it reads and writes the files of the store,
@@ -55,22 +54,28 @@ pub fn bridge<I: Source, F: Store, P: Sink, L: Ledger>(
 ) -> Status
     // The run does what the words, the store's files and the input say, unless a fault or want of memory ends it.
     ensures run { ForSome (course_of words.now (F.files store.old) (I.remaining input.old)) (λ course.
-        let before = world_of (F.files store.old) (P.written report.old) (I.faults input.old) (F.read_faults store.old) (F.write_faults store.old) (P.faults report.old) steps.old in
-        let after = world_of (F.files store.new) (P.written report.new) (I.faults input.new) (F.read_faults store.new) (F.write_faults store.new) (P.faults report.new) steps.new in
-        IsRun course result before after) }
+        let before = world_of (F.files store.old) (P.written report.old) (I.faults input.old) (F.read_faults store.old)
+        (F.write_faults store.old) (P.faults report.old) steps.old in
+        let after = world_of (F.files store.new) (P.written report.new) (I.faults input.new) (F.read_faults store.new)
+        (F.write_faults store.new) (P.faults report.new) steps.new in
+        IsExecution course result before after) }
 
     // Where no count of faults rose, it ends as its course, or for want of memory.
     ensures complete { ForSome (course_of words.now (F.files store.old) (I.remaining input.old)) (λ course.
-        let before = world_of (F.files store.old) (P.written report.old) (I.faults input.old) (F.read_faults store.old) (F.write_faults store.old) (P.faults report.old) steps.old in
-        let after = world_of (F.files store.new) (P.written report.new) (I.faults input.new) (F.read_faults store.new) (F.write_faults store.new) (P.faults report.new) steps.new in
+        let before = world_of (F.files store.old) (P.written report.old) (I.faults input.old) (F.read_faults store.old)
+        (F.write_faults store.old) (P.faults report.old) steps.old in
+        let after = world_of (F.files store.new) (P.written report.new) (I.faults input.new) (F.read_faults store.new)
+        (F.write_faults store.new) (P.faults report.new) steps.new in
         IsCalm before after → (result ≡ status_by course.end.verdict) ⊎ (result ≡ status.Memory)) }
 
     // Words are told only of words that are no job, whatever the store tells.
     ensures words { result ≡ status.Words → job_of words.now ≡ None }
 
     // A fault has a cause: of reading in what the job reads.
-    ensures read_fault { result ≡ status.ReadFault → ReadRose (job_of words.now) (I.faults input.old) (I.faults input.new) (F.read_faults store.old) (F.read_faults store.new) }
-    ensures write_fault { result ≡ status.WriteFault → Rose (F.write_faults store.old) (F.write_faults store.new) ⊎ Rose (P.faults report.old) (P.faults report.new) }
+    ensures read_fault { result ≡ status.ReadFault → ReadRose (job_of words.now) (I.faults input.old) (I.faults input.new)
+        (F.read_faults store.old) (F.read_faults store.new) }
+    ensures write_fault { result ≡ status.WriteFault → Rose (F.write_faults store.old) (F.write_faults store.new)
+        ⊎ Rose (P.faults report.old) (P.faults report.new) }
 
     // How it ends is told, whatever the store tells.
     ensures told { TellsItsEnd result (P.faults report.old) (P.faults report.new) (P.written report.old) (P.written report.new) }
@@ -94,11 +99,15 @@ fn work<I: Source, F: Store, P: Sink, L: Ledger>(
     steps: &mut Steps<L>,
 ) -> Ending
     ensures work { ForSome (course_of words.now (F.files store.old) (I.remaining input.old)) (λ course. Work course result
-        (world_of (F.files store.old) (P.written report.old) (I.faults input.old) (F.read_faults store.old) (F.write_faults store.old) (P.faults report.old) steps.old)
-        (world_of (F.files store.new) (P.written report.new) (I.faults input.new) (F.read_faults store.new) (F.write_faults store.new) (P.faults report.new) steps.new)) }
+        (world_of (F.files store.old) (P.written report.old) (I.faults input.old) (F.read_faults store.old) (F.write_faults store.old)
+        (P.faults report.old) steps.old)
+        (world_of (F.files store.new) (P.written report.new) (I.faults input.new) (F.read_faults store.new) (F.write_faults store.new)
+        (P.faults report.new) steps.new)) }
     ensures blamed { IsBlamed (job_of words.now) result
-        (world_of (F.files store.old) (P.written report.old) (I.faults input.old) (F.read_faults store.old) (F.write_faults store.old) (P.faults report.old) steps.old)
-        (world_of (F.files store.new) (P.written report.new) (I.faults input.new) (F.read_faults store.new) (F.write_faults store.new) (P.faults report.new) steps.new) }
+        (world_of (F.files store.old) (P.written report.old) (I.faults input.old) (F.read_faults store.old) (F.write_faults store.old)
+        (P.faults report.old) steps.old)
+        (world_of (F.files store.new) (P.written report.new) (I.faults input.new) (F.read_faults store.new) (F.write_faults store.new)
+        (P.faults report.new) steps.new) }
     ensures told { Grows (P.written report.old) (P.written report.new) }
     ensures input { (Follows (job_of words.now) → ⊥) → input.new ≡ input.old }
     ensures reads { ReadsInputAlone (job_of words.now) → F.read_faults store.new ≡ F.read_faults store.old }
@@ -120,11 +129,15 @@ fn run_job<I: Source, F: Store, P: Sink, L: Ledger>(
 ) -> Ending
     requires { HasReadableNow job }
     ensures work { ForSome (course_of_job (Some job) (F.files store.old) (I.remaining input.old)) (λ course. Work course result
-        (world_of (F.files store.old) (P.written report.old) (I.faults input.old) (F.read_faults store.old) (F.write_faults store.old) (P.faults report.old) steps.old)
-        (world_of (F.files store.new) (P.written report.new) (I.faults input.new) (F.read_faults store.new) (F.write_faults store.new) (P.faults report.new) steps.new)) }
+        (world_of (F.files store.old) (P.written report.old) (I.faults input.old) (F.read_faults store.old) (F.write_faults store.old)
+        (P.faults report.old) steps.old)
+        (world_of (F.files store.new) (P.written report.new) (I.faults input.new) (F.read_faults store.new) (F.write_faults store.new)
+        (P.faults report.new) steps.new)) }
     ensures blamed { IsBlamed (Some job) result
-        (world_of (F.files store.old) (P.written report.old) (I.faults input.old) (F.read_faults store.old) (F.write_faults store.old) (P.faults report.old) steps.old)
-        (world_of (F.files store.new) (P.written report.new) (I.faults input.new) (F.read_faults store.new) (F.write_faults store.new) (P.faults report.new) steps.new) }
+        (world_of (F.files store.old) (P.written report.old) (I.faults input.old) (F.read_faults store.old) (F.write_faults store.old)
+        (P.faults report.old) steps.old)
+        (world_of (F.files store.new) (P.written report.new) (I.faults input.new) (F.read_faults store.new) (F.write_faults store.new)
+        (P.faults report.new) steps.new) }
     ensures told { Grows (P.written report.old) (P.written report.new) }
     ensures input { (Follows (Some job) → ⊥) → input.new ≡ input.old }
     ensures reads { ReadsInputAlone (Some job) → F.read_faults store.new ≡ F.read_faults store.old }
@@ -142,11 +155,11 @@ fn run_job<I: Source, F: Store, P: Sink, L: Ledger>(
                 out,
                 digits,
             };
-            follow::translate(alloc, job, input, store, report, steps)
+            follow::run(alloc, job, input, store, report, steps)
         }
         Job::FollowHls { master, base, out } => {
             let job = FollowHls { master, base, out };
-            follow_playlists(alloc, job, input, store, report, steps)
+            run_follow_hls(alloc, job, input, store, report, steps)
         }
         other => run_command(alloc, other, store, steps),
     }
@@ -180,7 +193,7 @@ fn run_command<F: Store, L: Ledger>(
                 out,
                 digits,
             };
-            hls::translate(alloc, &job, store, steps)
+            hls::run(alloc, &job, store, steps)
         }
         Job::HlsIndex {
             mpd,
@@ -194,10 +207,10 @@ fn run_command<F: Store, L: Ledger>(
                 out,
                 digits,
             };
-            translate_indexed(alloc, &job, store, steps)
+            run_hls_index(alloc, &job, store, steps)
         }
         Job::Make { seed, out, digits } => {
-            make::translate(alloc, &Make { seed, out, digits }, store, steps)
+            make::run(alloc, &Make { seed, out, digits }, store, steps)
         }
         other => run_mpd_command(alloc, other, store, steps),
     }
@@ -218,10 +231,10 @@ fn run_mpd_command<F: Store, L: Ledger>(
 {
     match job {
         Job::Dash { master, base, out } => {
-            dash::translate(alloc, &Dash { master, base, out }, store, steps)
+            dash::run(alloc, &Dash { master, base, out }, store, steps)
         }
         Job::DashTimes { master, base, out } => {
-            translate_timed(alloc, &DashTimes { master, base, out }, store, steps)
+            run_dash_times(alloc, &DashTimes { master, base, out }, store, steps)
         }
         other => run_judgement(alloc, other, store, steps),
     }
@@ -253,7 +266,7 @@ fn run_judgement<F: Store, L: Ledger>(
                 instant: now,
                 digits,
             };
-            show::tell(alloc, &job, store, steps)
+            show::run(alloc, &job, store, steps)
         }
         Job::Check {
             mpd,
@@ -267,10 +280,10 @@ fn run_judgement<F: Store, L: Ledger>(
                 base,
                 digits,
             };
-            check::judge(alloc, &job, store, steps)
+            check::run(alloc, &job, store, steps)
         }
-        Job::Agree { mpd, base } => judge_times(alloc, &Agree { mpd, base }, store, steps),
-        Job::Reload { old, new, base } => judge(alloc, &Reload { old, new, base }, store),
+        Job::Agree { mpd, base } => run_agree(alloc, &Agree { mpd, base }, store, steps),
+        Job::Reload { old, new, base } => run_reload(alloc, &Reload { old, new, base }, store),
         _ => unreachable!(),
     }
 }

@@ -3,8 +3,8 @@ ghost use Rattle.std.specs.Prelude.{◌≡◌, ◌≢◌, Ok, IfOk};
 ghost use Rattle.std.specs.Option.{ForSome};
 ghost use Rattle.bridge_io.specs.Answer.{Gives};
 ghost use Rattle.bridge_io.specs.Fault.{HasCause};
-ghost use Rattle.bridge_runs.specs.declared.status.Status.TheVariants as status;
-ghost use Rattle.bridge_runs.specs.Runs.{status_by};
+ghost use Rattle.bridge_courses.specs.declared.status.Status.TheVariants as status;
+ghost use Rattle.bridge_courses.specs.Executions.{status_by};
 ghost use Rattle.presentation.specs.Counting.{counted, count_of_all};
 ghost use Rattle.bridge_report.specs.declared.reading.Halt.TheVariants.{ReadFault};
 ghost use Rattle.bridge_report.specs.Reading.{halted};
@@ -12,10 +12,10 @@ ghost use Rattle.bridge_steps.specs.Endings.{JobEndsAs, NeverWrites, around};
 ghost use Rattle.bridge_core.specs.Show as spec;
 
 use crate::listing::push_shown;
+use bridge_courses::{Ending, Verdict};
 use bridge_io::{Ledger, Name, NoMemory, Steps, Store, Text};
-use bridge_playlists::{Place, presented_in};
+use bridge_playlists::{StorePlace, presented_in};
 use bridge_report::{Halt, content_of};
-use bridge_runs::{Ending, Verdict};
 use bridge_steps::{mpd_in, place_in, told};
 use exact_time::Digits;
 use iso_time::Instant;
@@ -38,7 +38,7 @@ pub struct Show {
 /// Tells the tracks and sections of a job's manifest, unless it is refused: how many segments each track has in each section, and
 /// how long they last. Nothing is written.
 #[tactic(auto, unfolding(crate::specs::Show::show_outcome))]
-pub fn tell<F: Store, L: Ledger>(
+pub fn run<F: Store, L: Ledger>(
     alloc: Global,
     job: &Show,
     store: &mut F,
@@ -60,7 +60,7 @@ pub fn tell<F: Store, L: Ledger>(
 fn shown_at<F: Store, L: Ledger>(
     alloc: Global,
     job: &Show,
-    place: &Place,
+    place: &StorePlace,
     store: &mut F,
     steps: &mut Steps<L>,
 ) -> Result<(Verdict, Text), Halt>

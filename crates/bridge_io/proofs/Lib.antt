@@ -1,3 +1,7 @@
+pub mod Adding
+pub mod AndThen
 pub mod Files
+pub mod NameSets
+pub mod Texts
 pub mod WholeFile
 pub mod Written

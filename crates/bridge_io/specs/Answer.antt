@@ -6,3 +6,8 @@ use Rattle.std.specs.Prelude.{◌≡◌, Result, Ok, Err, Option, IfSome}
 abbrev pub Gives : {X Y E F : Type 0} → (X → Y) → (E → Option F) → Result X E → Result Y F → Type 0
 Gives value refusal (Ok x) meaning = meaning ≡ Ok (value x)
 Gives value refusal (Err e) meaning = IfSome (refusal e) (λ f. meaning ≡ Err f)
+
+-- one step after another, until one is refused
+abbrev pub and_then : {X Y E : Type 0} → Result X E → (X → Result Y E) → Result Y E
+and_then (Ok x) next = next x
+and_then (Err fault) next = Err fault

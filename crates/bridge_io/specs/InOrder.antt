@@ -24,21 +24,25 @@ pub record AreBegun (files : List (List ℕ × List ℕ)) (before after : Option
   pub next : slice_get files count ≡ Some file
   pub begun : MayBegin file (option_map (put_all (take count files)) before) after
 
-put_all-append : (fs : List (List ℕ × List ℕ)) (f : List ℕ × List ℕ) (files : Files) → put_all (fs ++ f ∷ []) files ≡ put f.0 f.1 (put_all fs files)
+put_all-append : (fs : List (List ℕ × List ℕ)) (f : List ℕ × List ℕ) (files : Files)
+    → put_all (fs ++ f ∷ []) files ≡ put f.0 f.1 (put_all fs files)
 put_all-append [] f files = refl
 put_all-append (g ∷ fs) f files = put_all-append fs f (put g.0 g.1 files)
 
 -- the first i + 1 files are put where the one at i is put after the first i
-put_all-take : (fs : List (List ℕ × List ℕ)) (i : ℕ) (f : List ℕ × List ℕ) (files : Files) → slice_get fs i ≡ Some f → put_all (take (i + 1) fs) files ≡ put f.0 f.1 (put_all (take i fs) files)
+put_all-take : (fs : List (List ℕ × List ℕ)) (i : ℕ) (f : List ℕ × List ℕ) (files : Files) → slice_get fs i ≡ Some f
+    → put_all (take (i + 1) fs) files ≡ put f.0 f.1 (put_all (take i fs) files)
 put_all-take fs i f files is =
     let one_more = take_more fs i f (slice_get_within fs i f is) ∙ ap (λ g. take i fs ++ g ∷ []) (get_or_from_slice_get fs i f f is) in
     ap (λ gs. put_all gs files) one_more ∙ put_all-append (take i fs) f files
 
 -- after the first i files, the one at i is put
 pub put_next : (files : List (List ℕ × List ℕ)) (i : ℕ) (file : List ℕ × List ℕ) (before mid after : Option Files)
-    → slice_get files i ≡ Some file → Changes (put_all (take i files)) before mid → Changes (put file.0 file.1) mid after → Changes (put_all (take (i + 1) files)) before after
+    → slice_get files i ≡ Some file → Changes (put_all (take i files)) before mid → Changes (put file.0 file.1) mid after
+    → Changes (put_all (take (i + 1) files)) before after
 put_next files i file None mid after is were puts = puts ∙ ap (option_map (put file.0 file.1)) were
-put_next files i file (Some all) mid after is were puts = puts ∙ ap (option_map (put file.0 file.1)) were ∙ ap Some (sym (put_all-take files i file all is))
+put_next files i file (Some all) mid after is were puts = puts ∙ ap (option_map (put file.0 file.1)) were
+    ∙ ap Some (sym (put_all-take files i file all is))
 
 -- after the first i files, the one at i may be begun
 pub begun_at : (files : List (List ℕ × List ℕ)) (i : ℕ) (file : List ℕ × List ℕ) (before mid after : Option Files)
@@ -50,4 +54,10 @@ pub begun_whole : (files : List (List ℕ × List ℕ)) (i : ℕ) (file : List �
     → slice_get files i ≡ Some file → Changes (put_all (take (i + 1) files)) before after → AreBegun files before after
 begun_whole files i file None after is puts = record { count = i; file = file; next = is; begun = inl puts }
 begun_whole files i file (Some all) after is puts =
-    record { count = i; file = file; next = is; begun = inr (front_of_all file.0 file.1 (Some (put_all (take i files) all)) after (puts ∙ ap Some (put_all-take files i file all is))) }
+    record {
+      count = i;
+      file = file;
+      next = is;
+      begun = inr (front_of_all file.0 file.1 (Some (put_all (take i files) all)) after (puts
+          ∙ ap Some (put_all-take files i file all is)));
+    }

@@ -1,5 +1,6 @@
 -- Which texts are names of files in a store.
-use Rattle.std.specs.Prelude.{ℕ, ◌==◌, ◌&&◌, ◌||◌, not, nat_le, Bool, List, [], ◌∷◌, ◌++◌, length, if◌then◌else◌, Result, Ok, Err, Option, Some, None}
+use Rattle.std.specs.Prelude.{ℕ, ◌==◌, ◌&&◌, ◌||◌, not, nat_le, Bool, List, [], ◌∷◌, ◌++◌, length, if◌then◌else◌, Result, Ok, Err, Option}
+use Rattle.std.specs.Prelude.{Some, None}
 use Rattle.std.specs.List.{list_all}
 use Rattle.bridge_io.specs.declared.name.NameFault.{NameFault}
 use Rattle.bridge_io.specs.declared.name.NameFault.TheVariants.{Shape, Memory}
@@ -20,7 +21,8 @@ is_proper_part part = not (nat_le (length part) 2 && list_all (λ b. b == 46) pa
 
 -- 1 to 255 bytes of names, whose parts between the slashes are proper
 abbrev pub is_name : List ℕ → Bool
-is_name text = nat_le 1 (length text) && nat_le (length text) 255 && list_all is_name_byte text && list_all is_proper_part (parts_after [] text)
+is_name text = nat_le 1 (length text) && nat_le (length text) 255 && list_all is_name_byte text
+    && list_all is_proper_part (parts_after [] text)
 
 -- the name that a text is
 abbrev pub name_of : List ℕ → Result (List ℕ) NameFault

@@ -26,13 +26,16 @@ abbrev pub HasFront : List ℕ → List ℕ → Option Files → Option Files �
 HasFront name text first now = (n : ℕ) × Changes (put name (take n text)) first now
 
 -- a front of a text is one of a longer text
-pub front_of_more : (name text more : List ℕ) (first now : Option Files) → HasFront name text first now → HasFront name (text ++ more) first now
+pub front_of_more : (name text more : List ℕ) (first now : Option Files) → HasFront name text first now
+    → HasFront name (text ++ more) first now
 front_of_more name text more first now (n, changes) =
-    let same : take (min n (length text)) (text ++ more) ≡ take n text = take-append-le (min n (length text)) text more (omega arith) ∙ take_min n text in
+    let same : take (min n (length text)) (text ++ more) ≡ take n text = take-append-le (min n (length text)) text more (omega arith)
+    ∙ take_min n text in
     (min n (length text), rw same changes)
 
 -- a front of what a whole text begins with is one of the whole text
-pub front_of_whole : (name text done rest whole : List ℕ) (first now : Option Files) → done ++ rest ≡ whole → HasFront name (text ++ done) first now → HasFront name (text ++ whole) first now
+pub front_of_whole : (name text done rest whole : List ℕ) (first now : Option Files) → done ++ rest ≡ whole
+    → HasFront name (text ++ done) first now → HasFront name (text ++ whole) first now
 front_of_whole name text done rest whole first now goes front =
     rw (← goes, ← append_assoc) (front_of_more name (text ++ done) rest first now front)
 
@@ -41,6 +44,8 @@ pub front_of_all : (name text : List ℕ) (first now : Option Files) → Changes
 front_of_all name text first now changes = (length text, rw (take-length text) changes)
 
 -- a text that a writer stands behind has a front in the file
-pub front_of_behind : (writer : FileWriter) (text : List ℕ) (first now : Option Files) → IsBehind writer text first now → HasFront (target writer) text first now
+pub front_of_behind : (writer : FileWriter) (text : List ℕ) (first now : Option Files) → IsBehind writer text first now
+    → HasFront (target writer) text first now
 front_of_behind writer text first now behind =
-    rw (← behind.whole) (front_of_more (target writer) behind.front (held writer) first now (front_of_all (target writer) behind.front first now behind.files))
+    rw (← behind.whole) (front_of_more (target writer) behind.front (held writer) first now
+    (front_of_all (target writer) behind.front first now behind.files))

@@ -3,7 +3,8 @@ ghost use Rattle.std.specs.Prelude.{◌≡◌, ℕ, ◌<◌, ◌≤◌, List, []
 ghost use Rattle.std.specs.Option.{ForSome};
 ghost use Rattle.bridge_io.specs.declared.outside.Fail.TheVariants.{Failed, Memory};
 ghost use Rattle.bridge_io.specs.Fault.{HasCause};
-ghost use Rattle.bridge_io.specs.Outside.{Files, content_of, put, extended, Changes, MayEmpty, MayExtend, ReadsAt, Appends, AppendsFront, Takes};
+ghost use Rattle.bridge_io.specs.Outside.{Files, content_of, put, extended, Changes, MayEmpty, MayExtend, ReadsAt, Appends, AppendsFront};
+ghost use Rattle.bridge_io.specs.Outside.{Takes};
 
 use crate::{Name, NoMemory};
 use std::alloc::AllocError;

@@ -7,7 +7,7 @@ use Rattle.std.proofs.lemmas.Bool.Decides.{nat_tests}
 use Rattle.std.proofs.lemmas.Str.{IsAscii-append, IsUtf8-from_ascii}
 use Rattle.std.proofs.lemmas.Str.Ascii.{IsAscii-nil, IsAscii-cons}
 use Rattle.std.proofs.lemmas.Str.Parse.{tells_all_ascii_digits}
-use Rattle.iso_time.specs.Digits.{IsRun, optional_text, fraction_text}
+use Rattle.iso_time.specs.Digits.{AreDigits, optional_text, fraction_text}
 use Rattle.iso_time.specs.declared.instant.InstantFault.{InstantFault}
 use Rattle.iso_time.specs.Instant.{InstantParts, IsInstant, IsZone, Zone, instant_of, parts_text, zone_text, unstated, utc, shifted}
 use Rattle.iso_time.proofs.InstantLemmas.{denoted}
@@ -18,7 +18,7 @@ run : (digits : List ℕ) → all_ascii_digits digits ≡ true → IsAscii digit
 run [] all = IsAscii-nil
 run (c ∷ cs) all = let p = tells_all_ascii_digits.parts c cs all in IsAscii-cons c cs (omega (arith, p.0.0, p.0.1)) (run cs p.1)
 
-fraction : (digits : Option (List ℕ)) → IfSome digits (IsRun 1 30) → IsAscii (optional_text fraction_text digits)
+fraction : (digits : Option (List ℕ)) → IfSome digits (AreDigits 1 30) → IsAscii (optional_text fraction_text digits)
 fraction None is = IsAscii-nil
 fraction (Some digits) is = IsAscii-cons 46 digits (omega arith) (run digits is.ascii)
 
@@ -28,7 +28,8 @@ zone utc is = IsAscii-cons 90 [] (omega arith) IsAscii-nil
 zone (shifted behind colon hours minutes) is =
     let front : List ℕ = (if behind then 45 else 43) ∷ hours in
     let middle : List ℕ = if colon then 58 ∷ [] else [] in
-    IsAscii-append (front ++ middle) minutes (IsAscii-append front middle (IsAscii-cons _ hours (sign behind) (run hours is.0.ascii)) (mark colon)) (run minutes is.1.ascii)
+    IsAscii-append (front ++ middle) minutes (IsAscii-append front middle (IsAscii-cons _ hours (sign behind) (run hours is.0.ascii))
+    (mark colon)) (run minutes is.1.ascii)
   where
     sign : (b : Bool) → (if b then 45 else 43) < 128
     sign true = omega arith
@@ -49,8 +50,10 @@ parts p is =
     let minute = hour ++ 58 ∷ p.minute in
     let second = minute ++ 58 ∷ p.second in
     let time = field 58 minute p.second (omega arith) (field 58 hour p.minute (omega arith) (field 84 day p.hour (omega arith)
-    (field 45 month p.day (omega arith) (field 45 p.year p.month (omega arith) (run p.year is.year.ascii) is.month.ascii) is.day.ascii) is.hour.ascii) is.minute.ascii) is.second.ascii in
-    IsAscii-append (second ++ optional_text fraction_text p.fraction) (zone_text p.zone) (IsAscii-append second (optional_text fraction_text p.fraction) time (fraction p.fraction is.fraction)) (zone p.zone is.zone)
+    (field 45 month p.day (omega arith) (field 45 p.year p.month (omega arith) (run p.year is.year.ascii) is.month.ascii) is.day.ascii)
+    is.hour.ascii) is.minute.ascii) is.second.ascii in
+    IsAscii-append (second ++ optional_text fraction_text p.fraction) (zone_text p.zone)
+    (IsAscii-append second (optional_text fraction_text p.fraction) time (fraction p.fraction is.fraction)) (zone p.zone is.zone)
 
 instant : (text : List ℕ) (now : ℤ) → instant_in text ≡ Some now → IsAscii text
 instant text now is = go (instant_of text) refl is

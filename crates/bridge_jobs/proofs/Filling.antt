@@ -1,5 +1,6 @@
 -- A buffer that is filled from its front.
-use Rattle.std.proofs.Common.{◌≡◌, ◌≤◌, ◌+◌, ℕ, List, [], ◌++◌, length, take, Option, Some, None, refl, sym, ap, ◌∙◌, subst, arith, append_assoc, length-append}
+use Rattle.std.proofs.Common.{◌≡◌, ◌≤◌, ◌+◌, ℕ, List, [], ◌++◌, length, take, Option, Some, None, refl, sym, ap, ◌∙◌, subst, arith}
+use Rattle.std.proofs.Common.{append_assoc, length-append}
 use Rattle.std.specs.Io.KnownBytes.{prepend_known, IsAtEnd}
 use Rattle.std.proofs.lemmas.List.{append-nil, length-take, length-take-le, take_all, take-append-le}
 use Rattle.std.proofs.Math.Seq.{take-append-add, take-append_seam}
@@ -20,7 +21,8 @@ front_more filled n buf part more within few =
     ap (λ k. take (k + n) (take filled buf ++ (part ++ more))) (sym len) ∙ take-append-add (take filled buf) (part ++ more) n
     ∙ ap (λ x. take filled buf ++ x) (take-append-le n part more few)
 
-pub within_more : (filled n : ℕ) (buf part more : List ℕ) → filled ≤ length buf → n ≤ length part → filled + n ≤ length (take filled buf ++ (part ++ more))
+pub within_more : (filled n : ℕ) (buf part more : List ℕ) → filled ≤ length buf → n ≤ length part
+    → filled + n ≤ length (take filled buf ++ (part ++ more))
 within_more filled n buf part more within few =
     omega (arith, length-take-le filled buf within, length-append (take filled buf) (part ++ more), length-append part more)
 
@@ -29,12 +31,17 @@ before_piece : (piece rest : List ℕ) (now after : Option (List ℕ)) → now �
 before_piece piece rest now None told read = cc
 before_piece piece rest now (Some more) told read = (more, refl, cc)
 
-pub fill_more : (filled n : ℕ) (buf part more : List ℕ) (first now after : Option (List ℕ)) → IsFilled filled buf first now → filled ≤ length buf → n ≤ length part
+pub fill_more : (filled n : ℕ) (buf part more : List ℕ) (first now after : Option (List ℕ)) → IsFilled filled buf first now
+    → filled ≤ length buf → n ≤ length part
     → now ≡ prepend_known (take n part) after → IsFilled (filled + n) (take filled buf ++ (part ++ more)) first after
 fill_more filled n buf part more first now after so_far within few read = λ bytes told.
     let s = so_far bytes told in
-    let p = before_piece (take n part) s.0 now after s.1 read in
-    (p.0, p.1, s.2 ∙ ap (λ x. take filled buf ++ x) p.2 ∙ sym (append_assoc (take filled buf) (take n part) p.0) ∙ ap (λ x. x ++ p.0) (sym (front_more filled n buf part more within few)))
+    let p = before_piece (take n part) s.0 now after s.1 read in (
+      p.0,
+      p.1,
+      s.2 ∙ ap (λ x. take filled buf ++ x) p.2 ∙ sym (append_assoc (take filled buf) (take n part) p.0)
+          ∙ ap (λ x. x ++ p.0) (sym (front_more filled n buf part more within few)),
+    )
 
 pub filled_full : (filled : ℕ) (buf : List ℕ) (first now : Option (List ℕ)) → IsFilled filled buf first now → length buf ≤ filled
     → TakesFront (take (length buf)) (take filled buf) first now

@@ -1,11 +1,15 @@
 -- Frames one after another.
-use Rattle.std.proofs.Common.{◌≡◌, ◌<◌, ◌+◌, ◌==◌, ℕ, zero, suc, Bool, true, false, List, [], ◌∷◌, ◌++◌, length, take, drop, Option, Some, None, Result, Ok, Err, nat_le, count_by, if◌then◌else◌, refl, sym, ap, ap₂, subst, ◌∙◌, arith, append_assoc, add_assoc, length-append}
+use Rattle.std.proofs.Common.{◌≡◌, ◌<◌, ◌+◌, ◌==◌, ℕ, zero, suc, Bool, true, false, List, [], ◌∷◌, ◌++◌, length, take, drop, Option, Some}
+use Rattle.std.proofs.Common.{None, Result, Ok, Err, nat_le, count_by, if◌then◌else◌, refl, sym, ap, ap₂, subst, ◌∙◌, arith, append_assoc}
+use Rattle.std.proofs.Common.{add_assoc, length-append}
 use Rattle.std.proofs.lemmas.List.{take-append-drop}
 use Rattle.std.proofs.lemmas.List.Sums.{sum_by-append}
 use Rattle.std.proofs.Math.Seq.{take-append_seam}
 use Rattle.bridge_io.specs.Places.{place_of}
 use Rattle.bridge_io.specs.declared.place.Place.{Place}
-use Rattle.bridge_jobs.specs.Frames.{Framed, behind, body_of, by_next, counted, frame_by_line, framed_if, framed_as, frames_from, frames_within, header_at, line_within, most_header, next_line, piece_of, most_frames, next_frame, some_of, stream_by, with_body, with_frame}
+use Rattle.bridge_jobs.specs.Frames.{Framed, behind, body_of, by_next, counted, frame_by_line, framed_if, framed_as, frames_from}
+use Rattle.bridge_jobs.specs.Frames.{frames_within, header_at, line_within, most_header, next_line, piece_of, most_frames, next_frame}
+use Rattle.bridge_jobs.specs.Frames.{some_of, stream_by, with_body, with_frame}
 use Rattle.bridge_jobs.specs.Headers.{body_length, header_of}
 use Rattle.bridge_jobs.specs.Laws.{FramesFollow, PlacesAreOfTheStream}
 use Rattle.bridge_jobs.specs.declared.frame.FramePos.{FramePos}
@@ -31,7 +35,9 @@ line-front zero bytes = refl
 line-front (suc most) [] = refl
 line-front (suc most) (b ∷ bytes) = go (line-front most bytes) (b == 10)
   where
-    go : line_within most bytes ++ drop (length (line_within most bytes)) bytes ≡ bytes → (lf : Bool) → (if lf then b ∷ [] else b ∷ line_within most bytes) ++ drop (length (if lf then b ∷ [] else b ∷ line_within most bytes)) (b ∷ bytes) ≡ b ∷ bytes
+    go : line_within most bytes ++ drop (length (line_within most bytes)) bytes ≡ bytes → (lf : Bool)
+        → (if lf then b ∷ [] else b ∷ line_within most bytes) ++ drop (length (if lf then b ∷ [] else b ∷ line_within most bytes))
+        (b ∷ bytes) ≡ b ∷ bytes
     go next true = refl
     go next false = ap (λ x. b ∷ x) next
 
@@ -61,19 +67,22 @@ body-takes at line rest header framed some is = go (nat_le (body_length header) 
     found : Takes at (line ++ rest) (framed_as (with_body header (take (body_length header) rest)) after (drop (body_length header) rest))
     found = record {
       piece = line ++ take (body_length header) rest;
-      front = ap (λ x. line ++ x) (sym (take-append-drop (body_length header) rest)) ∙ sym (append_assoc line (take (body_length header) rest) (drop (body_length header) rest));
+      front = ap (λ x. line ++ x) (sym (take-append-drop (body_length header) rest))
+          ∙ sym (append_assoc line (take (body_length header) rest) (drop (body_length header) rest));
       place = behind-both at.place line (take (body_length header) rest);
       some = omega (arith, length-append line (take (body_length header) rest));
     }
 
     go : (b : Bool) → nat_le (body_length header) (length rest) ≡ b → Takes at (line ++ rest) framed
     go true e =
-        let same : Ok (framed_as (with_body header (take (body_length header) rest)) after (drop (body_length header) rest)) ≡ Ok framed = rw e at is in
+        let same : Ok (framed_as (with_body header (take (body_length header) rest)) after (drop (body_length header) rest)) ≡ Ok framed =
+        rw e at is in
         let it : framed_as (with_body header (take (body_length header) rest)) after (drop (body_length header) rest) ≡ framed = cc in
         subst (λ w. Takes at (line ++ rest) w) it found
     go false e = let bad = rw e at is in cc
 
-line-takes : (at : FramePos) (line rest : List ℕ) (framed : Framed) → 0 < length line → frame_by_line at line rest ≡ Ok framed → Takes at (line ++ rest) framed
+line-takes : (at : FramePos) (line rest : List ℕ) (framed : Framed) → 0 < length line → frame_by_line at line rest ≡ Ok framed
+    → Takes at (line ++ rest) framed
 unfolding frame_by_line
 line-takes at line rest framed some is = go (header_at most_header header_of at.place line) is
   where
@@ -86,7 +95,8 @@ unfolding next_frame next_line
 next-takes at [] framed is = cc
 next-takes at (b ∷ bytes) framed is = go (at.frames == most_frames) is
   where
-    by_frame : (r : Result Framed FrameFault) → frame_by_line at (line_within 64 (b ∷ bytes)) (drop (length (line_within 64 (b ∷ bytes))) (b ∷ bytes)) ≡ r
+    by_frame : (r : Result Framed FrameFault) → frame_by_line at (line_within 64 (b ∷ bytes))
+        (drop (length (line_within 64 (b ∷ bytes))) (b ∷ bytes)) ≡ r
         → some_of r ≡ Ok (Some framed) → Takes at (b ∷ bytes) framed
     by_frame (Ok x) e same =
         let is_x : x ≡ framed = cc in
@@ -94,7 +104,8 @@ next-takes at (b ∷ bytes) framed is = go (at.frames == most_frames) is
     by_frame (Err _) e same = cc
 
     go : (last : Bool) → by_next (frame_by_line at) (if last then Err (TooMany at.place)
-        else Ok (Some (line_within 64 (b ∷ bytes)), drop (length (line_within 64 (b ∷ bytes))) (b ∷ bytes))) ≡ Ok (Some framed) → Takes at (b ∷ bytes) framed
+        else Ok (Some (line_within 64 (b ∷ bytes)), drop (length (line_within 64 (b ∷ bytes))) (b ∷ bytes))) ≡ Ok (Some framed)
+        → Takes at (b ∷ bytes) framed
     go true e = cc
     go false e = by_frame _ refl e
 
@@ -105,15 +116,19 @@ shorter at bytes framed is =
     omega (arith, ap length t.front, length-append t.piece framed.rest, t.some)
 
 -- more room than there are bytes changes nothing
-roomy : (most more : ℕ) (at : FramePos) (bytes : List ℕ) → length bytes < most → length bytes < more → frames_within most at bytes ≡ frames_within more at bytes
+roomy : (most more : ℕ) (at : FramePos) (bytes : List ℕ) → length bytes < most → length bytes < more
+    → frames_within most at bytes ≡ frames_within more at bytes
 unfolding frames_within
 roomy zero more at bytes low high = absurd (omega arith)
 roomy (suc most) zero at bytes low high = absurd (omega arith)
-roomy (suc most) (suc more) at bytes low high = go (next_frame at bytes) refl (λ framed less. roomy most more framed.after framed.rest (omega arith) (omega arith))
+roomy (suc most) (suc more) at bytes low high = go (next_frame at bytes) refl
+    (λ framed less. roomy most more framed.after framed.rest (omega arith) (omega arith))
   where
     go : (r : Result (Option Framed) FrameFault) → next_frame at bytes ≡ r
-        → ((framed : Framed) → length framed.rest < length bytes → frames_within most framed.after framed.rest ≡ frames_within more framed.after framed.rest)
-        → stream_by (λ framed. frames_within most framed.after framed.rest) r ≡ stream_by (λ framed. frames_within more framed.after framed.rest) r
+        → ((framed : Framed) → length framed.rest < length bytes → frames_within most framed.after framed.rest
+        ≡ frames_within more framed.after framed.rest)
+        → stream_by (λ framed. frames_within most framed.after framed.rest) r
+        ≡ stream_by (λ framed. frames_within more framed.after framed.rest) r
     go (Ok None) e next = refl
     go (Ok (Some framed)) e next = ap (with_frame framed.frame) (next framed (shorter at bytes framed e))
     go (Err _) e next = refl
@@ -123,7 +138,8 @@ unfolding frames_within
 frames_follow = λ at bytes. go at bytes (next_frame at bytes) refl
   where
     go : (at : FramePos) (bytes : List ℕ) (r : Result (Option Framed) FrameFault) → next_frame at bytes ≡ r
-        → stream_by (λ framed. frames_within (length bytes) framed.after framed.rest) r ≡ stream_by (λ framed. frames_from framed.after framed.rest) r
+        → stream_by (λ framed. frames_within (length bytes) framed.after framed.rest) r
+        ≡ stream_by (λ framed. frames_from framed.after framed.rest) r
     go at bytes (Ok None) e = refl
     go at bytes (Ok (Some framed)) e =
         let less : length framed.rest < length bytes = shorter at bytes framed e in
@@ -146,5 +162,10 @@ place_of-behind front piece rest place is =
 pub places : PlacesAreOfTheStream
 places = λ front bytes at framed is next.
     let t = next-takes at bytes framed next in
-    let there : at.place ≡ place_of (front ++ (t.piece ++ framed.rest)) (length front) = is ∙ ap (λ x. place_of (front ++ x) (length front)) t.front in
-    (t.piece, t.front, t.place ∙ place_of-behind front t.piece framed.rest at.place there ∙ ap (λ x. place_of (front ++ x) (length (front ++ t.piece))) (sym t.front))
+    let there : at.place ≡ place_of (front ++ (t.piece ++ framed.rest)) (length front) = is
+    ∙ ap (λ x. place_of (front ++ x) (length front)) t.front in (
+      t.piece,
+      t.front,
+      t.place ∙ place_of-behind front t.piece framed.rest at.place there
+          ∙ ap (λ x. place_of (front ++ x) (length (front ++ t.piece))) (sym t.front),
+    )

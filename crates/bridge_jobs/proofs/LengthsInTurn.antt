@@ -1,5 +1,6 @@
 -- Lengths that are read one behind another.
-use Rattle.std.proofs.Common.{◌≡◌, ◌<◌, ◌≤◌, ◌-◌, ◌+◌, ℕ, suc, List, [], ◌∷◌, ◌++◌, length, Option, Some, None, option_map, refl, sym, ap, ◌∙◌, arith, append_assoc, length-append}
+use Rattle.std.proofs.Common.{◌≡◌, ◌<◌, ◌≤◌, ◌-◌, ◌+◌, ℕ, suc, List, [], ◌∷◌, ◌++◌, length, Option, Some, None, option_map, refl, sym, ap}
+use Rattle.std.proofs.Common.{◌∙◌, arith, append_assoc, length-append}
 use Rattle.std.specs.Prelude.{sum}
 use Rattle.std.proofs.lemmas.List.{append-nil}
 use Rattle.std.proofs.lemmas.List.Sums.{sum_by-append}
@@ -56,7 +57,8 @@ module _ (tracks i room : ℕ) (text rest : Option (List ℕ)) (lengths : List �
 
   at_end : tracks ≤ i → lengths_of tracks most_bodies text ≡ option_map (λ xs. lengths ++ xs) (none_left rest)
   at_end last = let left : tracks - i ≡ 0 = omega arith in
-      so_far.all ∙ ap (λ n. option_map (λ xs. lengths ++ xs) (lengths_of n room rest)) left ∙ ap (option_map (λ xs. lengths ++ xs)) (lengths_end room rest)
+      so_far.all ∙ ap (λ n. option_map (λ xs. lengths ++ xs) (lengths_of n room rest)) left
+      ∙ ap (option_map (λ xs. lengths ++ xs)) (lengths_end room rest)
 
   pub too_long : (more : List ℕ) → tracks ≤ i → rest ≡ Some more → lengths_of tracks most_bodies text ≡ None
   too_long more last is = at_end last ∙ ap (λ r. option_map (λ xs. lengths ++ xs) (none_left r)) is

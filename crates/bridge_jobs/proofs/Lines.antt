@@ -1,5 +1,6 @@
 -- A line that is read byte by byte.
-use Rattle.std.proofs.Common.{◌≡◌, ◌≢◌, ◌<◌, ◌≤◌, ◌-◌, ◌==◌, ℕ, zero, suc, List, [], ◌∷◌, ◌++◌, length, Option, Some, None, true, false, refl, sym, ap, ◌∙◌, subst, arith, append_assoc, length-append}
+use Rattle.std.proofs.Common.{◌≡◌, ◌≢◌, ◌<◌, ◌≤◌, ◌-◌, ◌==◌, ℕ, zero, suc, List, [], ◌∷◌, ◌++◌, length, Option, Some, None, true, false}
+use Rattle.std.proofs.Common.{refl, sym, ap, ◌∙◌, subst, arith, append_assoc, length-append}
 use Rattle.std.specs.Io.KnownBytes.{prepend_known, IsAtEnd}
 use Rattle.std.proofs.lemmas.List.{append-nil}
 use Rattle.std.proofs.lemmas.Bool.Decides.{nat_tests}
@@ -10,7 +11,8 @@ use Rattle.bridge_jobs.specs.Inputs.{TakesFront}
 abbrev pub IsLineSoFar : ℕ → List ℕ → Option (List ℕ) → Option (List ℕ) → Type 0
 IsLineSoFar most line first now =
     (bytes : List ℕ) → first ≡ Some bytes
-    → (rest : List ℕ) × (now ≡ Some rest) × (bytes ≡ line ++ rest) × (line_within most bytes ≡ line ++ line_within (most - length line) rest)
+    → (rest : List ℕ) × (now ≡ Some rest) × (bytes ≡ line ++ rest)
+    × (line_within most bytes ≡ line ++ line_within (most - length line) rest)
 
 pub line_begun : (most : ℕ) (first : Option (List ℕ)) → IsLineSoFar most [] first first
 line_begun most first = λ bytes told. let all : most ≡ most - 0 = omega arith in (bytes, told, refl, ap (λ n. line_within n bytes) all)
@@ -31,12 +33,14 @@ unfolding line_within
 within_none zero = refl
 within_none (suc most) = refl
 
-pub line_full : (most : ℕ) (line : List ℕ) (first now : Option (List ℕ)) → IsLineSoFar most line first now → most ≤ length line → TakesFront (line_within most) line first now
+pub line_full : (most : ℕ) (line : List ℕ) (first now : Option (List ℕ)) → IsLineSoFar most line first now → most ≤ length line
+    → TakesFront (line_within most) line first now
 line_full most line first now so_far full =
     let over : most - length line ≡ 0 = omega arith in
     whole most line first now so_far (λ rest _. rw over (none_within rest))
 
-pub line_cut : (most : ℕ) (line : List ℕ) (first now : Option (List ℕ)) → IsLineSoFar most line first now → IsAtEnd now → TakesFront (line_within most) line first now
+pub line_cut : (most : ℕ) (line : List ℕ) (first now : Option (List ℕ)) → IsLineSoFar most line first now → IsAtEnd now
+    → TakesFront (line_within most) line first now
 line_cut most line first now so_far end = whole most line first now so_far (λ rest told.
     let empty : rest ≡ [] = subst IsAtEnd told end in rw empty (within_none _))
 

@@ -1,5 +1,6 @@
 -- Names of files in folders.
-use Rattle.std.proofs.Common.{◌≡◌, ◌<◌, ◌≤◌, ◌+◌, ◌==◌, ◌&&◌, ℕ, zero, suc, Bool, true, false, List, [], ◌∷◌, ◌++◌, length, codes, if◌then◌else◌, nat_le, refl, ap, ◌∙◌, arith, length-append}
+use Rattle.std.proofs.Common.{◌≡◌, ◌<◌, ◌≤◌, ◌+◌, ◌==◌, ◌&&◌, ℕ, zero, suc, Bool, true, false, List, [], ◌∷◌, ◌++◌, length, codes}
+use Rattle.std.proofs.Common.{if◌then◌else◌, nat_le, refl, ap, ◌∙◌, arith, length-append}
 use Rattle.std.specs.List.{list_all}
 use Rattle.std.specs.Fmt.{digits}
 use Rattle.std.proofs.lemmas.Bool.{le-leb}
@@ -15,7 +16,8 @@ parts_of-both front (b ∷ folder) file = go (parts_of-both [] folder file) (par
   where
     go : parts_after [] (in_folder folder file) ≡ parts_after [] folder ++ parts_after [] file
         → parts_after (front ++ b ∷ []) (in_folder folder file) ≡ parts_after (front ++ b ∷ []) folder ++ parts_after [] file
-        → (slash : Bool) → (if slash then front ∷ parts_after [] (in_folder folder file) else parts_after (front ++ b ∷ []) (in_folder folder file))
+        → (slash : Bool) → (if slash then front ∷ parts_after [] (in_folder folder file)
+        else parts_after (front ++ b ∷ []) (in_folder folder file))
         ≡ (if slash then front ∷ parts_after [] folder else parts_after (front ++ b ∷ []) folder) ++ parts_after [] file
     go begun longer true = ap (λ x. front ∷ x) begun
     go begun longer false = longer
@@ -37,7 +39,8 @@ pub record IsNamed (text : List ℕ) : Type 0 where
 named : (text : List ℕ) → is_name text ≡ true → IsNamed text
 named text is = record { short = grind (arith, nat_tests); bytes = grind (arith, nat_tests); parts = grind (arith, nat_tests) }
 
-in_folder-named : (folder file : List ℕ) → is_folder folder ≡ true → is_name file ≡ true → length file ≤ 12 → is_name (in_folder folder file) ≡ true
+in_folder-named : (folder file : List ℕ) → is_folder folder ≡ true → is_name file ≡ true → length file ≤ 12
+    → is_name (in_folder folder file) ≡ true
 in_folder-named folder file is name short =
     let is_named : is_name folder ≡ true = grind (arith, nat_tests) in
     let low : length folder ≤ 242 = grind (arith, nat_tests) in
@@ -48,7 +51,8 @@ in_folder-named folder file is name short =
     let most : nat_le (length (in_folder folder file)) 255 ≡ true = le-leb _ _ (omega arith) in
     let bytes : list_all is_name_byte (in_folder folder file) ≡ true = all_of-both is_name_byte folder (47 ∷ file) a.bytes b.bytes in
     let parts : list_all is_proper_part (parts_after [] (in_folder folder file)) ≡ true =
-    ap (list_all is_proper_part) (parts_of-both [] folder file) ∙ all_of-both is_proper_part (parts_after [] folder) (parts_after [] file) a.parts b.parts in
+    ap (list_all is_proper_part) (parts_of-both [] folder file)
+    ∙ all_of-both is_proper_part (parts_after [] folder) (parts_after [] file) a.parts b.parts in
     rw (some, most, bytes, parts) refl
 
 -- a test that holds of all numbers below a bound

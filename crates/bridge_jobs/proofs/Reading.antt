@@ -1,12 +1,14 @@
 -- A frame that is read line first.
-use Rattle.std.proofs.Common.{◌≡◌, ◌≢◌, ◌<◌, ◌≤◌, ◌+◌, ◌==◌, ℕ, zero, suc, Bool, true, false, List, [], ◌∷◌, ◌++◌, length, take, drop, Option, Some, None, Result, Ok, Err, nat_le, refl, sym, ap, ◌∙◌, arith, if◌then◌else◌}
+use Rattle.std.proofs.Common.{◌≡◌, ◌≢◌, ◌<◌, ◌≤◌, ◌+◌, ◌==◌, ℕ, zero, suc, Bool, true, false, List, [], ◌∷◌, ◌++◌, length, take, drop}
+use Rattle.std.proofs.Common.{Option, Some, None, Result, Ok, Err, nat_le, refl, sym, ap, ◌∙◌, arith, if◌then◌else◌}
 use Rattle.std.specs.Prelude.{IfSome}
 use Rattle.std.proofs.lemmas.Bool.{le-leb}
 use Rattle.std.proofs.lemmas.Bool.Decides.{nat_tests}
 use Rattle.std.proofs.lemmas.List.{length-take, take_all}
 use Rattle.std.proofs.Math.Seq.{drop-append_seam}
 use Rattle.bridge_io.specs.declared.place.Place.{Place}
-use Rattle.bridge_jobs.specs.Frames.{behind, body_of, by_next, counted, frame_by_line, framed_as, framed_body, framed_if, header_at, line_within, most_header, next_frame, next_line, piece_of, refusal}
+use Rattle.bridge_jobs.specs.Frames.{behind, body_of, by_next, counted, frame_by_line, framed_as, framed_body, framed_if, header_at}
+use Rattle.bridge_jobs.specs.Frames.{line_within, most_header, next_frame, next_line, piece_of, refusal}
 use Rattle.bridge_jobs.specs.Headers.{body_length, header_of}
 use Rattle.bridge_jobs.specs.declared.frame.Frame.{Frame}
 use Rattle.bridge_jobs.specs.declared.frame.FramePos.{FramePos}
@@ -15,7 +17,8 @@ use Rattle.bridge_jobs.specs.declared.frame.FrameFault.TheVariants as fault
 use Rattle.bridge_jobs.specs.declared.header.Header.{Header}
 
 -- a refusal of one step is the refusal of what the step leads to
-pub told_on : {A B : Type 0} (e : FrameFault) (first : Result A FrameFault) (next : Result B FrameFault) → ((f : FrameFault) → first ≡ Err f → next ≡ Err f)
+pub told_on : {A B : Type 0} (e : FrameFault) (first : Result A FrameFault) (next : Result B FrameFault)
+    → ((f : FrameFault) → first ≡ Err f → next ≡ Err f)
     → IfSome (refusal e) (λ f. first ≡ Err f) → IfSome (refusal e) (λ f. next ≡ Err f)
 told_on fault.Fault first next on is = tt
 told_on fault.Memory first next on is = tt
@@ -34,7 +37,8 @@ cut_piece place size bytes piece is short =
     let all : piece ≡ bytes = is ∙ take_all size bytes (omega arith) in
     rw no_room (ap (λ x. Err (fault.Cut (behind place x))) (sym all))
 
-pub whole_piece : (place : Place) (size : ℕ) (bytes piece rest : List ℕ) → piece ≡ take size bytes → bytes ≡ piece ++ rest → size ≤ length piece
+pub whole_piece : (place : Place) (size : ℕ) (bytes piece rest : List ℕ) → piece ≡ take size bytes → bytes ≡ piece ++ rest
+    → size ≤ length piece
     → piece_of place size bytes ≡ Ok (piece, behind place piece, rest)
 unfolding piece_of
 whole_piece place size bytes piece rest is both long =
@@ -51,25 +55,31 @@ body_by place header bytes piece is = ap (framed_body header) is
 
 -- ---- frames by their lines
 
-pub no_header : (at : FramePos) (line bytes : List ℕ) (e : FrameFault) → Err e ≡ header_at most_header header_of at.place line → IfSome (refusal e) (λ f. frame_by_line at line bytes ≡ Err f)
+pub no_header : (at : FramePos) (line bytes : List ℕ) (e : FrameFault) → Err e ≡ header_at most_header header_of at.place line
+    → IfSome (refusal e) (λ f. frame_by_line at line bytes ≡ Err f)
 unfolding frame_by_line
-no_header at line bytes e is = told_on e (header_at most_header header_of at.place line) (framed_if at line bytes (header_at most_header header_of at.place line)) (λ f same. ap (framed_if at line bytes) same) (own e is)
+no_header at line bytes e is = told_on e (header_at most_header header_of at.place line)
+    (framed_if at line bytes (header_at most_header header_of at.place line)) (λ f same. ap (framed_if at line bytes) same) (own e is)
   where
-    own : (e : FrameFault) → Err e ≡ header_at most_header header_of at.place line → IfSome (refusal e) (λ f. header_at most_header header_of at.place line ≡ Err f)
+    own : (e : FrameFault) → Err e ≡ header_at most_header header_of at.place line
+        → IfSome (refusal e) (λ f. header_at most_header header_of at.place line ≡ Err f)
     own fault.Fault same = tt
     own fault.Memory same = tt
     own (fault.Header place) same = sym same
     own (fault.Cut place) same = sym same
     own (fault.TooMany place) same = sym same
 
-pub no_body : (at : FramePos) (line bytes : List ℕ) (header : Header) (place : Place) (e : FrameFault) → Ok header ≡ header_at most_header header_of at.place line → place ≡ behind at.place line
+pub no_body : (at : FramePos) (line bytes : List ℕ) (header : Header) (place : Place) (e : FrameFault)
+    → Ok header ≡ header_at most_header header_of at.place line → place ≡ behind at.place line
     → IfSome (refusal e) (λ f. body_of place header bytes ≡ Err f) → IfSome (refusal e) (λ f. frame_by_line at line bytes ≡ Err f)
 unfolding frame_by_line
 no_body at line bytes header place e is there = told_on e _ _ (λ f same.
     ap (framed_if at line bytes) (sym is) ∙ ap (λ p. counted at.frames (body_of p header bytes)) (sym there) ∙ ap (counted at.frames) same)
 
-pub whole_frame : (at : FramePos) (line bytes : List ℕ) (header : Header) (place after : Place) (frame : Frame) (rest : List ℕ) → Ok header ≡ header_at most_header header_of at.place line → place ≡ behind at.place line
-    → body_of place header bytes ≡ Ok (frame, after, rest) → frame_by_line at line bytes ≡ Ok (framed_as frame (record { place = after; frames = at.frames + 1 }) rest)
+pub whole_frame : (at : FramePos) (line bytes : List ℕ) (header : Header) (place after : Place) (frame : Frame) (rest : List ℕ)
+    → Ok header ≡ header_at most_header header_of at.place line → place ≡ behind at.place line
+    → body_of place header bytes ≡ Ok (frame, after, rest) → frame_by_line at line bytes
+    ≡ Ok (framed_as frame (record { place = after; frames = at.frames + 1 }) rest)
 unfolding frame_by_line
 whole_frame at line bytes header place after frame rest is there same =
     ap (framed_if at line bytes) (sym is) ∙ ap (λ p. counted at.frames (body_of p header bytes)) (sym there) ∙ ap (counted at.frames) same
@@ -91,7 +101,8 @@ unfolding line_within
 line_of_none zero = refl
 line_of_none (suc most) = refl
 
-pub next_none : (most : ℕ) (at : FramePos) (bytes line rest : List ℕ) → 0 < most → line ≡ line_within most bytes → bytes ≡ line ++ rest → line ≡ []
+pub next_none : (most : ℕ) (at : FramePos) (bytes line rest : List ℕ) → 0 < most → line ≡ line_within most bytes → bytes ≡ line ++ rest
+    → line ≡ []
     → next_line most at bytes ≡ Ok (None, rest)
 unfolding next_line
 next_none most at bytes line rest some is both none =
@@ -99,13 +110,15 @@ next_none most at bytes line rest some is both none =
     let left : rest ≡ [] = ap (λ x. x ++ rest) (sym none) ∙ sym both ∙ empty in
     rw (empty, left) refl
 
-pub next_too_many : (most : ℕ) (at : FramePos) (bytes line : List ℕ) → line ≡ line_within most bytes → 0 < length line → at.frames ≡ 10_000_000
+pub next_too_many : (most : ℕ) (at : FramePos) (bytes line : List ℕ) → line ≡ line_within most bytes → 0 < length line
+    → at.frames ≡ 10_000_000
     → next_line most at bytes ≡ Err (fault.TooMany at.place)
 unfolding next_line
 next_too_many most at [] line is some last = absurd (omega (arith, ap length (is ∙ line_of_none most)))
 next_too_many most at (b ∷ bytes) line is some last = rw last refl
 
-pub next_some : (most : ℕ) (at : FramePos) (bytes line rest : List ℕ) → line ≡ line_within most bytes → bytes ≡ line ++ rest → 0 < length line
+pub next_some : (most : ℕ) (at : FramePos) (bytes line rest : List ℕ) → line ≡ line_within most bytes → bytes ≡ line ++ rest
+    → 0 < length line
     → at.frames ≢ 10_000_000 → next_line most at bytes ≡ Ok (Some line, rest)
 unfolding next_line
 next_some most at [] line rest is both some more = absurd (omega (arith, ap length (is ∙ line_of_none most)))
@@ -115,7 +128,8 @@ next_some most at (b ∷ bytes) line rest is both some more =
     rw (no, ← is, left) refl
 
 -- the next frame is that of the next line
-pub next_frame_by : (at : FramePos) (bytes : List ℕ) (next : Result (Option (List ℕ) × List ℕ) FrameFault) → next_line most_header at bytes ≡ next
+pub next_frame_by : (at : FramePos) (bytes : List ℕ) (next : Result (Option (List ℕ) × List ℕ) FrameFault)
+    → next_line most_header at bytes ≡ next
     → next_frame at bytes ≡ by_next (frame_by_line at) next
 unfolding next_frame
 next_frame_by at bytes next is = ap (by_next (frame_by_line at)) is

@@ -1,8 +1,10 @@
 -- Rounds one after another.
-use Rattle.std.proofs.Common.{◌≡◌, ◌<◌, ◌≤◌, ◌+◌, ◌==◌, ℕ, zero, suc, Bool, true, false, List, [], ◌∷◌, length, take, drop, Option, Some, None, Result, Ok, Err, nat_le, if◌then◌else◌, refl, ap, arith, length-drop}
+use Rattle.std.proofs.Common.{◌≡◌, ◌<◌, ◌≤◌, ◌+◌, ◌==◌, ℕ, zero, suc, Bool, true, false, List, [], ◌∷◌, length, take, drop, Option, Some}
+use Rattle.std.proofs.Common.{None, Result, Ok, Err, nat_le, if◌then◌else◌, refl, ap, arith, length-drop}
 use Rattle.bridge_io.specs.declared.place.Place.{Place}
 use Rattle.bridge_jobs.specs.Frames.{behind, by_next, header_at, line_within, most_frames, next_line, piece_of, some_of}
-use Rattle.bridge_jobs.specs.Rounds.{Bodies, Rounded, RoundStream, after_bodies, and_bodies, bodies_of, counted, header_of, most_header, next_round, round_by_line, rounded_as, rounded_if, rounds_by, rounds_from, rounds_within}
+use Rattle.bridge_jobs.specs.Rounds.{Bodies, Rounded, RoundStream, after_bodies, and_bodies, bodies_of, counted, header_of, most_header}
+use Rattle.bridge_jobs.specs.Rounds.{next_round, round_by_line, rounded_as, rounded_if, rounds_by, rounds_from, rounds_within}
 use Rattle.bridge_jobs.specs.Laws.{RoundsFollow}
 use Rattle.bridge_jobs.specs.declared.lengths.RoundHeader.{RoundHeader}
 use Rattle.bridge_jobs.specs.declared.frame.FramePos.{FramePos}
@@ -42,7 +44,8 @@ bodies-leave place (size ∷ lengths) bytes x is = go (piece_of place size bytes
 
     go : (piece : Result Piece FrameFault) → piece_of place size bytes ≡ piece
         → and_bodies (λ after rest. bodies_of after lengths rest) piece ≡ Ok x
-        → ((at : Place) (rest : List ℕ) (y : Bodies) → bodies_of at lengths rest ≡ Ok y → length y.2 ≤ length rest) → length x.2 ≤ length bytes
+        → ((at : Place) (rest : List ℕ) (y : Bodies) → bodies_of at lengths rest ≡ Ok y → length y.2 ≤ length rest)
+        → length x.2 ≤ length bytes
     go (Ok piece) is e others = omega (arith, further piece others _ refl e, piece-leaves place size bytes piece is)
     go (Err _) is e others = absurd (cc)
 
@@ -57,7 +60,8 @@ line-leaves tracks at line rest rounded is = go (header_at most_header (header_o
       where
         rest-is : (x : Bodies) → counted at.frames header.now (Ok x) ≡ Ok rounded → x.2 ≡ rounded.rest
         rest-is x e =
-            let it : rounded_as (record { now = header.now; bodies = x.0 }) (record { place = x.1; frames = at.frames + 1 }) x.2 ≡ rounded = cc in
+            let it : rounded_as (record { now = header.now; bodies = x.0 }) (record { place = x.1; frames = at.frames + 1 }) x.2
+            ≡ rounded = cc in
             ap (λ (r : Rounded). r.rest) it
     by header (Err _) is e = absurd (cc)
 
@@ -78,10 +82,17 @@ shorter tracks at (b ∷ bytes) rounded is = go (at.frames == most_frames) is
     by_round : (r : Result Rounded FrameFault) → round_by_line tracks at line (drop (length line) (b ∷ bytes)) ≡ r
         → some_of r ≡ Ok (Some rounded) → length rounded.rest < length (b ∷ bytes)
     by_round (Ok x) e same = let it : x ≡ rounded = cc in
-        omega (arith, ap (λ (r : Rounded). length r.rest) it, line-leaves tracks at line _ x e, length-drop (length line) (b ∷ bytes), line-some 2047 b bytes)
+        omega (
+          arith,
+          ap (λ (r : Rounded). length r.rest) it,
+          line-leaves tracks at line _ x e,
+          length-drop (length line) (b ∷ bytes),
+          line-some 2047 b bytes,
+        )
     by_round (Err _) e same = absurd (cc)
 
-    go : (last : Bool) → by_next (round_by_line tracks at) (if last then Err (TooMany at.place) else Ok (Some line, drop (length line) (b ∷ bytes)))
+    go : (last : Bool) → by_next (round_by_line tracks at) (if last then Err (TooMany at.place)
+        else Ok (Some line, drop (length line) (b ∷ bytes)))
         ≡ Ok (Some rounded) → length rounded.rest < length (b ∷ bytes)
     go true e = absurd (cc)
     go false e = by_round _ refl e

@@ -1,11 +1,13 @@
 -- Rounds that are read body by body.
-use Rattle.std.proofs.Common.{◌≡◌, ◌<◌, ◌≤◌, ◌+◌, ℕ, suc, List, [], ◌∷◌, ◌++◌, length, take, drop, get_or, Option, Some, Result, Ok, Err, refl, sym, ap, ◌∙◌, arith, append_assoc, length-drop, drop-cons}
+use Rattle.std.proofs.Common.{◌≡◌, ◌<◌, ◌≤◌, ◌+◌, ℕ, suc, List, [], ◌∷◌, ◌++◌, length, take, drop, get_or, Option, Some, Result, Ok, Err}
+use Rattle.std.proofs.Common.{refl, sym, ap, ◌∙◌, arith, append_assoc, length-drop, drop-cons}
 use Rattle.std.specs.Prelude.{IfSome, sum}
 use Rattle.std.proofs.lemmas.List.{append-nil, take_more}
 use Rattle.std.proofs.lemmas.List.Sums.{sum_by-append}
 use Rattle.bridge_io.specs.declared.place.Place.{Place}
 use Rattle.bridge_jobs.specs.Frames.{IsBehind, by_next, header_at, next_line, piece_of, refusal}
-use Rattle.bridge_jobs.specs.Rounds.{Bodies, after_bodies, and_bodies, bodies_of, header_of, most_header, next_round, round_by_line, rounded_if}
+use Rattle.bridge_jobs.specs.Rounds.{Bodies, after_bodies, and_bodies, bodies_of, header_of, most_header, next_round, round_by_line}
+use Rattle.bridge_jobs.specs.Rounds.{rounded_if}
 use Rattle.bridge_jobs.specs.declared.frame.FramePos.{FramePos}
 use Rattle.bridge_jobs.specs.declared.frame.FrameFault.{FrameFault}
 use Rattle.bridge_jobs.specs.declared.lengths.RoundHeader.{RoundHeader}
@@ -26,7 +28,8 @@ after_both : (front : List (List ℕ)) (body : List ℕ) (found : Result Bodies 
 after_both front body (Ok x) = ap (λ bodies. Ok (bodies, x.1, x.2)) (sym (append_assoc front (body ∷ []) x.0))
 after_both front body (Err e) = refl
 
-bodies_next : (place : Place) (size : ℕ) (lengths bytes : List ℕ) (piece : Result (List ℕ × Place × List ℕ) FrameFault) → piece_of place size bytes ≡ piece
+bodies_next : (place : Place) (size : ℕ) (lengths bytes : List ℕ) (piece : Result (List ℕ × Place × List ℕ) FrameFault)
+    → piece_of place size bytes ≡ piece
     → bodies_of place (size ∷ lengths) bytes ≡ and_bodies (λ after rest. bodies_of after lengths rest) piece
 unfolding bodies_of
 bodies_next place size lengths bytes piece is = ap (and_bodies (λ after rest. bodies_of after lengths rest)) is
@@ -48,7 +51,8 @@ sum_next : (lengths : List ℕ) (i : ℕ) → i < length lengths → sum (take (
 sum_next lengths i within = let more = ap sum (take_more lengths i 0 within) in
     omega (arith, more, sum_by-append (λ (n : ℕ). n) (take i lengths) (get_or lengths i 0 ∷ []))
 
-pub behind_next : (lengths : List ℕ) (i : ℕ) (place at after : Place) → i < length lengths → IsBehind (sum (take i lengths)) place at → IsBehind (get_or lengths i 0) at after
+pub behind_next : (lengths : List ℕ) (i : ℕ) (place at after : Place) → i < length lengths → IsBehind (sum (take i lengths)) place at
+    → IsBehind (get_or lengths i 0) at after
     → IsBehind (sum (take (i + 1) lengths)) place after
 behind_next lengths i place at after within before next = record {
   at = omega (arith, sum_next lengths i within, before.at, next.at);
@@ -58,7 +62,8 @@ behind_next lengths i place at after within before next = record {
 pub no_bodies : (place : Place) (lengths : List ℕ) (first : Option (List ℕ)) → IsReadSoFar place lengths 0 [] place first first
 no_bodies place lengths first = λ bytes told. (bytes, told, after_none (bodies_of place lengths bytes))
 
-module _ (place at : Place) (lengths : List ℕ) (i : ℕ) (bodies : List (List ℕ)) (first now : Option (List ℕ)) (so_far : IsReadSoFar place lengths i bodies at first now) where
+module _ (place at : Place) (lengths : List ℕ) (i : ℕ) (bodies : List (List ℕ)) (first now : Option (List ℕ))
+    (so_far : IsReadSoFar place lengths i bodies at first now) where
   pub body_more : (size : ℕ) (body : List ℕ) (after : Place) (later : Option (List ℕ)) → drop i lengths ≡ size ∷ drop (i + 1) lengths
       → ((bytes : List ℕ) → now ≡ Some bytes → (rest : List ℕ) × (later ≡ Some rest) × (piece_of at size bytes ≡ Ok (body, after, rest)))
       → IsReadSoFar place lengths (i + 1) (bodies ++ body ∷ []) after first later
@@ -77,7 +82,8 @@ module _ (place at : Place) (lengths : List ℕ) (i : ℕ) (bodies : List (List 
       → (bytes : List ℕ) → first ≡ Some bytes → IfSome (refusal e) (λ f. bodies_of place lengths bytes ≡ Err f)
   body_fails size e left piece = λ bytes told.
       let s = so_far bytes told in
-      told_on e (piece_of at size s.0) (bodies_of place lengths bytes) (λ f same. s.2 ∙ ap (λ ls. after_bodies bodies (bodies_of at ls s.0)) left
+      told_on e (piece_of at size s.0) (bodies_of place lengths bytes) (λ f same. s.2
+      ∙ ap (λ ls. after_bodies bodies (bodies_of at ls s.0)) left
       ∙ ap (after_bodies bodies) (bodies_next at size (drop (i + 1) lengths) s.0 (Err f) same)) (piece s.0 s.1)
 
   pub all_bodies : length lengths ≤ i → (bytes : List ℕ) → first ≡ Some bytes
@@ -99,7 +105,8 @@ unfolding round_by_line
 round_by tracks at line bytes header is = ap (rounded_if at line bytes) is
 
 -- the next round is that of the next line
-pub next_round_by : (tracks : ℕ) (at : FramePos) (bytes : List ℕ) (next : Result (Option (List ℕ) × List ℕ) FrameFault) → next_line most_header at bytes ≡ next
+pub next_round_by : (tracks : ℕ) (at : FramePos) (bytes : List ℕ) (next : Result (Option (List ℕ) × List ℕ) FrameFault)
+    → next_line most_header at bytes ≡ next
     → next_round tracks at bytes ≡ by_next (round_by_line tracks at) next
 unfolding next_round
 next_round_by tracks at bytes next is = ap (by_next (round_by_line tracks at)) is

@@ -5,7 +5,8 @@ use Rattle.clap.specs.declared.error.kind.ErrorKind.{ErrorKind}
 use Rattle.clap.specs.declared.error.kind.ErrorKind.TheVariants.{OutOfMemory}
 use Rattle.bridge_jobs.specs.Verbs.{app_of_verb, unless_at_fault, values_of}
 use Rattle.bridge_jobs.specs.declared.verb.Verb.{Verb}
-use Rattle.bridge_jobs.specs.declared.verb.Verb.TheVariants.{Hls, Dash, Follow, Show, Check, Reload, Make, HlsIndex, DashTimes, Agree, FollowHls}
+use Rattle.bridge_jobs.specs.declared.verb.Verb.TheVariants.{Hls, Dash, Follow, Show, Check, Reload, Make, HlsIndex, DashTimes, Agree}
+use Rattle.bridge_jobs.specs.declared.verb.Verb.TheVariants.{FollowHls}
 
 simple : (verb : Verb) → is_simple (app_of_verb verb) ≡ true
 simple Hls = refl
@@ -34,10 +35,12 @@ free Agree = refl
 free FollowHls = refl
 
 pub taken : (app : App) (verb : Verb) (words : List Text) (rows : List Row) → app ≡ app_of_verb verb
-    → (is_simple_and_free app ≡ true → fault_of app words ≡ []) → (is_simple app ≡ true → rows ≡ matches_of app words) → Some rows ≡ values_of verb words
+    → (is_simple_and_free app ≡ true → fault_of app words ≡ []) → (is_simple app ≡ true → rows ≡ matches_of app words)
+    → Some rows ≡ values_of verb words
 unfolding values_of
 taken app verb words rows same faults matches =
-    let none : fault_of (app_of_verb verb) words ≡ [] = ap (λ a. fault_of a words) (sym same) ∙ faults (ap is_simple_and_free same ∙ free verb) in
+    let none : fault_of (app_of_verb verb) words ≡ [] = ap (λ a. fault_of a words) (sym same)
+    ∙ faults (ap is_simple_and_free same ∙ free verb) in
     let all : rows ≡ matches_of (app_of_verb verb) words = matches (ap is_simple same ∙ simple verb) ∙ ap (λ a. matches_of a words) same in
     ap Some all ∙ ap (λ kinds. unless_at_fault kinds (matches_of (app_of_verb verb) words)) (sym none)
 
@@ -46,11 +49,14 @@ among_some kind [] rows among = absurd among
 among_some kind (k ∷ kinds) rows among = refl
 
 pub refused : (app : App) (verb : Verb) (words : List Text) (kind : ErrorKind) → app ≡ app_of_verb verb
-    → (is_simple_and_free app ≡ true → (kind ≡ OutOfMemory) ⊎ IsAmong kind (fault_of app words)) → (kind ≡ OutOfMemory → ⊥) → None ≡ values_of verb words
+    → (is_simple_and_free app ≡ true → (kind ≡ OutOfMemory) ⊎ IsAmong kind (fault_of app words)) → (kind ≡ OutOfMemory → ⊥)
+    → None ≡ values_of verb words
 unfolding values_of
 refused app verb words kind same faults other =
     go (faults (ap is_simple_and_free same ∙ free verb))
   where
-    go : (kind ≡ OutOfMemory) ⊎ IsAmong kind (fault_of app words) → None ≡ unless_at_fault (fault_of (app_of_verb verb) words) (matches_of (app_of_verb verb) words)
+    go : (kind ≡ OutOfMemory) ⊎ IsAmong kind (fault_of app words)
+        → None ≡ unless_at_fault (fault_of (app_of_verb verb) words) (matches_of (app_of_verb verb) words)
     go (inl is) = absurd (other is)
-    go (inr among) = among_some kind _ (matches_of (app_of_verb verb) words) among ∙ ap (λ a. unless_at_fault (fault_of a words) (matches_of (app_of_verb verb) words)) same
+    go (inr among) = among_some kind _ (matches_of (app_of_verb verb) words) among
+        ∙ ap (λ a. unless_at_fault (fault_of a words) (matches_of (app_of_verb verb) words)) same

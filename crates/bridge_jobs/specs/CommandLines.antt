@@ -1,5 +1,6 @@
 -- How the words of a command line are read, in plain words.
-use Rattle.std.specs.Prelude.{◌≡◌, ◌==◌, ◌&&◌, ◌||◌, ℕ, Bool, true, false, not, is_some, codes, bytes_eq, List, [], ◌∷◌, ◌++◌, map, drop, find, if◌then◌else◌, Option, Some, None, option_map}
+use Rattle.std.specs.Prelude.{◌≡◌, ◌==◌, ◌&&◌, ◌||◌, ℕ, Bool, true, false, not, is_some, codes, bytes_eq, List, [], ◌∷◌, ◌++◌, map, drop}
+use Rattle.std.specs.Prelude.{find, if◌then◌else◌, Option, Some, None, option_map}
 use Rattle.std.specs.List.{All, after_first, before_first, list_all, list_any}
 use Rattle.std.specs.Str.{IsUtf8}
 use Rattle.clap.specs.Words.{Row, Text, first_of}
@@ -8,7 +9,8 @@ use Rattle.clap.specs.declared.parser.matches.ValueSource.TheVariants.{CommandLi
 use Rattle.bridge_jobs.specs.Jobs.{◌>>=◌, first_verb, job_by, job_of}
 use Rattle.bridge_jobs.specs.declared.jobs.Job.{Job}
 use Rattle.bridge_jobs.specs.declared.verb.Verb.{Verb}
-use Rattle.bridge_jobs.specs.declared.verb.Verb.TheVariants.{Hls, Dash, Follow, Show, Check, Reload, Make, HlsIndex, DashTimes, Agree, FollowHls}
+use Rattle.bridge_jobs.specs.declared.verb.Verb.TheVariants.{Hls, Dash, Follow, Show, Check, Reload, Make, HlsIndex, DashTimes, Agree}
+use Rattle.bridge_jobs.specs.declared.verb.Verb.TheVariants.{FollowHls}
 
 -- ---- what a command takes
 
@@ -32,7 +34,8 @@ abbrev pub takes : List Text → List Choice → Syntax
 takes places options = record { places = places; options = options }
 
 abbrev pub syntax_of : Verb → Syntax
-syntax_of Hls = takes (codes "mpd" ∷ []) (required (codes "base") ∷ optional (codes "now") ∷ optional (codes "out") ∷ optional (codes "digits") ∷ [])
+syntax_of Hls = takes (codes "mpd" ∷ []) (required (codes "base") ∷ optional (codes "now") ∷ optional (codes "out")
+    ∷ optional (codes "digits") ∷ [])
 syntax_of Dash = takes (codes "master" ∷ []) (required (codes "base") ∷ optional (codes "out") ∷ [])
 syntax_of Follow = takes (codes "name" ∷ []) (required (codes "base") ∷ optional (codes "out") ∷ optional (codes "digits") ∷ [])
 syntax_of Show = takes (codes "file" ∷ []) (required (codes "base") ∷ optional (codes "now") ∷ optional (codes "digits") ∷ [])

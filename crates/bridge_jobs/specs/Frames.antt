@@ -1,5 +1,6 @@
 -- Streams of frames.
-use Rattle.std.specs.Prelude.{◌≡◌, ℕ, ℤ, ◌+◌, ◌-◌, ◌*◌, ◌^◌, ◌<◌, ◌≤◌, ◌==◌, zero, suc, nat_le, List, [], ◌∷◌, length, take, drop, count_by, bytes_eq, if◌then◌else◌, Option, Some, None, IsNone, IfSome, Result, Ok, Err, MatchResult}
+use Rattle.std.specs.Prelude.{◌≡◌, ℕ, ℤ, ◌+◌, ◌-◌, ◌*◌, ◌^◌, ◌<◌, ◌≤◌, ◌==◌, zero, suc, nat_le, List, [], ◌∷◌, length, take, drop, count_by}
+use Rattle.std.specs.Prelude.{bytes_eq, if◌then◌else◌, Option, Some, None, IsNone, IfSome, Result, Ok, Err, MatchResult}
 use Rattle.bridge_io.specs.declared.place.Place.{Place}
 use Rattle.bridge_jobs.specs.Headers.{header_of, body_length}
 use Rattle.bridge_jobs.specs.declared.header.Header.{Header}
@@ -119,7 +120,8 @@ some_of (Ok y) = Ok (Some y)
 some_of (Err e) = Err e
 
 -- what a line and the bytes behind it are, where there is a line
-abbrev pub by_next : {Y : Type 0} → (List ℕ → List ℕ → Result Y FrameFault) → Result (Option (List ℕ) × List ℕ) FrameFault → Result (Option Y) FrameFault
+abbrev pub by_next : {Y : Type 0} → (List ℕ → List ℕ → Result Y FrameFault) → Result (Option (List ℕ) × List ℕ) FrameFault
+    → Result (Option Y) FrameFault
 by_next read (Ok (None, rest)) = Ok None
 by_next read (Ok (Some line, rest)) = some_of (read line rest)
 by_next read (Err e) = Err e
@@ -177,7 +179,8 @@ pub record IsBehind (most : ℕ) (before after : Place) : Type 0 where
   pub line : after.line + before.at ≤ before.line + after.at
 
 -- Of the bytes that were there the call gives what the definition says, and leaves what stands behind it.
-abbrev pub ReadsFrom : {X Y : Type 0} → (X → List ℕ → Y) → Result X FrameFault → Option (List ℕ) → Option (List ℕ) → (List ℕ → Result Y FrameFault) → Type 0
+abbrev pub ReadsFrom : {X Y : Type 0} → (X → List ℕ → Y) → Result X FrameFault → Option (List ℕ) → Option (List ℕ)
+    → (List ℕ → Result Y FrameFault) → Type 0
 ReadsFrom value result before after meaning =
     (bytes : List ℕ) → before ≡ Some bytes → MatchResult result
     (λ x. (rest : List ℕ) × (after ≡ Some rest) × (meaning bytes ≡ Ok (value x rest)))

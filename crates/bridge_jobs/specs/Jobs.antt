@@ -1,5 +1,6 @@
 -- The job that words are.
-use Rattle.std.specs.Prelude.{ℕ, ℤ, ◌-◌, ◌&&◌, nat_le, Bool, codes, List, [], ◌∷◌, length, if◌then◌else◌, Option, Some, None, option_and_then, option_map, unwrap_or, IfSome, IsTrue}
+use Rattle.std.specs.Prelude.{ℕ, ℤ, ◌-◌, ◌&&◌, nat_le, Bool, codes, List, [], ◌∷◌, length, if◌then◌else◌, Option, Some, None}
+use Rattle.std.specs.Prelude.{option_and_then, option_map, unwrap_or, IfSome, IsTrue}
 use Rattle.std.specs.Result.{result_ok}
 use Rattle.clap.specs.Words.{Row, Text, first_of}
 use Rattle.iso_time.specs.Instant.{instant_of, IsReadable}

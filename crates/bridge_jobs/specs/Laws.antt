@@ -33,7 +33,8 @@ FoldersHoldTheirFiles = (folder : List ℕ) → IsTrue (is_folder folder) → Fo
 -- the frames of a stream are its first one and those of what stands behind it, or its end
 abbrev pub FramesFollow : Type 0
 FramesFollow =
-    (at : FramePos) (bytes : List ℕ) → frames_from at bytes ≡ stream_by (λ framed. frames_from framed.after framed.rest) (next_frame at bytes)
+    (at : FramePos) (bytes : List ℕ) → frames_from at bytes ≡ stream_by (λ framed. frames_from framed.after framed.rest)
+    (next_frame at bytes)
 
 -- and so are those of a stream of rounds
 abbrev pub RoundsFollow : Type 0
@@ -43,5 +44,6 @@ RoundsFollow = (tracks : ℕ) (at : FramePos) (bytes : List ℕ)
 -- places are those of bytes in the whole stream
 abbrev pub PlacesAreOfTheStream : Type 0
 PlacesAreOfTheStream =
-    (front bytes : List ℕ) (at : FramePos) (framed : Framed) → at.place ≡ place_of (front ++ bytes) (length front) → next_frame at bytes ≡ Ok (Some framed)
+    (front bytes : List ℕ) (at : FramePos) (framed : Framed) → at.place ≡ place_of (front ++ bytes) (length front)
+    → next_frame at bytes ≡ Ok (Some framed)
     → (piece : List ℕ) × (bytes ≡ piece ++ framed.rest) × (framed.after.place ≡ place_of (front ++ bytes) (length (front ++ piece)))

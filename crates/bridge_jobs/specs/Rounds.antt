@@ -1,5 +1,6 @@
 -- Rounds: the playlists of a live presentation, all read at one instant.
-use Rattle.std.specs.Prelude.{ℕ, ℤ, zero, suc, ◌-◌, ◌+◌, nat_le, codes, bytes_eq, List, [], ◌∷◌, ◌++◌, length, if◌then◌else◌, Option, Some, None, option_map, Result, Ok, Err}
+use Rattle.std.specs.Prelude.{ℕ, ℤ, zero, suc, ◌-◌, ◌+◌, nat_le, codes, bytes_eq, List, [], ◌∷◌, ◌++◌, length, if◌then◌else◌, Option, Some}
+use Rattle.std.specs.Prelude.{None, option_map, Result, Ok, Err}
 use Rattle.bridge_io.specs.declared.place.Place.{Place}
 use Rattle.bridge_jobs.specs.Headers.{cut_at_space, length_of}
 use Rattle.bridge_jobs.specs.Jobs.{◌>>=◌, instant_in}
@@ -45,7 +46,8 @@ none_left (Some text) = None
 -- so many lengths with one space between them, which have room together
 unfoldable pub lengths_of : (tracks room : ℕ) → Option (List ℕ) → Option (List ℕ)
 lengths_of zero room rest = none_left rest
-lengths_of (suc tracks) room rest = next_length room rest >>= (λ x. option_map (λ lengths. x.0 ∷ lengths) (lengths_of tracks (room - x.0) x.1))
+lengths_of (suc tracks) room rest = next_length room rest >>= (λ x. option_map (λ lengths. x.0 ∷ lengths)
+    (lengths_of tracks (room - x.0) x.1))
 
 -- `<instant> <length> ..`
 unfoldable pub timed_lengths : (tracks : ℕ) → List ℕ → Option RoundHeader
@@ -126,7 +128,8 @@ rounds_by more (Err e) = ([], Some e)
 -- the rounds of bytes that begin at a place, each of which takes one of so many bytes at least
 unfoldable pub rounds_within : ℕ → (tracks : ℕ) → FramePos → List ℕ → RoundStream
 rounds_within zero tracks at bytes = ([], None)
-rounds_within (suc most) tracks at bytes = rounds_by (λ rounded. rounds_within most tracks rounded.after rounded.rest) (next_round tracks at bytes)
+rounds_within (suc most) tracks at bytes = rounds_by (λ rounded. rounds_within most tracks rounded.after rounded.rest)
+    (next_round tracks at bytes)
 
 abbrev pub rounds_from : (tracks : ℕ) → FramePos → List ℕ → RoundStream
 rounds_from tracks at bytes = rounds_within (suc (length bytes)) tracks at bytes

@@ -2,7 +2,8 @@
 use Rattle.std.specs.Prelude.{true, codes, bytes_eq, List, [], ◌∷◌, fold, if◌then◌else◌, Option, Some, None}
 use Rattle.clap.specs.Words.{App, Kinds, Row, Rule, Text, fault_of, matches_of, new_app, new_rule, with_rule}
 use Rattle.bridge_jobs.specs.declared.verb.Verb.{Verb}
-use Rattle.bridge_jobs.specs.declared.verb.Verb.TheVariants.{Hls, Dash, Follow, Show, Check, Reload, Make, HlsIndex, DashTimes, Agree, FollowHls}
+use Rattle.bridge_jobs.specs.declared.verb.Verb.TheVariants.{Hls, Dash, Follow, Show, Check, Reload, Make, HlsIndex, DashTimes, Agree}
+use Rattle.bridge_jobs.specs.declared.verb.Verb.TheVariants.{FollowHls}
 
 -- a word by its place, which is required
 abbrev pub positional : Text → Rule
@@ -17,7 +18,8 @@ required_option name = record (option name) { required = true }
 
 -- what stands behind each command's word
 abbrev pub parameters_of : Verb → List Rule
-parameters_of Hls = positional (codes "mpd") ∷ required_option (codes "base") ∷ option (codes "now") ∷ option (codes "out") ∷ option (codes "digits") ∷ []
+parameters_of Hls = positional (codes "mpd") ∷ required_option (codes "base") ∷ option (codes "now") ∷ option (codes "out")
+    ∷ option (codes "digits") ∷ []
 parameters_of Dash = positional (codes "master") ∷ required_option (codes "base") ∷ option (codes "out") ∷ []
 parameters_of Follow = positional (codes "name") ∷ required_option (codes "base") ∷ option (codes "out") ∷ option (codes "digits") ∷ []
 parameters_of Show = positional (codes "file") ∷ required_option (codes "base") ∷ option (codes "now") ∷ option (codes "digits") ∷ []

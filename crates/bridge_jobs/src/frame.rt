@@ -3,7 +3,8 @@ ghost use Rattle.std.specs.Prelude.{◌≡◌, ◌≢◌, ◌≤◌, ◌<◌, �
 ghost use Rattle.std.specs.Option.{option_map};
 ghost use Rattle.bridge_io.specs.Fault.{HasCause};
 ghost use Rattle.bridge_jobs.specs.declared.frame.FrameFault.TheVariants.{Fault};
-ghost use Rattle.bridge_jobs.specs.Frames.{IsFramePos, IsNoFrame, IsNear, IsBehind, ReadsFrom, framed_as, next_frame, frame_by_line, body_of, header_at, next_line, piece_of, behind, now_of, with_body, most_frames, most_header};
+ghost use Rattle.bridge_jobs.specs.Frames.{IsFramePos, IsNoFrame, IsNear, IsBehind, ReadsFrom, framed_as, next_frame, frame_by_line};
+ghost use Rattle.bridge_jobs.specs.Frames.{body_of, header_at, next_line, piece_of, behind, now_of, with_body, most_frames, most_header};
 ghost use Rattle.bridge_jobs.specs.Headers.{body_length, header_of, instant_at};
 ghost use Rattle.iso_time.specs.Instant.{IsReadable};
 
@@ -125,7 +126,8 @@ pub fn read_frame<I: Source>(
     at: &mut FramePos,
 ) -> Result<Option<Frame>, FrameFault>
     requires { IsFramePos at.old }
-    ensures frame { ReadsFrom (λ frame rest. option_map (λ f. framed_as f at.new rest) frame) result (I.remaining input.old) (I.remaining input.new) (next_frame at.old) }
+    ensures frame { ReadsFrom (λ frame rest. option_map (λ f. framed_as f at.new rest) frame) result (I.remaining input.old)
+        (I.remaining input.new) (next_frame at.old) }
     ensures stays { IsNoFrame result → at.new ≡ at.old }
     ensures kept { IsFramePos at.new }
     ensures counts { IfOk result (λ frame. IfSome frame (λ f. at.new.frames ≡ at.old.frames + 1)) }
@@ -177,7 +179,8 @@ fn read_framed<I: Source>(
     requires pos { IsFramePos at }
     requires more { at.frames < most_frames }
     requires line { length line.now ≤ most_header }
-    ensures frame { ReadsFrom (λ x rest. framed_as x.0 x.1 rest) result (I.remaining input.old) (I.remaining input.new) (frame_by_line at line.now) }
+    ensures frame { ReadsFrom (λ x rest. framed_as x.0 x.1 rest) result (I.remaining input.old) (I.remaining input.new)
+        (frame_by_line at line.now) }
     ensures kept { IfOk result (λ x. IsFramePos x.1) }
     ensures counts { IfOk result (λ x. x.1.frames ≡ at.frames + 1) }
     ensures readable { IfOk result (λ x. IsReadable (now_of x.0)) }
@@ -215,7 +218,8 @@ fn read_body<I: Source>(
     requires at { place.at < 2 ^ 62 }
     requires line { place.line < 2 ^ 62 }
     requires small { body_length header.now ≤ 8388608 }
-    ensures frame { ReadsFrom (λ x rest. (x.0, x.1, rest)) result (I.remaining input.old) (I.remaining input.new) (body_of place header.now) }
+    ensures frame { ReadsFrom (λ x rest. (x.0, x.1, rest)) result (I.remaining input.old) (I.remaining input.new)
+        (body_of place header.now) }
     ensures place { IfOk result (λ x. IsBehind (body_length header.now) place x.1) }
     ensures now { IfOk result (λ x. now_of x.0 ≡ instant_at header.now) }
     ensures cause { HasCause Fault (I.faults input.old) (I.faults input.new) result }

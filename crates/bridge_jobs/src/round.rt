@@ -41,7 +41,8 @@ pub fn read_round<I: Source>(
     at: &mut FramePos,
 ) -> Result<Option<Round>, FrameFault>
     requires { IsFramePos at.old }
-    ensures round { ReadsFrom (λ round rest. option_map (λ r. rounded_as r at.new rest) round) result (I.remaining input.old) (I.remaining input.new) (next_round tracks at.old) }
+    ensures round { ReadsFrom (λ round rest. option_map (λ r. rounded_as r at.new rest) round) result (I.remaining input.old)
+        (I.remaining input.new) (next_round tracks at.old) }
     ensures stays { IsNoFrame result → at.new ≡ at.old }
     ensures kept { IsFramePos at.new }
     ensures counts { IfOk result (λ round. IfSome round (λ r. at.new.frames ≡ at.old.frames + 1)) }
@@ -71,7 +72,8 @@ fn read_rounded<I: Source>(
     requires pos { IsFramePos at }
     requires more { at.frames < most_frames }
     requires line { length line.now ≤ most_header }
-    ensures round { ReadsFrom (λ x rest. rounded_as x.0 x.1 rest) result (I.remaining input.old) (I.remaining input.new) (round_by_line tracks at line.now) }
+    ensures round { ReadsFrom (λ x rest. rounded_as x.0 x.1 rest) result (I.remaining input.old) (I.remaining input.new)
+        (round_by_line tracks at line.now) }
     ensures kept { IfOk result (λ x. IsFramePos x.1) }
     ensures counts { IfOk result (λ x. x.1.frames ≡ at.frames + 1) }
     ensures readable { IfOk result (λ x. IsReadable x.0.now) }
@@ -117,7 +119,8 @@ fn read_bodies<I: Source>(
     requires at { place.at < 2 ^ 62 }
     requires line { place.line < 2 ^ 62 }
     requires small { sum lengths.now ≤ most_bodies }
-    ensures bodies { ReadsFrom (λ x rest. (x.0, x.1, rest)) result (I.remaining input.old) (I.remaining input.new) (bodies_of place lengths.now) }
+    ensures bodies { ReadsFrom (λ x rest. (x.0, x.1, rest)) result (I.remaining input.old) (I.remaining input.new)
+        (bodies_of place lengths.now) }
     ensures place { IfOk result (λ x. IsBehind (sum lengths.now) place x.1) }
     ensures count { IfOk result (λ x. length x.0 ≡ length lengths.now) }
     ensures cause { HasCause Fault (I.faults input.old) (I.faults input.new) result }

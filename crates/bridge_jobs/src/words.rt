@@ -1,6 +1,7 @@
 // The job that words are.
 ghost use Rattle.std.specs.Prelude.{◌≡◌, IfOk, IfSome, map};
-ghost use Rattle.bridge_jobs.specs.Jobs.{HasFolder, HasReadableNow, first_verb, job_by, job_of, hls_of, dash_of, follow_of, show_of, check_of, reload_of, make_of, hls_index_of, dash_times_of, agree_of, follow_hls_of};
+ghost use Rattle.bridge_jobs.specs.Jobs.{HasFolder, HasReadableNow, first_verb, job_by, job_of, hls_of, dash_of, follow_of, show_of};
+ghost use Rattle.bridge_jobs.specs.Jobs.{check_of, reload_of, make_of, hls_index_of, dash_times_of, agree_of, follow_hls_of};
 
 use crate::Job;
 use crate::values::Values;

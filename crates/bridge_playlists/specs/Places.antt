@@ -2,11 +2,11 @@
 use Rattle.std.specs.Prelude.{ℕ, List, Option, option_map}
 use Rattle.std.specs.Option.{option_and_then}
 use Rattle.bridge_report.specs.Bases.{file_url, folder_url}
-use Rattle.bridge_playlists.specs.declared.place.Place.{Place}
+use Rattle.bridge_playlists.specs.declared.place.StorePlace.{StorePlace}
 
-abbrev pub place_with : (file folder url : List ℕ) → Place
-place_with file folder url = record { file = file; folder = folder; url = url }
+abbrev pub store_place_with : (file folder url : List ℕ) → StorePlace
+store_place_with file folder url = record { file = file; folder = folder; url = url }
 
 -- a master lies under the address of a folder, and has an address itself
-unfoldable pub place_of : (base file : List ℕ) → Option Place
-place_of base file = option_and_then (λ folder. option_map (place_with file folder) (file_url base file)) (folder_url base)
+unfoldable pub store_place_of : (base file : List ℕ) → Option StorePlace
+store_place_of base file = option_and_then (λ folder. option_map (store_place_with file folder) (file_url base file)) (folder_url base)

@@ -1,5 +1,7 @@
 -- A master with the media playlists that it mentions, and what they give as a presentation.
-use Rattle.std.specs.Prelude.{◌≡◌, ◌≤◌, ℕ, ◌+◌, nat_lt, List, [], ◌∷◌, ◌++◌, length, map, sum_by, All, if◌then◌else◌, Option, Some, None, option_map, Result, Ok, Err}
+use Rattle.std.specs.Prelude.{◌≡◌, ◌≤◌, ℕ, ◌+◌, nat_lt, List, [], ◌∷◌, ◌++◌, length, map, sum_by, All, if◌then◌else◌, Option, Some, None}
+use Rattle.std.specs.Prelude.{option_map, Result, Ok, Err}
+use Rattle.bridge_io.specs.Answer.{and_then}
 use Rattle.bridge_io.specs.Outside.{Files}
 use Rattle.url_parts.specs.Addresses.{local_name_of}
 use Rattle.hls_media.specs.Laws.{IsBounded}
@@ -11,11 +13,11 @@ use Rattle.hls_master.specs.Masters.{master_of}
 use Rattle.hls_presentation.specs.Presenting.{hls_presented_of}
 use Rattle.presentation.specs.Presented.{Presented}
 use Rattle.presentation.specs.Scales.{rate_of}
-use Rattle.presentation.specs.Told.{and_then, told_as}
+use Rattle.presentation.specs.Told.{told_as}
 use Rattle.bridge_report.specs.declared.refusal.Refusal.TheVariants as refusal
 use Rattle.bridge_report.specs.Reading.{Named, content_of, media_at, of_file}
 use Rattle.bridge_playlists.specs.declared.medias.Medias.{Medias}
-use Rattle.bridge_playlists.specs.declared.place.Place.{Place}
+use Rattle.bridge_playlists.specs.declared.place.StorePlace.{StorePlace}
 
 -- ---- the master
 
@@ -36,11 +38,11 @@ track_kept t = record {
 abbrev pub tracks_of : (bytes url : List ℕ) → Result (List MasterTrack) MasterFault
 tracks_of bytes url = and_then (master_of bytes url) (λ tracks. Ok (map track_kept tracks))
 
-unfoldable pub master_in : Place → (bytes : List ℕ) → Result (List MasterTrack) Named
+unfoldable pub master_in : StorePlace → (bytes : List ℕ) → Result (List MasterTrack) Named
 master_in place bytes = of_file place.file (told_as refusal.Master (tracks_of bytes place.url))
 
 -- the master at a place
-unfoldable pub master_at : Place → Files → Result (List MasterTrack) Named
+unfoldable pub master_at : StorePlace → Files → Result (List MasterTrack) Named
 master_at place files = and_then (content_of place.file files) (master_in place)
 
 -- ---- the media playlists
@@ -56,42 +58,43 @@ with_media medias media = record { files = medias.files ++ media ∷ []; segment
 abbrev pub segment_limit : ℕ
 segment_limit = 500000
 
-abbrev pub within_limit : Place → Medias → Result Medias Named
+abbrev pub within_limit : StorePlace → Medias → Result Medias Named
 within_limit place medias = if nat_lt segment_limit medias.segments then Err (place.file, refusal.TooManySegments) else Ok medias
 
 -- an address that names no file under the folder
-abbrev pub media_named : Place → Files → (address : List ℕ) → Option (List ℕ) → Result Media Named
+abbrev pub media_named : StorePlace → Files → (address : List ℕ) → Option (List ℕ) → Result Media Named
 media_named place files address None = Err (place.file, refusal.OutsideBase)
 media_named place files address (Some file) = media_at file address files
 
 -- the playlist of an address, which is a file under the folder
-unfoldable pub media_under : Place → Files → (address : List ℕ) → Result Media Named
+unfoldable pub media_under : StorePlace → Files → (address : List ℕ) → Result Media Named
 media_under place files address = media_named place files address (local_name_of place.folder address)
 
 -- one more playlist
-unfoldable pub medias_with : Place → Files → Medias → MasterTrack → Result Medias Named
-medias_with place files medias track = and_then (media_under place files track.address) (λ media. within_limit place (with_media medias media))
+unfoldable pub medias_with : StorePlace → Files → Medias → MasterTrack → Result Medias Named
+medias_with place files medias track = and_then (media_under place files track.address)
+    (λ media. within_limit place (with_media medias media))
 
 -- those of some tracks, one after another
-abbrev pub medias_of : Place → Files → Medias → List MasterTrack → Result Medias Named
+abbrev pub medias_of : StorePlace → Files → Medias → List MasterTrack → Result Medias Named
 medias_of place files medias [] = Ok medias
 medias_of place files medias (track ∷ tracks) = and_then (medias_with place files medias track) (λ next. medias_of place files next tracks)
 
 -- ---- the presentation
 
-unfoldable pub presented_by : Place → List MasterTrack → List Media → Result Presented Named
+unfoldable pub presented_by : StorePlace → List MasterTrack → List Media → Result Presented Named
 presented_by place tracks medias = of_file place.file (told_as refusal.Hls (hls_presented_of tracks medias))
 
 -- the presentation of a master's tracks, whose playlists lie in these files
-unfoldable pub presented_with : Place → Files → List MasterTrack → Result Presented Named
+unfoldable pub presented_with : StorePlace → Files → List MasterTrack → Result Presented Named
 presented_with place files tracks = and_then (medias_of place files none_read tracks) (λ medias. presented_by place tracks medias.files)
 
 -- the presentation of the master that these bytes are
-abbrev pub presented_in : Place → Files → (bytes : List ℕ) → Result Presented Named
+abbrev pub presented_in : StorePlace → Files → (bytes : List ℕ) → Result Presented Named
 presented_in place files bytes = and_then (master_in place bytes) (presented_with place files)
 
 -- the presentation of the master at a place, or the first refusal
-unfoldable pub presented_at : Place → Files → Result Presented Named
+unfoldable pub presented_at : StorePlace → Files → Result Presented Named
 presented_at place files = and_then (content_of place.file files) (presented_in place files)
 
 -- The playlists are bounded, and have no more segments than the limit.

@@ -1,11 +1,11 @@
 -- Whether a media playlist may take the place of an older one.
 use Rattle.std.specs.Prelude.{ℕ, ◌-◌, max, min, List, ◌++◌, codes, decimal, length, Option, Some, None, option_map, Result, Ok, Err}
 use Rattle.std.specs.Option.{option_and_then}
+use Rattle.bridge_io.specs.Answer.{and_then}
 use Rattle.bridge_io.specs.Outside.{Files}
-use Rattle.bridge_runs.specs.declared.status.Verdict.{Verdict}
-use Rattle.bridge_runs.specs.declared.status.Verdict.TheVariants as verdict
+use Rattle.bridge_courses.specs.declared.status.Verdict.{Verdict}
+use Rattle.bridge_courses.specs.declared.status.Verdict.TheVariants as verdict
 use Rattle.hls_media.specs.declared.media.Media.{Media}
-use Rattle.presentation.specs.Told.{and_then}
 use Rattle.reload_law.specs.Rules.{end_of, lawful}
 use Rattle.reload_law.specs.declared.unlawful.Unlawful.{Unlawful}
 use Rattle.reload_law.specs.declared.unlawful.Unlawful.TheVariants as rule
@@ -22,7 +22,8 @@ abbrev pub kept_count : Media → Media → ℕ
 kept_count old new = min (end_of old) (end_of new) - max old.sequence new.sequence
 
 unfoldable pub counts_line : (kept added removed : ℕ) → List ℕ
-counts_line kept added removed = codes "lawful kept=" ++ decimal kept ++ codes " added=" ++ decimal added ++ codes " removed=" ++ decimal removed ++ codes "\n"
+counts_line kept added removed = codes "lawful kept=" ++ decimal kept ++ codes " added=" ++ decimal added ++ codes " removed="
+    ++ decimal removed ++ codes "\n"
 
 -- the sequence numbers that both have, those of the new one alone, and those of the old one alone
 abbrev pub lawful_line : Media → Media → List ℕ

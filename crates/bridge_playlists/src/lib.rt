@@ -8,6 +8,6 @@ mod presented;
 mod reload;
 
 pub use medias::{Medias, base_at};
-pub use place::{Place, place_of};
+pub use place::{StorePlace, store_place_of};
 pub use presented::{master_at, presented_at, presented_in};
-pub use reload::{Reload, judge};
+pub use reload::{Reload, run_reload};

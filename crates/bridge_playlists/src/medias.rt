@@ -8,7 +8,7 @@ ghost use Rattle.hls_media.specs.Laws.{IsBounded};
 ghost use Rattle.bridge_report.specs.Reading.{halted, IsNoReadFault};
 ghost use Rattle.bridge_playlists.specs.Playlists as spec;
 
-use crate::Place;
+use crate::StorePlace;
 use bridge_io::{NoMemory, Store};
 use bridge_report::{Halt, Refusal, media_at};
 use hls_master::MasterTrack;
@@ -32,11 +32,12 @@ pub struct Medias {
 /// Reads the playlists of some tracks, one after another.
 pub(crate) fn medias_of<F: Store>(
     alloc: Global,
-    place: &Place,
+    place: &StorePlace,
     tracks: &[MasterTrack],
     store: &mut F,
 ) -> Result<Medias, Halt>
-    ensures medias { ForSome (F.files store.old) (λ files. Gives (λ medias. medias) halted result (spec.medias_of place.now files spec.none_read tracks.now)) }
+    ensures medias { ForSome (F.files store.old) (λ files. Gives (λ medias. medias) halted result
+        (spec.medias_of place.now files spec.none_read tracks.now)) }
     ensures counted { IfOk result spec.AreCounted }
     ensures cause { HasCause ReadFault (F.read_faults store.old) (F.read_faults store.new) result }
     ensures files { F.files store.new ≡ F.files store.old }
@@ -56,13 +57,14 @@ pub(crate) fn medias_of<F: Store>(
 #[tactic(auto, unfolding(crate::specs::Playlists::medias_with))]
 fn medias_with<F: Store>(
     alloc: Global,
-    place: &Place,
+    place: &StorePlace,
     medias: Medias,
     track: &MasterTrack,
     store: &mut F,
 ) -> Result<Medias, Halt>
     requires counted { spec.AreCounted medias }
-    ensures medias { ForSome (F.files store.old) (λ files. Gives (λ medias. medias) halted result (spec.medias_with place.now files medias track.now)) }
+    ensures medias { ForSome (F.files store.old) (λ files. Gives (λ medias. medias) halted result
+        (spec.medias_with place.now files medias track.now)) }
     ensures counted { IfOk result spec.AreCounted }
     ensures cause { HasCause ReadFault (F.read_faults store.old) (F.read_faults store.new) result }
     ensures files { F.files store.new ≡ F.files store.old }
@@ -73,7 +75,7 @@ fn medias_with<F: Store>(
 }
 
 /// Adds a playlist, unless there are too many segments.
-fn added(alloc: Global, place: &Place, medias: Medias, media: Media) -> Result<Medias, Halt>
+fn added(alloc: Global, place: &StorePlace, medias: Medias, media: Media) -> Result<Medias, Halt>
     requires counted { spec.AreCounted medias }
     requires bounded { IsBounded media }
     ensures medias { Gives (λ medias. medias) halted result (spec.within_limit place.now (spec.with_media medias media)) }
@@ -96,11 +98,12 @@ fn added(alloc: Global, place: &Place, medias: Medias, media: Media) -> Result<M
 #[tactic(auto, unfolding(crate::specs::Playlists::media_under))]
 fn media_under<F: Store>(
     alloc: Global,
-    place: &Place,
+    place: &StorePlace,
     address: &Address,
     store: &mut F,
 ) -> Result<Media, Halt>
-    ensures media { ForSome (F.files store.old) (λ files. Gives (λ media. media) halted result (spec.media_under place.now files address.now)) }
+    ensures media { ForSome (F.files store.old) (λ files. Gives (λ media. media) halted result
+        (spec.media_under place.now files address.now)) }
     ensures bounded { IfOk result IsBounded }
     ensures cause { HasCause ReadFault (F.read_faults store.old) (F.read_faults store.new) result }
     ensures files { F.files store.new ≡ F.files store.old }

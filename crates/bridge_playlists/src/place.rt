@@ -9,7 +9,7 @@ use url_parts::Base;
 
 /// Where a master lies.
 #[derive(Debug, Drop)]
-pub struct Place {
+pub struct StorePlace {
     /// Its file.
     pub file: Name,
     /// The URL of the folder that the store's root stands for.
@@ -20,9 +20,13 @@ pub struct Place {
 
 /// Where the master of a file lies. There is none where the base isn't the address of a folder as the URL Standard writes it
 /// (4.5), or gives with the file's name no address.
-#[tactic(auto, unfolding(crate::specs::Places::place_of))]
-pub fn place_of(alloc: Global, base: &str, file: &Name) -> Result<Option<Place>, NoMemory>
-    ensures { IfOk result (λ place. place ≡ spec.place_of base.now file.now) }
+#[tactic(auto, unfolding(crate::specs::Places::store_place_of))]
+pub fn store_place_of(
+    alloc: Global,
+    base: &str,
+    file: &Name,
+) -> Result<Option<StorePlace>, NoMemory>
+    ensures { IfOk result (λ place. place ≡ spec.store_place_of base.now file.now) }
 {
     let Some(folder) = folder_url(alloc, base)? else {
         return Ok(None);
@@ -31,7 +35,7 @@ pub fn place_of(alloc: Global, base: &str, file: &Name) -> Result<Option<Place>,
         return Ok(None);
     };
     let file = copy_of(alloc, file)?;
-    Ok(Some(Place { file, folder, url }))
+    Ok(Some(StorePlace { file, folder, url }))
 }
 
 fn copy_of(alloc: Global, name: &Name) -> Result<Name, NoMemory>

@@ -10,7 +10,7 @@ ghost use Rattle.bridge_report.specs.declared.reading.Halt.TheVariants.{ReadFaul
 ghost use Rattle.bridge_report.specs.Reading.{halted, IsNoReadFault};
 ghost use Rattle.bridge_playlists.specs.Playlists as spec;
 
-use crate::Place;
+use crate::StorePlace;
 use crate::medias::{Medias, medias_of};
 use bridge_io::Store;
 use bridge_report::{Halt, Refusal, content_of};
@@ -25,10 +25,11 @@ use std::alloc::Global;
 #[tactic(auto, unfolding(crate::specs::Playlists::presented_at))]
 pub fn presented_at<F: Store>(
     alloc: Global,
-    place: &Place,
+    place: &StorePlace,
     store: &mut F,
 ) -> Result<Presentation, Halt>
-    ensures presented { ForSome (F.files store.old) (λ files. Gives (λ presentation. presentation) halted result (spec.presented_at place.now files)) }
+    ensures presented { ForSome (F.files store.old) (λ files. Gives (λ presentation. presentation) halted result
+        (spec.presented_at place.now files)) }
     ensures came { IfOk result CameFromPlaylists }
     ensures counted { IfOk result (λ p. counted p ≡ Ok (count_of_all p)) }
     ensures cause { HasCause ReadFault (F.read_faults store.old) (F.read_faults store.new) result }
@@ -42,11 +43,12 @@ pub fn presented_at<F: Store>(
 /// The presentation of the master that these bytes are, which lies at a place, or why one of the files isn't read.
 pub fn presented_in<F: Store>(
     alloc: Global,
-    place: &Place,
+    place: &StorePlace,
     bytes: &[u8],
     store: &mut F,
 ) -> Result<Presentation, Halt>
-    ensures presented { ForSome (F.files store.old) (λ files. Gives (λ presentation. presentation) halted result (spec.presented_in place.now files bytes.now)) }
+    ensures presented { ForSome (F.files store.old) (λ files. Gives (λ presentation. presentation) halted result
+        (spec.presented_in place.now files bytes.now)) }
     ensures came { IfOk result CameFromPlaylists }
     ensures counted { IfOk result (λ p. counted p ≡ Ok (count_of_all p)) }
     ensures cause { HasCause ReadFault (F.read_faults store.old) (F.read_faults store.new) result }
@@ -60,7 +62,7 @@ pub fn presented_in<F: Store>(
 /// The master at a place, or why its file isn't read. [`Halt::ReadFault`] comes only where the store's count of failed reads
 /// rose.
 #[tactic(auto, unfolding(crate::specs::Playlists::master_at))]
-pub fn master_at<F: Store>(alloc: Global, place: &Place, store: &mut F) -> Result<Master, Halt>
+pub fn master_at<F: Store>(alloc: Global, place: &StorePlace, store: &mut F) -> Result<Master, Halt>
     ensures master { ForSome (F.files store.old) (λ files. Gives (λ master. master) halted result (spec.master_at place.now files)) }
     ensures cause { HasCause ReadFault (F.read_faults store.old) (F.read_faults store.new) result }
     ensures files { F.files store.new ≡ F.files store.old }
@@ -72,7 +74,7 @@ pub fn master_at<F: Store>(alloc: Global, place: &Place, store: &mut F) -> Resul
 
 /// The master that bytes are.
 #[tactic(auto, unfolding(crate::specs::Playlists::master_in))]
-fn master_in(alloc: Global, place: &Place, bytes: &[u8]) -> Result<Master, Halt>
+fn master_in(alloc: Global, place: &StorePlace, bytes: &[u8]) -> Result<Master, Halt>
     ensures master { Gives (λ master. master) halted result (spec.master_in place.now bytes.now) }
     ensures silent { IfOk result (λ master. All IsSilentTrack master) }
     ensures no_fault { IsNoReadFault result }
@@ -89,12 +91,13 @@ fn master_in(alloc: Global, place: &Place, bytes: &[u8]) -> Result<Master, Halt>
 #[tactic(auto, unfolding(crate::specs::Playlists::presented_with))]
 fn presented_with<F: Store>(
     alloc: Global,
-    place: &Place,
+    place: &StorePlace,
     master: &Master,
     store: &mut F,
 ) -> Result<Presentation, Halt>
     requires { All IsSilentTrack master.now }
-    ensures presented { ForSome (F.files store.old) (λ files. Gives (λ presentation. presentation) halted result (spec.presented_with place.now files master.now)) }
+    ensures presented { ForSome (F.files store.old) (λ files. Gives (λ presentation. presentation) halted result
+        (spec.presented_with place.now files master.now)) }
     ensures came { IfOk result CameFromPlaylists }
     ensures counted { IfOk result (λ p. counted p ≡ Ok (count_of_all p)) }
     ensures cause { HasCause ReadFault (F.read_faults store.old) (F.read_faults store.new) result }
@@ -109,7 +112,7 @@ fn presented_with<F: Store>(
 #[tactic(auto, unfolding(crate::specs::Playlists::presented_by))]
 fn presented_by(
     alloc: Global,
-    place: &Place,
+    place: &StorePlace,
     master: &Master,
     medias: &Medias,
 ) -> Result<Presentation, Halt>

@@ -3,8 +3,8 @@ ghost use Rattle.std.specs.Prelude.{◌≡◌, ◌≢◌, ◌≤◌, IfOk};
 ghost use Rattle.std.specs.Option.{ForSome};
 ghost use Rattle.bridge_io.specs.Answer.{Gives};
 ghost use Rattle.bridge_io.specs.Fault.{HasCause, Rose};
-ghost use Rattle.bridge_runs.specs.declared.status.Status.TheVariants as status;
-ghost use Rattle.bridge_runs.specs.Runs.{status_by, status_of};
+ghost use Rattle.bridge_courses.specs.declared.status.Status.TheVariants as status;
+ghost use Rattle.bridge_courses.specs.Executions.{status_by, status_of};
 ghost use Rattle.hls_media.specs.Laws.{IsBounded};
 ghost use Rattle.reload_law.specs.Rules.{end_of};
 ghost use Rattle.bridge_report.specs.declared.reading.Halt.TheVariants.{ReadFault};
@@ -12,9 +12,9 @@ ghost use Rattle.bridge_report.specs.Outcomes.{IsEnding};
 ghost use Rattle.bridge_report.specs.Reading as reading;
 ghost use Rattle.bridge_playlists.specs.Reload as spec;
 
+use bridge_courses::{Ending, Verdict};
 use bridge_io::{Name, NoMemory, Store, Text};
 use bridge_report::{Halt, Refusal, file_url, halted, media_at, refused};
-use bridge_runs::{Ending, Verdict};
 use hls_media::Media;
 use reload_law::{Unlawful, lawful};
 use std::alloc::Global;
@@ -41,8 +41,9 @@ struct Urls {
 /// Tells whether the new playlist lawfully takes the old one's place, or the first rule that it breaks, unless one of them is
 /// refused. Nothing is written.
 #[tactic(auto, unfolding(crate::specs::Reload::reload_outcome))]
-pub fn judge<F: Store>(alloc: Global, job: &Reload, store: &mut F) -> Ending
-    ensures ending { ForSome (spec.reload_outcome job.now (F.files store.old)) (λ outcome. IsEnding outcome result (F.files store.old) (F.files store.new)) }
+pub fn run_reload<F: Store>(alloc: Global, job: &Reload, store: &mut F) -> Ending
+    ensures ending { ForSome (spec.reload_outcome job.now (F.files store.old))
+        (λ outcome. IsEnding outcome result (F.files store.old) (F.files store.new)) }
     ensures read_fault { status_of result ≡ status.ReadFault → Rose (F.read_faults store.old) (F.read_faults store.new) }
     ensures write_fault { status_of result ≡ status.WriteFault → ⊥ }
     ensures job { status_of result ≡ status.Words → ⊥ }
@@ -71,7 +72,8 @@ fn urls_of(alloc: Global, job: &Reload) -> Result<Option<Urls>, NoMemory>
 
 /// Tells of the playlists at these URLs.
 fn reload_at<F: Store>(alloc: Global, job: &Reload, urls: &Urls, store: &mut F) -> Ending
-    ensures ending { ForSome (F.files store.old) (λ files. IsEnding (spec.outcome_at job.now urls.now files) result (F.files store.old) (F.files store.new)) }
+    ensures ending { ForSome (F.files store.old) (λ files. IsEnding (spec.outcome_at job.now urls.now files) result (F.files store.old)
+        (F.files store.new)) }
     ensures read_fault { status_of result ≡ status.ReadFault → Rose (F.read_faults store.old) (F.read_faults store.new) }
     ensures write_fault { status_of result ≡ status.WriteFault → ⊥ }
     ensures job { status_of result ≡ status.Words → ⊥ }

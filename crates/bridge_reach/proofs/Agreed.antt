@@ -1,19 +1,20 @@
 -- What `agree` tells is so of the times that files state.
 use Rattle.std.proofs.Common.{◌≡◌, ℕ, List, Bool, Option, Some, None, Result, Ok, Err, refl, sym, ap}
+use Rattle.bridge_io.proofs.AndThen.{steps_of}
+use Rattle.bridge_io.specs.Answer.{and_then}
 use Rattle.bridge_io.specs.Outside.{Files}
 use Rattle.fragment_times.specs.declared.fault.SegmentSpot.{SegmentSpot}
 use Rattle.fragment_times.specs.declared.times.SegmentTimes.{SegmentTimes}
 use Rattle.fragment_times.specs.Agreeing.{first_apart}
 use Rattle.fragment_times.specs.Times.{times_of}
 use Rattle.presentation.specs.Presented.{Presented}
-use Rattle.presentation.specs.Told.{and_then}
-use Rattle.presentation.proofs.Filling.{ok_under, steps_of}
-use Rattle.bridge_playlists.specs.declared.place.Place.{Place}
-use Rattle.bridge_playlists.specs.Places.{place_of}
+use Rattle.presentation.proofs.Filling.{ok_under}
+use Rattle.bridge_playlists.specs.declared.place.StorePlace.{StorePlace}
+use Rattle.bridge_playlists.specs.Places.{store_place_of}
 use Rattle.bridge_report.specs.Outcomes.{Ends, outcome_told}
 use Rattle.bridge_report.specs.Reading.{Named}
-use Rattle.bridge_runs.specs.declared.status.Verdict.{Verdict}
-use Rattle.bridge_runs.specs.declared.status.Verdict.TheVariants as verdict
+use Rattle.bridge_courses.specs.declared.status.Verdict.{Verdict}
+use Rattle.bridge_courses.specs.declared.status.Verdict.TheVariants as verdict
 use Rattle.bridge_steps.specs.Endings.{placed}
 use Rattle.bridge_reach.specs.declared.agree.Agree.{Agree}
 use Rattle.bridge_reach.specs.Agree.{agree_at, agree_outcome, apart_text, judged, mpd_read, verdict_of}
@@ -24,8 +25,8 @@ use Rattle.bridge_reach.proofs.Apart.{all_agree, is_first}
 -- ---- what was read where a verdict is told of it
 
 record IsJudged (job : Agree) (files : Files) (end : Verdict) (line : List ℕ) : Type 0 where
-  place : Place
-  at : place_of job.base job.mpd ≡ Some place
+  place : StorePlace
+  at : store_place_of job.base job.mpd ≡ Some place
   p : Presented
   read : mpd_read place files ≡ Ok p
   times : List SegmentTimes
@@ -43,9 +44,9 @@ told_by (Ok told) end line reads counts is_verdict is =
     let one : told.0 ≡ end = cc in let two : told.1 ≡ line = cc in
     rw (← one, ← two) refl
 
-judged_at : (place : Option Place) (files : Files) (end : Verdict) (line : List ℕ) (reads counts : Bool) → IsVerdict end
+judged_at : (place : Option StorePlace) (files : Files) (end : Verdict) (line : List ℕ) (reads counts : Bool) → IsVerdict end
     → placed (agree_at (Some files)) place ≡ Some (Ends end line reads counts)
-    → (found : Place) × (place ≡ Some found) × (judged found files ≡ Ok (end, line))
+    → (found : StorePlace) × (place ≡ Some found) × (judged found files ≡ Ok (end, line))
 judged_at None files end line reads counts is_verdict is = absurd (is_verdict (let same : verdict.Refused ≡ end = cc in sym same))
 judged_at (Some found) files end line reads counts is_verdict is =
     (found, refl, told_by (judged found files) end line reads counts is_verdict is)
@@ -54,7 +55,7 @@ is_judged : (job : Agree) (files : Files) (end : Verdict) (line : List ℕ) (rea
     → agree_outcome job (Some files) ≡ Some (Ends end line reads counts) → IsJudged job files end line
 unfolding agree_outcome judged
 is_judged job files end line reads counts is_verdict is =
-    let at = judged_at (place_of job.base job.mpd) files end line reads counts is_verdict is in
+    let at = judged_at (store_place_of job.base job.mpd) files end line reads counts is_verdict is in
     let place = at.0 in
     let read = steps_of (mpd_read place files)
     (λ p. and_then (times_at place files p) (λ times. Ok (verdict_of p (first_apart p times)))) (end, line) at.2 in
@@ -106,5 +107,12 @@ differ_is_apart job files line reads counts is =
       at = by.at;
       presentation = by.p;
       read = by.read;
-      of = record { spot = found.spot; told = found.told; apart = first.apart; first = first.first };
+      of = record {
+        spot = found.spot;
+        told = found.told;
+        section = first.section;
+        track = first.track;
+        apart = first.apart;
+        first = first.first;
+      };
     }

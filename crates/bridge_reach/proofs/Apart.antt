@@ -5,13 +5,15 @@ use Rattle.std.proofs.Common.{refl, sym, ap, ◌∙◌, arith, subst}
 use Rattle.std.specs.List.{range_with_len}
 use Rattle.std.proofs.lemmas.Bool.{cases_lt}
 use Rattle.std.specs.Prelude.{slice_get}
+use Rattle.bridge_io.specs.Firsts.{first_some}
 use Rattle.bridge_io.specs.Outside.{Files}
+use Rattle.std.specs.Option.{option_or}
 use Rattle.exact_time.specs.Time.{Time}
 use Rattle.timeline.specs.Expansions.{Timing}
 use Rattle.timeline.specs.Listed.{offset_of}
 use Rattle.fragment_times.specs.declared.fault.SegmentSpot.{SegmentSpot}
 use Rattle.fragment_times.specs.declared.times.SegmentTimes.{SegmentTimes}
-use Rattle.fragment_times.specs.Agreeing.{apart_at, apart_from, apart_in, first_apart, first_some, is_same, or_later}
+use Rattle.fragment_times.specs.Agreeing.{apart_at, apart_from, apart_in, first_apart, is_same}
 use Rattle.fragment_times.specs.Parts.{start_at}
 use Rattle.fragment_times.specs.Refusals.{next_spot}
 use Rattle.fragment_times.specs.Times.{parts_of, times_of}
@@ -127,7 +129,7 @@ module _ (f : ℕ → Option SegmentSpot) where
   none_each (suc n) i is j from within = go (λ rest behind. none_each n (i + 1) rest j behind (omega (arith, within))) (f i) refl is
     where
       go : (first_some (map f (range_with_len (i + 1) n)) ≡ None → i + 1 ≤ j → f j ≡ None) → (o : Option SegmentSpot) → f i ≡ o
-          → or_later o (first_some (map f (range_with_len (i + 1) n))) ≡ None → f j ≡ None
+          → option_or o (first_some (map f (range_with_len (i + 1) n))) ≡ None → f j ≡ None
       go later None here rest = by_place (from_next i j from)
         where
           by_place : (i ≡ j) ⊎ (i + 1 ≤ j) → f j ≡ None
@@ -153,7 +155,7 @@ module _ (f : ℕ → Option SegmentSpot) where
   some_first (suc n) i spot is = go (λ rest. some_first n (i + 1) spot rest) (f i) refl is
     where
       go : (first_some (map f (range_with_len (i + 1) n)) ≡ Some spot → IsFirstSome f (i + 1) n spot) → (o : Option SegmentSpot) → f i ≡ o
-          → or_later o (first_some (map f (range_with_len (i + 1) n))) ≡ Some spot → IsFirstSome f i (suc n) spot
+          → option_or o (first_some (map f (range_with_len (i + 1) n))) ≡ Some spot → IsFirstSome f i (suc n) spot
       go later (Some one) here rest = record {
         place = i;
         from = omega arith;
@@ -263,6 +265,8 @@ module _ (folder : List ℕ) (files : Files) (p : Presented) (times : List Segme
           }
 
   pub record IsFirst (spot : SegmentSpot) : Type 0 where
+    pub section : spot.section < length p.sections
+    pub track : spot.track < length p.tracks
     pub apart : IsCompared false folder files p spot.section spot.track spot.segment
     pub first : (s t k : ℕ) → IsBefore s t k spot → s < length p.sections → t < length p.tracks → k < length (listed_at p s t)
         → IsCompared true folder files p s t k
@@ -291,6 +295,8 @@ module _ (folder : List ℕ) (files : Files) (p : Presented) (times : List Segme
       let track = some_first (apart_at p times section.place) (length p.tracks) 0 spot section.found in
       let own = some_in section.place track.place (omega (arith, section.within)) (omega (arith, track.within)) spot track.found in
       record {
+        section = omega (arith, section.within, own.section);
+        track = omega (arith, track.within, own.track);
         apart = subst (λ s. IsCompared false folder files p s spot.track spot.segment) (sym own.section)
             (subst (λ t. IsCompared false folder files p section.place t spot.segment) (sym own.track) own.apart);
         first = before_is spot section track own;

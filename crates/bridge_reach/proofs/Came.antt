@@ -1,25 +1,26 @@
 -- What is read of an MPD and its media files came from them.
 use Rattle.std.proofs.Common.{◌≡◌, ℕ, List, Option, Ok}
+use Rattle.bridge_io.proofs.AndThen.{steps_of}
 use Rattle.bridge_io.specs.Outside.{Files}
 use Rattle.index_parts.specs.Presented.{indexed_of}
-use Rattle.index_read.specs.Origins.{CameFromIndexes}
+use Rattle.laws_of_playlists.specs.IndexOrigins.{CameFromIndexes}
 use Rattle.mpd_levels.specs.declared.indexed.IndexRow.{IndexRow}
 use Rattle.mpd_rules.specs.Rules.{indexed_mpd_of}
 use Rattle.mpd_rules.specs.Typed.{TypedMpd}
 use Rattle.mpd_text.specs.Meaning.{reading_of}
 use Rattle.mpd_text.specs.Trees.{Element}
-use Rattle.presentation.proofs.Filling.{ok_under, steps_of}
+use Rattle.presentation.proofs.Filling.{ok_under}
 use Rattle.presentation.specs.Presented.{Presented}
 use Rattle.presentation.specs.Told.{told_as}
 use Rattle.presentation.specs.Verifying.{verified}
-use Rattle.bridge_playlists.specs.declared.place.Place.{Place}
+use Rattle.bridge_playlists.specs.declared.place.StorePlace.{StorePlace}
 use Rattle.bridge_report.specs.declared.refusal.Refusal.TheVariants as refusal
 use Rattle.bridge_report.specs.Reading.{content_of}
 use Rattle.bridge_steps.specs.Manifests.{checked}
 use Rattle.bridge_reach.specs.Index.{checked_in, presented_by, presented_in, ready_at, ready_in, values_in, values_of}
 
 -- the bytes of the MPD at a place, what they spell, and the presentation of that and of the files, with addresses
-pub record IsIndexed (unit : ℕ) (place : Place) (files : Files) (p : Presented) : Type 0 where
+pub record IsIndexed (unit : ℕ) (place : StorePlace) (files : Files) (p : Presented) : Type 0 where
   pub bytes : List ℕ
   pub there : content_of place.file files ≡ Ok bytes
   pub tree : Element
@@ -30,7 +31,7 @@ pub record IsIndexed (unit : ℕ) (place : Place) (files : Files) (p : Presented
   pub longest : List ℕ
   pub verified : verified p unit ≡ Ok longest
 
-pub is_indexed : (unit : ℕ) (place : Place) (files : Files) (p : Presented) → ready_at unit place files ≡ Ok p
+pub is_indexed : (unit : ℕ) (place : StorePlace) (files : Files) (p : Presented) → ready_at unit place files ≡ Ok p
     → IsIndexed unit place files p
 unfolding ready_at ready_in presented_in values_of checked
 is_indexed unit place files p is =
@@ -54,7 +55,7 @@ is_indexed unit place files p is =
       verified = ok_under _ (verified made.value unit) found.value found.first;
     })
 
-abbrev pub came_from : (unit : ℕ) (place : Place) (files : Files) (p : Presented) → IsIndexed unit place files p → CameFromIndexes p
+abbrev pub came_from : (unit : ℕ) (place : StorePlace) (files : Files) (p : Presented) → IsIndexed unit place files p → CameFromIndexes p
 came_from unit place files p is = record {
   tree = is.tree;
   mpd = is.mpd;

@@ -8,6 +8,7 @@ use Rattle.std.proofs.lemmas.List.FromFn.{length-range_with_len}
 use Rattle.std.proofs.lemmas.Nat.{div-add-mod'}
 use Rattle.std.proofs.lemmas.Option.{get_or_from_slice_get, slice_get-get_or}
 use Rattle.std.proofs.Math.Nat.{div-lt_iff_lt-mul, mod-lt}
+use Rattle.bridge_io.proofs.AndThen.{steps_of}
 use Rattle.dash_writer.specs.Timed.{CanBeCounted, CanBeTimed}
 use Rattle.fragment_times.specs.declared.fault.TimesFault.TheVariants.{Range}
 use Rattle.fragment_times.specs.declared.times.SegmentTimes.{SegmentTimes}
@@ -17,7 +18,6 @@ use Rattle.fragment_times.proofs.Apart.{in_place}
 use Rattle.presentation.specs.Counting.{sections_of, tracks_of}
 use Rattle.presentation.specs.Origins.{CameFromPlaylists}
 use Rattle.presentation.specs.Presented.{Presented}
-use Rattle.presentation.proofs.Filling.{steps_of}
 use Rattle.bridge_reach.specs.DashTimes.{run_of, runs_of}
 use Rattle.bridge_reach.proofs.Places.{chunk_at, each_at, in_range, length_chunks, length_each}
 use Rattle.bridge_reach.proofs.Runs.{IsLed, are_led, length_runs, lengths_as, run_at, unless_is}

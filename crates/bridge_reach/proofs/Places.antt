@@ -6,7 +6,7 @@ use Rattle.std.specs.List.{range_with_len}
 use Rattle.std.specs.Prelude.{slice_get}
 use Rattle.std.proofs.lemmas.List.FromFn.{get_or-range_with_len, length-range_with_len}
 use Rattle.std.proofs.lemmas.Option.{slice_get-get_or}
-use Rattle.presentation.proofs.Filling.{steps_of}
+use Rattle.bridge_io.proofs.AndThen.{steps_of}
 use Rattle.presentation.specs.Told.{gathered}
 use Rattle.fragment_times.specs.declared.fault.TimesFault.{TimesFault}
 use Rattle.fragment_times.specs.Times.{alone, each}
@@ -42,8 +42,8 @@ record IsFirst {X Y : Type 0} (give : X → Result Y TimesFault) (x : X) (xs : L
   whole : ys ≡ value ∷ later
 
 module _ {X Y : Type 0} (give : X → Result Y TimesFault) where
-  first_of : (x : X) (xs : List X) (ys : List Y) → each give (x ∷ xs) ≡ Ok ys → IsFirst give x xs ys
-  first_of x xs ys is =
+  is_first : (x : X) (xs : List X) (ys : List Y) → each give (x ∷ xs) ≡ Ok ys → IsFirst give x xs ys
+  is_first x xs ys is =
       let first = steps_of (alone (give x)) _ ys is in
       let later = steps_of (each give xs) _ ys first.then in
       let one = steps_of (give x) (λ y. Ok (y ∷ [])) first.value first.first in
@@ -60,16 +60,16 @@ module _ {X Y : Type 0} (give : X → Result Y TimesFault) where
 
   pub length_each : (xs : List X) (ys : List Y) → each give xs ≡ Ok ys → length ys ≡ length xs
   length_each [] ys is = (let none : [] ≡ ys = cc in ap length (sym none))
-  length_each (x ∷ xs) ys is = (let f = first_of x xs ys is in ap length f.whole ∙ ap suc (length_each xs f.later f.rest))
+  length_each (x ∷ xs) ys is = (let f = is_first x xs ys is in ap length f.whole ∙ ap suc (length_each xs f.later f.rest))
 
   pub each_at : (xs : List X) (ys : List Y) → each give xs ≡ Ok ys → (k : ℕ) (x : X) → slice_get xs k ≡ Some x
       → IsGiven (give x) (slice_get ys k)
   each_at [] ys is k x there = absurd (cc)
   each_at (first ∷ xs) ys is zero x there =
-      let f = first_of first xs ys is in let same : first ≡ x = cc in
+      let f = is_first first xs ys is in let same : first ≡ x = cc in
       record { value = f.value; given = ap give (sym same) ∙ f.given; is = ap (λ ys. slice_get ys 0) f.whole }
   each_at (first ∷ xs) ys is (suc k) x there =
-      let f = first_of first xs ys is in let later = each_at xs f.later f.rest k x there in
+      let f = is_first first xs ys is in let later = each_at xs f.later f.rest k x there in
       record { value = later.value; given = later.given; is = ap (λ ys. slice_get ys (suc k)) f.whole ∙ later.is }
 
 -- ---- so many things of each

@@ -1,22 +1,22 @@
 -- Rounds that are read, and what they leave.
-use Rattle.std.proofs.Common.{◌≡◌, ◌⊎◌, ℕ, ℤ, ◌+◌, List, [], ◌∷◌, length, Option, None, Some, option_map, IfSome, Result, Ok, Err, OnErr, OnOk, refl, sym, ap, ◌∙◌, subst, arith}
+use Rattle.std.proofs.Common.{◌≡◌, ◌⊎◌, ℕ, ℤ, ◌+◌, List, [], ◌∷◌, length, Option, None, Some, option_map, IfSome, Result, Ok, Err, OnErr}
+use Rattle.std.proofs.Common.{OnOk, refl, sym, ap, ◌∙◌, subst, arith}
 use Rattle.std.specs.Prelude.{IfErr, IfOk, IsSome}
 use Rattle.std.specs.Option.{option_map_or}
 use Rattle.std.specs.Result.{result_err, result_ok, result_unwrap_or}
-use Rattle.bridge_io.specs.Answer.{Gives}
+use Rattle.bridge_io.specs.Answer.{Gives, and_then}
 use Rattle.bridge_io.specs.InOrder.{AreBegun, put_all}
 use Rattle.bridge_io.specs.Outside.{Changes, Files, put}
 use Rattle.bridge_io.specs.Written.{HasFront}
-use Rattle.file_pieces.specs.declared.fault.OutFault.{OutFault}
+use Rattle.bridge_io.specs.declared.out_fault.OutFault.{OutFault}
 use Rattle.dash_writer.specs.Live.{live_text}
 use Rattle.dash_writer.specs.declared.live.LiveMpd.{LiveMpd}
 use Rattle.iso_time.specs.Instant.{IsReadable}
 use Rattle.hls_media.specs.declared.media.Media.{Media}
-use Rattle.hls_follow.specs.Faults as faults
 use Rattle.hls_follow.specs.Rounds.{Following, appended_by, followed_of, next_of}
 use Rattle.hls_follow.specs.declared.fault.LiveFault.{LiveFault}
 use Rattle.hls_follow.specs.declared.state.Followed.{Followed}
-use Rattle.presentation.specs.Told.{and_then, told_as}
+use Rattle.presentation.specs.Told.{told_as}
 use Rattle.bridge_jobs.specs.Frames.{ReadsFrom, refusal}
 use Rattle.bridge_jobs.specs.Laws.{RoundsFollow}
 use Rattle.bridge_jobs.specs.Rounds.{RoundStream, Rounded, next_round, rounded_as, rounds_by, rounds_from}
@@ -123,8 +123,9 @@ one_more s s' now medias is = go (followed_of s.follow.tracks s.follow.followed 
     one f = record { count = refl; tracks = refl; mpd = refl }
 
     go : (r : Result Followed LiveFault)
-        → and_then (told_as refusals.Live (faults.and_then r (λ next. Ok (record s.follow { followed = Some next }))))
-        (λ (follow : Following). Ok (let t : LiveRounds = record { follow = follow; accepted = s.accepted + 1 } in t)) ≡ Ok s' → IsOneMore s s'
+        → and_then (told_as refusals.Live (and_then r (λ next. Ok (record s.follow { followed = Some next }))))
+        (λ (follow : Following). Ok (let t : LiveRounds = record { follow = follow; accepted = s.accepted + 1 } in t)) ≡ Ok s'
+        → IsOneMore s s'
     go (Ok f) e = let same : left f ≡ s' = cc in subst (λ t. IsOneMore s t) same (one f)
     go (Err e) bad = absurd (cc)
 
@@ -133,7 +134,8 @@ kept_so hls s s' kept more = record { one_each = ap length more.tracks ∙ kept.
 
 -- ---- what is answered of a round whose playlists are read
 
-module _ (hls : LiveHls) (s s' : LiveRounds) (round : Round) (medias : List Media) (read : medias_of hls.urls round.bodies ≡ Ok medias) where
+module _ (hls : LiveHls) (s s' : LiveRounds) (round : Round) (medias : List Media) (read : medias_of hls.urls round.bodies
+    ≡ Ok medias) where
   pub accepted_by : (result : Result ℕ Stop) (made : ℕ) → Gives (λ n. s') refused_in result (taken s round.now medias)
       → IfOk result (λ n. n ≡ appended_by s.follow medias) → IfOk result (λ n. Accepts (followed_rounds hls) s round s' n made made)
   accepted_by (Ok n) made takes appended = accepted_so hls s round medias s' n made read takes appended

@@ -5,7 +5,7 @@ use Rattle.std.proofs.Common.{Some, Ok, Err, if◌then◌else◌, refl, ap, ◌�
 use Rattle.std.specs.Prelude.{slice_get}
 use Rattle.std.proofs.lemmas.Bool.Decides.{nat_tests}
 use Rattle.std.proofs.lemmas.List.Sums.{sum_by-cons}
-use Rattle.presentation.proofs.Filling.{steps_of}
+use Rattle.bridge_io.proofs.AndThen.{steps_of}
 use Rattle.dash_writer.specs.Timed.{lengths, longest}
 use Rattle.fragment_times.specs.declared.fault.SegmentSpot.{SegmentSpot}
 use Rattle.fragment_times.specs.declared.fault.TimesFault.{TimesFault}

@@ -1,15 +1,16 @@
 -- The MPD that `dash-times` writes begins its segments as their own files state.
 use Rattle.std.proofs.Common.{◌≡◌, ◌<◌, ◌+◌, ◌*◌, ℕ, Bool, List, length, Option, Some, None, Result, Ok, Err, refl}
 use Rattle.std.proofs.Common.{sym, ap, ◌∙◌}
+use Rattle.bridge_io.proofs.AndThen.{steps_of}
 use Rattle.bridge_io.specs.Outside.{Files}
 use Rattle.dash_writer.specs.declared.timed.TickRun.{TickRun}
 use Rattle.fragment_times.specs.declared.times.SegmentTimes.{SegmentTimes}
 use Rattle.fragment_times.specs.Durations.{durations_of}
 use Rattle.fragment_times.specs.Times.{times_of}
 use Rattle.presentation.specs.Presented.{Presented}
-use Rattle.presentation.proofs.Filling.{ok_under, steps_of}
-use Rattle.bridge_playlists.specs.declared.place.Place.{Place}
-use Rattle.bridge_playlists.specs.Places.{place_of}
+use Rattle.presentation.proofs.Filling.{ok_under}
+use Rattle.bridge_playlists.specs.declared.place.StorePlace.{StorePlace}
+use Rattle.bridge_playlists.specs.Places.{store_place_of}
 use Rattle.bridge_playlists.specs.Playlists.{presented_at}
 use Rattle.bridge_report.specs.Outcomes.{Outcome, Writes}
 use Rattle.bridge_report.specs.Reading.{Named}
@@ -47,14 +48,14 @@ made files say (Ok y) written line reads is =
 
 -- ---- the times of the files
 
-record AreRuns (place : Place) (files : Files) (p : Presented) (runs : List TickRun) : Type 0 where
+record AreRuns (place : StorePlace) (files : Files) (p : Presented) (runs : List TickRun) : Type 0 where
   times : List SegmentTimes
   stated : times_of place.folder files p ≡ Ok times
   rows : List (List ℕ)
   lasting : durations_of p times ≡ Ok rows
   are : runs_of times rows ≡ runs
 
-are_runs : (place : Place) (files : Files) (p : Presented) (runs : List TickRun) → runs_at place files p ≡ Ok runs
+are_runs : (place : StorePlace) (files : Files) (p : Presented) (runs : List TickRun) → runs_at place files p ≡ Ok runs
     → AreRuns place files p runs
 unfolding runs_at
 are_runs place files p runs is =
@@ -89,7 +90,7 @@ module _ (folder : List ℕ) (files : Files) (p : Presented) (times : List Segme
 pub written_timed : WrittenAreFileTimes
 unfolding dash_times_outcome timed_at
 written_timed job files written line reads is =
-    let at = placed_at (dash_times_at job (Some files)) (place_of job.base job.master) written line reads is in
+    let at = placed_at (dash_times_at job (Some files)) (store_place_of job.base job.master) written line reads is in
     let by = made (files_of job) line_of (timed_at at.found files) written line reads at.ends in
     let read = steps_of (presented_at at.found files) (with_runs at.found files) by.value by.is in
     let runs = steps_of (runs_at at.found files read.value) (λ runs. Ok (read.value, runs)) by.value read.then in

@@ -1,17 +1,18 @@
 -- Work over rounds, which the master's read goes before.
-use Rattle.std.proofs.Common.{◌≡◌, ◌⊎◌, ℕ, true, IsTrue, List, Option, None, Some, option_map, IfSome, Result, Ok, Err, inl, inr, refl, sym, subst, arith}
+use Rattle.std.proofs.Common.{◌≡◌, ◌⊎◌, ℕ, true, IsTrue, List, Option, None, Some, option_map, IfSome, Result, Ok, Err, inl, inr, refl, sym}
+use Rattle.std.proofs.Common.{subst, arith}
 use Rattle.std.specs.Option.{ForSome, option_and_then}
 use Rattle.std.proofs.lemmas.List.{length-map}
 use Rattle.bridge_io.specs.Fault.{Rose}
 use Rattle.bridge_io.specs.Outside.{Files}
 use Rattle.hls_master.specs.declared.track.MasterTrack.{MasterTrack}
-use Rattle.bridge_runs.specs.Courses.{Course, World}
-use Rattle.bridge_runs.specs.Runs.{NeverFalls}
-use Rattle.bridge_runs.specs.Steps.{IsCaused, Work, first_step}
-use Rattle.bridge_runs.specs.declared.ending.Ending.{Ending}
-use Rattle.bridge_runs.specs.declared.ending.Ending.TheVariants as ending
-use Rattle.bridge_runs.specs.declared.status.Verdict.TheVariants as verdict
-use Rattle.bridge_runs.proofs.Stepping.{IsIdle, caused_later, ends, memory_first, read_fault_first, work_later}
+use Rattle.bridge_courses.specs.Courses.{Course, World}
+use Rattle.bridge_courses.specs.Executions.{NeverFalls}
+use Rattle.bridge_courses.specs.Steps.{IsCaused, Work, first_step}
+use Rattle.bridge_courses.specs.declared.ending.Ending.{Ending}
+use Rattle.bridge_courses.specs.declared.ending.Ending.TheVariants as ending
+use Rattle.bridge_courses.specs.declared.status.Verdict.TheVariants as verdict
+use Rattle.bridge_courses.proofs.Stepping.{IsIdle, caused_later, ends, memory_first, read_fault_first, work_later}
 use Rattle.bridge_report.specs.Outcomes.{Ends, IsHalt, course_by}
 use Rattle.bridge_report.specs.Reading.{Named, halted}
 use Rattle.bridge_report.specs.Refusals.{refusal_line}
@@ -19,11 +20,12 @@ use Rattle.bridge_report.specs.declared.reading.Halt.{Halt}
 use Rattle.bridge_report.specs.declared.reading.Halt.TheVariants as halt
 use Rattle.bridge_jobs.specs.Frames.{start}
 use Rattle.bridge_playlists.specs.Playlists.{master_at}
-use Rattle.bridge_playlists.specs.declared.place.Place.{Place}
+use Rattle.bridge_playlists.specs.declared.place.StorePlace.{StorePlace}
 use Rattle.bridge_steps.specs.Follow.{fault_line}
 use Rattle.bridge_steps.proofs.Endings.{over}
 use Rattle.bridge_steps.proofs.Rest.{reads_first}
-use Rattle.bridge_reach.specs.Rounds.{IsCausedByEither, IsKept, course_with, followed_rounds, hls_of, no_rounds, round_stream, rounds_at, rounds_of}
+use Rattle.bridge_reach.specs.Rounds.{IsCausedByEither, IsKept, course_with, followed_rounds, hls_of, no_rounds, round_stream, rounds_at}
+use Rattle.bridge_reach.specs.Rounds.{rounds_of}
 
 -- ---- courses
 
@@ -43,7 +45,7 @@ reads_at_first out input (Err named) = λ course is.
     subst (λ c. IsTrue (first_step c).reads)
     (let same : course_by (Ends verdict.Refused (refusal_line named.0 named.1) true true) ≡ course = cc in same) refl
 
-module _ (out : List ℕ) (files : Option Files) (input : Option (List ℕ)) (place : Place) (told : Ending) where
+module _ (out : List ℕ) (files : Option Files) (input : Option (List ℕ)) (place : StorePlace) (told : Ending) where
   -- the master is read, and then its rounds
   pub read_worked : (tracks : List MasterTrack) (before mid after : World) → ForSome files (λ all. master_at place all ≡ Ok tracks)
       → IsIdle before mid → NeverFalls before mid → ForSome input (λ bytes. Work (course_with out tracks bytes) told mid after)
@@ -61,7 +63,10 @@ module _ (out : List ℕ) (files : Option Files) (input : Option (List ℕ)) (pl
     refused_so named last = λ course is.
         let line = refusal_line named.0 named.1 in
         subst (λ c. Work c told before after) (let same : course_by (Ends verdict.Refused line true true) ≡ course = cc in same)
-        (record { works = ends (record { verdict = verdict.Refused; lines = line; reads = true }) told before after last idle; never_falls = falls })
+        (record {
+          works = ends (record { verdict = verdict.Refused; lines = line; reads = true }) told before after last idle;
+          never_falls = falls;
+        })
 
     -- the master isn't read
     pub halt_worked : (why : Halt) → IsHalt why told → (why ≡ halt.ReadFault → Rose before.read_faults after.read_faults)

@@ -1,18 +1,18 @@
 -- Whether the times of an MPD are those that its media files state.
 use Rattle.std.specs.Prelude.{ℕ, ◌^◌, List, ◌++◌, length, codes, decimal, Option, Some, None, option_map, Result, Ok}
+use Rattle.bridge_io.specs.Answer.{and_then}
 use Rattle.bridge_io.specs.Outside.{Files}
 use Rattle.fragment_times.specs.declared.fault.SegmentSpot.{SegmentSpot}
 use Rattle.fragment_times.specs.Agreeing.{first_apart}
 use Rattle.presentation.specs.Counting.{count_of_all}
 use Rattle.presentation.specs.Presented.{Presented}
-use Rattle.presentation.specs.Told.{and_then}
-use Rattle.bridge_runs.specs.declared.status.Verdict.{Verdict}
-use Rattle.bridge_runs.specs.declared.status.Verdict.TheVariants as verdict
+use Rattle.bridge_courses.specs.declared.status.Verdict.{Verdict}
+use Rattle.bridge_courses.specs.declared.status.Verdict.TheVariants as verdict
 use Rattle.bridge_report.specs.Outcomes.{Outcome, outcome_told}
 use Rattle.bridge_report.specs.Reading.{Named}
 use Rattle.bridge_report.specs.declared.refusal.Refusal.TheVariants as refusal
-use Rattle.bridge_playlists.specs.declared.place.Place.{Place}
-use Rattle.bridge_playlists.specs.Places.{place_of}
+use Rattle.bridge_playlists.specs.declared.place.StorePlace.{StorePlace}
+use Rattle.bridge_playlists.specs.Places.{store_place_of}
 use Rattle.bridge_steps.specs.Endings.{placed}
 use Rattle.bridge_steps.specs.Manifests.{mpd_at}
 use Rattle.bridge_reach.specs.declared.agree.Agree.{Agree}
@@ -40,16 +40,16 @@ verdict_of p (Some spot) = (verdict.Differ, apart_text spot.section spot.track s
 -- ---- how the command ends
 
 -- the MPD first, of which a live one is refused behind its rules; the decimals of printed durations tell nothing here
-abbrev pub mpd_read : Place → Files → Result Presented Named
+abbrev pub mpd_read : StorePlace → Files → Result Presented Named
 mpd_read place files = mpd_at (Some refusal.NotStatic) (10 ^ 6) None place files
 
 -- and then its media files
-unfoldable pub judged : Place → Files → Result (Verdict × List ℕ) Named
+unfoldable pub judged : StorePlace → Files → Result (Verdict × List ℕ) Named
 judged place files =
     and_then (mpd_read place files) (λ p. and_then (times_at place files p) (λ times. Ok (verdict_of p (first_apart p times))))
 
-abbrev pub agree_at : Option Files → Place → Option Outcome
+abbrev pub agree_at : Option Files → StorePlace → Option Outcome
 agree_at files place = option_map (λ files. outcome_told (judged place files)) files
 
 unfoldable pub agree_outcome : Agree → Option Files → Option Outcome
-agree_outcome job files = placed (agree_at files) (place_of job.base job.mpd)
+agree_outcome job files = placed (agree_at files) (store_place_of job.base job.mpd)

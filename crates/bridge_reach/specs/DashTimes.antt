@@ -1,16 +1,16 @@
 -- From playlists to an MPD with the times that the media files state (ISO/IEC 23009-1, 5.3.9).
 use Rattle.std.specs.Prelude.{ℕ, List, [], ◌∷◌, codes, get_or, Option, option_map, Result, Ok}
+use Rattle.bridge_io.specs.Answer.{and_then}
 use Rattle.bridge_io.specs.Outside.{Files}
 use Rattle.bridge_jobs.specs.Laws.{in_folder}
 use Rattle.dash_writer.specs.declared.timed.TickRun.{TickRun}
 use Rattle.dash_writer.specs.Timed.{timed_text}
 use Rattle.fragment_times.specs.declared.times.SegmentTimes.{SegmentTimes}
 use Rattle.presentation.specs.Presented.{Presented}
-use Rattle.presentation.specs.Told.{and_then}
 use Rattle.bridge_report.specs.Outcomes.{Outcome}
 use Rattle.bridge_report.specs.Reading.{Named}
-use Rattle.bridge_playlists.specs.declared.place.Place.{Place}
-use Rattle.bridge_playlists.specs.Places.{place_of}
+use Rattle.bridge_playlists.specs.declared.place.StorePlace.{StorePlace}
+use Rattle.bridge_playlists.specs.Places.{store_place_of}
 use Rattle.bridge_playlists.specs.Playlists.{presented_at}
 use Rattle.bridge_steps.specs.Done.{done_line}
 use Rattle.bridge_steps.specs.Endings.{outcome_written, placed}
@@ -28,7 +28,7 @@ runs_of [] rows = []
 runs_of (times ∷ others) [] = []
 runs_of (times ∷ others) (ticks ∷ rows) = run_of times ticks ∷ runs_of others rows
 
-unfoldable pub runs_at : Place → Files → Presented → Result (List TickRun) Named
+unfoldable pub runs_at : StorePlace → Files → Presented → Result (List TickRun) Named
 runs_at place files p =
     and_then (times_at place files p) (λ times. and_then (durations_at place p times) (λ ticks. Ok (runs_of times ticks)))
 
@@ -38,11 +38,11 @@ runs_at place files p =
 abbrev pub Timed : Type 0
 Timed = Presented × List TickRun
 
-abbrev pub with_runs : Place → Files → Presented → Result Timed Named
+abbrev pub with_runs : StorePlace → Files → Presented → Result Timed Named
 with_runs place files p = and_then (runs_at place files p) (λ runs. Ok (p, runs))
 
 -- all playlists first, and then the media files
-unfoldable pub timed_at : Place → Files → Result Timed Named
+unfoldable pub timed_at : StorePlace → Files → Result Timed Named
 timed_at place files = and_then (presented_at place files) (with_runs place files)
 
 -- ---- the command
@@ -61,8 +61,8 @@ abbrev pub outcome_of : DashTimes → Result Timed Named → Outcome
 outcome_of job read = outcome_written (files_of job) line_of read
 
 -- the master is at this place
-abbrev pub dash_times_at : DashTimes → Option Files → Place → Option Outcome
+abbrev pub dash_times_at : DashTimes → Option Files → StorePlace → Option Outcome
 dash_times_at job files place = option_map (λ files. outcome_of job (timed_at place files)) files
 
 unfoldable pub dash_times_outcome : DashTimes → Option Files → Option Outcome
-dash_times_outcome job files = placed (dash_times_at job files) (place_of job.base job.master)
+dash_times_outcome job files = placed (dash_times_at job files) (store_place_of job.base job.master)

@@ -14,7 +14,7 @@ use Rattle.presentation.specs.declared.fault.PresentationFault.TheVariants.{Memo
 use Rattle.presentation.specs.declared.parts.Content.{Content}
 use Rattle.presentation.specs.Presented.{Presented, content_at, listed_at}
 use Rattle.presentation.specs.Told.{told_as}
-use Rattle.bridge_playlists.specs.declared.place.Place.{Place}
+use Rattle.bridge_playlists.specs.declared.place.StorePlace.{StorePlace}
 use Rattle.bridge_report.specs.declared.refusal.Refusal.TheVariants as refusal
 use Rattle.bridge_report.specs.declared.times_refusal.TimesRefusal.TheVariants as times
 use Rattle.bridge_report.specs.Reading.{Named}
@@ -40,7 +40,7 @@ file_at folder p spot = option_and_then (λ (part : Part). local_name_of folder 
 -- ---- refusals
 
 -- A refusal names the manifest or a media file. A read that failed and want of memory are no refusals, and have no words.
-abbrev pub named_by : (manifest : Place) → Presented → TimesFault → Named
+abbrev pub named_by : (manifest : StorePlace) → Presented → TimesFault → Named
 named_by manifest p fault.OutsideBase = (manifest.file, refusal.Times times.OutsideBase)
 named_by manifest p (fault.File file told) = (file, refusal.Times (times.File told))
 named_by manifest p (fault.Segment spot told) = (unwrap_or (file_at manifest.folder p spot) manifest.file, refusal.Times (times.File told))
@@ -50,8 +50,8 @@ named_by manifest p fault.Memory = (manifest.file, refusal.Presentation Memory)
 
 -- ---- times
 
-abbrev pub times_at : (manifest : Place) → Files → Presented → Result (List SegmentTimes) Named
+abbrev pub times_at : (manifest : StorePlace) → Files → Presented → Result (List SegmentTimes) Named
 times_at manifest files p = told_as (named_by manifest p) (times_of manifest.folder files p)
 
-abbrev pub durations_at : (manifest : Place) → Presented → List SegmentTimes → Result (List (List ℕ)) Named
+abbrev pub durations_at : (manifest : StorePlace) → Presented → List SegmentTimes → Result (List (List ℕ)) Named
 durations_at manifest p times = told_as (named_by manifest p) (durations_of p times)

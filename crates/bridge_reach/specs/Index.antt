@@ -1,5 +1,6 @@
 -- `hls-index`: from an MPD whose media files have an index inside, and these files, to playlists (ISO/IEC 23009-1, 5.3.9.2).
 use Rattle.std.specs.Prelude.{◌^◌, ℕ, List, Option, option_map, Result}
+use Rattle.bridge_io.specs.Answer.{and_then}
 use Rattle.bridge_io.specs.Outside.{Files}
 use Rattle.index_parts.specs.declared.fault.IndexFault.{IndexFault}
 use Rattle.index_parts.specs.declared.fault.IndexFault.TheVariants as fault
@@ -10,9 +11,9 @@ use Rattle.mpd_rules.specs.Typed.{TypedMpd}
 use Rattle.mpd_text.specs.Meaning.{reading_of}
 use Rattle.presentation.specs.declared.fault.PresentationFault.TheVariants.{Memory}
 use Rattle.presentation.specs.Presented.{Presented}
-use Rattle.presentation.specs.Told.{and_then, told_as}
-use Rattle.bridge_playlists.specs.declared.place.Place.{Place}
-use Rattle.bridge_playlists.specs.Places.{place_of}
+use Rattle.presentation.specs.Told.{told_as}
+use Rattle.bridge_playlists.specs.declared.place.StorePlace.{StorePlace}
+use Rattle.bridge_playlists.specs.Places.{store_place_of}
 use Rattle.bridge_report.specs.declared.index_refusal.IndexRefusal.TheVariants as index
 use Rattle.bridge_report.specs.declared.refusal.Refusal.{Refusal}
 use Rattle.bridge_report.specs.declared.refusal.Refusal.TheVariants as refusal
@@ -29,7 +30,7 @@ use Rattle.bridge_reach.specs.declared.index.HlsIndex.{HlsIndex}
 unfoldable pub values_of : (bytes : List ℕ) → Result (TypedMpd (Option IndexRow)) Refusal
 values_of bytes = and_then (told_as refusal.Text (reading_of bytes)) (λ root. told_as refusal.Rules (indexed_mpd_of root))
 
-abbrev pub values_in : Place → (bytes : List ℕ) → Result (TypedMpd (Option IndexRow)) Named
+abbrev pub values_in : StorePlace → (bytes : List ℕ) → Result (TypedMpd (Option IndexRow)) Named
 values_in place bytes = of_file place.file (values_of bytes)
 
 -- ---- the presentation
@@ -43,35 +44,35 @@ named_by mpd (fault.File file told) = (file, refusal.Index (index.File told))
 named_by mpd fault.Fault = (mpd, refusal.Presentation Memory)
 named_by mpd fault.Memory = (mpd, refusal.Presentation Memory)
 
-abbrev pub presented_by : Place → Files → TypedMpd (Option IndexRow) → Result Presented Named
+abbrev pub presented_by : StorePlace → Files → TypedMpd (Option IndexRow) → Result Presented Named
 presented_by place files mpd = told_as (named_by place.file) (indexed_of place.url place.folder files mpd)
 
 -- of the bytes of an MPD at a place, and the files of the store
-unfoldable pub presented_in : Place → Files → (bytes : List ℕ) → Result Presented Named
+unfoldable pub presented_in : StorePlace → Files → (bytes : List ℕ) → Result Presented Named
 presented_in place files bytes = and_then (values_in place bytes) (presented_by place files)
 
 -- each of whose segments has an address
-abbrev pub checked_in : (unit : ℕ) → Place → Presented → Result Presented Named
+abbrev pub checked_in : (unit : ℕ) → StorePlace → Presented → Result Presented Named
 checked_in unit place p = of_file place.file (checked unit p)
 
-unfoldable pub ready_in : (unit : ℕ) → Place → Files → (bytes : List ℕ) → Result Presented Named
+unfoldable pub ready_in : (unit : ℕ) → StorePlace → Files → (bytes : List ℕ) → Result Presented Named
 ready_in unit place files bytes = and_then (presented_in place files bytes) (checked_in unit place)
 
 -- the same of the file at the place
-unfoldable pub ready_at : (unit : ℕ) → Place → Files → Result Presented Named
+unfoldable pub ready_at : (unit : ℕ) → StorePlace → Files → Result Presented Named
 ready_at unit place files = and_then (content_of place.file files) (ready_in unit place files)
 
 -- ---- the command
 
-abbrev pub presented : HlsIndex → Place → Files → Result Presented Named
+abbrev pub presented : HlsIndex → StorePlace → Files → Result Presented Named
 presented job place files = ready_at (10 ^ job.digits) place files
 
 abbrev pub outcome_of : HlsIndex → Result Presented Named → Outcome
 outcome_of job read = outcome_written (playlists job.out job.digits) done_line read
 
 -- the MPD is at this place
-abbrev pub index_at : HlsIndex → Option Files → Place → Option Outcome
+abbrev pub index_at : HlsIndex → Option Files → StorePlace → Option Outcome
 index_at job files place = option_map (λ files. outcome_of job (presented job place files)) files
 
 unfoldable pub index_outcome : HlsIndex → Option Files → Option Outcome
-index_outcome job files = placed (index_at job files) (place_of job.base job.mpd)
+index_outcome job files = placed (index_at job files) (store_place_of job.base job.mpd)

@@ -13,11 +13,11 @@ use Rattle.fragment_times.specs.Times.{all_starts, parts_of}
 use Rattle.presentation.specs.declared.parts.Content.{Content}
 use Rattle.presentation.specs.Meanings.{part_meant}
 use Rattle.presentation.specs.Presented.{Presented, content_at, listed_at}
-use Rattle.bridge_playlists.specs.declared.place.Place.{Place}
-use Rattle.bridge_playlists.specs.Places.{place_of}
+use Rattle.bridge_playlists.specs.declared.place.StorePlace.{StorePlace}
+use Rattle.bridge_playlists.specs.Places.{store_place_of}
 use Rattle.bridge_playlists.specs.Playlists.{presented_at}
 use Rattle.bridge_report.specs.Outcomes.{Ends, Writes}
-use Rattle.bridge_runs.specs.declared.status.Verdict.TheVariants as verdict
+use Rattle.bridge_courses.specs.declared.status.Verdict.TheVariants as verdict
 use Rattle.bridge_reach.specs.declared.agree.Agree.{Agree}
 use Rattle.bridge_reach.specs.declared.dash_times.DashTimes.{DashTimes}
 use Rattle.bridge_reach.specs.Agree.{agree_outcome, apart_text, mpd_read}
@@ -43,8 +43,8 @@ IsTimed folder files p runs s t = ForSome (content_at p s t) (λ content. (run :
 
 -- the MPD that is written has the times that the files of its segments state
 pub record IsWrittenTimed (job : DashTimes) (files : Files) (written : List (List ℕ × List ℕ)) : Type 0 where
-  pub place : Place
-  pub at : place_of job.base job.master ≡ Some place
+  pub place : StorePlace
+  pub at : store_place_of job.base job.master ≡ Some place
   pub presentation : Presented
   pub read : presented_at place files ≡ Ok presentation
   pub runs : List TickRun
@@ -77,8 +77,8 @@ IsBefore s t k spot = (s < spot.section) ⊎ ((s ≡ spot.section) × ((t < spot
 
 -- the MPD of a job, and the listed segments of which something is so
 pub record IsRead (job : Agree) (files : Files) (Of : (folder : List ℕ) → Presented → Type 0) : Type 0 where
-  pub place : Place
-  pub at : place_of job.base job.mpd ≡ Some place
+  pub place : StorePlace
+  pub at : store_place_of job.base job.mpd ≡ Some place
   pub presentation : Presented
   pub read : mpd_read place files ≡ Ok presentation
   pub of : Of place.folder presentation
@@ -92,6 +92,8 @@ AllAgree files folder p = (s t k : ℕ) → s < length p.sections → t < length
 pub record IsFirstApart (files : Files) (line : List ℕ) (folder : List ℕ) (p : Presented) : Type 0 where
   pub spot : SegmentSpot
   pub told : line ≡ apart_text spot.section spot.track spot.segment
+  pub section : spot.section < length p.sections
+  pub track : spot.track < length p.tracks
   pub apart : IsCompared false folder files p spot.section spot.track spot.segment
   pub first : (s t k : ℕ) → IsBefore s t k spot → s < length p.sections → t < length p.tracks → k < length (listed_at p s t)
       → IsCompared true folder files p s t k

@@ -8,7 +8,7 @@ use Rattle.dash_writer.specs.Live.{live_text}
 use Rattle.bridge_jobs.specs.Frames.{start}
 use Rattle.bridge_jobs.specs.Laws.{in_folder}
 use Rattle.bridge_jobs.specs.declared.round.Round.{Round}
-use Rattle.bridge_runs.specs.Courses.{files_to}
+use Rattle.bridge_courses.specs.Courses.{files_to}
 use Rattle.bridge_report.specs.Laws.{accepted_in, state_after}
 use Rattle.bridge_reach.specs.Rounds.{course_with, followed_rounds, hls_of, no_rounds, round_stream}
 use Rattle.bridge_reach.specs.declared.rounds.LiveRounds.{LiveRounds}

@@ -1,7 +1,9 @@
 -- `follow-hls`: from rounds of live playlists to an MPD (RFC 8216, 6.2; ISO/IEC 23009-1, 5.3).
-use Rattle.std.specs.Prelude.{◌≡◌, ◌⊎◌, ℕ, ℤ, ◌+◌, ◌<◌, true, codes, List, [], ◌∷◌, ◌++◌, length, map, Option, Some, None, option_map, IsSome, Result, Ok, Err}
+use Rattle.std.specs.Prelude.{◌≡◌, ◌⊎◌, ℕ, ℤ, ◌+◌, ◌<◌, true, codes, List, [], ◌∷◌, ◌++◌, length, map, Option, Some, None, option_map}
+use Rattle.std.specs.Prelude.{IsSome, Result, Ok, Err}
 use Rattle.std.specs.Option.{option_and_then, option_map_or}
 use Rattle.std.specs.Result.{result_err, result_ok, result_unwrap_or}
+use Rattle.bridge_io.specs.Answer.{and_then}
 use Rattle.bridge_io.specs.Fault.{Rose}
 use Rattle.bridge_io.specs.Outside.{Files}
 use Rattle.iso_time.specs.Instant.{IsReadable}
@@ -10,25 +12,25 @@ use Rattle.hls_media.specs.Media.{media_of}
 use Rattle.hls_media.specs.declared.media.Media.{Media}
 use Rattle.hls_follow.specs.Rounds.{appended_by, next_of}
 use Rattle.dash_writer.specs.Live.{live_text}
-use Rattle.presentation.specs.Told.{and_then, told_as}
+use Rattle.presentation.specs.Told.{told_as}
 use Rattle.bridge_jobs.specs.Laws.{in_folder}
 use Rattle.bridge_jobs.specs.Rounds.{rounds_from}
 use Rattle.bridge_jobs.specs.declared.frame.FramePos.{FramePos}
 use Rattle.bridge_jobs.specs.declared.round.Round.{Round}
-use Rattle.bridge_runs.specs.Courses.{Course, World}
-use Rattle.bridge_runs.specs.Steps.{IsCaused}
-use Rattle.bridge_runs.specs.declared.ending.Ending.{Ending}
-use Rattle.bridge_runs.specs.declared.ending.Ending.TheVariants as ending
-use Rattle.bridge_runs.specs.declared.status.Verdict.TheVariants as verdict
+use Rattle.bridge_courses.specs.Courses.{Course, World}
+use Rattle.bridge_courses.specs.Steps.{IsCaused}
+use Rattle.bridge_courses.specs.declared.ending.Ending.{Ending}
+use Rattle.bridge_courses.specs.declared.ending.Ending.TheVariants as ending
+use Rattle.bridge_courses.specs.declared.status.Verdict.TheVariants as verdict
 use Rattle.bridge_report.specs.Following.{Followed}
 use Rattle.bridge_report.specs.Outcomes.{Ends, base_refused, course_by}
 use Rattle.bridge_report.specs.Reading.{Named}
 use Rattle.bridge_report.specs.Refusals.{refusal_line, refusal_text}
 use Rattle.bridge_report.specs.declared.refusal.Refusal.{Refusal}
 use Rattle.bridge_report.specs.declared.refusal.Refusal.TheVariants as refusal
-use Rattle.bridge_playlists.specs.Places.{place_of}
+use Rattle.bridge_playlists.specs.Places.{store_place_of}
 use Rattle.bridge_playlists.specs.Playlists.{master_at}
-use Rattle.bridge_playlists.specs.declared.place.Place.{Place}
+use Rattle.bridge_playlists.specs.declared.place.StorePlace.{StorePlace}
 use Rattle.bridge_steps.specs.Follow.{course_placed, follow_course}
 use Rattle.bridge_steps.specs.Streams.{Stream}
 use Rattle.bridge_reach.specs.declared.follow_hls.FollowHls.{FollowHls}
@@ -121,11 +123,11 @@ rounds_of out input (Ok tracks) = option_map (course_with out tracks) input
 rounds_of out input (Err named) = Some (course_by (Ends verdict.Refused (refusal_line named.0 named.1) true true))
 
 -- the master is at this place, and its rounds come from the input
-abbrev pub rounds_at : (out : List ℕ) → Option Files → (input : Option (List ℕ)) → Place → Option Course
+abbrev pub rounds_at : (out : List ℕ) → Option Files → (input : Option (List ℕ)) → StorePlace → Option Course
 rounds_at out files input place = option_and_then (λ files. rounds_of out input (master_at place files)) files
 
 unfoldable pub rounds_course : FollowHls → Option Files → (input : Option (List ℕ)) → Option Course
-rounds_course job files input = course_placed (rounds_at job.out files input) (place_of job.base job.master)
+rounds_course job files input = course_placed (rounds_at job.out files input) (store_place_of job.base job.master)
 
 -- ---- causes
 

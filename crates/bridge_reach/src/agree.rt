@@ -3,8 +3,8 @@ ghost use Rattle.std.specs.Prelude.{◌≡◌, ◌≢◌, Ok, IfOk};
 ghost use Rattle.std.specs.Option.{ForSome};
 ghost use Rattle.bridge_io.specs.Answer.{Gives};
 ghost use Rattle.bridge_io.specs.Fault.{HasCause};
-ghost use Rattle.bridge_runs.specs.declared.status.Status.TheVariants as status;
-ghost use Rattle.bridge_runs.specs.Runs.{status_by};
+ghost use Rattle.bridge_courses.specs.declared.status.Status.TheVariants as status;
+ghost use Rattle.bridge_courses.specs.Executions.{status_by};
 ghost use Rattle.presentation.specs.Counting.{counted, count_of_all};
 ghost use Rattle.bridge_report.specs.declared.reading.Halt.TheVariants.{ReadFault};
 ghost use Rattle.bridge_report.specs.Reading.{halted};
@@ -12,10 +12,10 @@ ghost use Rattle.bridge_steps.specs.Endings.{JobEndsAs, NeverWrites, around};
 ghost use Rattle.bridge_reach.specs.Agree as spec;
 
 use crate::file_times::times_at;
+use bridge_courses::{Ending, Verdict};
 use bridge_io::{Ledger, Name, NoMemory, Steps, Store, Text};
-use bridge_playlists::Place;
+use bridge_playlists::StorePlace;
 use bridge_report::{Halt, Refusal};
-use bridge_runs::{Ending, Verdict};
 use bridge_steps::{count_of, mpd_at, place_in, told};
 use exact_time::Digits;
 use fragment_times::{SegmentSpot, first_apart};
@@ -34,7 +34,7 @@ pub struct Agree {
 /// Tells whether each listed segment of a job's MPD has the decode time that its media file states (ISO/IEC 14496-12, 8.8.12),
 /// or the first one that has another, unless a file is refused. Nothing is written.
 #[tactic(auto, unfolding(crate::specs::Agree::agree_outcome))]
-pub fn judge_times<F: Store, L: Ledger>(
+pub fn run_agree<F: Store, L: Ledger>(
     alloc: Global,
     job: &Agree,
     store: &mut F,
@@ -55,7 +55,7 @@ pub fn judge_times<F: Store, L: Ledger>(
 #[tactic(auto, unfolding(crate::specs::Agree::judged))]
 fn judged<F: Store, L: Ledger>(
     alloc: Global,
-    place: &Place,
+    place: &StorePlace,
     store: &mut F,
     steps: &mut Steps<L>,
 ) -> Result<(Verdict, Text), Halt>

@@ -3,22 +3,20 @@ ghost use Rattle.std.specs.Prelude.{◌≡◌, codes, get_or, length, Ok, Some, 
 ghost use Rattle.std.specs.Option.{ForSome};
 ghost use Rattle.bridge_io.specs.Answer.{Gives};
 ghost use Rattle.bridge_io.specs.Fault.{HasCause};
-ghost use Rattle.bridge_jobs.specs.Laws.{in_folder};
 ghost use Rattle.dash_writer.specs.Timed.{CanBeTimed};
 ghost use Rattle.presentation.specs.Counting.{counted, count_of_all};
 ghost use Rattle.presentation.specs.Origins.{CameFromPlaylists};
 ghost use Rattle.bridge_report.specs.declared.reading.Halt.TheVariants.{ReadFault};
 ghost use Rattle.bridge_report.specs.Reading.{halted};
-ghost use Rattle.bridge_steps.specs.Done as done;
 ghost use Rattle.bridge_steps.specs.Endings.{JobEndsAs, around};
 ghost use Rattle.bridge_reach.specs.DashTimes as spec;
 
 use crate::file_times::{durations_at, times_at};
+use bridge_courses::Ending;
 use bridge_io::{Ledger, Name, NoMemory, Steps, Store, Text};
-use bridge_playlists::{Place, presented_at};
+use bridge_playlists::{StorePlace, presented_at};
 use bridge_report::{Halt, halted};
-use bridge_runs::Ending;
-use bridge_steps::{done_line, file_in, place_in, written};
+use bridge_steps::{mpd_and_line, place_in, written};
 use dash_writer::{TickList, TickRun, TickSeq, write_mpd_timed};
 use fragment_times::SegmentTimes;
 use presentation::{Presentation, segments_can_be_listed};
@@ -45,7 +43,7 @@ struct Timed {
 /// Writes the MPD of a job's master and its playlists with the decode times that the media files state (ISO/IEC 14496-12,
 /// 8.8.12), unless one of the files is refused.
 #[tactic(auto, unfolding(crate::specs::DashTimes::dash_times_outcome))]
-pub fn translate_timed<F: Store, L: Ledger>(
+pub fn run_dash_times<F: Store, L: Ledger>(
     alloc: Global,
     job: &DashTimes,
     store: &mut F,
@@ -79,25 +77,11 @@ fn write<F: Store, L: Ledger>(
         (around (F.files store.new) (F.read_faults store.new) (F.write_faults store.new) steps.new) }
 {
     let presentation = &timed.presentation;
-    let Ok((name, line)) = prepared(alloc, job, presentation) else {
+    let Ok((name, line)) = mpd_and_line(alloc, &job.out, presentation) else {
         return Ending::Memory;
     };
     let wrote = write_mpd_timed(alloc, presentation, &timed.runs, store, &name, steps);
     written(line, wrote)
-}
-
-/// The name of the MPD and the line of the report, which are made before anything is written.
-fn prepared(
-    alloc: Global,
-    job: &DashTimes,
-    presentation: &Presentation,
-) -> Result<(Name, Text), NoMemory>
-    requires counted { counted presentation.now ≡ Ok (count_of_all presentation.now) }
-    ensures name { IfOk result (λ told. told.0 ≡ in_folder job.now.out (codes "manifest.mpd")) }
-    ensures line { IfOk result (λ told. told.1 ≡ done.done_line presentation.now) }
-{
-    let name = file_in(alloc, &job.out, "manifest.mpd")?;
-    Ok((name, done_line(alloc, presentation)?))
 }
 
 /// The presentation of the master at a place, with the media times that the files of its segments state; or the first refusal.
@@ -105,7 +89,7 @@ fn prepared(
 #[tactic(auto, unfolding(crate::specs::DashTimes::timed_at))]
 fn timed_at<F: Store, L: Ledger>(
     alloc: Global,
-    place: &Place,
+    place: &StorePlace,
     store: &mut F,
     steps: &mut Steps<L>,
 ) -> Result<Timed, Halt>
@@ -126,7 +110,7 @@ fn timed_at<F: Store, L: Ledger>(
 #[tactic(auto, unfolding(crate::specs::DashTimes::runs_at))]
 fn runs_at<F: Store, L: Ledger>(
     alloc: Global,
-    place: &Place,
+    place: &StorePlace,
     presentation: &Presentation,
     store: &mut F,
     steps: &mut Steps<L>,
@@ -171,12 +155,12 @@ fn run_of(alloc: Global, times: &SegmentTimes, ticks: &TickSeq) -> Result<TickRu
     durations.extend(ticks.as_slice())?;
     Ok(TickRun {
         scale: times.scale,
-        first: first_of(times.starts.as_slice()),
+        first: first_start(times.starts.as_slice()),
         durations,
     })
 }
 
-fn first_of(starts: &[u64]) -> u64
+fn first_start(starts: &[u64]) -> u64
     ensures { result ≡ get_or starts.now 0 0 }
 {
     starts.first().copied().unwrap_or(0)

@@ -13,7 +13,7 @@ ghost use Rattle.bridge_reach.specs.FileTimes as spec;
 
 use crate::segment_file::file_at;
 use bridge_io::{Ledger, NoMemory, Steps, Store};
-use bridge_playlists::Place;
+use bridge_playlists::StorePlace;
 use bridge_report::{Halt, Refusal, TimesRefusal};
 use fragment_times::{
     DurationsList, FileFault, SegmentSpot, TimesFault, TimesList, durations, fragment_times,
@@ -25,7 +25,7 @@ use std::alloc::Global;
 /// of the manifest at the place. [`Halt::ReadFault`] comes only where the store's count of failed reads rose.
 pub(crate) fn times_at<F: Store, L: Ledger>(
     alloc: Global,
-    manifest: &Place,
+    manifest: &StorePlace,
     presentation: &Presentation,
     store: &mut F,
     steps: &mut Steps<L>,
@@ -48,7 +48,7 @@ pub(crate) fn times_at<F: Store, L: Ledger>(
 /// How many ticks each segment lasts by these times, or the first refusal.
 pub(crate) fn durations_at<L: Ledger>(
     alloc: Global,
-    manifest: &Place,
+    manifest: &StorePlace,
     presentation: &Presentation,
     times: &TimesList,
     steps: &mut Steps<L>,
@@ -69,7 +69,7 @@ pub(crate) fn durations_at<L: Ledger>(
 /// Which file is refused, and why.
 fn untimed<L: Ledger>(
     alloc: Global,
-    manifest: &Place,
+    manifest: &StorePlace,
     presentation: &Presentation,
     fault: TimesFault,
     steps: &mut Steps<L>,
@@ -104,7 +104,7 @@ fn untimed<L: Ledger>(
 /// The media file of a segment is refused.
 fn segment_refused<L: Ledger>(
     alloc: Global,
-    manifest: &Place,
+    manifest: &StorePlace,
     presentation: &Presentation,
     spot: SegmentSpot,
     fault: FileFault,

@@ -1,16 +1,16 @@
 // `follow-hls`: from rounds of live playlists to an MPD.
 ghost use Rattle.std.specs.Prelude.{◌≡◌, IfOk};
 ghost use Rattle.std.specs.Option.{ForSome};
-ghost use Rattle.bridge_runs.specs.Runs.{NeverFalls};
-ghost use Rattle.bridge_runs.specs.Steps.{Work, IsCaused};
+ghost use Rattle.bridge_courses.specs.Executions.{NeverFalls};
+ghost use Rattle.bridge_courses.specs.Steps.{Work, IsCaused};
 ghost use Rattle.bridge_steps.specs.Follow.{Grows, follow_course, world_of};
 ghost use Rattle.bridge_reach.specs.Rounds as spec;
 
 use crate::rounds::{BaseList, LiveHls, LiveRounds};
+use bridge_courses::Ending;
 use bridge_io::{Ledger, Name, NoMemory, Sink, Source, Steps, Store, Text};
-use bridge_playlists::{Place, base_at, master_at};
+use bridge_playlists::{StorePlace, base_at, master_at};
 use bridge_report::halted;
-use bridge_runs::Ending;
 use bridge_steps::{file_in, follow, place_in};
 use hls_follow::Follow;
 use hls_master::{Master, MasterTrack};
@@ -31,7 +31,7 @@ pub struct FollowHls {
 /// one is written as `live.mpd`, and each round has a line. [`Ending::ReadFault`] comes only where the store's count of failed
 /// reads rose, or the input's.
 #[tactic(auto, unfolding(crate::specs::Rounds::rounds_course))]
-pub fn follow_playlists<I: Source, F: Store, P: Sink, L: Ledger>(
+pub fn run_follow_hls<I: Source, F: Store, P: Sink, L: Ledger>(
     alloc: Global,
     job: FollowHls,
     input: &mut I,
@@ -40,14 +40,20 @@ pub fn follow_playlists<I: Source, F: Store, P: Sink, L: Ledger>(
     steps: &mut Steps<L>,
 ) -> Ending
     ensures work { ForSome (spec.rounds_course job (F.files store.old) (I.remaining input.old)) (λ course. Work course result
-        (world_of (F.files store.old) (P.written report.old) (I.faults input.old) (F.read_faults store.old) (F.write_faults store.old) (P.faults report.old) steps.old)
-        (world_of (F.files store.new) (P.written report.new) (I.faults input.new) (F.read_faults store.new) (F.write_faults store.new) (P.faults report.new) steps.new)) }
+        (world_of (F.files store.old) (P.written report.old) (I.faults input.old) (F.read_faults store.old) (F.write_faults store.old)
+        (P.faults report.old) steps.old)
+        (world_of (F.files store.new) (P.written report.new) (I.faults input.new) (F.read_faults store.new) (F.write_faults store.new)
+        (P.faults report.new) steps.new)) }
     ensures caused { spec.IsCausedByEither result
-        (world_of (F.files store.old) (P.written report.old) (I.faults input.old) (F.read_faults store.old) (F.write_faults store.old) (P.faults report.old) steps.old)
-        (world_of (F.files store.new) (P.written report.new) (I.faults input.new) (F.read_faults store.new) (F.write_faults store.new) (P.faults report.new) steps.new) }
+        (world_of (F.files store.old) (P.written report.old) (I.faults input.old) (F.read_faults store.old) (F.write_faults store.old)
+        (P.faults report.old) steps.old)
+        (world_of (F.files store.new) (P.written report.new) (I.faults input.new) (F.read_faults store.new) (F.write_faults store.new)
+        (P.faults report.new) steps.new) }
     ensures never_falls { NeverFalls
-        (world_of (F.files store.old) (P.written report.old) (I.faults input.old) (F.read_faults store.old) (F.write_faults store.old) (P.faults report.old) steps.old)
-        (world_of (F.files store.new) (P.written report.new) (I.faults input.new) (F.read_faults store.new) (F.write_faults store.new) (P.faults report.new) steps.new) }
+        (world_of (F.files store.old) (P.written report.old) (I.faults input.old) (F.read_faults store.old) (F.write_faults store.old)
+        (P.faults report.old) steps.old)
+        (world_of (F.files store.new) (P.written report.new) (I.faults input.new) (F.read_faults store.new) (F.write_faults store.new)
+        (P.faults report.new) steps.new) }
     ensures told { Grows (P.written report.old) (P.written report.new) }
 {
     match place_in(alloc, &job.base, &job.master) {
@@ -59,7 +65,7 @@ pub fn follow_playlists<I: Source, F: Store, P: Sink, L: Ledger>(
 /// The same of the master at a place.
 fn follow_at<I: Source, F: Store, P: Sink, L: Ledger>(
     alloc: Global,
-    place: &Place,
+    place: &StorePlace,
     out: &Name,
     input: &mut I,
     store: &mut F,
@@ -67,14 +73,20 @@ fn follow_at<I: Source, F: Store, P: Sink, L: Ledger>(
     steps: &mut Steps<L>,
 ) -> Ending
     ensures work { ForSome (spec.rounds_at out.now (F.files store.old) (I.remaining input.old) place.now) (λ course. Work course result
-        (world_of (F.files store.old) (P.written report.old) (I.faults input.old) (F.read_faults store.old) (F.write_faults store.old) (P.faults report.old) steps.old)
-        (world_of (F.files store.new) (P.written report.new) (I.faults input.new) (F.read_faults store.new) (F.write_faults store.new) (P.faults report.new) steps.new)) }
+        (world_of (F.files store.old) (P.written report.old) (I.faults input.old) (F.read_faults store.old) (F.write_faults store.old)
+        (P.faults report.old) steps.old)
+        (world_of (F.files store.new) (P.written report.new) (I.faults input.new) (F.read_faults store.new) (F.write_faults store.new)
+        (P.faults report.new) steps.new)) }
     ensures caused { spec.IsCausedByEither result
-        (world_of (F.files store.old) (P.written report.old) (I.faults input.old) (F.read_faults store.old) (F.write_faults store.old) (P.faults report.old) steps.old)
-        (world_of (F.files store.new) (P.written report.new) (I.faults input.new) (F.read_faults store.new) (F.write_faults store.new) (P.faults report.new) steps.new) }
+        (world_of (F.files store.old) (P.written report.old) (I.faults input.old) (F.read_faults store.old) (F.write_faults store.old)
+        (P.faults report.old) steps.old)
+        (world_of (F.files store.new) (P.written report.new) (I.faults input.new) (F.read_faults store.new) (F.write_faults store.new)
+        (P.faults report.new) steps.new) }
     ensures never_falls { NeverFalls
-        (world_of (F.files store.old) (P.written report.old) (I.faults input.old) (F.read_faults store.old) (F.write_faults store.old) (P.faults report.old) steps.old)
-        (world_of (F.files store.new) (P.written report.new) (I.faults input.new) (F.read_faults store.new) (F.write_faults store.new) (P.faults report.new) steps.new) }
+        (world_of (F.files store.old) (P.written report.old) (I.faults input.old) (F.read_faults store.old) (F.write_faults store.old)
+        (P.faults report.old) steps.old)
+        (world_of (F.files store.new) (P.written report.new) (I.faults input.new) (F.read_faults store.new) (F.write_faults store.new)
+        (P.faults report.new) steps.new) }
     ensures told { Grows (P.written report.old) (P.written report.new) }
 {
     match master_at(alloc, place, store) {
@@ -94,14 +106,20 @@ fn follow_master<I: Source, F: Store, P: Sink, L: Ledger>(
     steps: &mut Steps<L>,
 ) -> Ending
     ensures work { ForSome (I.remaining input.old) (λ bytes. Work (spec.course_with out.now master bytes) result
-        (world_of (F.files store.old) (P.written report.old) (I.faults input.old) (F.read_faults store.old) (F.write_faults store.old) (P.faults report.old) steps.old)
-        (world_of (F.files store.new) (P.written report.new) (I.faults input.new) (F.read_faults store.new) (F.write_faults store.new) (P.faults report.new) steps.new)) }
+        (world_of (F.files store.old) (P.written report.old) (I.faults input.old) (F.read_faults store.old) (F.write_faults store.old)
+        (P.faults report.old) steps.old)
+        (world_of (F.files store.new) (P.written report.new) (I.faults input.new) (F.read_faults store.new) (F.write_faults store.new)
+        (P.faults report.new) steps.new)) }
     ensures caused { IsCaused result
-        (world_of (F.files store.old) (P.written report.old) (I.faults input.old) (F.read_faults store.old) (F.write_faults store.old) (P.faults report.old) steps.old)
-        (world_of (F.files store.new) (P.written report.new) (I.faults input.new) (F.read_faults store.new) (F.write_faults store.new) (P.faults report.new) steps.new) }
+        (world_of (F.files store.old) (P.written report.old) (I.faults input.old) (F.read_faults store.old) (F.write_faults store.old)
+        (P.faults report.old) steps.old)
+        (world_of (F.files store.new) (P.written report.new) (I.faults input.new) (F.read_faults store.new) (F.write_faults store.new)
+        (P.faults report.new) steps.new) }
     ensures never_falls { NeverFalls
-        (world_of (F.files store.old) (P.written report.old) (I.faults input.old) (F.read_faults store.old) (F.write_faults store.old) (P.faults report.old) steps.old)
-        (world_of (F.files store.new) (P.written report.new) (I.faults input.new) (F.read_faults store.new) (F.write_faults store.new) (P.faults report.new) steps.new) }
+        (world_of (F.files store.old) (P.written report.old) (I.faults input.old) (F.read_faults store.old) (F.write_faults store.old)
+        (P.faults report.old) steps.old)
+        (world_of (F.files store.new) (P.written report.new) (I.faults input.new) (F.read_faults store.new) (F.write_faults store.new)
+        (P.faults report.new) steps.new) }
     ensures told { Grows (P.written report.old) (P.written report.new) }
 {
     match begin(alloc, master, out) {

@@ -12,10 +12,10 @@ ghost use Rattle.bridge_report.specs.Refusals.{refused_in};
 ghost use Rattle.bridge_steps.specs.Endings.{JobEndsAs, around};
 ghost use Rattle.bridge_reach.specs.Index as spec;
 
+use bridge_courses::Ending;
 use bridge_io::{Ledger, Name, Steps, Store, Text};
-use bridge_playlists::Place;
+use bridge_playlists::StorePlace;
 use bridge_report::{Halt, IndexRefusal, Refusal, Stop, content_of, halted};
-use bridge_runs::Ending;
 use bridge_steps::{Ready, checked, done_line, place_in, tree_of, write_playlists, written};
 use exact_time::Digits;
 use index_parts::{IndexFault, index_parts};
@@ -38,7 +38,7 @@ pub struct HlsIndex {
 
 /// Writes the playlists of a job's MPD and its media files, unless one of them is refused.
 #[tactic(auto, unfolding(crate::specs::Index::index_outcome))]
-pub fn translate_indexed<F: Store, L: Ledger>(
+pub fn run_hls_index<F: Store, L: Ledger>(
     alloc: Global,
     job: &HlsIndex,
     store: &mut F,
@@ -82,7 +82,7 @@ fn write<F: Store, L: Ledger>(
 #[tactic(auto, unfolding(crate::specs::Index::ready_at))]
 fn indexed_at<F: Store, L: Ledger>(
     alloc: Global,
-    place: &Place,
+    place: &StorePlace,
     digits: Digits,
     store: &mut F,
     steps: &mut Steps<L>,
@@ -102,7 +102,7 @@ fn indexed_at<F: Store, L: Ledger>(
 #[tactic(auto, unfolding(crate::specs::Index::ready_in, crate::specs::Index::presented_in))]
 fn indexed_in<F: Store, L: Ledger>(
     alloc: Global,
-    place: &Place,
+    place: &StorePlace,
     bytes: &[u8],
     digits: Digits,
     store: &mut F,
@@ -123,7 +123,7 @@ fn indexed_in<F: Store, L: Ledger>(
 /// Looks at each segment of the presentation.
 fn checked_in<L: Ledger>(
     alloc: Global,
-    place: &Place,
+    place: &StorePlace,
     presentation: Presentation,
     digits: Digits,
     steps: &mut Steps<L>,
@@ -140,7 +140,7 @@ fn checked_in<L: Ledger>(
 }
 
 /// The values of the MPD.
-fn values_in(alloc: Global, place: &Place, bytes: &[u8]) -> Result<IndexedMpd, Halt>
+fn values_in(alloc: Global, place: &StorePlace, bytes: &[u8]) -> Result<IndexedMpd, Halt>
     ensures values { Gives index_mpd halted result (spec.values_in place.now bytes.now) }
     ensures no_fault { IsNoReadFault result }
 {
@@ -165,7 +165,7 @@ fn values_of(alloc: Global, bytes: &[u8]) -> Result<IndexedMpd, Stop>
 /// The presentation of the MPD's values and of the files of the store.
 fn presented<F: Store>(
     alloc: Global,
-    place: &Place,
+    place: &StorePlace,
     mpd: &IndexedMpd,
     store: &mut F,
 ) -> Result<Presentation, Halt>

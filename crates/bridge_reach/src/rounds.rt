@@ -8,13 +8,12 @@ ghost use Rattle.bridge_jobs.specs.Frames.{most_frames};
 ghost use Rattle.bridge_report.specs.Refusals.{refused_in};
 ghost use Rattle.bridge_reach.specs.Rounds as spec;
 
-use bridge_io::{Bytes, Ledger, Name, Sequence, Source, Steps, Store};
+use bridge_io::{Bytes, Ledger, Name, OutFault, Sequence, Source, Steps, Store};
 use bridge_jobs::laws::rounds_follow;
 use bridge_jobs::{BodyList, FrameFault, FramePos, Round, read_round};
 use bridge_report::Stop;
 use bridge_steps::Follow;
 use dash_writer::write_live_mpd;
-use file_pieces::OutFault;
 use hls_media::{Media, read_media, what_is_read_is_bounded};
 use hls_presentation::MediaFiles;
 use iso_time::Instant;

@@ -1,16 +1,15 @@
 // The file of a listed segment.
-ghost use Rattle.std.specs.Prelude.{◌≡◌, ◌<◌, All, IfOk, drop, length, slice_get};
-ghost use Rattle.fragment_times.specs.Times.{IsTimelineAt, parts_of};
+ghost use Rattle.std.specs.Prelude.{◌≡◌, All, IfOk, drop, slice_get};
+ghost use Rattle.fragment_times.specs.Times.{parts_of};
 ghost use Rattle.presentation.specs.Laws.{HasAddress};
 ghost use Rattle.presentation.specs.Listable.{AreListable};
-ghost use Rattle.presentation.specs.Presented.{listed_at};
 ghost use Rattle.bridge_reach.specs.FileTimes as spec;
 
 use bridge_io::{Ledger, Name, NoMemory, Steps};
-use fragment_times::SegmentSpot;
+use fragment_times::{SegmentSpot, listing_at};
 use presentation::Presentation;
 use std::alloc::Global;
-use timeline::{ListFault, Listing, closed_ends};
+use timeline::{ListFault, Listing};
 use url_parts::{Base, Part, local_name};
 
 /// The name of a listed segment's file, under the URL of the store's folder.
@@ -53,21 +52,6 @@ fn is_within(presentation: &Presentation, spot: SegmentSpot) -> bool
     ensures { result ≡ spec.is_within presentation.now spot }
 {
     spot.section < presentation.sections().len() && spot.track < presentation.tracks().len()
-}
-
-/// The listed segments of a track in a section, which all have addresses.
-fn listing_at(presentation: &Presentation, section: usize, track: usize) -> Listing<'_>
-    requires listable { AreListable presentation.now }
-    requires section { section < length presentation.now.sections }
-    requires track { track < length presentation.now.tracks }
-    ensures left { result.left ≡ listed_at presentation.now section track }
-    ensures timeline { IsTimelineAt presentation.now section track result.timeline }
-    ensures addressed { All (HasAddress result.timeline) result.left }
-{
-    closed_ends();
-    let runs = presentation.runs(section, track);
-    let window = presentation.window(section);
-    runs.resume(&runs.seek(&window), &window)
 }
 
 /// Where the segment at a place of those that are left lies, of which each has an address.

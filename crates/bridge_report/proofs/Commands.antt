@@ -2,8 +2,8 @@
 use Rattle.std.proofs.Common.{◌≡◌, ℕ, zero, suc, [], ◌∷◌, ◌++◌, slice_get, Option, None, Some, ap}
 use Rattle.bridge_io.specs.Outside.{Files, Changes}
 use Rattle.bridge_io.specs.InOrder.{put_all}
-use Rattle.bridge_runs.specs.Courses.{files_to, last_step}
-use Rattle.bridge_runs.proofs.RunLaws.{read_fault_keeps_files}
+use Rattle.bridge_courses.specs.Courses.{files_to, last_step}
+use Rattle.bridge_courses.proofs.ExecutionLaws.{read_fault_keeps_files}
 use Rattle.bridge_report.specs.Outcomes.{Ends, Writes, course_by}
 use Rattle.bridge_report.specs.Laws.{CommandsReadFirst, ReadFaultOfCommandsKeepsFiles}
 
@@ -19,10 +19,12 @@ commands_read_first (Ends v l reads counts) before mid step reaches is = go reac
     go (suc n) changes = none_changed before.files mid.files changes
 commands_read_first (Writes files l reads) before mid step reaches is = go reaches.n reaches.next reaches.whole.files
   where
-    go : (n : ℕ) → slice_get ((course_by (Writes files l reads)).steps ++ last_step (course_by (Writes files l reads)).end ∷ []) n ≡ Some step
+    go : (n : ℕ) → slice_get ((course_by (Writes files l reads)).steps ++ last_step (course_by (Writes files l reads)).end ∷ []) n
+        ≡ Some step
         → Changes (put_all (files_to n (course_by (Writes files l reads)))) before.files mid.files → mid.files ≡ before.files
     go zero next changes = none_changed before.files mid.files changes
-    go (suc zero) next changes = let same : last_step (course_by (Writes files l reads)).end ≡ step = cc in absurd (let off = ap (λ s. s.reads) same in cc)
+    go (suc zero) next changes = let same : last_step (course_by (Writes files l reads)).end ≡ step = cc in
+        absurd (let off = ap (λ s. s.reads) same in cc)
     go (suc (suc n)) next changes = absurd (cc)
 
 pub read_fault_keeps : ReadFaultOfCommandsKeepsFiles

@@ -1,5 +1,6 @@
 -- The URL of the folder that the store stands for, and those of its files.
-use Rattle.std.specs.Prelude.{ℕ, ◌-◌, ◌==◌, ◌&&◌, not, nat_lt, Bool, List, ◌++◌, length, slice_index, bytes_eq, if◌then◌else◌, is_some, Option, Some, None, Result, Ok, Err}
+use Rattle.std.specs.Prelude.{ℕ, ◌-◌, ◌==◌, ◌&&◌, not, nat_lt, Bool, List, ◌++◌, length, slice_index, bytes_eq, if◌then◌else◌, is_some}
+use Rattle.std.specs.Prelude.{Option, Some, None, Result, Ok, Err}
 use Rattle.std.specs.List.{list_any}
 use Rattle.url_parts.specs.declared.fault.UrlFault.{UrlFault}
 use Rattle.url_parts.specs.Addresses.{absolute, is_tail}

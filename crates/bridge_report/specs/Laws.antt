@@ -2,10 +2,10 @@
 use Rattle.std.specs.Prelude.{◌≡◌, ℕ, List, [], ◌∷◌, ◌++◌, take, Option, Some}
 use Rattle.bridge_io.specs.Outside.{Files, Changes}
 use Rattle.bridge_io.specs.InOrder.{put_all}
-use Rattle.bridge_runs.specs.declared.status.Status.TheVariants as status
-use Rattle.bridge_runs.specs.Courses.{World, files_to}
-use Rattle.bridge_runs.specs.Runs.{IsRun}
-use Rattle.bridge_runs.specs.Laws.{ReadsFirst}
+use Rattle.bridge_courses.specs.declared.status.Status.TheVariants as status
+use Rattle.bridge_courses.specs.Courses.{World, files_to}
+use Rattle.bridge_courses.specs.Executions.{IsExecution}
+use Rattle.bridge_courses.specs.Laws.{ReadsFirst}
 use Rattle.bridge_report.specs.Following.{Followed, unless_refused, course_from}
 use Rattle.bridge_report.specs.Outcomes.{Outcome, course_by}
 
@@ -16,7 +16,7 @@ CommandsReadFirst = (outcome : Outcome) → ReadsFirst (course_by outcome)
 
 -- a run of such a command that ends at a read fault wrote nothing
 abbrev pub ReadFaultOfCommandsKeepsFiles : Type 0
-ReadFaultOfCommandsKeepsFiles = (outcome : Outcome) (before after : World) → IsRun (course_by outcome) status.ReadFault before after →
+ReadFaultOfCommandsKeepsFiles = (outcome : Outcome) (before after : World) → IsExecution (course_by outcome) status.ReadFault before after →
     after.files ≡ before.files
 
 -- ---- of followed presentations

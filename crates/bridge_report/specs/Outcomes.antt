@@ -2,12 +2,12 @@
 use Rattle.std.specs.Prelude.{◌≡◌, ◌⊎◌, ℕ, Bool, true, false, IsTrue, List, [], ◌∷◌, codes, Option, Result, Ok, Err}
 use Rattle.bridge_io.specs.Outside.{Files, Changes}
 use Rattle.bridge_io.specs.InOrder.{put_all, AreBegun}
-use Rattle.bridge_runs.specs.declared.status.Verdict.{Verdict}
-use Rattle.bridge_runs.specs.declared.status.Verdict.TheVariants as verdict
-use Rattle.bridge_runs.specs.declared.ending.Ending.{Ending}
-use Rattle.bridge_runs.specs.declared.ending.Ending.TheVariants as ending
-use Rattle.bridge_runs.specs.Runs.{words_line}
-use Rattle.bridge_runs.specs.Courses.{Course}
+use Rattle.bridge_courses.specs.declared.status.Verdict.{Verdict}
+use Rattle.bridge_courses.specs.declared.status.Verdict.TheVariants as verdict
+use Rattle.bridge_courses.specs.declared.ending.Ending.{Ending}
+use Rattle.bridge_courses.specs.declared.ending.Ending.TheVariants as ending
+use Rattle.bridge_courses.specs.Executions.{words_line}
+use Rattle.bridge_courses.specs.Courses.{Course}
 use Rattle.bridge_report.specs.declared.reading.Halt.{Halt}
 use Rattle.bridge_report.specs.declared.reading.Halt.TheVariants as halt
 use Rattle.bridge_report.specs.declared.refusal.Refusal.TheVariants as refusal

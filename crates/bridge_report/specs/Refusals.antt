@@ -27,7 +27,8 @@ use Rattle.bridge_report.specs.declared.refusal.Stop.{Stop}
 use Rattle.bridge_report.specs.declared.refusal.Stop.TheVariants as stop
 use Rattle.bridge_report.specs.FileTimes.{times_spot, times_words}
 use Rattle.bridge_report.specs.Indexes.{index_spot, index_words}
-use Rattle.bridge_report.specs.Words.{text_words, rule_words, presentation_words, media_words, master_words, hls_words, frame_words, update_words, live_words}
+use Rattle.bridge_report.specs.Words.{text_words, rule_words, presentation_words, media_words, master_words, hls_words, frame_words}
+use Rattle.bridge_report.specs.Words.{update_words, live_words}
 
 -- ---- where
 
@@ -149,7 +150,8 @@ abbrev pub spot_text : Option Spot → List ℕ
 spot_text None = []
 spot_text (Some (Byte at)) = codes " at " ++ decimal at
 spot_text (Some (At place)) = codes " at " ++ decimal place.at ++ codes " line " ++ decimal place.line
-spot_text (Some (Segment section track segment)) = codes " section " ++ decimal section ++ codes " track " ++ decimal track ++ codes " segment " ++ decimal segment
+spot_text (Some (Segment section track segment)) = codes " section " ++ decimal section ++ codes " track " ++ decimal track
+    ++ codes " segment " ++ decimal segment
 
 -- ---- what
 

@@ -1,14 +1,14 @@
 // How a job ends whose files aren't read.
 ghost use Rattle.std.specs.Prelude.{◌≡◌, ◌⊎◌};
-ghost use Rattle.bridge_runs.specs.declared.status.Status.TheVariants as status;
-ghost use Rattle.bridge_runs.specs.Runs.{status_of};
+ghost use Rattle.bridge_courses.specs.declared.status.Status.TheVariants as status;
+ghost use Rattle.bridge_courses.specs.Executions.{status_of};
 ghost use Rattle.bridge_report.specs.Outcomes.{IsHalt, IsRefusal};
 ghost use Rattle.bridge_report.specs.Refusals.{refusal_line};
 
 use crate::reading::Halt;
 use crate::refusal::{Refusal, refusal_line};
+use bridge_courses::{Ending, Verdict};
 use bridge_io::NoMemory;
-use bridge_runs::{Ending, Verdict};
 use std::alloc::Global;
 
 /// How a run ends whose input is refused, or no file of it where it is named `-`.

@@ -1,5 +1,6 @@
 //! Laws of commands and of followed presentations. The functions do nothing: what they ensure is the law.
-ghost use Rattle.bridge_report.specs.Laws.{CommandsReadFirst, ReadFaultOfCommandsKeepsFiles, FilesAreOfAccepted, FileIsOfAccepted, MirrorsHaveOneCourse};
+ghost use Rattle.bridge_report.specs.Laws.{CommandsReadFirst, ReadFaultOfCommandsKeepsFiles, FilesAreOfAccepted, FileIsOfAccepted};
+ghost use Rattle.bridge_report.specs.Laws.{MirrorsHaveOneCourse};
 
 /// A command reads all before it writes, so that a run of it that ends at a read fault wrote nothing.
 pub fn commands_read_before_they_write()

@@ -2,20 +2,21 @@
 ghost use Rattle.std.specs.Prelude.{◌≡◌, ◌⊎◌, ◌≤◌, ◌++◌, IfOk, IfErr, OnOk};
 ghost use Rattle.std.specs.String.{string_bytes};
 ghost use Rattle.bridge_io.specs.Outside.{Appends};
-ghost use Rattle.bridge_runs.specs.declared.ending.Ending.TheVariants as ending;
-ghost use Rattle.bridge_runs.specs.declared.status.Verdict.TheVariants as verdict;
-ghost use Rattle.bridge_runs.specs.Steps.{IsCutOff};
+ghost use Rattle.bridge_courses.specs.declared.ending.Ending.TheVariants as ending;
+ghost use Rattle.bridge_courses.specs.declared.status.Verdict.TheVariants as verdict;
+ghost use Rattle.bridge_courses.specs.Steps.{IsCutOff};
 ghost use Rattle.bridge_report.specs.Following as spec;
 
+use bridge_courses::{Ending, Verdict};
 use bridge_io::{NoMemory, Sink, Text};
-use bridge_runs::{Ending, Verdict};
 use std::alloc::{AllocError, Global};
 use std::fmt::Write;
 
 /// Tells a line in the middle of a run. Where that fails, no more is told: a front of the line may be.
 pub fn tell_line<P: Sink>(line: &Text, report: &mut P) -> Result<(), Ending>
     ensures ok { OnOk result (Appends line.now (P.written report.old) (P.written report.new)) }
-    ensures err { IfErr result (λ told. IsCutOff line.now told (P.faults report.old) (P.faults report.new) (P.written report.old) (P.written report.new)) }
+    ensures err { IfErr result (λ told. IsCutOff line.now told (P.faults report.old) (P.faults report.new) (P.written report.old)
+        (P.written report.new)) }
     ensures never_falls { P.faults report.old ≤ P.faults report.new }
 {
     match report.write(line.as_str().as_bytes()) {

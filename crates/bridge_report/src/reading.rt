@@ -77,7 +77,8 @@ pub fn media_at<F: Store>(
     file: &Name,
     url: &Base,
 ) -> Result<Media, Halt>
-    ensures media { ForSome (F.files store.old) (λ files. Gives (λ media. media) spec.halted result (spec.media_at file.now url.now files)) }
+    ensures media { ForSome (F.files store.old) (λ files. Gives (λ media. media) spec.halted result
+        (spec.media_at file.now url.now files)) }
     ensures bounded { IfOk result IsBounded }
     ensures cause { HasCause ReadFault (F.read_faults store.old) (F.read_faults store.new) result }
     ensures files { F.files store.new ≡ F.files store.old }

@@ -1,9 +1,11 @@
 -- Frames of a followed MPD.
-use Rattle.std.proofs.Common.{◌≡◌, ◌≤◌, ℕ, ℤ, ◌+◌, List, [], ◌∷◌, Option, None, Some, option_map, IfSome, Result, Ok, Err, OnOk, OnErr, refl, sym, ap, ◌∙◌, subst, arith}
+use Rattle.std.proofs.Common.{◌≡◌, ◌≤◌, ℕ, ℤ, ◌+◌, List, [], ◌∷◌, Option, None, Some, option_map, IfSome, Result, Ok, Err, OnOk, OnErr}
+use Rattle.std.proofs.Common.{refl, sym, ap, ◌∙◌, subst, arith}
 use Rattle.std.specs.Prelude.{IfOk, IfErr}
 use Rattle.std.specs.Option.{option_map_or}
 use Rattle.std.specs.Result.{result_ok, result_err}
-use Rattle.bridge_io.specs.Answer.{Gives}
+use Rattle.bridge_io.proofs.AndThen.{steps_of}
+use Rattle.bridge_io.specs.Answer.{Gives, and_then}
 use Rattle.bridge_jobs.specs.Frames.{Framed, ReadsFrom, Stream as FrameStream, framed_as, frames_from, next_frame, refusal, stream_by}
 use Rattle.bridge_jobs.specs.Laws.{FramesFollow}
 use Rattle.bridge_jobs.specs.declared.frame.Frame.{Frame}
@@ -13,9 +15,9 @@ use Rattle.bridge_jobs.specs.declared.frame.FrameFault.{FrameFault}
 use Rattle.bridge_jobs.specs.declared.frame.FrameFault.TheVariants as fault
 use Rattle.presentation.specs.Counting.{count_of_all}
 use Rattle.presentation.specs.Laws.{CountedAreListed}
-use Rattle.presentation.specs.Told.{and_then, told_as}
+use Rattle.presentation.specs.Told.{told_as}
 use Rattle.presentation.specs.declared.fault.PresentationFault.TheVariants as presented
-use Rattle.presentation.proofs.Filling.{steps_of, ok_under}
+use Rattle.presentation.proofs.Filling.{ok_under}
 use Rattle.live_judge.specs.Faults.{told}
 use Rattle.live_judge.specs.declared.fault.RefreshFault.{RefreshFault}
 use Rattle.live_judge.specs.declared.fault.RefreshFault.TheVariants as faults
@@ -29,7 +31,8 @@ use Rattle.bridge_report.specs.Refusals.{refusal_text, refused_in}
 use Rattle.bridge_report.specs.declared.refusal.Refusal.{Refusal}
 use Rattle.bridge_report.specs.declared.refusal.Stop.{Stop}
 use Rattle.bridge_steps.specs.Follow.{Accepts}
-use Rattle.bridge_steps.specs.LiveMpds.{AreMade, IsTaken, first_appends, frame_appends, frame_state, frame_stream, followed_mpd, next_state, told_of, update_of}
+use Rattle.bridge_steps.specs.LiveMpds.{AreMade, IsTaken, first_appends, frame_appends, frame_state, frame_stream, followed_mpd, next_state}
+use Rattle.bridge_steps.specs.LiveMpds.{told_of, update_of}
 use Rattle.bridge_steps.specs.Manifests.{values_of}
 use Rattle.bridge_steps.specs.Streams.{ReadsFirst}
 use Rattle.bridge_steps.proofs.LiveStates.{first_is_one, first_lists, one_more_of}
@@ -43,10 +46,12 @@ abbrev behind : Framed → FrameStream
 behind framed = frames_from framed.after framed.rest
 
 module _ (follows : FramesFollow) (at : FramePos) (bytes : List ℕ) where
-  read_on : (next : Result (Option Framed) FrameFault) → next_frame at bytes ≡ next → frame_stream at bytes ≡ parts_of (stream_by behind next)
+  read_on : (next : Result (Option Framed) FrameFault) → next_frame at bytes ≡ next
+      → frame_stream at bytes ≡ parts_of (stream_by behind next)
   read_on next is = ap parts_of (follows at bytes ∙ ap (stream_by behind) is)
 
-  cut_off : (e : FrameFault) → IfSome (refusal e) (λ told. next_frame at bytes ≡ Err told) → IfSome (refusal e) (λ told. frame_stream at bytes ≡ ([], Some told))
+  cut_off : (e : FrameFault) → IfSome (refusal e) (λ told. next_frame at bytes ≡ Err told)
+      → IfSome (refusal e) (λ told. frame_stream at bytes ≡ ([], Some told))
   cut_off (fault.Header place) is = read_on (Err (fault.Header place)) is
   cut_off (fault.Cut place) is = read_on (Err (fault.Cut place)) is
   cut_off (fault.TooMany place) is = read_on (Err (fault.TooMany place)) is
@@ -64,7 +69,8 @@ frames_read follows at after (Err e) before left reads = λ bytes told. cut_off 
 
 -- ---- what is refused
 
-refused_text : (o : Option Refusal) (m : Result State Refusal) → IfSome o (λ r. m ≡ Err r) → IfSome o (λ r. option_map refusal_text (result_err m) ≡ Some (refusal_text r))
+refused_text : (o : Option Refusal) (m : Result State Refusal) → IfSome o (λ r. m ≡ Err r)
+    → IfSome o (λ r. option_map refusal_text (result_err m) ≡ Some (refusal_text r))
 refused_text None m is = tt
 refused_text (Some r) m is = ap (λ answer. option_map refusal_text (result_err answer)) is
 
@@ -78,7 +84,8 @@ refused_so terms out s x value (Err stop) state = refused_text (refused_in stop)
 -- ---- what is accepted
 
 module _ (terms : Terms) (out : List ℕ) (s : Option State) (x : Frame) (after : State) where
-  pub accepted_so : (n made made' : ℕ) → frame_state terms s x ≡ Ok after → n ≡ frame_appends terms s x → made' ≡ made + frame_appends terms s x
+  pub accepted_so : (n made made' : ℕ) → frame_state terms s x ≡ Ok after → n ≡ frame_appends terms s x
+      → made' ≡ made + frame_appends terms s x
       → Accepts (followed_mpd terms out) s x (Some after) n made made'
   accepted_so n made made' state appended counts = record {
     accepted = ap (λ answer. option_map refusal_text (result_err answer)) state;
@@ -91,7 +98,8 @@ pub next_accepted : (terms : Terms) (out : List ℕ) (s after : State) (x : Fram
     → Gives (λ _. after) refused_in result (next_state s x) → IfOk result (λ n. n ≡ frame_appends terms (Some s) x)
     → AreMade (frame_appends terms (Some s) x) made made' result
     → IfOk result (λ n. Accepts (followed_mpd terms out) (Some s) x (Some after) n made made')
-next_accepted terms out s after x made made' (Ok n) is appended counts = accepted_so terms out (Some s) x after n made made' is appended counts
+next_accepted terms out s after x made made' (Ok n) is appended counts =
+    accepted_so terms out (Some s) x after n made made' is appended counts
 next_accepted terms out s after x made made' (Err stop) is appended counts = tt
 
 pub next_counts : (s after : State) (x : Frame) (result : Result ℕ Stop) → Gives (λ _. after) refused_in result (next_state s x)
@@ -102,13 +110,15 @@ next_counts s after x (Ok n) is =
     one_more_of s step.value after (ok_under _ (rules.next_of s step.value) after step.then)
 next_counts s after x (Err stop) is = tt
 
-pub made_so : {X E : Type 0} (n made made' : ℕ) (result : Result X E) → AreMade n made made' result → OnErr result ((made ≤ made') × (made' ≤ made + n))
+pub made_so : {X E : Type 0} (n made made' : ℕ) (result : Result X E) → AreMade n made made' result
+    → OnErr result ((made ≤ made') × (made' ≤ made + n))
 made_so n made made' (Ok x) counts = tt
 made_so n made made' (Err e) counts = counts
 
 -- ---- what the session answers
 
-told_again : (o : Option rules.Refusal) (stop : Stop) (meaning : Result State rules.Refusal) → IfSome o (λ r. meaning ≡ Err r) → refused_in stop ≡ option_map told_of o
+told_again : (o : Option rules.Refusal) (stop : Stop) (meaning : Result State rules.Refusal) → IfSome o (λ r. meaning ≡ Err r)
+    → refused_in stop ≡ option_map told_of o
     → IfSome (refused_in stop) (λ r. told_as told_of meaning ≡ Err r)
 told_again None stop meaning is same = rw same tt
 told_again (Some r) stop meaning is same = rw same (ap (told_as told_of) is)
@@ -122,15 +132,18 @@ taken_gives after meaning (Err f) (Err stop) is taken = told_again (told f) stop
 
 -- ---- the same of a frame
 
-pub refreshed : (x : Frame) (now : ℤ) (body : List ℕ) (values : Values) → x ≡ frame.Mpd now body → values_of body ≡ Ok values → update_of x ≡ Ok (Refresh values now)
+pub refreshed : (x : Frame) (now : ℤ) (body : List ℕ) (values : Values) → x ≡ frame.Mpd now body → values_of body ≡ Ok values
+    → update_of x ≡ Ok (Refresh values now)
 unfolding update_of
 refreshed x now body values is read = ap update_of is ∙ ap (λ r. and_then r (λ mpd. Ok (Refresh mpd now))) read
 
-pub reset_so : (x : Frame) (now : ℤ) (body : List ℕ) (values : Values) → x ≡ frame.Reset now body → values_of body ≡ Ok values → update_of x ≡ Ok (Reset values now)
+pub reset_so : (x : Frame) (now : ℤ) (body : List ℕ) (values : Values) → x ≡ frame.Reset now body → values_of body ≡ Ok values
+    → update_of x ≡ Ok (Reset values now)
 unfolding update_of
 reset_so x now body values is read = ap update_of is ∙ ap (λ r. and_then r (λ mpd. Ok (Reset mpd now))) read
 
-pub next_by : (after s : State) (x : Frame) (u : Update) (answer : Result Appended RefreshFault) (result : Result ℕ Stop) → update_of x ≡ Ok u
+pub next_by : (after s : State) (x : Frame) (u : Update) (answer : Result Appended RefreshFault) (result : Result ℕ Stop)
+    → update_of x ≡ Ok u
     → Gives (λ _. after) told answer (rules.next_of s u) → IsTaken answer result → Gives (λ _. after) refused_in result (next_state s x)
 unfolding next_state
 next_by after s x u answer result is gives taken =
@@ -139,7 +152,8 @@ next_by after s x u answer result is gives taken =
 
 -- ---- the first frame
 
-pub first_read : (terms : Terms) (x : Frame) (now : ℤ) (body : List ℕ) (values : Values) → x ≡ frame.Mpd now body → values_of body ≡ Ok values
+pub first_read : (terms : Terms) (x : Frame) (now : ℤ) (body : List ℕ) (values : Values) → x ≡ frame.Mpd now body
+    → values_of body ≡ Ok values
     → first_appends terms x ≡ rules.first_appended_by terms values now
 unfolding first_appends
 first_read terms x now body values is read =
@@ -147,8 +161,10 @@ first_read terms x now body values is read =
 
 module _ (terms : Terms) (values : Values) (now : ℤ) where
   pub first_listed : CountedAreListed → (n : ℕ) (result : Result State Stop) → n ≡ rules.first_appended_by terms values now
-      → Gives (λ s. s) refused_in result (told_as told_of (rules.begun_of terms values now)) → IfOk result (λ s. count_of_all s.common.opened ≡ n)
-  first_listed law n (Ok s) same state = first_lists law terms values now s (ok_under told_of (rules.begun_of terms values now) s state) ∙ sym same
+      → Gives (λ s. s) refused_in result (told_as told_of (rules.begun_of terms values now))
+      → IfOk result (λ s. count_of_all s.common.opened ≡ n)
+  first_listed law n (Ok s) same state = first_lists law terms values now s (ok_under told_of (rules.begun_of terms values now) s state)
+      ∙ sym same
   first_listed law n (Err stop) same state = tt
 
   pub first_one : (result : Result State Stop) → Gives (λ s. s) refused_in result (told_as told_of (rules.begun_of terms values now))

@@ -1,13 +1,16 @@
 -- States of a followed MPD.
-use Rattle.std.proofs.Common.{◌≡◌, ◌≤◌, ◌<◌, ℕ, zero, suc, ℤ, ◌+◌, true, false, not, List, [], ◌∷◌, ◌++◌, map, length, slice_get, Option, None, Some, IfSome, Result, Ok, Err, refl, sym, ap, ◌∙◌, arith}
+use Rattle.std.proofs.Common.{◌≡◌, ◌≤◌, ◌<◌, ℕ, zero, suc, ℤ, ◌+◌, true, false, not, List, [], ◌∷◌, ◌++◌, map, length, slice_get, Option}
+use Rattle.std.proofs.Common.{None, Some, IfSome, Result, Ok, Err, refl, sym, ap, ◌∙◌, arith}
 use Rattle.std.specs.List.{flat_map, range_with_len, sum, sum_by}
 use Rattle.std.specs.Option.{option_map_or}
 use Rattle.std.proofs.lemmas.List.Concat.{length-flat_map}
 use Rattle.std.proofs.lemmas.List.Sums.{sum-map, sum_by-cons}
+use Rattle.bridge_io.specs.Firsts.{first_of}
 use Rattle.timeline.specs.Listed.{IsReached, answered_count}
 use Rattle.presentation.specs.declared.fault.PresentationFault.{PresentationFault}
 use Rattle.presentation.specs.declared.parts.Content.{Content}
-use Rattle.presentation.specs.Counting.{count_at, count_faults, count_of_all, count_of_track, counted, listed_count, number_in, sections_of, tracks_of}
+use Rattle.presentation.specs.Counting.{count_at, count_faults, count_of_all, count_of_track, counted, listed_count, number_in, sections_of}
+use Rattle.presentation.specs.Counting.{tracks_of}
 use Rattle.presentation.specs.Laws.{CountedAreListed}
 use Rattle.presentation.specs.Presented.{Presented, content_at, listed_at, listed_in, window_of}
 use Rattle.presentation.specs.Told.{presented_of}
@@ -15,7 +18,9 @@ use Rattle.presentation.specs.Verifying.{url_faults}
 use Rattle.live_meaning.specs.Updates.{Terms, Update, Values}
 use Rattle.live_meaning.specs.Histories.{begun_common, begun_with, force_by}
 use Rattle.live_meaning.specs.States.{State, shown, state_with}
-use Rattle.live_meaning.specs.Refusals.{Refusal, Presentation, begun_by, begun_of, counts_listed, first_appended_by, first_appended_with, first_of, first_refusal_of, first_refusals_of, first_told_by, first_told_with, told_if, window_told, NotDynamic, next_of, next_with, refusal_of}
+use Rattle.live_meaning.specs.Refusals.{Refusal, Presentation, begun_by, begun_of, counts_listed, first_appended_by, first_appended_with}
+use Rattle.live_meaning.specs.Refusals.{first_refusal_of, first_refusals_of, first_told_by, first_told_with, told_if, window_told}
+use Rattle.live_meaning.specs.Refusals.{NotDynamic, next_of, next_with, refusal_of}
 
 -- ---- an accepted update is one more
 
@@ -44,11 +49,18 @@ begun_from : (terms : Terms) (mpd : Values) (now : ℤ) (refusal : Option Refusa
 begun_from terms mpd now (Some refusal) first s told made is = absurd (cc)
 begun_from terms mpd now None (Err fault) s told made is = absurd (cc)
 begun_from terms mpd now None (Ok p) s told made is =
-    record { p = p; refusal = told; presented = made; state = (let same : shown (begun_with (begun_common terms mpd now p)) ≡ s = cc in sym same) }
+    record {
+      p = p;
+      refusal = told;
+      presented = made;
+      state = (let same : shown (begun_with (begun_common terms mpd now p)) ≡ s = cc in
+          sym same);
+    }
 
 begun_is : (terms : Terms) (mpd : Values) (now : ℤ) (s : State) → begun_of terms mpd now ≡ Ok s → IsBegun terms mpd now s
 unfolding begun_of
-begun_is terms mpd now s is = begun_from terms mpd now (first_refusal_of terms mpd now) (presented_of mpd terms.url (Some now)) s refl refl is
+begun_is terms mpd now s is = begun_from terms mpd now (first_refusal_of terms mpd now)
+    (presented_of mpd terms.url (Some now)) s refl refl is
 
 pub first_is_one : (terms : Terms) (mpd : Values) (now : ℤ) (s : State) → begun_of terms mpd now ≡ Ok s → s.common.accepted ≡ 1
 first_is_one terms mpd now s is = ap (λ (t : State). t.common.accepted) (begun_is terms mpd now s is).state
@@ -67,15 +79,18 @@ none_mapped : (faults : List PresentationFault) → map Presentation faults ≡ 
 none_mapped [] is = refl
 none_mapped (fault ∷ faults) is = absurd (cc)
 
-none_counted : (terms : Terms) (mpd : Values) (now : ℤ) (p : Presented) → first_refusal_of terms mpd now ≡ None → presented_of mpd terms.url (Some now) ≡ Ok p
+none_counted : (terms : Terms) (mpd : Values) (now : ℤ) (p : Presented) → first_refusal_of terms mpd now ≡ None
+    → presented_of mpd terms.url (Some now) ≡ Ok p
     → count_faults p ≡ []
 unfolding first_refusal_of
 none_counted terms mpd now p none made =
     let all : first_told_by mpd (presented_of mpd terms.url (Some now)) ≡ [] = none_first (first_refusals_of terms mpd now) none in
     let told : first_told_with mpd p ≡ [] = ap (first_told_by mpd) (sym made) ∙ all in
-    let counts = map Presentation (count_faults p) in let static = told_if (not mpd.facts.live) NotDynamic in let many = window_told (counts_listed p) in
+    let counts = map Presentation (count_faults p) in let static = told_if (not mpd.facts.live) NotDynamic in
+    let many = window_told (counts_listed p) in
     none_mapped (count_faults p)
-    (none_front counts static (none_front (counts ++ static) many (none_front (counts ++ static ++ many) (map Presentation (url_faults p)) told)))
+    (none_front counts static (none_front (counts ++ static) many
+    (none_front (counts ++ static ++ many) (map Presentation (url_faults p)) told)))
 
 is_counted : (p : Presented) → count_faults p ≡ [] → counted p ≡ Ok (count_of_all p)
 unfolding counted
@@ -87,7 +102,8 @@ answered : (p : Presented) (s t : ℕ) (o : Option Content) → IfSome o (λ con
 answered p s t None reached = refl
 answered p s t (Some content) reached = rw reached refl
 
-sum_same : (f g : ℕ → ℕ) (from n : ℕ) → ((i : ℕ) → i < from + n → f i ≡ g i) → sum_by f (range_with_len from n) ≡ sum_by g (range_with_len from n)
+sum_same : (f g : ℕ → ℕ) (from n : ℕ) → ((i : ℕ) → i < from + n → f i ≡ g i) → sum_by f (range_with_len from n)
+    ≡ sum_by g (range_with_len from n)
 sum_same f g from zero each = refl
 sum_same f g from (suc n) each =
     sum_by-cons f from (range_with_len (from + 1) n)
@@ -115,7 +131,8 @@ unfolding first_appended_by
 first_lists law terms mpd now s is =
     let begun = begun_is terms mpd now s is in
     let opened : s.common.opened ≡ begun.p = ap (λ (t : State). t.common.opened) begun.state in
-    let appended : first_appended_with (first_refusal_of terms mpd now) (presented_of mpd terms.url (Some now)) ≡ sum (counts_listed begun.p) =
+    let appended : first_appended_with (first_refusal_of terms mpd now) (presented_of mpd terms.url (Some now))
+    ≡ sum (counts_listed begun.p) =
     ap (λ r. first_appended_with r (presented_of mpd terms.url (Some now))) begun.refusal ∙ ap (first_appended_with None) begun.presented in
     ap count_of_all opened
     ∙ sym (all_listed law begun.p (is_counted begun.p (none_counted terms mpd now begun.p begun.refusal begun.presented)))

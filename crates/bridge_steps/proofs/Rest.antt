@@ -1,17 +1,18 @@
 -- What is left of the course of a stream.
-use Rattle.std.proofs.Common.{◌≡◌, ◌⊎◌, ℕ, ◌+◌, IsTrue, List, [], ◌∷◌, Option, None, Some, option_map, IfSome, inl, inr, refl, sym, ap, ◌∙◌, subst}
+use Rattle.std.proofs.Common.{◌≡◌, ◌⊎◌, ℕ, ◌+◌, IsTrue, List, [], ◌∷◌, Option, None, Some, option_map, IfSome, inl, inr, refl, sym, ap, ◌∙◌}
+use Rattle.std.proofs.Common.{subst}
 use Rattle.bridge_io.specs.Fault.{Rose}
 use Rattle.bridge_jobs.specs.Frames.{refusal}
 use Rattle.bridge_jobs.specs.declared.frame.FramePos.{FramePos}
 use Rattle.bridge_jobs.specs.declared.frame.FrameFault.{FrameFault}
 use Rattle.bridge_jobs.specs.declared.frame.FrameFault.TheVariants as fault
-use Rattle.bridge_runs.specs.declared.status.Verdict.TheVariants as verdict
-use Rattle.bridge_runs.specs.declared.ending.Ending.{Ending}
-use Rattle.bridge_runs.specs.declared.ending.Ending.TheVariants as ending
-use Rattle.bridge_runs.specs.Courses.{World}
-use Rattle.bridge_runs.specs.Runs.{Works, NeverFalls}
-use Rattle.bridge_runs.specs.Steps.{first_step, StepIsDone, Stops, Leads, IsCaused}
-use Rattle.bridge_runs.proofs.Stepping.{IsIdle, memory_first, read_fault_first, ends, stops, leads_on}
+use Rattle.bridge_courses.specs.declared.status.Verdict.TheVariants as verdict
+use Rattle.bridge_courses.specs.declared.ending.Ending.{Ending}
+use Rattle.bridge_courses.specs.declared.ending.Ending.TheVariants as ending
+use Rattle.bridge_courses.specs.Courses.{World}
+use Rattle.bridge_courses.specs.Executions.{Works, NeverFalls}
+use Rattle.bridge_courses.specs.Steps.{first_step, StepIsDone, Stops, Leads, IsCaused}
+use Rattle.bridge_courses.proofs.Stepping.{IsIdle, memory_first, read_fault_first, ends, stops, leads_on}
 use Rattle.bridge_report.specs.Outcomes.{IsRefusal}
 use Rattle.bridge_report.specs.Following.{Followed, step_of, next_of, accepted_with, stream_line, end_by, course_from}
 use Rattle.bridge_steps.specs.declared.run.Following.{Following}
@@ -46,7 +47,8 @@ module _ {S X : Type 0} (f : Followed S X) (s : S) (i a : ℕ) where
     broken (fault.Cut place) is last rose idle = refused (fault.Cut place) is last idle
     broken (fault.TooMany place) is last rose idle = refused (fault.TooMany place) is last idle
     broken fault.Fault is last rose idle = subst (λ t. Works (course_of f s i a stream) t before after) (sym last)
-        (read_fault_first (course_of f s i a stream) before after (reads_first stream.0 (option_map fault_line stream.1)) (inr (rose refl)) idle)
+        (read_fault_first (course_of f s i a stream) before after (reads_first stream.0 (option_map fault_line stream.1))
+        (inr (rose refl)) idle)
     broken fault.Memory is last rose idle = subst (λ t. Works (course_of f s i a stream) t before after) (sym last)
         (memory_first (course_of f s i a stream) before after idle)
 

@@ -1,16 +1,18 @@
 -- MPDs that are read, and static ones, whose presentations are finished.
 use Rattle.std.proofs.Common.{◌≡◌, ◌∙◌, ℕ, ℤ, Bool, true, false, List, Option, None, Some, IsTrue, Result, Ok, Err, if◌then◌else◌, refl, ap}
 use Rattle.std.specs.Prelude.{is_some}
+use Rattle.bridge_io.proofs.AndThen.{steps_of}
+use Rattle.bridge_io.specs.Answer.{and_then}
 use Rattle.mpd_levels.specs.Segments.{Segments}
 use Rattle.mpd_rules.specs.Rules.{typed_mpd_of}
 use Rattle.mpd_rules.specs.Typed.{TypedMpd}
 use Rattle.mpd_text.specs.Meaning.{reading_of}
 use Rattle.mpd_text.specs.Trees.{Element}
-use Rattle.presentation.proofs.Filling.{steps_of, ok_under}
+use Rattle.presentation.proofs.Filling.{ok_under}
 use Rattle.presentation.specs.Listable.{AreListable, VerifiedAreListable}
 use Rattle.presentation.specs.Origins.{CameFromStaticMpd, StaticAreFinished}
 use Rattle.presentation.specs.Presented.{Presented, is_finished}
-use Rattle.presentation.specs.Told.{and_then, told_as, presented_of}
+use Rattle.presentation.specs.Told.{told_as, presented_of}
 use Rattle.presentation.specs.Verifying.{verified}
 use Rattle.bridge_report.specs.declared.refusal.Refusal.{Refusal}
 use Rattle.bridge_steps.specs.Manifests.{checked, checked_presentation, mpd_of, ready_of, unless_live, values_of}
@@ -40,7 +42,8 @@ pub record IsReady (unit : ℕ) (url : List ℕ) (now : Option ℤ) (mpd : Typed
   pub longest : List ℕ
   pub all : verified p unit ≡ Ok longest
 
-pub ready_is : (unit : ℕ) (url : List ℕ) (now : Option ℤ) (mpd : TypedMpd (Option Segments)) (p : Presented) → ready_of unit url now mpd ≡ Ok p
+pub ready_is : (unit : ℕ) (url : List ℕ) (now : Option ℤ) (mpd : TypedMpd (Option Segments)) (p : Presented)
+    → ready_of unit url now mpd ≡ Ok p
     → IsReady unit url now mpd p
 unfolding ready_of checked
 ready_is unit url now mpd p is =
@@ -107,7 +110,8 @@ finished_read are_finished None unit url now bytes p is some = absurd (let e = s
 finished_read are_finished (Some live) unit url now bytes p is some = are_finished p (static_read live unit url now bytes p is).came
 
 -- and its segments can be gone over
-pub listable_read : VerifiedAreListable → (live : Option Refusal) (unit : ℕ) (url : List ℕ) (now : Option ℤ) (bytes : List ℕ) (p : Presented)
+pub listable_read : VerifiedAreListable → (live : Option Refusal) (unit : ℕ) (url : List ℕ) (now : Option ℤ) (bytes : List ℕ)
+    (p : Presented)
     → checked_presentation live unit url now bytes ≡ Ok p → IsTrue (is_some live) → AreListable p
 listable_read are_listable None unit url now bytes p is some = absurd (let e = some in cc)
 listable_read are_listable (Some live) unit url now bytes p is some =

@@ -2,13 +2,13 @@
 use Rattle.std.proofs.Common.{◌≡◌, Option, None, Some, inl, inr, refl, subst, sym, arith}
 use Rattle.std.specs.Option.{ForSome}
 use Rattle.std.specs.Prelude.{codes}
-use Rattle.bridge_runs.specs.declared.ending.Ending.{Ending}
-use Rattle.bridge_runs.specs.declared.ending.Ending.TheVariants as ending
-use Rattle.bridge_runs.specs.declared.status.Verdict.TheVariants as verdict
-use Rattle.bridge_runs.specs.Courses.{Course, World}
-use Rattle.bridge_runs.specs.Runs.{NeverFalls}
-use Rattle.bridge_runs.specs.Steps.{IsCaused, Work}
-use Rattle.bridge_runs.proofs.Stepping.{memory_first}
+use Rattle.bridge_courses.specs.declared.ending.Ending.{Ending}
+use Rattle.bridge_courses.specs.declared.ending.Ending.TheVariants as ending
+use Rattle.bridge_courses.specs.declared.status.Verdict.TheVariants as verdict
+use Rattle.bridge_courses.specs.Courses.{Course, World}
+use Rattle.bridge_courses.specs.Executions.{NeverFalls}
+use Rattle.bridge_courses.specs.Steps.{IsCaused, Work}
+use Rattle.bridge_courses.proofs.Stepping.{memory_first}
 use Rattle.bridge_report.specs.Outcomes.{base_refused, course_by}
 use Rattle.bridge_report.specs.Refusals.{refusal_line}
 use Rattle.bridge_report.specs.declared.refusal.Refusal.TheVariants as refusal

@@ -1,20 +1,21 @@
 -- How the work of a run ends follows from what it leaves of the files.
-use Rattle.std.proofs.Common.{◌≡◌, ◌⊎◌, ◌+◌, ◌≤◌, ℕ, Bool, false, IsTrue, List, [], Option, None, Some, option_map, inl, inr, refl, sym, ap, ◌∙◌, subst, arith}
+use Rattle.std.proofs.Common.{◌≡◌, ◌⊎◌, ◌+◌, ◌≤◌, ℕ, Bool, false, IsTrue, List, [], Option, None, Some, option_map, inl, inr, refl, sym, ap}
+use Rattle.std.proofs.Common.{◌∙◌, subst, arith}
 use Rattle.std.proofs.lemmas.List.{append-nil}
 use Rattle.std.specs.Option.{ForSome}
 use Rattle.bridge_io.specs.Fault.{Rose}
 use Rattle.bridge_io.specs.declared.outside.Fail.TheVariants as fail
 use Rattle.bridge_io.specs.InOrder.{put_all}
-use Rattle.bridge_runs.specs.declared.status.Verdict.{Verdict}
-use Rattle.bridge_runs.specs.declared.status.Verdict.TheVariants as verdict
-use Rattle.bridge_runs.specs.declared.status.Status.{Status}
-use Rattle.bridge_runs.specs.declared.status.Status.TheVariants as status
-use Rattle.bridge_runs.specs.declared.ending.Ending.{Ending}
-use Rattle.bridge_runs.specs.declared.ending.Ending.TheVariants as ending
-use Rattle.bridge_runs.specs.Runs.{Works, Finishes, TellsAs, status_of, status_untold, words_line}
-use Rattle.bridge_runs.specs.Steps.{Work}
-use Rattle.bridge_runs.specs.Courses.{Course, World, Whole, Step, Reaches, last_step}
-use Rattle.bridge_runs.proofs.Stepping.{none_put, none_told}
+use Rattle.bridge_courses.specs.declared.status.Verdict.{Verdict}
+use Rattle.bridge_courses.specs.declared.status.Verdict.TheVariants as verdict
+use Rattle.bridge_courses.specs.declared.status.Status.{Status}
+use Rattle.bridge_courses.specs.declared.status.Status.TheVariants as status
+use Rattle.bridge_courses.specs.declared.ending.Ending.{Ending}
+use Rattle.bridge_courses.specs.declared.ending.Ending.TheVariants as ending
+use Rattle.bridge_courses.specs.Executions.{Works, Finishes, TellsAs, status_of, status_untold, words_line}
+use Rattle.bridge_courses.specs.Steps.{Work}
+use Rattle.bridge_courses.specs.Courses.{Course, World, Whole, Step, Reaches, last_step}
+use Rattle.bridge_courses.proofs.Stepping.{none_put, none_told}
 use Rattle.bridge_report.specs.Outcomes.{Outcome, Ends, Writes, course_by, IsSaid, IsEnding}
 use Rattle.bridge_steps.specs.Endings.{EndsAs, Surroundings, around}
 use Rattle.bridge_steps.proofs.Endings.{over}
@@ -156,43 +157,34 @@ work_of o told before after ends input faults report =
           record { input = omega (arith, input); reads = ends.reads; writes = ends.writes; report = omega (arith, faults) };
     })
 
--- Words are told of an ending by words alone
-untold_words : (told : Ending) → status_untold told ≡ status.Words → status_of told ≡ status.Words
-untold_words (ending.Ended verdict.Done line) is = absurd (cc)
-untold_words (ending.Ended verdict.Refused line) is = is
-untold_words (ending.Ended verdict.Words line) is = is
-untold_words (ending.Ended verdict.Differ line) is = is
-untold_words ending.Words is = is
-untold_words ending.ReadFault is = is
-untold_words ending.WriteFault is = is
-untold_words ending.Memory is = is
-untold_words (ending.Cut fail.Failed) is = is
-untold_words (ending.Cut fail.Memory) is = is
+-- a status that neither a write fault nor want of memory has is told of its own endings alone
+module _ (end : Status) (no_write : status.WriteFault ≡ end → ⊥) (no_memory : status.Memory ≡ end → ⊥) where
+  untold : (told : Ending) → status_untold told ≡ end → status_of told ≡ end
+  untold (ending.Ended verdict.Done line) is = absurd (no_write is)
+  untold (ending.Ended verdict.Refused line) is = is
+  untold (ending.Ended verdict.Words line) is = is
+  untold (ending.Ended verdict.Differ line) is = is
+  untold ending.Words is = is
+  untold ending.ReadFault is = is
+  untold ending.WriteFault is = is
+  untold ending.Memory is = is
+  untold (ending.Cut fail.Failed) is = is
+  untold (ending.Cut fail.Memory) is = is
+
+  told_itself : (told : Ending) (status : Status) (f f' : ℕ) (r r' : Option (List ℕ)) → TellsAs told status f f' r r' → status ≡ end
+      → status_of told ≡ end
+  told_itself told status f f' r r' (inl tells) is = sym tells.0 ∙ is
+  told_itself told status f f' r r' (inr (inl tells)) is = untold told (sym tells.0 ∙ is)
+  told_itself told status f f' r r' (inr (inr tells)) is = absurd (no_memory (sym tells.0 ∙ is))
 
 pub words_told : (told : Ending) (end : Status) (f f' : ℕ) (r r' : Option (List ℕ)) → TellsAs told end f f' r r' → end ≡ status.Words
     → status_of told ≡ status.Words
-words_told told end f f' r r' (inl tells) is = sym tells.0 ∙ is
-words_told told end f f' r r' (inr (inl tells)) is = untold_words told (sym tells.0 ∙ is)
-words_told told end f f' r r' (inr (inr tells)) is = absurd (let e = tells.0 in cc)
+words_told = told_itself status.Words (λ is. cc) (λ is. cc)
 
--- a read fault is told of one alone
-untold_read : (told : Ending) → status_untold told ≡ status.ReadFault → status_of told ≡ status.ReadFault
-untold_read (ending.Ended verdict.Done line) is = absurd (cc)
-untold_read (ending.Ended verdict.Refused line) is = is
-untold_read (ending.Ended verdict.Words line) is = is
-untold_read (ending.Ended verdict.Differ line) is = is
-untold_read ending.Words is = is
-untold_read ending.ReadFault is = is
-untold_read ending.WriteFault is = is
-untold_read ending.Memory is = is
-untold_read (ending.Cut fail.Failed) is = is
-untold_read (ending.Cut fail.Memory) is = is
-
-pub read_fault_told : (told : Ending) (end : Status) (f f' : ℕ) (r r' : Option (List ℕ)) → TellsAs told end f f' r r' → end ≡ status.ReadFault
+pub read_fault_told : (told : Ending) (end : Status) (f f' : ℕ) (r r' : Option (List ℕ)) → TellsAs told end f f' r r'
+    → end ≡ status.ReadFault
     → status_of told ≡ status.ReadFault
-read_fault_told told end f f' r r' (inl tells) is = sym tells.0 ∙ is
-read_fault_told told end f f' r r' (inr (inl tells)) is = untold_read told (sym tells.0 ∙ is)
-read_fault_told told end f f' r r' (inr (inr tells)) is = absurd (let e = tells.0 in cc)
+read_fault_told = told_itself status.ReadFault (λ is. cc) (λ is. cc)
 
 -- a write fault is told of one, or where the sink failed
 pub write_fault_told : (told : Ending) (end : Status) (f f' : ℕ) (r r' : Option (List ℕ)) {P : Type 0} → TellsAs told end f f' r r'

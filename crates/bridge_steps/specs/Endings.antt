@@ -3,14 +3,14 @@ use Rattle.std.specs.Prelude.{◌≡◌, ◌⊎◌, ◌≤◌, ℕ, true, false,
 use Rattle.std.specs.Option.{ForSome}
 use Rattle.bridge_io.specs.Fault.{Rose}
 use Rattle.bridge_io.specs.Outside.{Files}
-use Rattle.bridge_runs.specs.declared.ending.Ending.{Ending}
-use Rattle.bridge_runs.specs.declared.ending.Ending.TheVariants as ending
-use Rattle.bridge_runs.specs.declared.status.Status.TheVariants as status
-use Rattle.bridge_runs.specs.declared.status.Verdict.{Verdict}
-use Rattle.bridge_runs.specs.declared.status.Verdict.TheVariants as verdict
-use Rattle.bridge_runs.specs.Runs.{status_of}
-use Rattle.file_pieces.specs.declared.fault.OutFault.{OutFault}
-use Rattle.file_pieces.specs.declared.fault.OutFault.TheVariants as out
+use Rattle.bridge_courses.specs.declared.ending.Ending.{Ending}
+use Rattle.bridge_courses.specs.declared.ending.Ending.TheVariants as ending
+use Rattle.bridge_courses.specs.declared.status.Status.TheVariants as status
+use Rattle.bridge_courses.specs.declared.status.Verdict.{Verdict}
+use Rattle.bridge_courses.specs.declared.status.Verdict.TheVariants as verdict
+use Rattle.bridge_courses.specs.Executions.{status_of}
+use Rattle.bridge_io.specs.declared.out_fault.OutFault.{OutFault}
+use Rattle.bridge_io.specs.declared.out_fault.OutFault.TheVariants as out
 use Rattle.bridge_report.specs.declared.reading.Halt.{Halt}
 use Rattle.bridge_report.specs.declared.refusal.Refusal.TheVariants as refusal
 use Rattle.bridge_report.specs.Outcomes.{Outcome, Ends, Writes, IsEnding, IsHalt, IsRefusal, base_refused, course_by}

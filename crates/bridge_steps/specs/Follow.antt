@@ -5,9 +5,9 @@ use Rattle.bridge_jobs.specs.Frames.{IsFramePos, start}
 use Rattle.bridge_jobs.specs.declared.frame.FramePos.{FramePos}
 use Rattle.bridge_jobs.specs.declared.frame.FrameFault.{FrameFault}
 use Rattle.bridge_jobs.specs.declared.frame.FrameFault.TheVariants as fault
-use Rattle.bridge_runs.specs.declared.ending.Ending.{Ending}
-use Rattle.bridge_runs.specs.declared.ending.Ending.TheVariants as ending
-use Rattle.bridge_runs.specs.Courses.{Course, World}
+use Rattle.bridge_courses.specs.declared.ending.Ending.{Ending}
+use Rattle.bridge_courses.specs.declared.ending.Ending.TheVariants as ending
+use Rattle.bridge_courses.specs.Courses.{Course, World}
 use Rattle.bridge_report.specs.Following.{Followed, course_from}
 use Rattle.bridge_report.specs.Outcomes.{IsRefusal, base_refused, course_by}
 use Rattle.bridge_report.specs.Refusals.{refusal_line}

@@ -1,15 +1,17 @@
 -- A followed MPD: what its frames are, why one is refused, and what is written of what the accepted ones leave.
-use Rattle.std.specs.Prelude.{◌≡◌, ℕ, ◌+◌, ◌≤◌, ◌==◌, List, [], ◌∷◌, ◌++◌, map, length, codes, if◌then◌else◌, Option, Some, None, option_map, Result, Ok, Err}
+use Rattle.std.specs.Prelude.{◌≡◌, ℕ, ◌+◌, ◌≤◌, ◌==◌, List, [], ◌∷◌, ◌++◌, map, length, codes, if◌then◌else◌, Option, Some, None}
+use Rattle.std.specs.Prelude.{option_map, Result, Ok, Err}
 use Rattle.std.specs.List.{range_with_len}
 use Rattle.std.specs.Option.{option_map_or}
 use Rattle.std.specs.Result.{result_ok, result_err}
+use Rattle.bridge_io.specs.Answer.{and_then}
 use Rattle.bridge_jobs.specs.Frames.{frames_from}
 use Rattle.bridge_jobs.specs.Laws.{in_folder, playlist_of}
 use Rattle.bridge_jobs.specs.declared.frame.Frame.{Frame}
 use Rattle.bridge_jobs.specs.declared.frame.Frame.TheVariants as frame
 use Rattle.bridge_jobs.specs.declared.frame.FramePos.{FramePos}
 use Rattle.hls_writer.specs.Master.{master_text}
-use Rattle.presentation.specs.Told.{and_then, told_as}
+use Rattle.presentation.specs.Told.{told_as}
 use Rattle.live_meaning.specs.Updates.{Update, Refresh, Reset, Tick, Terms}
 use Rattle.live_meaning.specs.States.{State}
 use Rattle.live_meaning.specs.Refusals as rules

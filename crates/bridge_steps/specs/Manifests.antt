@@ -1,17 +1,18 @@
 -- From the bytes of an MPD to a presentation whose segments all have addresses.
 use Rattle.std.specs.Prelude.{ℕ, ℤ, List, if◌then◌else◌, Option, Some, None, Result, Ok, Err}
+use Rattle.bridge_io.specs.Answer.{and_then}
 use Rattle.bridge_io.specs.Outside.{Files}
 use Rattle.mpd_text.specs.Meaning.{reading_of}
 use Rattle.mpd_levels.specs.Segments.{Segments}
 use Rattle.mpd_rules.specs.Typed.{TypedMpd}
 use Rattle.mpd_rules.specs.Rules.{typed_mpd_of}
 use Rattle.presentation.specs.Presented.{Presented}
-use Rattle.presentation.specs.Told.{and_then, told_as, presented_of}
+use Rattle.presentation.specs.Told.{told_as, presented_of}
 use Rattle.presentation.specs.Verifying.{verified}
 use Rattle.bridge_report.specs.declared.refusal.Refusal.{Refusal}
 use Rattle.bridge_report.specs.declared.refusal.Refusal.TheVariants as refusal
 use Rattle.bridge_report.specs.Reading.{Named, content_of, of_file}
-use Rattle.bridge_playlists.specs.declared.place.Place.{Place}
+use Rattle.bridge_playlists.specs.declared.place.StorePlace.{StorePlace}
 
 -- a live MPD is refused so, if it is
 abbrev pub unless_live : (live : Option Refusal) → TypedMpd (Option Segments) → Result (TypedMpd (Option Segments)) Refusal
@@ -39,8 +40,8 @@ unfoldable pub checked_presentation : (live : Option Refusal) (unit : ℕ) (url 
 checked_presentation live unit url now bytes = and_then (mpd_of live bytes) (ready_of unit url now)
 
 -- the same of the file at a place, which has these bytes
-abbrev pub mpd_in : (live : Option Refusal) (unit : ℕ) (now : Option ℤ) → Place → (bytes : List ℕ) → Result Presented Named
+abbrev pub mpd_in : (live : Option Refusal) (unit : ℕ) (now : Option ℤ) → StorePlace → (bytes : List ℕ) → Result Presented Named
 mpd_in live unit now place bytes = of_file place.file (checked_presentation live unit place.url now bytes)
 
-unfoldable pub mpd_at : (live : Option Refusal) (unit : ℕ) (now : Option ℤ) → Place → Files → Result Presented Named
+unfoldable pub mpd_at : (live : Option Refusal) (unit : ℕ) (now : Option ℤ) → StorePlace → Files → Result Presented Named
 mpd_at live unit now place files = and_then (content_of place.file files) (mpd_in live unit now place)

@@ -1,10 +1,12 @@
 // What is reported of a presentation in one line.
-ghost use Rattle.std.specs.Prelude.{◌≡◌, ◌++◌, Ok, IfOk, OnOk};
+ghost use Rattle.std.specs.Prelude.{◌≡◌, ◌++◌, codes, Ok, IfOk, OnOk};
 ghost use Rattle.std.specs.String.{string_bytes};
+ghost use Rattle.bridge_jobs.specs.Laws.{in_folder};
 ghost use Rattle.presentation.specs.Counting.{counted, count_of_all};
 ghost use Rattle.bridge_steps.specs.Done as spec;
 
-use bridge_io::{NoMemory, Text};
+use crate::playlists::file_in;
+use bridge_io::{Name, NoMemory, Text};
 use presentation::Presentation;
 use std::alloc::{AllocError, Global};
 use std::fmt::Write;
@@ -17,6 +19,20 @@ pub fn done_line(alloc: Global, presentation: &Presentation) -> Result<Text, NoM
     let mut line = String::new(alloc);
     push_counts(&mut line, "done", presentation)?;
     Ok(Text::from(line))
+}
+
+/// The name of the MPD in a folder and the line of the report, which are made before anything is written.
+pub fn mpd_and_line(
+    alloc: Global,
+    out: &Name,
+    presentation: &Presentation,
+) -> Result<(Name, Text), NoMemory>
+    requires counted { counted presentation.now ≡ Ok (count_of_all presentation.now) }
+    ensures name { IfOk result (λ told. told.0 ≡ in_folder out.now (codes "manifest.mpd")) }
+    ensures line { IfOk result (λ told. told.1 ≡ spec.done_line presentation.now) }
+{
+    let name = file_in(alloc, out, "manifest.mpd")?;
+    Ok((name, done_line(alloc, presentation)?))
 }
 
 /// Adds how many tracks, sections and listed segments a presentation has, and how many were left out.

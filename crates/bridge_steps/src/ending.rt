@@ -2,18 +2,18 @@
 ghost use Rattle.bridge_playlists.specs.Places as places;
 ghost use Rattle.bridge_steps.specs.Endings.{IsPlaced, IsTold, IsWritten};
 
+use bridge_courses::{Ending, Verdict};
 use bridge_io::{Name, NoMemory, Text};
-use bridge_playlists::{Place, place_of};
+use bridge_playlists::{StorePlace, store_place_of};
 use bridge_report::{Halt, Refusal, halted, refused};
-use bridge_runs::{Ending, Verdict};
 use hls_writer::OutFault;
 use std::alloc::Global;
 
 /// Where a file of a job lies, under the URL of the store's root. Where that is refused, the command ends so.
-pub fn place_in(alloc: Global, base: &Text, file: &Name) -> Result<Place, Ending>
-    ensures { IsPlaced (places.place_of base.now file.now) result }
+pub fn place_in(alloc: Global, base: &Text, file: &Name) -> Result<StorePlace, Ending>
+    ensures { IsPlaced (places.store_place_of base.now file.now) result }
 {
-    match place_of(alloc, base.as_str(), file) {
+    match store_place_of(alloc, base.as_str(), file) {
         Ok(Some(place)) => Ok(place),
         Ok(None) => Err(refused(alloc, "-", Refusal::Base)),
         Err(NoMemory) => Err(Ending::Memory),

@@ -3,7 +3,7 @@ ghost use Rattle.std.specs.Prelude.{◌≡◌, ℕ, ◌+◌, ◌<◌, ◌≤◌,
 ghost use Rattle.bridge_io.specs.Fault.{HasCause};
 ghost use Rattle.bridge_io.specs.InOrder.{put_all, AreBegun};
 ghost use Rattle.bridge_io.specs.Outside.{Changes};
-ghost use Rattle.file_pieces.specs.declared.fault.OutFault.TheVariants.{WriteFault};
+ghost use Rattle.bridge_io.specs.declared.out_fault.OutFault.TheVariants.{WriteFault};
 ghost use Rattle.bridge_jobs.specs.Frames.{IsFramePos, most_frames};
 ghost use Rattle.bridge_jobs.specs.declared.frame.FramePos.{FramePos};
 ghost use Rattle.bridge_jobs.specs.declared.frame.FrameFault.TheVariants.{Fault};
@@ -68,7 +68,8 @@ pub trait Follow {
         requires kept { is_kept self.now live.old }
         requires read { is_read self.now frame.now }
         ensures accepted { IfOk result (λ n. Accepts (told self.now) live.old frame.now live.new n steps.old steps.new) }
-        ensures refused { IfErr result (λ stop. IfSome (refused_in stop) (λ r. (told self.now).refusal live.old frame.now ≡ Some (refusal_text r))) }
+        ensures refused { IfErr result (λ stop. IfSome (refused_in stop) (λ r. (told self.now).refusal live.old frame.now
+            ≡ Some (refusal_text r))) }
         ensures same { OnErr result (live.new ≡ live.old) }
         ensures made { OnErr result ((steps.old ≤ steps.new) × (steps.new ≤ steps.old + (told self.now).makes live.old frame.now)) }
         ensures counts { OnOk result (accepted self.now live.new ≡ accepted self.now live.old + 1) }

@@ -12,7 +12,7 @@ mod manifest;
 mod playlists;
 mod run;
 
-pub use done::{count_of, done_line, push_counts};
+pub use done::{count_of, done_line, mpd_and_line, push_counts};
 pub use ending::{place_in, told, written};
 pub use frames::Follow;
 pub use live_files::write_live_files;

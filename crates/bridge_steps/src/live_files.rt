@@ -3,7 +3,7 @@ ghost use Rattle.std.specs.Prelude.{◌≡◌, ◌<◌, length, OnOk, OnErr};
 ghost use Rattle.bridge_io.specs.Fault.{HasCause};
 ghost use Rattle.bridge_io.specs.InOrder.{put_all, MayBegin, AreBegun};
 ghost use Rattle.bridge_io.specs.Outside.{put, Changes};
-ghost use Rattle.file_pieces.specs.declared.fault.OutFault.TheVariants.{WriteFault};
+ghost use Rattle.bridge_io.specs.declared.out_fault.OutFault.TheVariants.{WriteFault};
 ghost use Rattle.bridge_steps.specs.LiveMpds as spec;
 
 use crate::playlists::{playlist_name, write_the_master};

@@ -19,7 +19,7 @@ ghost use Rattle.bridge_report.specs.Refusals.{refused_in};
 ghost use Rattle.bridge_steps.specs.Manifests as spec;
 
 use bridge_io::{Ledger, Steps, Store};
-use bridge_playlists::Place;
+use bridge_playlists::StorePlace;
 use bridge_report::{Halt, Refusal, Stop, content_of};
 use exact_time::Digits;
 use iso_time::Instant;
@@ -48,7 +48,7 @@ pub struct Ready {
 #[tactic(auto, unfolding(crate::specs::Manifests::mpd_at))]
 pub fn mpd_at<F: Store, L: Ledger>(
     alloc: Global,
-    place: &Place,
+    place: &StorePlace,
     now: Option<Instant>,
     live: Option<Refusal>,
     digits: Digits,
@@ -71,7 +71,7 @@ pub fn mpd_at<F: Store, L: Ledger>(
 /// The same of bytes that the file at a place has.
 pub fn mpd_in<L: Ledger>(
     alloc: Global,
-    place: &Place,
+    place: &StorePlace,
     bytes: &[u8],
     now: Option<Instant>,
     live: Option<Refusal>,
@@ -104,7 +104,8 @@ fn checked_presentation<L: Ledger>(
     digits: Digits,
     steps: &mut Steps<L>,
 ) -> Result<Ready, Stop>
-    ensures ready { Gives (λ ready. ready.presentation) refused_in result (spec.checked_presentation live (10 ^ digits) url.now now bytes.now) }
+    ensures ready { Gives (λ ready. ready.presentation) refused_in result
+        (spec.checked_presentation live (10 ^ digits) url.now now bytes.now) }
     ensures digits { IfOk result (λ ready. ready.digits ≡ digits) }
 {
     let mpd = mpd_of(alloc, bytes, live)?;

@@ -3,7 +3,7 @@ ghost use Rattle.std.specs.Prelude.{◌≡◌, ◌<◌, length, IfOk, OnOk, OnEr
 ghost use Rattle.bridge_io.specs.Fault.{HasCause};
 ghost use Rattle.bridge_io.specs.InOrder.{put_all, MayBegin, AreBegun};
 ghost use Rattle.bridge_io.specs.Outside.{put, Changes};
-ghost use Rattle.file_pieces.specs.declared.fault.OutFault.TheVariants.{WriteFault};
+ghost use Rattle.bridge_io.specs.declared.out_fault.OutFault.TheVariants.{WriteFault};
 ghost use Rattle.bridge_jobs.specs.Laws.{in_folder, playlist_of};
 ghost use Rattle.bridge_steps.specs.Playlists as spec;
 
@@ -24,8 +24,10 @@ pub fn write_playlists<F: Store, L: Ledger>(
     store: &mut F,
     steps: &mut Steps<L>,
 ) -> Result<(), OutFault>
-    ensures ok { OnOk result (Changes (put_all (spec.playlists out.now ready.now.digits ready.now.presentation)) (F.files store.old) (F.files store.new)) }
-    ensures err { OnErr result (AreBegun (spec.playlists out.now ready.now.digits ready.now.presentation) (F.files store.old) (F.files store.new)) }
+    ensures ok { OnOk result (Changes (put_all (spec.playlists out.now ready.now.digits ready.now.presentation)) (F.files store.old)
+        (F.files store.new)) }
+    ensures err { OnErr result (AreBegun (spec.playlists out.now ready.now.digits ready.now.presentation) (F.files store.old)
+        (F.files store.new)) }
     ensures cause { HasCause WriteFault (F.write_faults store.old) (F.write_faults store.new) result }
     ensures reads { F.read_faults store.new ≡ F.read_faults store.old }
 {
@@ -41,8 +43,10 @@ fn write_tracks<F: Store, L: Ledger>(
     store: &mut F,
     steps: &mut Steps<L>,
 ) -> Result<(), OutFault>
-    ensures ok { OnOk result (Changes (put_all (spec.track_files out.now ready.now.digits ready.now.presentation)) (F.files store.old) (F.files store.new)) }
-    ensures err { OnErr result (AreBegun (spec.track_files out.now ready.now.digits ready.now.presentation) (F.files store.old) (F.files store.new)) }
+    ensures ok { OnOk result (Changes (put_all (spec.track_files out.now ready.now.digits ready.now.presentation)) (F.files store.old)
+        (F.files store.new)) }
+    ensures err { OnErr result (AreBegun (spec.track_files out.now ready.now.digits ready.now.presentation) (F.files store.old)
+        (F.files store.new)) }
     ensures cause { HasCause WriteFault (F.write_faults store.old) (F.write_faults store.new) result }
     ensures reads { F.read_faults store.new ≡ F.read_faults store.old }
 {
@@ -63,7 +67,8 @@ fn write_track<F: Store, L: Ledger>(
     requires { track < length ready.now.presentation.tracks }
     ensures ok { OnOk result (let file = spec.track_file out.now ready.now.digits ready.now.presentation track in
         Changes (put file.0 file.1) (F.files store.old) (F.files store.new)) }
-    ensures err { OnErr result (MayBegin (spec.track_file out.now ready.now.digits ready.now.presentation track) (F.files store.old) (F.files store.new)) }
+    ensures err { OnErr result (MayBegin (spec.track_file out.now ready.now.digits ready.now.presentation track) (F.files store.old)
+        (F.files store.new)) }
     ensures cause { HasCause WriteFault (F.write_faults store.old) (F.write_faults store.new) result }
     ensures reads { F.read_faults store.new ≡ F.read_faults store.old }
 {
@@ -86,7 +91,8 @@ pub(crate) fn write_the_master<F: Store>(
     presentation: &Presentation,
     store: &mut F,
 ) -> Result<(), OutFault>
-    ensures ok { OnOk result (let file = spec.master_file out.now presentation.now in Changes (put file.0 file.1) (F.files store.old) (F.files store.new)) }
+    ensures ok { OnOk result (let file = spec.master_file out.now presentation.now in
+        Changes (put file.0 file.1) (F.files store.old) (F.files store.new)) }
     ensures err { OnErr result (MayBegin (spec.master_file out.now presentation.now) (F.files store.old) (F.files store.new)) }
     ensures cause { HasCause WriteFault (F.write_faults store.old) (F.write_faults store.new) result }
     ensures reads { F.read_faults store.new ≡ F.read_faults store.old }

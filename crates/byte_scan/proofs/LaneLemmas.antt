@@ -1,5 +1,6 @@
 -- What comparisons of a vector with a splat answer in each lane, and how answers combine.
-use Rattle.std.proofs.Common.{◌≡◌, ℕ, Bool, true, false, cond, not, ◌&&◌, ◌||◌, eqb, List, [], ◌∷◌, map, length, replicate, bit_and, bit_or, refl, sym, ap₂, subst, ◌∙◌, arith}
+use Rattle.std.proofs.Common.{◌≡◌, ℕ, Bool, true, false, cond, not, ◌&&◌, ◌||◌, eqb, List, [], ◌∷◌, map, length, replicate, bit_and, bit_or}
+use Rattle.std.proofs.Common.{refl, sym, ap₂, subst, ◌∙◌, arith}
 use Rattle.std.proofs.lemmas.Simd.{length-replicate, zip2_splat}
 use Rattle.std.specs.Simd.Lanes.{zip2, sel_l, top}
 use Rattle.byte_scan.specs.Lanes.{flag, flags}
@@ -9,7 +10,8 @@ chosen true = refl
 chosen false = refl
 
 select_by_length : (t : ℕ → ℕ → Bool) (xs ys : List ℕ) → length xs ≡ length ys
-    → sel_l (map (top 7) (zip2 (λ x y. flag (t x y)) xs ys)) (replicate (length xs) 255) (replicate (length xs) 0) ≡ zip2 (λ x y. flag (t x y)) xs ys
+    → sel_l (map (top 7) (zip2 (λ x y. flag (t x y)) xs ys)) (replicate (length xs) 255) (replicate (length xs) 0)
+    ≡ zip2 (λ x y. flag (t x y)) xs ys
 select_by_length t [] ys long = refl
 select_by_length t (x ∷ xs) [] long = refl
 select_by_length t (x ∷ xs) (y ∷ ys) long = ap₂ ◌∷◌ (chosen (t x y)) (select_by_length t xs ys (omega arith))
@@ -19,7 +21,8 @@ pub select_compared : (t : ℕ → ℕ → Bool) (n : ℕ) (xs : List ℕ) (byte
     → sel_l (map (top 7) (zip2 (λ x y. flag (t x y)) xs (replicate n byte))) (replicate n 255) (replicate n 0) ≡ flags (λ x. t x byte) xs
 select_compared t n xs byte long =
     let splat = replicate n byte in
-    subst (λ m. sel_l (map (top 7) (zip2 (λ x y. flag (t x y)) xs splat)) (replicate m 255) (replicate m 0) ≡ zip2 (λ x y. flag (t x y)) xs splat) long
+    subst (λ m. sel_l (map (top 7) (zip2 (λ x y. flag (t x y)) xs splat)) (replicate m 255) (replicate m 0)
+    ≡ zip2 (λ x y. flag (t x y)) xs splat) long
     (select_by_length t xs splat (long ∙ sym (length-replicate n byte))) ∙ zip2_splat (λ x y. flag (t x y)) xs n byte long
 
 -- equal answers make equal vectors

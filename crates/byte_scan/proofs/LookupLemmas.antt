@@ -1,9 +1,11 @@
 -- Tables of 16 bytes, read at four bits of each lane.
-use Rattle.std.proofs.Common.{◌≡◌, ℕ, ◌+◌, ◌*◌, ◌/◌, ◌^◌, ◌<◌, List, ◌++◌, length, length-append, get_or, map, replicate, bit_and, refl, sym, ap, ◌∙◌, inl, inr, arith, w8, Fits}
+use Rattle.std.proofs.Common.{◌≡◌, ℕ, ◌+◌, ◌*◌, ◌/◌, ◌^◌, ◌<◌, List, ◌++◌, length, length-append, get_or, map, replicate, bit_and, refl}
+use Rattle.std.proofs.Common.{sym, ap, ◌∙◌, inl, inr, arith, w8, Fits}
 use Rattle.std.proofs.lemmas.Bool.{cases_lt}
 use Rattle.std.proofs.lemmas.List.{ext_get_or, get_or-append_right, get_or_append_left, get_or-map, length-map}
 use Rattle.std.proofs.lemmas.Nat.{and_mask}
-use Rattle.std.proofs.lemmas.Simd.{Each1-all, Each1-get_or, Each1-weaker, Each1-zip2, Each2-splat, below_from_Fits, get_or-swz_l_below, length-swz_l, length-zip2, swz_l, SwzOk, SwzOk-from_below}
+use Rattle.std.proofs.lemmas.Simd.{Each1-all, Each1-get_or, Each1-weaker, Each1-zip2, Each2-splat, below_from_Fits, get_or-swz_l_below}
+use Rattle.std.proofs.lemmas.Simd.{length-swz_l, length-zip2, swz_l, SwzOk, SwzOk-from_below}
 use Rattle.std.specs.Simd.Lanes.{zip2, Each1}
 
 -- 32 lanes of bytes
@@ -18,7 +20,8 @@ shifted a b = a / 2 ^ b
 pub low_ok : (v : List ℕ) → IsBlock v → SwzOk w8 16 32 0 (zip2 bit_and v (replicate 32 15))
 low_ok v block =
     let small = Each1-all (λ a. bit_and a 15 < 16) (λ a. omega (arith, and_mask a 4)) v in
-    SwzOk-from_below w8 16 2 32 0 (zip2 bit_and v (replicate 32 15)) refl (omega (arith, length-zip2 bit_and v (replicate 32 15) block.long))
+    SwzOk-from_below w8 16 2 32 0 (zip2 bit_and v (replicate 32 15)) refl
+    (omega (arith, length-zip2 bit_and v (replicate 32 15) block.long))
     (Each1-zip2 bit_and (λ j. j < 16) v (replicate 32 15) (Each2-splat (λ a b. bit_and a b < 16) v 32 15 small))
 
 pub high_ok : (v : List ℕ) → IsBlock v → SwzOk w8 16 32 0 (zip2 shifted v (replicate 32 4))
@@ -35,7 +38,8 @@ twice_at s i j long I J = elim (cases_lt i 16) [
 ]
 
 -- a look-up at places js that are computed lane by lane
-pub looked_up : (s : List ℕ) (g : ℕ → ℕ) (v js t : List ℕ) → length t ≡ 32 → IsBlock v → js ≡ map g v → ((x : ℕ) → x < 256 → g x < 16) → t ≡ s ++ s
+pub looked_up : (s : List ℕ) (g : ℕ → ℕ) (v js t : List ℕ) → length t ≡ 32 → IsBlock v → js ≡ map g v → ((x : ℕ) → x < 256 → g x < 16)
+    → t ≡ s ++ s
     → swz_l w8 16 t 0 js ≡ map (λ x. get_or s (g x) 0) v
 looked_up s g v js t two block e small double =
     let sixteen : length s ≡ 16 = omega (arith, ap length double, length-append s s) in

@@ -13,7 +13,8 @@ all_ascii members = list_all (λ member. nat_lt member 128) members
 
 -- bit high of row low tells whether 16 * high + low is a member
 pub record HasRows (members rows : List ℕ) : Type 0 where
-  pub bits : (low high : ℕ) → low < 16 → high < 8 → bit_at (slice_index rows low) high ≡ (if is_member members (16 * high + low) then 1 else 0)
+  pub bits : (low high : ℕ) → low < 16 → high < 8 → bit_at (slice_index rows low) high
+      ≡ (if is_member members (16 * high + low) then 1 else 0)
 
 -- all members are ASCII, and the rows are theirs
 pub record IsReady (members rows : List ℕ) : Type 0 where

@@ -1,4 +1,3 @@
 mod Walks
-mod Firsts
 mod Ratios
 mod Opened

@@ -1,14 +1,17 @@
 -- What two meanings of presentations differ in is what is compared of these.
-use Rattle.std.proofs.Common.{◌≡◌, ℕ, zero, suc, ◌+◌, ◌<◌, ◌==◌, Bool, true, false, List, [], ◌∷◌, ◌++◌, length, map, filter, Option, None, Some, Ok, if◌then◌else◌, refl, sym, ◌∙◌, ap, arith, zero-add}
+use Rattle.std.proofs.Common.{◌≡◌, ℕ, zero, suc, ◌+◌, ◌<◌, ◌==◌, Bool, true, false, List, [], ◌∷◌, ◌++◌, length, map, filter, Option, None}
+use Rattle.std.proofs.Common.{Some, Ok, if◌then◌else◌, refl, sym, ◌∙◌, ap, arith, zero-add}
 use Rattle.std.specs.Prelude.{is_none, option_and_then}
 use Rattle.std.specs.List.{range_with_len}
 use Rattle.std.proofs.Math.Dec.{eqb-suc-zero}
 use Rattle.std.proofs.lemmas.Bool.{eqb-true}
 use Rattle.std.proofs.lemmas.List.{length-map, nil_from_length}
+use Rattle.bridge_io.specs.Firsts.{first_some}
+use Rattle.std.specs.Option.{option_or}
 use Rattle.meaning.specs.declared.difference.Aspect.TheVariants as aspect
 use Rattle.meaning.specs.declared.difference.Difference.{Difference}
 use Rattle.meaning.specs.Meanings.{Entry, Meaning}
-use Rattle.meaning.specs.Differences.{entries_difference, first_difference, in_all, in_track, or_later, unless}
+use Rattle.meaning.specs.Differences.{entries_difference, first_difference, in_all, in_track, unless}
 use Rattle.meaning.specs.Differences as meant
 use Rattle.presentation.specs.declared.track.Track.{Track}
 use Rattle.presentation.specs.Counting.{count_faults, count_of_all, counted, sections_of, tracks_of}
@@ -19,12 +22,14 @@ use Rattle.presentation.proofs.Allowed.{each_at}
 use Rattle.presentation.proofs.Firsts.{none_before}
 use Rattle.presentation.proofs.Reached.{none_first}
 use Rattle.presentation.proofs.Whole.{whole}
-use Rattle.comparison.specs.Comparing.{AreComparable, contents_difference, difference_at, difference_of, first_of, heads_difference, is_same_track, sections_meant, tracks_difference}
+use Rattle.comparison.specs.Comparing.{AreComparable, contents_difference, difference_at, difference_of, heads_difference, is_same_track}
+use Rattle.comparison.specs.Comparing.{sections_meant, tracks_difference}
 
 -- ---- the meaning of a presentation
 
 entry_there : (p : Presented) (s t : ℕ) → t < length p.tracks → entry_in t (row_at p s) ≡ entry_at p s t
-entry_there p s t below = ap (λ o. option_and_then (λ entry. entry) o) (each_at (entry_at p s) 0 (length p.tracks) t below) ∙ ap (entry_at p s) (zero-add t)
+entry_there p s t below = ap (λ o. option_and_then (λ entry. entry) o) (each_at (entry_at p s) 0 (length p.tracks) t below)
+    ∙ ap (entry_at p s) (zero-add t)
 
 range_length : (first n : ℕ) → length (range_with_len first n) ≡ n
 range_length first zero = refl
@@ -53,7 +58,8 @@ module _ (p : Presented) where
   unfolding meaning_of
   trackless none =
       let empty : (s : ℕ) → row_at p s ≡ [] = λ s. ap (λ n. map (entry_at p s) (range_with_len 0 n)) none in
-      ap (meaning_over (map head_of p.tracks)) (none_kept (row_at p) 0 (length p.sections) empty ∙ sym (ap (λ n. if n == 0 then [] else rows_of p) none))
+      ap (meaning_over (map head_of p.tracks)) (none_kept (row_at p) 0 (length p.sections) empty
+      ∙ sym (ap (λ n. if n == 0 then [] else rows_of p) none))
 
   by_tracks : (n : ℕ) → length p.tracks ≡ n → is_finished p ≡ true → count_faults p ≡ [] → meaning_of p ≡ whole_meaning p
   by_tracks zero is finished none = trackless is
@@ -69,7 +75,8 @@ module _ (p : Presented) where
 
 none_told : (p : Presented) (unit : ℕ) (longest : List ℕ) → verified p unit ≡ Ok longest → count_faults p ≡ []
 unfolding verified
-none_told p unit longest is = none_first (count_faults p) (url_faults p) (none_before (count_faults p ++ url_faults p) (map (longest_of p unit) (tracks_of p)) longest is)
+none_told p unit longest is = none_first (count_faults p) (url_faults p)
+    (none_before (count_faults p ++ url_faults p) (map (longest_of p unit) (tracks_of p)) longest is)
 
 none_counted : (p : Presented) (n : ℕ) → counted p ≡ Ok n → count_faults p ≡ []
 unfolding counted
@@ -85,35 +92,45 @@ heads_as : (t : ℕ) (a b : List (List (Option Entry))) (xs ys : List Track)
     → meant.heads_difference t (tracks_from t a (map head_of xs)) (tracks_from t b (map head_of ys)) ≡ tracks_difference t xs ys
 heads_as t a b [] ys = refl
 heads_as t a b (x ∷ xs) [] = refl
-heads_as t a b (x ∷ xs) (y ∷ ys) = ap (or_later (unless (is_same_track x y) (in_track t aspect.Track))) (heads_as (t + 1) a b xs ys)
+heads_as t a b (x ∷ xs) (y ∷ ys) = ap (option_or (unless (is_same_track x y) (in_track t aspect.Track))) (heads_as (t + 1) a b xs ys)
 
 module _ (unit : ℕ) (a b : Presented) where
   entries_as : (t first n : ℕ) → t < length a.tracks → t < length b.tracks
-      → entries_difference unit t first (map (entry_in t) (map (row_at a) (range_with_len first n))) (map (entry_in t) (map (row_at b) (range_with_len first n)))
-      ≡ first_of (map (difference_at unit a b t) (range_with_len first n))
+      → entries_difference unit t first (map (entry_in t) (map (row_at a) (range_with_len first n)))
+      (map (entry_in t) (map (row_at b) (range_with_len first n)))
+      ≡ first_some (map (difference_at unit a b t) (range_with_len first n))
   entries_as t first zero in_a in_b = refl
-  entries_as t first (suc n) in_a in_b = rw (entry_there a first t in_a, entry_there b first t in_b, entries_as t (first + 1) n in_a in_b) refl
+  entries_as t first (suc n) in_a in_b = rw (
+    entry_there a first t in_a,
+    entry_there b first t in_b,
+    entries_as t (first + 1) n in_a in_b,
+  ) refl
 
   abbrev of_track : (n t : ℕ) → Option Difference
-  of_track n t = first_of (map (difference_at unit a b t) (range_with_len 0 n))
+  of_track n t = first_some (map (difference_at unit a b t) (range_with_len 0 n))
 
   tracks_as : (n t m : ℕ) (xs ys : List Head) → length xs ≡ m → length ys ≡ m → t + m ≡ length a.tracks → t + m ≡ length b.tracks
-      → meant.tracks_difference unit t (tracks_from t (map (row_at a) (range_with_len 0 n)) xs) (tracks_from t (map (row_at b) (range_with_len 0 n)) ys) ≡ first_of (map (of_track n) (range_with_len t m))
+      → meant.tracks_difference unit t (tracks_from t (map (row_at a) (range_with_len 0 n)) xs)
+      (tracks_from t (map (row_at b) (range_with_len 0 n)) ys) ≡ first_some (map (of_track n) (range_with_len t m))
   tracks_as n t zero [] ys is_xs is_ys in_a in_b = refl
   tracks_as n t zero (x ∷ xs) ys is_xs is_ys in_a in_b = absurd (omega (arith, is_xs))
   tracks_as n t (suc m) [] ys is_xs is_ys in_a in_b = absurd (omega (arith, is_xs))
   tracks_as n t (suc m) (x ∷ xs) [] is_xs is_ys in_a in_b = absurd (omega (arith, is_ys))
   tracks_as n t (suc m) (x ∷ xs) (y ∷ ys) is_xs is_ys in_a in_b =
-      rw (entries_as t 0 n (omega (arith, in_a)) (omega (arith, in_b)), tracks_as n (t + 1) m xs ys (omega (arith, is_xs)) (omega (arith, is_ys)) (omega (arith, in_a)) (omega (arith, in_b))) refl
+      rw (
+        entries_as t 0 n (omega (arith, in_a)) (omega (arith, in_b)),
+        tracks_as n (t + 1) m xs ys (omega (arith, is_xs)) (omega (arith, is_ys)) (omega (arith, in_a)) (omega (arith, in_b)),
+      ) refl
 
   abbrev contents_meant : (rows_a rows_b : List (List (Option Entry))) (xs ys : List Track) → Option Difference
-  contents_meant rows_a rows_b xs ys = meant.tracks_difference unit 0 (tracks_from 0 rows_a (map head_of xs)) (tracks_from 0 rows_b (map head_of ys))
+  contents_meant rows_a rows_b xs ys = meant.tracks_difference unit 0 (tracks_from 0 rows_a (map head_of xs))
+      (tracks_from 0 rows_b (map head_of ys))
 
   contents_as : (n : ℕ) → length a.tracks ≡ n → length a.tracks ≡ length b.tracks → sections_meant a ≡ sections_meant b
       → contents_meant (rows_meant a) (rows_meant b) a.tracks b.tracks ≡ contents_difference unit a b
   contents_as zero is same sections =
       ap (λ xs. contents_meant (rows_meant a) (rows_meant b) xs b.tracks) (nil_from_length a.tracks is)
-      ∙ sym (ap (λ n. first_of (map (difference_of unit a b) (range_with_len 0 n))) is)
+      ∙ sym (ap (λ n. first_some (map (difference_of unit a b) (range_with_len 0 n))) is)
   contents_as (suc n) is same sections =
       let some_a : 0 < length a.tracks = omega (arith, is) in
       let some_b : 0 < length b.tracks = omega (arith, is, same) in
@@ -122,36 +139,45 @@ module _ (unit : ℕ) (a b : Presented) where
       ap (λ rows. contents_meant rows (rows_meant b) a.tracks b.tracks) (chosen (length a.tracks) [] (rows_of a) some_a)
       ∙ ap (λ rows. contents_meant (rows_of a) rows a.tracks b.tracks) (chosen (length b.tracks) [] (rows_of b) some_b)
       ∙ ap (λ m. contents_meant (rows_of a) (map (row_at b) (range_with_len 0 m)) a.tracks b.tracks) as_many
-      ∙ tracks_as (length a.sections) 0 (length a.tracks) (map head_of a.tracks) (map head_of b.tracks) (length-map a.tracks _) (length-map b.tracks _ ∙ sym same) (zero-add (length a.tracks)) (zero-add (length a.tracks) ∙ same)
+      ∙ tracks_as (length a.sections) 0 (length a.tracks) (map head_of a.tracks) (map head_of b.tracks) (length-map a.tracks _)
+      (length-map b.tracks _ ∙ sym same) (zero-add (length a.tracks)) (zero-add (length a.tracks) ∙ same)
 
 told : (s t : Bool) (x y : Difference) (h c d : Option Difference) → (s ≡ true → t ≡ true → c ≡ d)
-    → or_later (unless s x) (or_later (unless t y) (or_later h c)) ≡ or_later (or_later (unless s x) (or_later (unless t y) h)) d
+    → option_or (unless s x) (option_or (unless t y) (option_or h c)) ≡ option_or (option_or (unless s x) (option_or (unless t y) h)) d
 told false t x y h c d same = refl
 told true false x y h c d same = refl
 told true true x y None c d same = same refl refl
 told true true x y (Some found) c d same = refl
 
 retold : (s s2 t t2 : Bool) (x y : Difference) (h h2 c d : Option Difference) → s ≡ s2 → t ≡ t2 → h ≡ h2 → (s2 ≡ true → t2 ≡ true → c ≡ d)
-    → or_later (unless s x) (or_later (unless t y) (or_later h c)) ≡ or_later (or_later (unless s2 x) (or_later (unless t2 y) h2)) d
+    → option_or (unless s x) (option_or (unless t y) (option_or h c)) ≡ option_or (option_or (unless s2 x) (option_or (unless t2 y) h2)) d
 retold s s2 t t2 x y h h2 c d is_s is_t is_h same =
-    ap (λ b. or_later (unless b x) (or_later (unless t y) (or_later h c))) is_s ∙ ap (λ b. or_later (unless s2 x) (or_later (unless b y) (or_later h c))) is_t
-    ∙ ap (λ f. or_later (unless s2 x) (or_later (unless t2 y) (or_later f c))) is_h ∙ told s2 t2 x y h2 c d same
+    ap (λ b. option_or (unless b x) (option_or (unless t y) (option_or h c))) is_s
+    ∙ ap (λ b. option_or (unless s2 x) (option_or (unless b y) (option_or h c))) is_t
+    ∙ ap (λ f. option_or (unless s2 x) (option_or (unless t2 y) (option_or f c))) is_h ∙ told s2 t2 x y h2 c d same
 
 module _ (unit : ℕ) (a b : Presented) where
-  whole_difference : first_difference unit (whole_meaning a) (whole_meaning b) ≡ or_later (heads_difference a b) (contents_difference unit a b)
+  whole_difference : first_difference unit (whole_meaning a) (whole_meaning b)
+      ≡ option_or (heads_difference a b) (contents_difference unit a b)
   unfolding first_difference
   whole_difference =
       retold (length (rows_meant a) == length (rows_meant b)) (sections_meant a == sections_meant b)
-      (length (tracks_from 0 (rows_meant a) (map head_of a.tracks)) == length (tracks_from 0 (rows_meant b) (map head_of b.tracks))) (length a.tracks == length b.tracks)
+      (length (tracks_from 0 (rows_meant a) (map head_of a.tracks)) == length (tracks_from 0 (rows_meant b) (map head_of b.tracks)))
+      (length a.tracks == length b.tracks)
       (in_all aspect.Sections) (in_all aspect.Tracks) _ (tracks_difference 0 a.tracks b.tracks) _ (contents_difference unit a b)
-      (ap (λ n. n == length (rows_meant b)) (as_many_rows a (length a.tracks) refl) ∙ ap (λ n. sections_meant a == n) (as_many_rows b (length b.tracks) refl))
-      (ap (λ n. n == length (tracks_from 0 (rows_meant b) (map head_of b.tracks))) (tracks_as_many 0 (rows_meant a) (map head_of a.tracks) ∙ length-map a.tracks _)
+      (ap (λ n. n == length (rows_meant b)) (as_many_rows a (length a.tracks) refl)
+      ∙ ap (λ n. sections_meant a == n) (as_many_rows b (length b.tracks) refl))
+      (ap (λ n. n == length (tracks_from 0 (rows_meant b) (map head_of b.tracks))) (tracks_as_many 0 (rows_meant a) (map head_of a.tracks)
+      ∙ length-map a.tracks _)
       ∙ ap (λ n. length a.tracks == n) (tracks_as_many 0 (rows_meant b) (map head_of b.tracks) ∙ length-map b.tracks _))
       (heads_as 0 (rows_meant a) (rows_meant b) a.tracks b.tracks)
-      (λ sections tracks. contents_as unit a b (length a.tracks) refl (eqb-true (length a.tracks) (length b.tracks) tracks) (eqb-true (sections_meant a) (sections_meant b) sections))
+      (λ sections tracks. contents_as unit a b (length a.tracks) refl (eqb-true (length a.tracks) (length b.tracks) tracks)
+      (eqb-true (sections_meant a) (sections_meant b) sections))
 
-  pub opened : AreComparable unit a b → first_difference unit (meaning_of a) (meaning_of b) ≡ or_later (heads_difference a b) (contents_difference unit a b)
+  pub opened : AreComparable unit a b → first_difference unit (meaning_of a) (meaning_of b)
+      ≡ option_or (heads_difference a b) (contents_difference unit a b)
   opened both =
       let mine = by_tracks a (length a.tracks) refl both.finished (none_told a unit both.longest both.verified) in
-      let theirs = by_tracks b (length b.tracks) refl (ap (λ f. is_none f) both.came.finished) (none_counted b (count_of_all b) both.counted) in
+      let theirs = by_tracks b (length b.tracks) refl (ap (λ f. is_none f) both.came.finished)
+      (none_counted b (count_of_all b) both.counted) in
       ap (λ m. first_difference unit m (meaning_of b)) mine ∙ ap (λ m. first_difference unit (whole_meaning a) m) theirs ∙ whole_difference

@@ -1,5 +1,6 @@
 -- Fractions compared by whole parts and what is left, and times that are negative.
-use Rattle.std.proofs.Common.{◌≡◌, ℕ, zero, suc, ◌+◌, ◌*◌, ◌/◌, ◌%◌, ◌<◌, ◌≤◌, ◌==◌, Bool, true, false, ℤ, pos, negsuc, ◌*ℤ◌, ◌<ℤ◌, refl, sym, ◌∙◌, ap, arith}
+use Rattle.std.proofs.Common.{◌≡◌, ℕ, zero, suc, ◌+◌, ◌*◌, ◌/◌, ◌%◌, ◌<◌, ◌≤◌, ◌==◌, Bool, true, false, ℤ, pos, negsuc, ◌*ℤ◌, ◌<ℤ◌, refl}
+use Rattle.std.proofs.Common.{sym, ◌∙◌, ap, arith}
 use Rattle.std.specs.Prelude.{nat_eq}
 use Rattle.std.proofs.lemmas.Bool.{eq-eqb, eqb-true}
 use Rattle.std.proofs.lemmas.Int.{ints}
@@ -22,11 +23,13 @@ quotient_le p q r s some_q some_s below =
     le-div (p / q) r s some_s (le_of_mul-le-mul_left {k = q} (omega (arith, below, mul-le-mul_left s under)) some_q)
 
 same_quotient : (p q r s : ℕ) → 0 < q → 0 < s → p * s ≡ r * q → p / q ≡ r / s
-same_quotient p q r s some_q some_s same = le_antisymm (quotient_le p q r s some_q some_s (omega (arith, same))) (quotient_le r s p q some_s some_q (omega (arith, same)))
+same_quotient p q r s some_q some_s same = le_antisymm (quotient_le p q r s some_q some_s (omega (arith, same)))
+    (quotient_le r s p q some_s some_q (omega (arith, same)))
 
 module _ (p q r s : ℕ) (some_q : 0 < q) (some_s : 0 < s) where
   pub other_wholes : (p / q ≡ r / s → ⊥) → nat_eq (p / q) (r / s) ≡ (p * s == r * q)
-  other_wholes apart = same_tests (nat_eq (p / q) (r / s)) (p * s == r * q) (λ same. absurd (apart (eqb-true (p / q) (r / s) same))) (λ same. eq-eqb (p / q) (r / s) (same_quotient p q r s some_q some_s (eqb-true (p * s) (r * q) same)))
+  other_wholes apart = same_tests (nat_eq (p / q) (r / s)) (p * s == r * q) (λ same. absurd (apart (eqb-true (p / q) (r / s) same)))
+      (λ same. eq-eqb (p / q) (r / s) (same_quotient p q r s some_q some_s (eqb-true (p * s) (r * q) same)))
 
   pub same_wholes : p / q ≡ r / s → nat_eq (p % q * s) (r % s * q) ≡ (p * s == r * q)
   same_wholes whole =
@@ -53,4 +56,5 @@ no_unit u (negsuc n) scale some below =
     (λ k. not_int_le-from (pos (suc k) *ℤ pos scale) (negsuc n *ℤ pos u) (omega (arith, ints, some)))
 
 pub negative_floor : (u : ℕ) (x y : Time) → IsTime x → IsTime y → IsBefore x y → floor_in u (difference x y) ≡ 0
-negative_floor u x y is_x is_y before = no_unit u (difference x y).ticks (x.scale * y.scale) (IsTime-difference x y is_x is_y) (omega (arith, ints, before))
+negative_floor u x y is_x is_y before = no_unit u (difference x y).ticks (x.scale * y.scale) (IsTime-difference x y is_x is_y)
+    (omega (arith, ints, before))

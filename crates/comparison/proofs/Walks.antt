@@ -1,5 +1,6 @@
 -- What is left of segments that are made one by one.
-use Rattle.std.proofs.Common.{◌≡◌, ℕ, suc, List, [], ◌∷◌, length, map, All, Option, None, Some, IfSome, option_map, refl, sym, ◌∙◌, ap, subst, arith}
+use Rattle.std.proofs.Common.{◌≡◌, ℕ, suc, List, [], ◌∷◌, length, map, All, Option, None, Some, IfSome, option_map, refl, sym, ◌∙◌, ap}
+use Rattle.std.proofs.Common.{subst, arith}
 use Rattle.std.specs.Prelude.{option_and_then}
 use Rattle.std.specs.Option.{option_map_or}
 use Rattle.std.specs.Result.{result_unwrap_or}
@@ -14,7 +15,8 @@ use Rattle.presentation.specs.Laws.{HasAddress}
 use Rattle.presentation.specs.Meanings.{entry_at, entry_of, entry_with, segment_of}
 use Rattle.presentation.specs.Origins.{IsAddressed}
 use Rattle.presentation.specs.Presented.{Presented, content_at, listed_at, listed_in, window_of}
-use Rattle.presentation.specs.Printing.{IsAtEnd, IsCounted, IsNext, IsPrintedOf, PrintedRest, PrintedTiming, durations_of, ends_of, printed_timings, rest_of, with_durations}
+use Rattle.presentation.specs.Printing.{IsAtEnd, IsCounted, IsNext, IsPrintedOf, PrintedRest, PrintedTiming, durations_of, ends_of}
+use Rattle.presentation.specs.Printing.{printed_timings, rest_of, with_durations}
 use Rattle.presentation.proofs.Grids.{All-at}
 use Rattle.presentation.proofs.Meant.{made_are_meant}
 use Rattle.presentation.proofs.OwnListed.{counted, have_addresses}
@@ -25,11 +27,13 @@ use Rattle.comparison.specs.Comparing.{AreAddressed, entry_made, segment_made, s
 module _ (old new : PrintedRest) where
   pub next_left : (made : Made) (duration : ℕ) → IsNext old made duration new → segments_left old ≡ segment_made made ∷ segments_left new
   next_left made duration next = rw (next.next, next.timeline)
-      (ap (λ (part : Part). record { part = part; start = made.times.start; end = made.times.end } ∷ map (λ x. segment_of old.timeline x.times) new.left) (sym (made_are_meant old.timeline made.times made.part next.part)))
+      (ap (λ (part : Part). record { part = part; start = made.times.start; end = made.times.end }
+      ∷ map (λ x. segment_of old.timeline x.times) new.left) (sym (made_are_meant old.timeline made.times made.part next.part)))
 
   pub still_addressed : (made : Made) (duration : ℕ) → IsNext old made duration new → AreAddressed old → AreAddressed new
   still_addressed made duration next all = rw next.timeline
-      (All-tail (λ (x : PrintedTiming). HasAddress old.timeline x.times) (record { times = made.times; duration = duration }) new.left (rw next.next at all))
+      (All-tail (λ (x : PrintedTiming). HasAddress old.timeline x.times) (record { times = made.times; duration = duration }) new.left
+      (rw next.next at all))
 
   pub none_left : IsAtEnd old new → segments_left old ≡ []
   none_left end = rw end.none refl
@@ -44,7 +48,8 @@ as_many : (unit : ℕ) (xs : List Timing) → length (durations_of unit xs) ≡ 
 as_many unit xs = differences_as_many 0 _ ∙ length-map (ends_of xs) _ ∙ length-map xs _
 
 module _ (timeline : SegmentTimeline) where
-  apart : (xs : List Timing) (ds : List ℕ) → length ds ≡ length xs → map (λ x. segment_of timeline x.times) (with_durations xs ds) ≡ map (segment_of timeline) xs
+  apart : (xs : List Timing) (ds : List ℕ) → length ds ≡ length xs → map (λ x. segment_of timeline x.times) (with_durations xs ds)
+      ≡ map (segment_of timeline) xs
   apart [] ds same = refl
   apart (x ∷ xs) [] same = absurd (omega arith)
   apart (x ∷ xs) (d ∷ ds) same = ap (λ ys. segment_of timeline x ∷ ys) (apart xs ds (omega arith))
@@ -52,23 +57,28 @@ module _ (timeline : SegmentTimeline) where
   pub all_left : (unit : ℕ) (xs : List Timing) → segments_left (rest_of timeline xs unit) ≡ map (segment_of timeline) xs
   all_left unit xs = apart xs (durations_of unit xs) (as_many unit xs)
 
-  with_entry : (initialization : Part) (xs : List Timing) → entry_made initialization (map (segment_of timeline) xs) ≡ entry_with initialization timeline xs
+  with_entry : (initialization : Part) (xs : List Timing) → entry_made initialization (map (segment_of timeline) xs)
+      ≡ entry_with initialization timeline xs
   with_entry initialization [] = refl
   with_entry initialization (x ∷ xs) = refl
 
-  printed_have : (xs : List Timing) (ds : List ℕ) → All (HasAddress timeline) xs → All (λ x. HasAddress timeline x.times) (with_durations xs ds)
+  printed_have : (xs : List Timing) (ds : List ℕ) → All (HasAddress timeline) xs
+      → All (λ x. HasAddress timeline x.times) (with_durations xs ds)
   printed_have [] ds all = All-nil (λ (x : PrintedTiming). HasAddress timeline x.times)
   printed_have (x ∷ xs) [] all = All-nil (λ (x : PrintedTiming). HasAddress timeline x.times)
-  printed_have (x ∷ xs) (d ∷ ds) all = All-cons (λ (x : PrintedTiming). HasAddress timeline x.times) (record { times = x; duration = d }) (with_durations xs ds) (All-head (HasAddress timeline) x xs all) (printed_have xs ds (All-tail (HasAddress timeline) x xs all))
+  printed_have (x ∷ xs) (d ∷ ds) all = All-cons (λ (x : PrintedTiming). HasAddress timeline x.times) (record { times = x; duration = d })
+      (with_durations xs ds) (All-head (HasAddress timeline) x xs all) (printed_have xs ds (All-tail (HasAddress timeline) x xs all))
 
 -- ---- a track in a section
 
 module _ (p : Presented) (s t : ℕ) where
-  listed_as : {o : Option Content} → content_at p s t ≡ o → listed_at p s t ≡ option_map_or (λ content. listed_in (window_of p s) content.runs) o []
+  listed_as : {o : Option Content} → content_at p s t ≡ o
+      → listed_at p s t ≡ option_map_or (λ content. listed_in (window_of p s) content.runs) o []
   listed_as is = ap (λ o. option_map_or (λ content. listed_in (window_of p s) content.runs) o []) is
 
   counted_in : (o : Option Content) (runs : SegmentTimeline) → content_at p s t ≡ o → option_map (λ content. content.runs) o ≡ Some runs
-      → IfSome o (λ content. IsReached content.runs (window_of p s)) → result_unwrap_or (answered_count runs (window_of p s)) 0 ≡ length (listed_at p s t)
+      → IfSome o (λ content. IsReached content.runs (window_of p s)) → result_unwrap_or (answered_count runs (window_of p s)) 0
+      ≡ length (listed_at p s t)
   counted_in None runs is with_runs reached = absurd (cc)
   counted_in (Some content) runs is with_runs reached =
       let same : content.runs ≡ runs = cc in
@@ -79,14 +89,18 @@ module _ (p : Presented) (s t : ℕ) where
   counted_at runs with_runs reached = counted_in (content_at p s t) runs refl with_runs reached
 
   module _ (unit : ℕ) (rest : PrintedRest) where
-    entry_in : (initialization : Part) (o : Option Content) → content_at p s t ≡ o → option_map (λ content. content.initialization) o ≡ Some initialization
-        → IfSome o (λ content. rest ≡ rest_of content.runs (listed_at p s t) unit) → entry_made initialization (segments_left rest) ≡ entry_at p s t
+    entry_in : (initialization : Part) (o : Option Content) → content_at p s t ≡ o
+        → option_map (λ content. content.initialization) o ≡ Some initialization
+        → IfSome o (λ content. rest ≡ rest_of content.runs (listed_at p s t) unit)
+        → entry_made initialization (segments_left rest) ≡ entry_at p s t
     entry_in initialization None is begins left = absurd (cc)
     entry_in initialization (Some content) is begins left =
         let same : content.initialization ≡ initialization = cc in
-        ap (λ r. entry_made initialization (segments_left r)) left ∙ ap (entry_made initialization) (all_left content.runs unit (listed_at p s t))
+        ap (λ r. entry_made initialization (segments_left r)) left
+        ∙ ap (entry_made initialization) (all_left content.runs unit (listed_at p s t))
         ∙ with_entry content.runs initialization (listed_at p s t)
-        ∙ ap (λ i. entry_with i content.runs (listed_at p s t)) (sym same) ∙ ap (entry_with content.initialization content.runs) (listed_as is)
+        ∙ ap (λ i. entry_with i content.runs (listed_at p s t)) (sym same)
+        ∙ ap (entry_with content.initialization content.runs) (listed_as is)
         ∙ sym (ap (λ o. option_and_then (entry_of (window_of p s)) o) is)
 
     pub entry_is : (initialization : Part) → option_map (λ content. content.initialization) (content_at p s t) ≡ Some initialization
@@ -109,8 +123,10 @@ module _ (p : Presented) (s t : ℕ) where
     addressed_in initialization None begins left all = absurd (cc)
     addressed_in initialization (Some content) begins left all = rw left all
 
-    pub addressed : (initialization : Part) → option_map (λ content. content.initialization) (content_at p s t) ≡ Some initialization → IsPrintedOf p s t unit rest
-        → IfSome (content_at p s t) (λ content. All (λ x. HasAddress content.runs x.times) (printed_timings unit (listed_at p s t))) → AreAddressed rest
+    pub addressed : (initialization : Part) → option_map (λ content. content.initialization) (content_at p s t) ≡ Some initialization
+        → IsPrintedOf p s t unit rest
+        → IfSome (content_at p s t) (λ content. All (λ x. HasAddress content.runs x.times) (printed_timings unit (listed_at p s t)))
+        → AreAddressed rest
     addressed initialization begins left all = addressed_in initialization (content_at p s t) begins left all
 
     own_in : (o : Option Content) → content_at p s t ≡ o → All (λ (content : Content). IsAddressed content.runs) p.contents
@@ -119,7 +135,8 @@ module _ (p : Presented) (s t : ℕ) where
     own_in (Some content) is all =
         let own = All-at (λ (content : Content). IsAddressed content.runs) p.contents _ content all is in
         printed_have content.runs (listed_at p s t) (durations_of unit (listed_at p s t))
-        (subst (λ (xs : List Timing). All (HasAddress content.runs) xs) (sym (listed_as is)) (have_addresses content.runs (window_of p s) own))
+        (subst (λ (xs : List Timing). All (HasAddress content.runs) xs) (sym (listed_as is))
+        (have_addresses content.runs (window_of p s) own))
 
     -- segments that are addresses have them
     pub own_addresses : All (λ (content : Content). IsAddressed content.runs) p.contents

@@ -1,13 +1,15 @@
 -- What is compared of two presentations, part by part.
-use Rattle.std.specs.Prelude.{◌≡◌, ℕ, ◌+◌, ◌==◌, ◌&&◌, Bool, true, List, [], ◌∷◌, map, length, bytes_eq, All, Option, Some, None, Ok, if◌then◌else◌}
-use Rattle.std.specs.Option.{option_eq}
+use Rattle.std.specs.Prelude.{◌≡◌, ℕ, ◌+◌, ◌==◌, ◌&&◌, Bool, true, List, [], ◌∷◌, map, length, bytes_eq, All, Option, Some, None, Ok}
+use Rattle.std.specs.Prelude.{if◌then◌else◌}
+use Rattle.std.specs.Option.{option_eq, option_or}
+use Rattle.bridge_io.specs.Firsts.{first_some}
 use Rattle.exact_time.specs.Time.{Time, difference}
 use Rattle.url_parts.specs.declared.address.Part.{Part}
 use Rattle.timeline.specs.Listed.{Made}
 use Rattle.meaning.specs.declared.difference.Aspect.TheVariants as aspect
 use Rattle.meaning.specs.declared.difference.Difference.{Difference}
 use Rattle.meaning.specs.Meanings.{Segment, Entry}
-use Rattle.meaning.specs.Differences.{is_same_kind, unless, or_later, in_all, in_track, entry_difference, is_same_or_rounded, segments_difference}
+use Rattle.meaning.specs.Differences.{is_same_kind, unless, in_all, in_track, entry_difference, is_same_or_rounded, segments_difference}
 use Rattle.presentation.specs.declared.track.Track.{Track}
 use Rattle.presentation.specs.Counting.{counted, count_of_all, sections_of, tracks_of}
 use Rattle.presentation.specs.Laws.{HasAddress}
@@ -57,20 +59,15 @@ segments_from unit at begin_a begin_b xs ys = segments_difference unit at.track 
 
 -- ---- contents
 
--- the first of some differences
-abbrev pub first_of : List (Option Difference) → Option Difference
-first_of [] = None
-first_of (found ∷ later) = or_later found (first_of later)
-
 -- what differs first of a track in a section, of a track, and of all tracks
 abbrev pub difference_at : ℕ → Presented → Presented → (t s : ℕ) → Option Difference
 difference_at unit a b t s = entry_difference unit t s (entry_at a s t) (entry_at b s t)
 
 abbrev pub difference_of : ℕ → Presented → Presented → (t : ℕ) → Option Difference
-difference_of unit a b t = first_of (map (difference_at unit a b t) (sections_of a))
+difference_of unit a b t = first_some (map (difference_at unit a b t) (sections_of a))
 
 abbrev pub contents_difference : ℕ → Presented → Presented → Option Difference
-contents_difference unit a b = first_of (map (difference_of unit a b) (tracks_of a))
+contents_difference unit a b = first_some (map (difference_of unit a b) (tracks_of a))
 
 -- ---- what the tracks are
 
@@ -81,7 +78,7 @@ is_same_track a b = is_same_kind a.kind b.kind && option_eq bytes_eq (language_o
 abbrev pub tracks_difference : ℕ → (xs ys : List Track) → Option Difference
 tracks_difference t [] ys = None
 tracks_difference t (a ∷ xs) [] = None
-tracks_difference t (a ∷ xs) (b ∷ ys) = or_later (unless (is_same_track a b) (in_track t aspect.Track)) (tracks_difference (t + 1) xs ys)
+tracks_difference t (a ∷ xs) (b ∷ ys) = option_or (unless (is_same_track a b) (in_track t aspect.Track)) (tracks_difference (t + 1) xs ys)
 
 -- where there is no track, no section has anything
 abbrev pub sections_meant : Presented → ℕ
@@ -90,5 +87,5 @@ sections_meant p = if length p.tracks == 0 then 0 else length p.sections
 -- the numbers of sections and of tracks, and then what the tracks are
 abbrev pub heads_difference : Presented → Presented → Option Difference
 heads_difference a b =
-    or_later (unless (sections_meant a == sections_meant b) (in_all aspect.Sections))
-    (or_later (unless (length a.tracks == length b.tracks) (in_all aspect.Tracks)) (tracks_difference 0 a.tracks b.tracks))
+    option_or (unless (sections_meant a == sections_meant b) (in_all aspect.Sections))
+    (option_or (unless (length a.tracks == length b.tracks) (in_all aspect.Tracks)) (tracks_difference 0 a.tracks b.tracks))

@@ -73,7 +73,8 @@ impl Both<'_> {
         requires comparable { spec.AreComparable (10 ^ self.now.digits) self.now.mpd.now self.now.playlists.now }
         requires mine { (section < length self.now.mpd.now.sections) × (track < length self.now.mpd.now.tracks) }
         requires theirs { (section < length self.now.playlists.now.sections) × (track < length self.now.playlists.now.tracks) }
-        ensures { IfOk result (λ found. found ≡ spec.difference_at (10 ^ self.now.digits) self.now.mpd.now self.now.playlists.now track section) }
+        ensures { IfOk result (λ found. found ≡ spec.difference_at
+            (10 ^ self.now.digits) self.now.mpd.now self.now.playlists.now track section) }
     {
         let spot = Spot {
             section,

@@ -83,7 +83,8 @@ fn language_of(track: &Track) -> Option<&str>
 }
 
 fn is_same_language(mine: Option<&str>, theirs: Option<&str>) -> bool
-    ensures { result ≡ option_eq bytes_eq (option_map (λ language. language.now) mine.entry) (option_map (λ language. language.now) theirs.entry) }
+    ensures { result ≡ option_eq bytes_eq (option_map (λ language. language.now) mine.entry)
+        (option_map (λ language. language.now) theirs.entry) }
 {
     match (mine, theirs) {
         (Some(mine), Some(theirs)) => mine == theirs,

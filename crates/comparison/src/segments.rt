@@ -1,8 +1,9 @@
 // The segments of a track in a section.
 ghost use Rattle.std.specs.Prelude.{◌≡◌, ◌+◌, ◌≤◌, ◌<◌, ◌^◌, ◌∷◌, [], length, bytes_eq, IfOk, None};
-ghost use Rattle.std.specs.Option.{option_eq};
+ghost use Rattle.std.specs.Option.{option_eq, option_or};
 ghost use Rattle.exact_time.specs.Tick.{time_of};
-ghost use Rattle.meaning.specs.Differences.{entry_difference, in_entry, is_same_part, is_same_range, or_later, segment_difference, segments_difference};
+ghost use Rattle.meaning.specs.Differences.{entry_difference, in_entry, is_same_part, is_same_range, segment_difference};
+ghost use Rattle.meaning.specs.Differences.{segments_difference};
 ghost use Rattle.comparison.specs.Comparing.{entry_made, segment_made};
 ghost use Rattle.comparison.specs.Comparing as spec;
 
@@ -27,7 +28,8 @@ struct Begins {
 impl Begins {
     /// What differs first of a segment: its address, its range, its time.
     fn difference(&self, at: Spot, mine: &Segment, theirs: &Segment) -> Option<Difference>
-        ensures { result ≡ segment_difference (10 ^ self.now.digits) (in_entry at.track at.section at.segment) (time_of self.now.mine) (time_of self.now.theirs) (segment_made mine.now) (segment_made theirs.now) }
+        ensures { result ≡ segment_difference (10 ^ self.now.digits) (in_entry at.track at.section at.segment) (time_of self.now.mine)
+            (time_of self.now.theirs) (segment_made mine.now) (segment_made theirs.now) }
     {
         if mine.address().as_str() != theirs.address().as_str() {
             return Some(at.of(Aspect::Address));
@@ -42,7 +44,8 @@ impl Begins {
     }
 
     fn is_same_time(&self, mine: &Segment, theirs: &Segment) -> bool
-        ensures { result ≡ spec.is_same_end (10 ^ self.now.digits) (time_of self.now.mine) (time_of self.now.theirs) (segment_made mine.now) (segment_made theirs.now) }
+        ensures { result ≡ spec.is_same_end (10 ^ self.now.digits) (time_of self.now.mine) (time_of self.now.theirs)
+            (segment_made mine.now) (segment_made theirs.now) }
     {
         let mine = Stretch {
             begin: self.mine,
@@ -65,8 +68,10 @@ impl Begins {
         steps: &mut Steps<L>,
     ) -> Result<Option<Difference>, NoMemory>
         requires { 0 < length theirs.old }
-        ensures found { IfOk result (λ found. spec.segments_from (10 ^ self.now.digits) at (time_of self.now.mine) (time_of self.now.theirs) mine.old theirs.old
-            ≡ or_later found (spec.segments_from (10 ^ self.now.digits) (spec.behind at) (time_of self.now.mine) (time_of self.now.theirs) mine.new theirs.new)) }
+        ensures found { IfOk result (λ found. spec.segments_from (10 ^ self.now.digits) at (time_of self.now.mine)
+            (time_of self.now.theirs) mine.old theirs.old
+            ≡ option_or found (spec.segments_from (10 ^ self.now.digits) (spec.behind at) (time_of self.now.mine)
+            (time_of self.now.theirs) mine.new theirs.new)) }
         ensures fewer { IfOk result (λ found. found ≡ None → length theirs.old ≡ length theirs.new + 1) }
     {
         let (Some(a), Some(b)) = (mine.next(alloc, steps)?, theirs.next(alloc, steps)?) else {
@@ -89,7 +94,8 @@ impl Begins {
     ) -> Result<Option<Difference>, NoMemory>
         requires first { spot.segment ≡ 0 }
         requires listed { 1 + length theirs ≡ listed }
-        ensures { IfOk result (λ found. found ≡ segments_difference (10 ^ self.now.digits) spot.track spot.section 0 (time_of self.now.mine) (time_of self.now.theirs)
+        ensures { IfOk result (λ found. found ≡ segments_difference (10 ^ self.now.digits) spot.track spot.section 0
+            (time_of self.now.mine) (time_of self.now.theirs)
             (segment_made a.now ∷ mine.entry) (segment_made b.now ∷ theirs.entry)) }
     {
         match self.difference(spot, a, b) {
@@ -109,7 +115,8 @@ impl Begins {
         steps: &mut Steps<L>,
     ) -> Result<Option<Difference>, NoMemory>
         requires { 1 + length theirs ≡ listed }
-        ensures { IfOk result (λ found. found ≡ segments_difference (10 ^ self.now.digits) spot.track spot.section 1 (time_of self.now.mine) (time_of self.now.theirs) mine.entry theirs.entry) }
+        ensures { IfOk result (λ found. found ≡ segments_difference (10 ^ self.now.digits) spot.track spot.section 1
+            (time_of self.now.mine) (time_of self.now.theirs) mine.entry theirs.entry) }
     {
         for segment in 1..listed {
             let at = spot.at(segment);

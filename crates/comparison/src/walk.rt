@@ -55,7 +55,8 @@ fn next_segment<L: Ledger>(
     steps: &mut Steps<L>,
 ) -> Result<Option<Segment>, NoMemory>
     requires { AreAddressed segments.old }
-    ensures next { IfOk result (λ next. MatchOption next (segments_left segments.old ≡ []) (λ made. segments_left segments.old ≡ segment_made made ∷ segments_left segments.new)) }
+    ensures next { IfOk result (λ next. MatchOption next (segments_left segments.old ≡ [])
+        (λ made. segments_left segments.old ≡ segment_made made ∷ segments_left segments.new)) }
     ensures addressed { AreAddressed segments.new }
 {
     match segments.next(alloc, steps) {

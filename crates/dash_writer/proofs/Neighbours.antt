@@ -25,7 +25,8 @@ module _ {X : Type 0} (alike : X → X → Bool) where
   pub repeats_apart : (n : ℕ) (x y : X) (ys : List X) → alike x x ≡ true → alike x y ≡ false
       → longest_runs alike (x ∷ (replicate n x ++ (y ∷ ys))) ≡ (x ∷ replicate n x) ∷ longest_runs alike (y ∷ ys)
   repeats_apart zero x y ys same isnt = apart x y ys isnt
-  repeats_apart (suc n) x y ys same isnt = together x x (replicate n x ++ (y ∷ ys)) (replicate n x) (longest_runs alike (y ∷ ys)) same (repeats_apart n x y ys same isnt)
+  repeats_apart (suc n) x y ys same isnt = together x x (replicate n x ++ (y ∷ ys)) (replicate n x) (longest_runs alike (y ∷ ys)) same
+      (repeats_apart n x y ys same isnt)
 
   -- and before none
   pub repeats_alone : (n : ℕ) (x : X) → alike x x ≡ true → longest_runs alike (x ∷ (replicate n x ++ [])) ≡ (x ∷ replicate n x) ∷ []

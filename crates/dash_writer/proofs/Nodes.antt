@@ -1,15 +1,17 @@
 -- Elements in parts, and one after another.
-use Rattle.std.proofs.Common.{◌≡◌, ℕ, List, [], ◌∷◌, ◌++◌, Bool, codes, flat_map, Result, Ok, Err, IsErrAnd, Option, None, Some, refl, sym, ap, ◌∙◌}
+use Rattle.std.proofs.Common.{◌≡◌, ℕ, List, [], ◌∷◌, ◌++◌, Bool, codes, flat_map, Result, Ok, Err, IsErrAnd, Option, None, Some, refl, sym}
+use Rattle.std.proofs.Common.{ap, ◌∙◌}
 use Rattle.std.specs.Borrow.{Bor}
 use Rattle.std.proofs.lemmas.List.{append_assoc, append-nil}
 use Rattle.bridge_io.specs.declared.file_writer.FileWriter.{FileWriter}
 use Rattle.bridge_io.specs.declared.outside.Fail.{Fail}
-use Rattle.file_pieces.specs.Adding.{Adds, Shown}
-use Rattle.file_pieces.proofs.Adding.{adds_same, adds_stop, adds_stop_at, adds_then}
+use Rattle.bridge_io.specs.Adding.{Adds, Shown}
+use Rattle.bridge_io.proofs.Adding.{adds_same, adds_stop, adds_stop_at, adds_then}
 use Rattle.mpd_text.specs.Escapes.{escape_all}
 use Rattle.mpd_markup.specs.Markup.{attribute_text, enclosed, opening, printed}
 use Rattle.dash_writer.specs.Elements.{Attribute, Element, attributes_of, node, tag_of, with_attribute}
-use Rattle.dash_writer.specs.Written.{all_told, attributes_text, element_text, elements_text, end_text, is_childless, known_text, start_text, told}
+use Rattle.dash_writer.specs.Written.{all_told, attributes_text, element_text, elements_text, end_text, is_childless, known_text}
+use Rattle.dash_writer.specs.Written.{start_text, told}
 use Rattle.dash_writer.specs.declared.attribute.Value.{Value}
 
 -- ---- attributes
@@ -19,12 +21,15 @@ more_attributes : (name : List ℕ) (value : Option (List ℕ)) (others : List (
 more_attributes name None others = refl
 more_attributes name (Some value) others = ap (λ t. t ++ attributes_text others) (sym (append-nil (attribute_text (name, value))))
 
-pub each_attribute : (attributes : List (Bor (List ℕ) × Option Value)) → flat_map (λ a. known_text (told a)) attributes ≡ attributes_text (attributes_of (all_told attributes))
+pub each_attribute : (attributes : List (Bor (List ℕ) × Option Value)) → flat_map (λ a. known_text (told a)) attributes
+    ≡ attributes_text (attributes_of (all_told attributes))
 each_attribute [] = refl
 each_attribute (a ∷ attributes) =
-    ap (λ t. known_text (told a) ++ t) (each_attribute attributes) ∙ sym (more_attributes (told a).0 (told a).1 (attributes_of (all_told attributes)))
+    ap (λ t. known_text (told a) ++ t) (each_attribute attributes)
+    ∙ sym (more_attributes (told a).0 (told a).1 (attributes_of (all_told attributes)))
 
-pub attribute_parts : (name value : List ℕ) → 32 ∷ (name ++ (61 ∷ 34 ∷ [])) ++ escape_all value ++ (34 ∷ []) ≡ attributes_text ((name, value) ∷ [])
+pub attribute_parts : (name value : List ℕ) → 32 ∷ (name ++ (61 ∷ 34 ∷ [])) ++ escape_all value ++ (34 ∷ [])
+    ≡ attributes_text ((name, value) ∷ [])
 attribute_parts name value = sym (append-nil (attribute_text (name, value)))
 
 -- ---- elements
@@ -38,7 +43,8 @@ elements-cons x xs = sym (append_assoc (enclosed x.0 x.1 (printed x.1)) (codes "
 pub elements-append : (xs ys : List Element) → elements_text (xs ++ ys) ≡ elements_text xs ++ elements_text ys
 elements-append [] ys = refl
 elements-append (x ∷ xs) ys = let text = enclosed x.0 x.1 (printed x.1) in
-    ap (λ t. text ++ (codes "\n" ++ t)) (elements-append xs ys) ∙ sym (append_assoc text (codes "\n" ++ elements_text xs) (elements_text ys))
+    ap (λ t. text ++ (codes "\n" ++ t)) (elements-append xs ys)
+    ∙ sym (append_assoc text (codes "\n" ++ elements_text xs) (elements_text ys))
 
 enclosed_parts : (text inside name : List ℕ) → text ++ (62 ∷ 10 ∷ []) ++ inside ++ (60 ∷ 47 ∷ (name ++ (62 ∷ 10 ∷ [])))
     ≡ text ++ (62 ∷ []) ++ (10 ∷ inside) ++ (60 ∷ 47 ∷ (name ++ (62 ∷ []))) ++ (10 ∷ [])
@@ -46,43 +52,58 @@ enclosed_parts text inside name = simp append_assoc
 
 module _ (name : List ℕ) (attributes : List Attribute) where
   node_parts : (children : List Element)
-      → start_text (tag_of name attributes) (is_childless children) ++ elements_text children ++ end_text name (is_childless children) ≡ element_text (node name attributes children)
+      → start_text (tag_of name attributes) (is_childless children) ++ elements_text children ++ end_text name (is_childless children)
+      ≡ element_text (node name attributes children)
   node_parts [] = let text = opening (tag_of name attributes) in
       append-nil (text ++ codes "/>\n" ++ []) ∙ append-nil (text ++ codes "/>\n") ∙ sym (append_assoc text (codes "/>") (codes "\n"))
   node_parts (x ∷ xs) = enclosed_parts (opening (tag_of name attributes)) (elements_text (x ∷ xs)) name
 
   parts : (children : List Element) (childless : Bool) → is_childless children ≡ childless
-      → start_text (tag_of name attributes) childless ++ elements_text children ++ end_text name childless ≡ element_text (node name attributes children)
+      → start_text (tag_of name attributes) childless ++ elements_text children ++ end_text name childless
+      ≡ element_text (node name attributes children)
   parts children childless is = rw (← is) (node_parts children)
 
-  module _ {T : Type 0} (children : List Element) {childless : Bool} (is : is_childless children ≡ childless) {old mid : FileWriter} {before between : Shown} where
+  module _ {T : Type 0} (children : List Element) {childless : Bool} (is : is_childless children
+      ≡ childless) {old mid : FileWriter} {before between : Shown} where
     -- the start fails
-    pub stops_at_start : {fail : Fail} (result : Result T Fail) → IsErrAnd result (λ e. e ≡ fail) → Adds {T = Unit {0}} (start_text (tag_of name attributes) childless) old mid before between (Err fail)
+    pub stops_at_start : {fail : Fail} (result : Result T Fail) → IsErrAnd result (λ e. e ≡ fail)
+        → Adds {T = Unit {0}} (start_text (tag_of name attributes) childless) old mid before between (Err fail)
         → Adds (element_text (node name attributes children)) old mid before between result
-    stops_at_start result handed one = adds_same (parts children childless is) (adds_stop_at _ result handed (adds_stop {T = Unit {0}} _ one))
+    stops_at_start result handed one = adds_same (parts children childless is)
+        (adds_stop_at _ result handed (adds_stop {T = Unit {0}} _ one))
 
-    module _ {new : FileWriter} {after : Shown} (one : Adds {T = Unit {0}} (start_text (tag_of name attributes) childless) old mid before between (Ok tt)) where
+    module _ {new : FileWriter} {after : Shown}
+        (one : Adds {T = Unit {0}} (start_text (tag_of name attributes) childless) old mid before between (Ok tt)) where
       -- the children fail
-      pub stops_at_children : {fail : Fail} (result : Result T Fail) → IsErrAnd result (λ e. e ≡ fail) → Adds {T = Unit {0}} (elements_text children) mid new between after (Err fail)
+      pub stops_at_children : {fail : Fail} (result : Result T Fail) → IsErrAnd result (λ e. e ≡ fail)
+          → Adds {T = Unit {0}} (elements_text children) mid new between after (Err fail)
           → Adds (element_text (node name attributes children)) old new before after result
       stops_at_children result handed two = adds_same (parts children childless is) (adds_stop_at _ result handed (adds_then _ one two))
 
       -- the end is added, or fails
-      pub adds_node : {end : FileWriter} {last : Shown} {result : Result T Fail} → Adds {T = Unit {0}} (elements_text children) mid new between after (Ok tt)
-          → Adds (end_text name childless) new end after last result → Adds (element_text (node name attributes children)) old end before last result
+      pub adds_node : {end : FileWriter} {last : Shown} {result : Result T Fail}
+          → Adds {T = Unit {0}} (elements_text children) mid new between after (Ok tt)
+          → Adds (end_text name childless) new end after last result
+          → Adds (element_text (node name attributes children)) old end before last result
       adds_node two three = adds_same (parts children childless is) (adds_then _ (adds_then _ one two) three)
 
 -- one element more is added to what goes on to a whole text
-pub one_more : (x : Element) (xs : List Element) (done whole : List ℕ) → done ++ elements_text (x ∷ xs) ≡ whole → done ++ element_text x ++ elements_text xs ≡ whole
-one_more x xs done whole goes = append_assoc done (element_text x) (elements_text xs) ∙ ap (λ t. done ++ t) (sym (elements-cons x xs)) ∙ goes
+pub one_more : (x : Element) (xs : List Element) (done whole : List ℕ) → done ++ elements_text (x ∷ xs) ≡ whole
+    → done ++ element_text x ++ elements_text xs ≡ whole
+one_more x xs done whole goes = append_assoc done (element_text x) (elements_text xs) ∙ ap (λ t. done ++ t) (sym (elements-cons x xs))
+    ∙ goes
 
-pub some_more : (xs ys : List Element) (done whole : List ℕ) → done ++ elements_text (xs ++ ys) ≡ whole → done ++ elements_text xs ++ elements_text ys ≡ whole
-some_more xs ys done whole goes = append_assoc done (elements_text xs) (elements_text ys) ∙ ap (λ t. done ++ t) (sym (elements-append xs ys)) ∙ goes
+pub some_more : (xs ys : List Element) (done whole : List ℕ) → done ++ elements_text (xs ++ ys) ≡ whole
+    → done ++ elements_text xs ++ elements_text ys ≡ whole
+some_more xs ys done whole goes = append_assoc done (elements_text xs) (elements_text ys)
+    ∙ ap (λ t. done ++ t) (sym (elements-append xs ys)) ∙ goes
 
 pub three_parts : (x y : Element) (xs : List Element) → element_text x ++ element_text y ++ elements_text xs ≡ elements_text (x ∷ y ∷ xs)
-three_parts x y xs = append_assoc (element_text x) (element_text y) (elements_text xs) ∙ ap (λ t. element_text x ++ t) (sym (elements-cons y xs)) ∙ sym (elements-cons x (y ∷ xs))
+three_parts x y xs = append_assoc (element_text x) (element_text y) (elements_text xs)
+    ∙ ap (λ t. element_text x ++ t) (sym (elements-cons y xs)) ∙ sym (elements-cons x (y ∷ xs))
 
 -- a failure is handed on
-pub adds_fails : {S T : Type 0} {text : List ℕ} {old mid : FileWriter} {before between : Shown} {fail : Fail} (result : Result T Fail) → IsErrAnd result (λ e. e ≡ fail)
+pub adds_fails : {S T : Type 0} {text : List ℕ} {old mid : FileWriter} {before between : Shown} {fail : Fail} (result : Result T Fail)
+    → IsErrAnd result (λ e. e ≡ fail)
     → Adds {T = S} text old mid before between (Err fail) → Adds {T = T} text old mid before between result
 adds_fails {text = text} result handed one = adds_same (append-nil text) (adds_stop_at [] result handed one)

@@ -1,11 +1,12 @@
 -- Texts that are added part by part.
-use Rattle.std.proofs.Common.{◌≡◌, ℕ, ◌+◌, ◌<◌, List, [], ◌∷◌, ◌++◌, length, drop, get_or, Result, Ok, Err, IsErrAnd, suc, refl, sym, ap, ◌∙◌, add-one, drop-cons}
+use Rattle.std.proofs.Common.{◌≡◌, ℕ, ◌+◌, ◌<◌, List, [], ◌∷◌, ◌++◌, length, drop, get_or, Result, Ok, Err, IsErrAnd, suc, refl, sym, ap}
+use Rattle.std.proofs.Common.{◌∙◌, add-one, drop-cons}
 use Rattle.std.proofs.lemmas.List.{append_assoc, append-nil}
 use Rattle.bridge_io.specs.declared.file_writer.FileWriter.{FileWriter}
 use Rattle.bridge_io.specs.declared.outside.Fail.{Fail}
 use Rattle.bridge_io.specs.declared.outside.Fail.TheVariants.{Memory}
-use Rattle.file_pieces.specs.Adding.{Adds, Shown}
-use Rattle.file_pieces.proofs.Adding.{adds_answered, adds_none, adds_same, adds_stop_at, adds_then, adds_wanting}
+use Rattle.bridge_io.specs.Adding.{Adds, Shown}
+use Rattle.bridge_io.proofs.Adding.{adds_answered, adds_none, adds_same, adds_stop_at, adds_then, adds_wanting}
 
 -- what is added so far goes on to the whole
 pub record Progress (whole left : List ℕ) (old new : FileWriter) (before after : Shown) : Type 0 where

@@ -1,9 +1,11 @@
 -- Sections and sets of tracks one after another.
-use Rattle.std.proofs.Common.{◌≡◌, ℕ, suc, ◌+◌, ◌<◌, ◌==◌, false, List, [], ◌∷◌, ◌++◌, length, take, drop, get_or, codes, refl, sym, ap, ◌∙◌, arith}
+use Rattle.std.proofs.Common.{◌≡◌, ℕ, suc, ◌+◌, ◌<◌, ◌==◌, false, List, [], ◌∷◌, ◌++◌, length, take, drop, get_or, codes, refl, sym, ap}
+use Rattle.std.proofs.Common.{◌∙◌, arith}
 use Rattle.std.proofs.lemmas.Bool.Decides.{nat_tests}
 use Rattle.presentation.specs.declared.track.Track.{Track}
 use Rattle.dash_writer.specs.Elements.{Attribute, Element, node}
-use Rattle.dash_writer.specs.Outline.{Outline, heads_from, period_element, period_elements, set_attributes, set_element, set_elements, sets_of, stand_together, track_element, track_elements}
+use Rattle.dash_writer.specs.Outline.{Outline, heads_from, period_element, period_elements, set_attributes, set_element, set_elements}
+use Rattle.dash_writer.specs.Outline.{sets_of, stand_together, track_element, track_elements}
 use Rattle.dash_writer.specs.Runs.{longest_runs}
 use Rattle.dash_writer.specs.Written.{element_text, elements_text, is_childless}
 use Rattle.dash_writer.proofs.Neighbours.{begins}

@@ -1,12 +1,14 @@
 -- The MPD of a presentation that came from playlists (ISO/IEC 23009-1, 5.3).
-use Rattle.std.specs.Prelude.{ℕ, ◌+◌, ◌-◌, ◌^◌, ◌<◌, min, List, [], ◌∷◌, length, slice_get, codes, decimal, Option, Some, option_map, option_and_then, option_to_list}
+use Rattle.std.specs.Prelude.{ℕ, ◌+◌, ◌-◌, ◌^◌, ◌<◌, min, List, [], ◌∷◌, length, slice_get, codes, decimal, Option, Some, option_map}
+use Rattle.std.specs.Prelude.{option_and_then, option_to_list}
 use Rattle.iso_time.specs.Duration.{duration_text}
 use Rattle.presentation.specs.Origins.{CameFromPlaylists}
 use Rattle.presentation.specs.declared.track.Section.{Section}
 use Rattle.presentation.specs.declared.track.Track.{Track}
 use Rattle.presentation.specs.Presented.{Presented, content_at, listed_in, window_of}
 use Rattle.dash_writer.specs.Elements.{Attribute, Element}
-use Rattle.dash_writer.specs.Outline.{Outline, heads_from, outline_text, period_element, period_elements, root_element, set_element, set_elements, sets_of, track_element, track_elements}
+use Rattle.dash_writer.specs.Outline.{Outline, heads_from, outline_text, period_element, period_elements, root_element, set_element}
+use Rattle.dash_writer.specs.Outline.{set_elements, sets_of, track_element, track_elements}
 use Rattle.dash_writer.specs.Segments.{segment_list}
 
 -- ---- tracks (5.3.3 and 5.3.5)

@@ -1,6 +1,7 @@
 -- The outline of an MPD (ISO/IEC 23009-1, 5.3): what is written of its root, of its Periods and of its tracks, and what each track
 -- has in each Period.
-use Rattle.std.specs.Prelude.{◌≡◌, ℕ, ◌<◌, ◌≤◌, false, ◌+◌, ◌==◌, ◌&&◌, ◌||◌, Bool, List, [], ◌∷◌, ◌++◌, length, codes, decimal, Some, option_map, option_and_then}
+use Rattle.std.specs.Prelude.{◌≡◌, ℕ, ◌<◌, ◌≤◌, false, ◌+◌, ◌==◌, ◌&&◌, ◌||◌, Bool, List, [], ◌∷◌, ◌++◌, length, codes, decimal, Some}
+use Rattle.std.specs.Prelude.{option_map, option_and_then}
 use Rattle.bridge_io.specs.declared.media.Kind.{Kind}
 use Rattle.bridge_io.specs.declared.media.Kind.TheVariants.{Video, Audio, Text}
 use Rattle.presentation.specs.declared.track.Track.{Track}

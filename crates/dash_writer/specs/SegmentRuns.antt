@@ -19,4 +19,5 @@ ended run duration = if duration == run.duration then [] else s_element run.time
 
 -- the elements of a run and of the segments behind it
 abbrev pub runs_left : SegmentRun → (durations : List ℕ) → List Element
-runs_left run durations = s_elements run.time (longest_runs same_duration (run.duration ∷ (replicate run.repeats run.duration ++ durations)))
+runs_left run durations = s_elements run.time
+    (longest_runs same_duration (run.duration ∷ (replicate run.repeats run.duration ++ durations)))

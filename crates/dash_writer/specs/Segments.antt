@@ -1,5 +1,6 @@
 -- The segments of a Representation as they are listed (ISO/IEC 23009-1, 5.3.9).
-use Rattle.std.specs.Prelude.{ℕ, ◌==◌, ◌-ℤ◌, Bool, List, [], ◌∷◌, ◌++◌, length, map, codes, decimal, Option, Some, None, option_map, if◌then◌else◌, Result, Ok, Err}
+use Rattle.std.specs.Prelude.{ℕ, ◌==◌, ◌-ℤ◌, Bool, List, [], ◌∷◌, ◌++◌, length, map, codes, decimal, Option, Some, None, option_map}
+use Rattle.std.specs.Prelude.{if◌then◌else◌, Result, Ok, Err}
 use Rattle.url_parts.specs.declared.address.Part.{Part}
 use Rattle.timeline.specs.declared.fault.ListFault.{ListFault}
 use Rattle.timeline.specs.Expansions.{SegmentTimeline, Timing}
@@ -45,14 +46,16 @@ part_or_none (Err fault) = record { address = []; range = None }
 
 -- SegmentURL (5.3.9.3.2)
 abbrev pub segment_url : Part → Element
-segment_url part = leaf (codes "SegmentURL") ((codes "media", Some part.address) ∷ (codes "mediaRange", option_map range_text part.range) ∷ [])
+segment_url part = leaf (codes "SegmentURL") ((codes "media", Some part.address) ∷ (codes "mediaRange", option_map range_text part.range)
+    ∷ [])
 
 abbrev pub segment_urls : SegmentTimeline → List Timing → List Element
 segment_urls timeline listed = map (λ x. segment_url (part_or_none (part_of_timing timeline x))) listed
 
 -- Initialization (5.3.9.2.2)
 abbrev pub initialization : Part → Element
-initialization part = leaf (codes "Initialization") ((codes "sourceURL", Some part.address) ∷ (codes "range", option_map range_text part.range) ∷ [])
+initialization part = leaf (codes "Initialization") ((codes "sourceURL", Some part.address)
+    ∷ (codes "range", option_map range_text part.range) ∷ [])
 
 -- what stands in a SegmentList
 abbrev pub list_contents : SegmentTimeline → Part → List Timing → List Element

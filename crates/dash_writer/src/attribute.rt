@@ -1,14 +1,13 @@
 // Attributes.
-ghost use Rattle.file_pieces.specs.Adding.{Adds, shown};
+ghost use Rattle.bridge_io.specs.Adding.{Adds, shown};
 ghost use Rattle.mpd_text.specs.Escapes.{escape_all};
 ghost use Rattle.dash_writer.specs.Elements.{attributes_of};
 ghost use Rattle.dash_writer.specs.Values.{range_text, rate_text};
 ghost use Rattle.dash_writer.specs.Written.{all_told, attributes_text, known_text, told, value_text};
 
 use crate::escape::push_escaped;
-use bridge_io::{Fail, FileWriter, Ratio, Store};
+use bridge_io::{Fail, FileWriter, Piece, Ratio, Store, push_pieces};
 use exact_time::Nanos;
-use file_pieces::{Piece, push_pieces};
 use iso_time::write_duration;
 use url_parts::Range;
 

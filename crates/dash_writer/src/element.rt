@@ -1,13 +1,12 @@
 // Elements.
 ghost use Rattle.std.specs.Prelude.{◌≡◌, codes, if◌then◌else◌};
-ghost use Rattle.file_pieces.specs.Adding.{Adds, shown};
+ghost use Rattle.bridge_io.specs.Adding.{Adds, shown};
 ghost use Rattle.mpd_markup.specs.Markup.{opening};
 ghost use Rattle.dash_writer.specs.Elements.{leaf, tag_of};
 ghost use Rattle.dash_writer.specs.Written.{all_told, element_text, end_text, start_text};
 
 use crate::attribute::{Attribute, push_attributes};
-use bridge_io::{Fail, FileWriter, Store};
-use file_pieces::{Piece, push_pieces};
+use bridge_io::{Fail, FileWriter, Piece, Store, push_pieces};
 
 /// Adds an element without children (XML 1.0, 3.1).
 pub(crate) fn push_leaf<F: Store>(

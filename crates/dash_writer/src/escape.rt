@@ -1,13 +1,12 @@
 // Texts as they are written into values.
 ghost use Rattle.std.specs.Prelude.{◌≡◌, true};
 ghost use Rattle.byte_scan.specs.ByteSet.{is_member};
-ghost use Rattle.file_pieces.specs.Adding.{Adds, shown};
+ghost use Rattle.bridge_io.specs.Adding.{Adds, shown};
 ghost use Rattle.mpd_text.specs.Escapes.{escape_all, escape_of};
 ghost use Rattle.dash_writer.specs.Escaped.{four};
 
-use bridge_io::{Fail, FileWriter, Store};
+use bridge_io::{Fail, FileWriter, Piece, Store, push_pieces};
 use byte_scan::{ByteSet, first_of_set};
-use file_pieces::{Piece, push_pieces};
 
 /// Adds a text with `&`, `<`, `>` and `"` as references (XML 1.0, 2.4 and 4.6). What stands between two of them is added at
 /// once.

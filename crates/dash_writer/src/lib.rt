@@ -13,7 +13,7 @@ mod sets;
 mod timed;
 mod times;
 
-pub use file_pieces::OutFault;
+pub use bridge_io::OutFault;
 pub use live::{
     LiveMpd, LivePeriod, LivePeriodList, LiveRun, LiveRunList, LiveSegment, LiveSegmentList,
     write_live_mpd,

@@ -1,7 +1,7 @@
 // The segments that a presentation lists.
 ghost use Rattle.std.specs.Prelude.{◌≡◌, ◌<◌, ◌^◌, All, length, MatchOption, MatchResult};
 ghost use Rattle.bridge_io.specs.declared.outside.Fail.TheVariants.{Memory};
-ghost use Rattle.file_pieces.specs.Adding.{Adds, shown};
+ghost use Rattle.bridge_io.specs.Adding.{Adds, shown};
 ghost use Rattle.timeline.specs.Listed.{IsDone, IsMade};
 ghost use Rattle.presentation.specs.Laws.{HasAddress};
 ghost use Rattle.presentation.specs.Origins.{IsAddressed};

@@ -3,8 +3,8 @@ ghost use Rattle.std.specs.Prelude.{⊤, ◌≡◌, ◌⊎◌, OnErr, OnOk, if�
 ghost use Rattle.bridge_io.specs.Fault.{HasCause};
 ghost use Rattle.bridge_io.specs.Outside.{put, Changes};
 ghost use Rattle.bridge_io.specs.Written.{HasFront};
-ghost use Rattle.file_pieces.specs.Adding.{Adds, shown};
-ghost use Rattle.file_pieces.specs.declared.fault.OutFault.TheVariants.{WriteFault};
+ghost use Rattle.bridge_io.specs.Adding.{Adds, shown};
+ghost use Rattle.bridge_io.specs.declared.out_fault.OutFault.TheVariants.{WriteFault};
 ghost use Rattle.dash_writer.specs.Live as spec;
 ghost use Rattle.dash_writer.specs.Written.{all_told, element_text};
 
@@ -14,9 +14,8 @@ use crate::outline::{Outline, Period};
 use crate::segments::{Files, ListHead, push_segment_list, push_url};
 use crate::sets::TrackLists;
 use crate::times::Durations;
-use bridge_io::{Fail, FileWriter, Name, Sequence, Store};
+use bridge_io::{Fail, FileWriter, Name, OutFault, Sequence, Store};
 use exact_time::Nanos;
-use file_pieces::OutFault;
 use iso_time::{Instant, write_instant_ms};
 use presentation::TrackList;
 use std::alloc::Global;

@@ -4,16 +4,15 @@ ghost use Rattle.bridge_io.specs.Fault.{HasCause};
 ghost use Rattle.bridge_io.specs.Outside.{put, Changes};
 ghost use Rattle.bridge_io.specs.Written.{HasFront};
 ghost use Rattle.iso_time.specs.Duration.{duration_text};
-ghost use Rattle.file_pieces.specs.declared.fault.OutFault.TheVariants.{WriteFault};
+ghost use Rattle.bridge_io.specs.declared.out_fault.OutFault.TheVariants.{WriteFault};
 ghost use Rattle.presentation.specs.Origins.{CameFromPlaylists};
 ghost use Rattle.dash_writer.specs.Manifest as spec;
 ghost use Rattle.dash_writer.specs.Written.{all_told, value_text};
 
 use crate::attribute::{Attribute, Value};
 use crate::outline::{Outline, Period};
-use bridge_io::{Ledger, Name, Steps, Store};
+use bridge_io::{Ledger, Name, OutFault, Steps, Store};
 use exact_time::Nanos;
-use file_pieces::OutFault;
 use presentation::{Presentation, Section};
 use std::alloc::Global;
 

@@ -3,8 +3,8 @@ ghost use Rattle.std.specs.Prelude.{◌≡◌, ◌+◌, ◌<◌, ◌⊎◌, ℕ,
 ghost use Rattle.bridge_io.specs.Fault.{HasCause};
 ghost use Rattle.bridge_io.specs.Outside.{put, Changes};
 ghost use Rattle.bridge_io.specs.Written.{HasFront};
-ghost use Rattle.file_pieces.specs.Adding.{Adds, shown};
-ghost use Rattle.file_pieces.specs.declared.fault.OutFault.TheVariants.{WriteFault};
+ghost use Rattle.bridge_io.specs.Adding.{Adds, shown};
+ghost use Rattle.bridge_io.specs.declared.out_fault.OutFault.TheVariants.{WriteFault};
 ghost use Rattle.dash_writer.specs.Elements as elements;
 ghost use Rattle.dash_writer.specs.Given.{CanBeListed, given_text, outline_of};
 ghost use Rattle.dash_writer.specs.Outline as spec;
@@ -13,8 +13,7 @@ ghost use Rattle.dash_writer.specs.Written.{all_told, element_text, elements_tex
 use crate::attribute::Attribute;
 use crate::element::{push_end, push_start};
 use crate::sets::{TrackLists, push_sets};
-use bridge_io::{Fail, FileWriter, Name, Store};
-use file_pieces::{OutFault, Piece, push_pieces};
+use bridge_io::{Fail, FileWriter, Name, OutFault, Piece, Store, push_pieces};
 use presentation::Track;
 use std::alloc::Global;
 

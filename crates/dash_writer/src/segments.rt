@@ -1,6 +1,6 @@
 // SegmentLists.
 ghost use Rattle.std.specs.Prelude.{◌≡◌, ◌<◌, ◌^◌, ℕ, List, length, map, option_map};
-ghost use Rattle.file_pieces.specs.Adding.{Adds, shown};
+ghost use Rattle.bridge_io.specs.Adding.{Adds, shown};
 ghost use Rattle.url_parts.specs.declared.address.Part.{Part};
 ghost use Rattle.dash_writer.specs.Lists as lists;
 ghost use Rattle.dash_writer.specs.Segments as spec;

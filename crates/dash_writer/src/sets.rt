@@ -1,6 +1,6 @@
 // The tracks of a Period: AdaptationSets with their Representations.
 ghost use Rattle.std.specs.Prelude.{◌≡◌, ℕ, ◌+◌, ◌<◌, ◌≤◌, ◌^◌, List, ◌∷◌, false, length, take, drop, decimal, option_map, option_and_then};
-ghost use Rattle.file_pieces.specs.Adding.{Adds, shown};
+ghost use Rattle.bridge_io.specs.Adding.{Adds, shown};
 ghost use Rattle.presentation.specs.Rows.{is_of, same_language};
 ghost use Rattle.dash_writer.specs.Elements.{Element};
 ghost use Rattle.dash_writer.specs.Outline as spec;

@@ -1,6 +1,6 @@
 // The times of segments, run by run.
 ghost use Rattle.std.specs.Prelude.{◌≡◌, ◌∷◌, ◌+◌, ◌<◌, ◌^◌, ℕ, List, [], codes, length, decimal, option_map, IfOk, MatchOption};
-ghost use Rattle.file_pieces.specs.Adding.{Adds, shown};
+ghost use Rattle.bridge_io.specs.Adding.{Adds, shown};
 ghost use Rattle.timeline.specs.Listed.{timing_of};
 ghost use Rattle.dash_writer.specs.Elements.{node};
 ghost use Rattle.dash_writer.specs.Lists.{timeline_with};

@@ -1,3 +1,4 @@
+pub mod Decimals
 pub mod TimeOrder
 pub mod Times
 pub mod Floors

@@ -13,12 +13,18 @@ use Rattle.exact_time.proofs.Floors.{IsFloorIn-difference, floor-before, floor-a
 use Rattle.exact_time.proofs.Printed.{floor_not_less}
 
 -- the floor does not fall from one end to the next, nor does it rise by more than the seconds between
-pub floor_rises : (u c : ℕ) (first former end : Time) → IsTime first → IsTime former → IsTime end → IsAtMost first former → IsAtMost former end → IsAtMost (difference end former) (seconds c) →
-    (floor_in u (difference former first) ≤ floor_in u (difference end first)) × (floor_in u (difference end first) ≤ floor_in u (difference former first) + c * u)
+pub floor_rises : (u c : ℕ) (first former end : Time) → IsTime first → IsTime former → IsTime end → IsAtMost first former
+    → IsAtMost former end → IsAtMost (difference end former) (seconds c) →
+    (floor_in u (difference former first) ≤ floor_in u (difference end first))
+    × (floor_in u (difference end first) ≤ floor_in u (difference former first) + c * u)
 floor_rises u c first former end is_first is_former is_end begun not_before near =
-    let is_m : IsFloorIn u (difference former first) (floor_in u (difference former first)) = IsFloorIn-difference u former first is_former is_first begun in
-    let is_n : IsFloorIn u (difference end first) (floor_in u (difference end first)) = IsFloorIn-difference u end first is_end is_first (IsAtMost-trans first former end is_former begun not_before) in
-    (omega (arith, floor-after u _ _ 0 end former first is_former (none_le-difference u end former not_before) is_m is_n), floor-before u _ _ (c * u) end former first is_end (le_seconds u c (difference end former) near) is_m is_n)
+    let is_m : IsFloorIn u (difference former first) (floor_in u (difference former first)) =
+    IsFloorIn-difference u former first is_former is_first begun in
+    let is_n : IsFloorIn u (difference end first) (floor_in u (difference end first)) =
+    IsFloorIn-difference u end first is_end is_first (IsAtMost-trans first former end is_former begun not_before) in (
+      omega (arith, floor-after u _ _ 0 end former first is_former (none_le-difference u end former not_before) is_m is_n),
+      floor-before u _ _ (c * u) end former first is_end (le_seconds u c (difference end former) near) is_m is_n,
+    )
 
 -- the times of a `Rounder`
 pub record IsBegun (r : Rounding) : Type 0 where
@@ -30,7 +36,8 @@ pub begun_of : (r : Inside) (now : Rounding) → IsKept r → rounding_of r ≡ 
 begun_of r now kept seen = subst IsBegun seen (record { first_is = r.first.positive; former_is = r.former.positive; begun = kept.begun })
 
 -- a call of `pass` at a `Rounder` of these fields, which is seen as `now`
-module _ (r : Inside) (kept : IsKept r) (now : Rounding) (seen : rounding_of r ≡ now) (end : Tick) (not_before : IsAtMost now.former (time_of end)) where
+module _ (r : Inside) (kept : IsKept r) (now : Rounding) (seen : rounding_of r ≡ now) (end : Tick)
+    (not_before : IsAtMost now.former (time_of end)) where
   pub first_not_after : IsAtMost (time_of r.first) (time_of end)
   first_not_after = IsAtMost-trans (time_of r.first) (time_of r.former) (time_of end) r.former.positive kept.begun
       (subst (λ (s : Rounding). IsAtMost s.former (time_of end)) (sym seen) not_before)

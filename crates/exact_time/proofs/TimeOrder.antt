@@ -4,7 +4,19 @@ use Rattle.std.proofs.Common.{arith}
 use Rattle.std.proofs.lemmas.Int.{ints}
 use Rattle.std.proofs.lemmas.Bool.Decides.{nat_tests}
 use Rattle.exact_time.specs.Time.{Time, IsBefore, IsAtMost, before, at_most}
-pub use Rattle.exact_time.specs.TickOrder.{share, share_le_out, share_le_in, IsAtMost-trans, before_or_at_most, IsAtMost-from_before, before_then_at_most, at_most_then_before, same_from_both, same_is_at_most, same_is_at_least}
+pub use Rattle.exact_time.specs.TickOrder.{
+  share,
+  share_le_out,
+  share_le_in,
+  IsAtMost-trans,
+  before_or_at_most,
+  IsAtMost-from_before,
+  before_then_at_most,
+  at_most_then_before,
+  same_from_both,
+  same_is_at_most,
+  same_is_at_least,
+}
 
 pub IsAtMost_refl : (x : Time) → IsAtMost x x
 IsAtMost_refl x = share_le_in x x (omega arith)

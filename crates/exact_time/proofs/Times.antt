@@ -31,24 +31,29 @@ le_seconds u c x h = share_le_in x (in_units u (c * u)) (omega (arith, mul-le-mu
 
 -- ---- a difference beside k/u seconds
 
-pub units_le_out : (u k : ℕ) (x y : Time) → IsAtMost (in_units u k) (difference x y) → k * (x.scale * y.scale) + share y x * u ≤ share x y * u
+pub units_le_out : (u k : ℕ) (x y : Time) → IsAtMost (in_units u k) (difference x y)
+    → k * (x.scale * y.scale) + share y x * u ≤ share x y * u
 units_le_out u k x y h = omega (arith, share_le_out (in_units u k) (difference x y) h, ap (λ n. n * u) (difference_out x y))
 
-pub units_le_in : (u k : ℕ) (x y : Time) → k * (x.scale * y.scale) + share y x * u ≤ share x y * u → IsAtMost (in_units u k) (difference x y)
+pub units_le_in : (u k : ℕ) (x y : Time) → k * (x.scale * y.scale) + share y x * u ≤ share x y * u
+    → IsAtMost (in_units u k) (difference x y)
 units_le_in u k x y h = share_le_in (in_units u k) (difference x y) (omega (arith, ap (λ n. n * u) (difference_out x y)))
 
 -- it is no less than 0 units
 pub none_le-difference : (u : ℕ) (x y : Time) → IsAtMost y x → IsAtMost (in_units u 0) (difference x y)
 none_le-difference u x y h = units_le_in u 0 x y (omega (arith, mul-le-mul_left u (share_le_out y x h)))
 
-pub le_units_out : (u k : ℕ) (x y : Time) → IsAtMost (difference x y) (in_units u k) → share x y * u ≤ k * (x.scale * y.scale) + share y x * u
+pub le_units_out : (u k : ℕ) (x y : Time) → IsAtMost (difference x y) (in_units u k)
+    → share x y * u ≤ k * (x.scale * y.scale) + share y x * u
 le_units_out u k x y h = omega (arith, share_le_out (difference x y) (in_units u k) h, ap (λ n. n * u) (difference_out x y))
 
-pub le_units_in : (u k : ℕ) (x y : Time) → share x y * u ≤ k * (x.scale * y.scale) + share y x * u → IsAtMost (difference x y) (in_units u k)
+pub le_units_in : (u k : ℕ) (x y : Time) → share x y * u ≤ k * (x.scale * y.scale) + share y x * u
+    → IsAtMost (difference x y) (in_units u k)
 le_units_in u k x y h = share_le_in (difference x y) (in_units u k) (omega (arith, ap (λ n. n * u) (difference_out x y)))
 
 -- from f to e is at most c units, and from s to e at least k + c: from s to f at least k
-pub units_le-before : (u k c : ℕ) (e f s : Time) → IsTime e → IsAtMost (difference e f) (in_units u c) → IsAtMost (in_units u (k + c)) (difference e s) → IsAtMost (in_units u k) (difference f s)
+pub units_le-before : (u k c : ℕ) (e f s : Time) → IsTime e → IsAtMost (difference e f) (in_units u c)
+    → IsAtMost (in_units u (k + c)) (difference e s) → IsAtMost (in_units u k) (difference f s)
 units_le-before u k c e f s positive short long = units_le_in u k f s (le_of_mul-le-mul_left {k = e.scale} (omega (
   arith,
   mul-le-mul_left s.scale (le_units_out u c e f short),
@@ -56,7 +61,8 @@ units_le-before u k c e f s positive short long = units_le_in u k f s (le_of_mul
 )) positive)
 
 -- from s to f is at least k units, and from f to e at least c: from s to e at least k + c
-pub units_le-after : (u k c : ℕ) (e f s : Time) → IsTime f → IsAtMost (in_units u c) (difference e f) → IsAtMost (in_units u k) (difference f s) → IsAtMost (in_units u (k + c)) (difference e s)
+pub units_le-after : (u k c : ℕ) (e f s : Time) → IsTime f → IsAtMost (in_units u c) (difference e f)
+    → IsAtMost (in_units u k) (difference f s) → IsAtMost (in_units u (k + c)) (difference e s)
 units_le-after u k c e f s positive short long = units_le_in u (k + c) e s (le_of_mul-le-mul_left {k = f.scale} (omega (
   arith,
   mul-le-mul_left s.scale (units_le_out u c e f short),
@@ -64,7 +70,8 @@ units_le-after u k c e f s positive short long = units_le_in u (k + c) e s (le_o
 )) positive)
 
 -- from s to f is at most k units, and from f to e at most c: from s to e at most k + c
-pub le_units-add : (u k c : ℕ) (e f s : Time) → IsTime f → IsAtMost (difference e f) (in_units u c) → IsAtMost (difference f s) (in_units u k) → IsAtMost (difference e s) (in_units u (k + c))
+pub le_units-add : (u k c : ℕ) (e f s : Time) → IsTime f → IsAtMost (difference e f) (in_units u c)
+    → IsAtMost (difference f s) (in_units u k) → IsAtMost (difference e s) (in_units u (k + c))
 le_units-add u k c e f s positive near nearer = le_units_in u (k + c) e s (le_of_mul-le-mul_left {k = f.scale} (omega (
   arith,
   mul-le-mul_left s.scale (le_units_out u c e f near),

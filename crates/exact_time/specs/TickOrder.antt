@@ -36,10 +36,18 @@ IsAtMost-from_before x y h = omega (arith, ints)
 
 -- a strict step first, or last, makes the whole strict
 pub before_then_at_most : (x y z : Time) → IsTime z → IsBefore x y → IsAtMost y z → IsBefore x z
-before_then_at_most x y z positive h k = elim (before_or_at_most x z) [ inl before ↦ before | inr back ↦ absurd (omega (arith, ints, IsAtMost-trans y z x positive k back)) ]
+before_then_at_most x y z positive h k = elim (before_or_at_most x z) [
+  | inl before ↦ before
+  | inr back ↦
+      absurd (omega (arith, ints, IsAtMost-trans y z x positive k back))
+]
 
 pub at_most_then_before : (x y z : Time) → IsTime x → IsAtMost x y → IsBefore y z → IsBefore x z
-at_most_then_before x y z positive h k = elim (before_or_at_most x z) [ inl before ↦ before | inr back ↦ absurd (omega (arith, ints, IsAtMost-trans z x y positive back h)) ]
+at_most_then_before x y z positive h k = elim (before_or_at_most x z) [
+  | inl before ↦ before
+  | inr back ↦
+      absurd (omega (arith, ints, IsAtMost-trans z x y positive back h))
+]
 
 -- ---- equal times
 
@@ -68,14 +76,17 @@ time_cmp_is o x y h = int_cmp_is (cross x y) (cross y x) o h
 moved : (x y z : Time) → IsTime x → IsTime y → IsSame x y → (o : Ordering) → Says o y z → Says o x z
 moved x y z is_x is_y same Less h = at_most_then_before x y z is_x (same_is_at_most x y same) h
 moved x y z is_x is_y same Equal h = same_from_both x z
-    (IsAtMost-trans x y z is_y (same_is_at_most x y same) (same_is_at_most y z h)) (IsAtMost-trans z y x is_y (same_is_at_least y z h) (same_is_at_least x y same))
+    (IsAtMost-trans x y z is_y (same_is_at_most x y same) (same_is_at_most y z h))
+    (IsAtMost-trans z y x is_y (same_is_at_least y z h) (same_is_at_least x y same))
 moved x y z is_x is_y same Greater h = before_then_at_most z y x is_x h (same_is_at_least x y same)
 
 pub tick_cmp_total : IsTotalOrder tick_cmp
 tick_cmp_total = record {
   antisymm = λ a b. int_cmp_total.antisymm (cross (time_of a) (time_of b)) (cross (time_of b) (time_of a));
   trans = λ a b c p q. sym (time_cmp_is Less (time_of a) (time_of c)
-      (before_then_at_most (time_of a) (time_of b) (time_of c) c.positive (said Less (time_of a) (time_of b) p) (IsAtMost-from_before (time_of b) (time_of c) (said Less (time_of b) (time_of c) q))));
+      (before_then_at_most (time_of a) (time_of b) (time_of c) c.positive (said Less (time_of a) (time_of b) p)
+      (IsAtMost-from_before (time_of b) (time_of c) (said Less (time_of b) (time_of c) q))));
   congr = λ a b c p. sym (time_cmp_is (tick_cmp b c) (time_of a) (time_of c)
-      (moved (time_of a) (time_of b) (time_of c) a.positive b.positive (said Equal (time_of a) (time_of b) p) (tick_cmp b c) (int_ranks (cross (time_of b) (time_of c)) (cross (time_of c) (time_of b)))));
+      (moved (time_of a) (time_of b) (time_of c) a.positive b.positive (said Equal (time_of a) (time_of b) p) (tick_cmp b c)
+      (int_ranks (cross (time_of b) (time_of c)) (cross (time_of c) (time_of b)))));
 }

@@ -1,7 +1,9 @@
 //! Laws of the definitions that the contracts of this crate cite. The functions do nothing: what
 //! they ensure is the law.
 
-ghost use Rattle.exact_time.specs.Laws.{IsTransitive, IsTotal, IsExclusive, IsAntisymmetric, TestsTell, HasOneFloor, CallsArePrinted, CallsSum, CallsRise, CallsGoOn, CallsJoin, CallsAreAllowed, EqualEndsGoOn, SumsAreFloors, SumsStayNear, WholeUnitsStay, SamePrintAlike};
+ghost use Rattle.exact_time.specs.Laws.{IsTransitive, IsTotal, IsExclusive, IsAntisymmetric, TestsTell, HasOneFloor, CallsArePrinted};
+ghost use Rattle.exact_time.specs.Laws.{CallsSum, CallsRise, CallsGoOn, CallsJoin, CallsAreAllowed, EqualEndsGoOn, SumsAreFloors};
+ghost use Rattle.exact_time.specs.Laws.{SumsStayNear, WholeUnitsStay, SamePrintAlike};
 
 /// Times are in one order, and two that are not apart in it are the same time. The tests tell the order.
 pub fn times_are_ordered()

@@ -1,9 +1,8 @@
 -- Times that are the same as fractions, and the first ones that aren't.
-use Rattle.std.proofs.Common.{◌≡◌, ℕ, suc, ◌+◌, ◌*◌, ◌<◌, ◌==◌, ℤ, pos, negsuc, ◌≤ℤ◌, ◌<ℤ◌, ◌+ℤ◌, ◌*ℤ◌, Bool, List, [], ◌∷◌, map}
+use Rattle.std.proofs.Common.{◌≡◌, ℕ, suc, ◌+◌, ◌*◌, ◌<◌, ◌==◌, ℤ, pos, negsuc, ◌≤ℤ◌, ◌<ℤ◌, ◌+ℤ◌, ◌*ℤ◌, Bool, List, [], ◌∷◌}
 use Rattle.std.proofs.Common.{Option, Some}
-use Rattle.std.proofs.Common.{None, unsigned_abs, refl, sym, ◌∙◌, ap, arith}
+use Rattle.std.proofs.Common.{None, unsigned_abs, refl, ap, arith}
 use Rattle.std.proofs.Common.{◌≤◌, length, option_map}
-use Rattle.std.specs.List.{range_with_len}
 use Rattle.std.specs.Option.{option_map_or}
 use Rattle.std.specs.Prelude.{slice_get}
 use Rattle.std.proofs.lemmas.Bool.Decides.{Decides-eqb, Decides-int_eq, same_from_decides}
@@ -16,10 +15,9 @@ use Rattle.timeline.specs.Expansions.{SegmentTimeline, Timing}
 use Rattle.timeline.specs.Listed.{offset_of}
 use Rattle.presentation.specs.declared.parts.Content.{Content}
 use Rattle.presentation.specs.Presented.{Presented, content_at, listed_at}
-use Rattle.presentation.proofs.Counts.{from_on, from_on-end, from_on-first, from_on-start}
 use Rattle.fragment_times.specs.declared.fault.SegmentSpot.{SegmentSpot}
 use Rattle.fragment_times.specs.declared.times.SegmentTimes.{SegmentTimes}
-use Rattle.fragment_times.specs.Agreeing.{apart_at, apart_from, first_some, or_later, own_apart, sum_of}
+use Rattle.fragment_times.specs.Agreeing.{apart_at, apart_from, own_apart, sum_of}
 
 -- ---- one time
 
@@ -53,29 +51,6 @@ module _ (t r s u : ℕ) where
       (λ e. omega (arith, ints, times, ints_tell.0 e), λ p. ints_tell.1 (omega (arith, ints, times, p)))
   same_before (pos n) offset before some = absurd (omega (arith, ints))
   same_before (negsuc n) (negsuc m) before some = absurd (omega (arith, ints))
-
--- ---- the first one that isn't
-
--- the places from i on are left, and what is at i is known
-module _ (f : ℕ → Option SegmentSpot) (i n : ℕ) (within : i < n) (whole here : Option SegmentSpot)
-    (so_far : whole ≡ first_some (map f (from_on i n))) (is : here ≡ f i) where
-  goes_on : whole ≡ or_later here (first_some (map f (from_on (i + 1) n)))
-  goes_on = so_far ∙ ap (λ xs. first_some (map f xs)) (from_on-first i n within)
-      ∙ ap (λ found. or_later found (first_some (map f (from_on (i + 1) n)))) (sym is)
-
-  pub none_here : here ≡ None → whole ≡ first_some (map f (from_on (i + 1) n))
-  none_here none = goes_on ∙ ap (λ found. or_later found (first_some (map f (from_on (i + 1) n)))) none
-
-  pub some_here : (spot : SegmentSpot) → here ≡ Some spot → Some spot ≡ whole
-  some_here spot some = sym (goes_on ∙ ap (λ found. or_later found (first_some (map f (from_on (i + 1) n)))) some)
-
-pub none_left : (f : ℕ → Option SegmentSpot) (i n : ℕ) (whole : Option SegmentSpot) → i ≡ n → whole ≡ first_some (map f (from_on i n))
-    → None ≡ whole
-none_left f i n whole last so_far =
-    sym (so_far ∙ ap (λ i. first_some (map f (from_on i n))) last ∙ ap (λ xs. first_some (map f xs)) (from_on-end n))
-
-pub all_left : (f : ℕ → Option SegmentSpot) (n : ℕ) → first_some (map f (range_with_len 0 n)) ≡ first_some (map f (from_on 0 n))
-all_left f n = ap (λ xs. first_some (map f xs)) (sym (from_on-start n))
 
 -- ---- of segments, and of a track in a section
 

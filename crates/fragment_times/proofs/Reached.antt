@@ -4,7 +4,7 @@ use Rattle.std.proofs.Common.{Result, Ok, Err, IfSome, refl, sym, ap, ◌∙◌,
 use Rattle.std.proofs.lemmas.Bool.{cases_lt}
 use Rattle.std.proofs.lemmas.List.{drop-drop, length-take, take_all}
 use Rattle.std.proofs.Math.Seq.{take-add}
-use Rattle.bridge_io.specs.Answer.{Gives}
+use Rattle.bridge_io.specs.Answer.{Gives, and_then}
 use Rattle.bridge_io.specs.Outside.{Files}
 use Rattle.box_reader.specs.Boxes.{Found, Left, boxes_of, first_in, is_of}
 use Rattle.box_reader.specs.Laws.{FrontsTell}
@@ -15,7 +15,7 @@ use Rattle.box_reader.specs.declared.part.PartFault.TheVariants.{Absent, Fault, 
 use Rattle.box_reader.proofs.Fronts.{take_less}
 use Rattle.url_parts.specs.declared.address.Part.{Part}
 use Rattle.url_parts.specs.declared.range.Range.{Range}
-use Rattle.presentation.specs.Told.{and_then, told_as}
+use Rattle.presentation.specs.Told.{told_as}
 use Rattle.presentation.proofs.Printing.{if_some}
 use Rattle.fragment_times.specs.declared.fault.FileFault.{FileFault}
 use Rattle.fragment_times.specs.declared.fault.FileFault.TheVariants.{Absent as NoFile}
@@ -25,7 +25,7 @@ use Rattle.fragment_times.specs.declared.part.Reach.{Reach}
 use Rattle.fragment_times.specs.Parts.{EndsWithin, box_from, box_of, byte_limit, file_of, first_byte, told_at, told_of}
 use Rattle.fragment_times.specs.Refusals.{part_told}
 use Rattle.fragment_times.specs.Refusals.{refusal as refused}
-use Rattle.fragment_times.specs.Told.{first_of, needed}
+use Rattle.fragment_times.specs.Told.{first_box, needed}
 
 -- ---- bytes
 
@@ -116,12 +116,12 @@ module _ (kind : List ℕ) (range : Option Range) (reach : Reach)
     (first : reach.first ≡ first_byte range) (limit : reach.limit ≡ byte_limit range) where
   pub as_whole : (by : Found → Result ℕ FileFault) (file : Option (List ℕ)) (bytes : List ℕ)
       → box_of kind reach file ≡ Ok (box_from kind reach.first bytes)
-      → told_of (λ left. and_then (first_of kind left) by) range file ≡ and_then (box_from kind reach.first bytes) by
+      → told_of (λ left. and_then (first_box kind left) by) range file ≡ and_then (box_from kind reach.first bytes) by
   as_whole by None bytes is = absurd (cc)
   as_whole by (Some whole) bytes is =
       let same : box_from kind reach.first (take reach.limit (drop reach.first whole)) ≡ box_from kind reach.first bytes = cc in
-      ap (λ n. and_then (first_of kind (record { at = n; bytes = take (byte_limit range) (drop n whole) })) by) (sym first)
-      ∙ ap (λ n. and_then (first_of kind (record { at = reach.first; bytes = take n (drop reach.first whole) })) by) (sym limit)
+      ap (λ n. and_then (first_box kind (record { at = n; bytes = take (byte_limit range) (drop n whole) })) by) (sym first)
+      ∙ ap (λ n. and_then (first_box kind (record { at = reach.first; bytes = take n (drop reach.first whole) })) by) (sym limit)
       ∙ ap (λ told. and_then told by) same
 
   pub as_absent : (tell : Left → Result ℕ FileFault) (file : Option (List ℕ)) → box_of kind reach file ≡ Err Absent

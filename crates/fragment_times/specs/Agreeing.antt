@@ -1,6 +1,7 @@
 -- Where a presentation's times differ from those that its files state.
 use Rattle.std.specs.Prelude.{ℕ, ◌+◌, ◌*◌, ◌+ℤ◌, Bool, List, [], ◌∷◌, length, map, slice_get, if◌then◌else◌, Option, Some, None}
 use Rattle.std.specs.Option.{option_map_or}
+use Rattle.bridge_io.specs.Firsts.{first_some}
 use Rattle.exact_time.specs.Time.{Time, cross, in_units}
 use Rattle.timeline.specs.Expansions.{Timing}
 use Rattle.timeline.specs.Listed.{offset_of}
@@ -33,14 +34,6 @@ abbrev pub own_apart : SegmentSpot → List Timing → Content → SegmentTimes 
 own_apart at listed content times = apart_from at (offset_of content.runs) times.scale listed times.starts
 
 -- ---- section by section, track by track
-
-abbrev pub or_later : Option SegmentSpot → Option SegmentSpot → Option SegmentSpot
-or_later (Some spot) later = Some spot
-or_later None later = later
-
-abbrev pub first_some : List (Option SegmentSpot) → Option SegmentSpot
-first_some [] = None
-first_some (found ∷ later) = or_later found (first_some later)
 
 -- a place without times has nothing
 unfoldable pub apart_at : Presented → List SegmentTimes → (s t : ℕ) → Option SegmentSpot

@@ -3,12 +3,13 @@ use Rattle.std.specs.Prelude.{ℕ, zero, suc, ◌+◌, ◌*◌, ◌-◌, ◌^◌
 use Rattle.std.specs.Prelude.{drop, if◌then◌else◌, Option, Some, None, Result, Ok, Err}
 use Rattle.std.specs.Int.{div_ceil}
 use Rattle.std.specs.Option.{option_map_or}
+use Rattle.bridge_io.specs.Answer.{and_then}
 use Rattle.exact_time.specs.Floor.{floor_in}
 use Rattle.exact_time.specs.Time.{Time, difference}
 use Rattle.timeline.specs.Expansions.{Timing}
 use Rattle.presentation.specs.Counting.{sections_of, tracks_of}
 use Rattle.presentation.specs.Presented.{Presented, listed_at}
-use Rattle.presentation.specs.Told.{and_then, gathered}
+use Rattle.presentation.specs.Told.{gathered}
 use Rattle.fragment_times.specs.declared.lasting.Begun.{Begun}
 use Rattle.fragment_times.specs.declared.fault.FileFault.TheVariants.{Order, Range as OutOfRange}
 use Rattle.fragment_times.specs.declared.fault.SegmentSpot.{SegmentSpot}

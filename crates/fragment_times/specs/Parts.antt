@@ -1,5 +1,6 @@
 -- Which bytes of files initialization parts and segments are, and what they tell.
 use Rattle.std.specs.Prelude.{ℕ, ◌+◌, ◌-◌, ◌^◌, ◌<◌, min, List, Option, Some, None, Result, Ok, Err, take, drop}
+use Rattle.bridge_io.specs.Answer.{and_then}
 use Rattle.bridge_io.specs.Outside.{Files}
 use Rattle.box_reader.specs.Boxes.{Found, Left}
 use Rattle.box_reader.specs.Parts.{part_of}
@@ -7,13 +8,13 @@ use Rattle.box_reader.specs.declared.part.PartFault.{PartFault}
 use Rattle.url_parts.specs.Addresses.{local_name_of}
 use Rattle.url_parts.specs.declared.address.Part.{Part}
 use Rattle.url_parts.specs.declared.range.Range.{Range}
-use Rattle.presentation.specs.Told.{and_then, told_as}
+use Rattle.presentation.specs.Told.{told_as}
 use Rattle.fragment_times.specs.declared.fault.FileFault.{FileFault}
 use Rattle.fragment_times.specs.declared.fault.FileFault.TheVariants.{Absent}
 use Rattle.fragment_times.specs.declared.fault.TimesFault.{TimesFault}
 use Rattle.fragment_times.specs.declared.fault.TimesFault.TheVariants.{File, OutsideBase}
 use Rattle.fragment_times.specs.declared.part.Reach.{Reach}
-use Rattle.fragment_times.specs.Told.{decode_time_of, first_of, media_scale_of}
+use Rattle.fragment_times.specs.Told.{decode_time_of, first_box, media_scale_of}
 
 -- ---- which bytes
 
@@ -60,7 +61,7 @@ start_at = told_at decode_time_of
 
 -- the first box of a type, in bytes of which the first one stands at a place
 abbrev pub box_from : (kind : List ℕ) → (at : ℕ) → List ℕ → Result Found FileFault
-box_from kind at bytes = first_of kind (record { at = at; bytes = bytes })
+box_from kind at bytes = first_box kind (record { at = at; bytes = bytes })
 
 abbrev pub box_by : (kind : List ℕ) → (at : ℕ) → Result (List ℕ) PartFault → Result (Result Found FileFault) PartFault
 box_by kind at (Ok bytes) = Ok (box_from kind at bytes)

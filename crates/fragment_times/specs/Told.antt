@@ -1,11 +1,11 @@
 -- The times that files tell of themselves: ISO/IEC 14496-12, 8.4.2 (`mdhd`) and 8.8.12 (`tfdt`).
 use Rattle.std.specs.Prelude.{ℕ, ◌+◌, ◌^◌, ◌==◌, nat_lt, List, codes, length, get_or, count_by, if◌then◌else◌, Option, Some, None, Result}
 use Rattle.std.specs.Prelude.{Ok, Err}
+use Rattle.bridge_io.specs.Answer.{and_then}
 use Rattle.box_reader.specs.Boxes.{Found, Left, Walk, boxes_of, first_in, is_of}
 use Rattle.box_reader.specs.Numbers.{u32_at, u64_at}
 use Rattle.box_reader.specs.declared.head.BoxFault.{BoxFault}
 use Rattle.box_reader.specs.declared.head.BoxFault.TheVariants as box
-use Rattle.presentation.specs.Told.{and_then}
 use Rattle.fragment_times.specs.declared.fault.FileFault.{FileFault}
 use Rattle.fragment_times.specs.declared.fault.FileFault.TheVariants.{Boxes, Missing, Tracks, Scale, Range}
 use Rattle.fragment_times.specs.Refusals.{sooner}
@@ -18,15 +18,15 @@ needed (Ok None) = Err Missing
 needed (Err fault) = Err (Boxes fault)
 
 -- the first box of a type
-abbrev pub first_of : (kind : List ℕ) → Left → Result Found FileFault
-first_of kind left = needed (first_in (is_of kind) (boxes_of left))
+abbrev pub first_box : (kind : List ℕ) → Left → Result Found FileFault
+first_box kind left = needed (first_in (is_of kind) (boxes_of left))
 
 -- the bytes behind a box's header
 abbrev pub inside : Found → Left
 inside found = record { at = found.head.at + found.head.header; bytes = found.body }
 
 abbrev pub child_of : (kind : List ℕ) → Found → Result Found FileFault
-child_of kind found = first_of kind (inside found)
+child_of kind found = first_box kind (inside found)
 
 -- ---- a number behind version and flags
 
@@ -97,8 +97,8 @@ start_by moof = and_then (alone (codes "traf") moof (track_start moof)) unless_l
 
 -- the timescale of an initialization part's media
 unfoldable pub media_scale_of : Left → Result ℕ FileFault
-media_scale_of left = and_then (first_of (codes "moov") left) scale_by
+media_scale_of left = and_then (first_box (codes "moov") left) scale_by
 
 -- the decode time of a segment's first sample
 unfoldable pub decode_time_of : Left → Result ℕ FileFault
-decode_time_of left = and_then (first_of (codes "moof") left) start_by
+decode_time_of left = and_then (first_box (codes "moof") left) start_by

@@ -72,7 +72,7 @@ fn first_of_track(
         track,
         segment: 0,
     };
-    let told = Told {
+    let told = FileClock {
         offset: runs.offset(),
         scale: own.scale,
     };
@@ -82,12 +82,12 @@ fn first_of_track(
 
 /// The media time of a Period's start, and how many ticks make a second of a file's media.
 #[derive(Clone, Copy, Debug)]
-struct Told {
+struct FileClock {
     offset: Tick,
     scale: u32,
 }
 
-impl Told {
+impl FileClock {
     /// The first of some segments whose time isn't the one that stands in its place. The first one of all is at a spot.
     fn first_apart(
         self,

@@ -6,6 +6,7 @@
 mod agreement;
 mod fault;
 mod lasting;
+mod listing;
 mod part;
 mod times;
 mod told;
@@ -13,4 +14,5 @@ mod told;
 pub use agreement::first_apart;
 pub use fault::{FileFault, SegmentSpot, TimesFault};
 pub use lasting::{DurationsList, TickSeq, durations};
+pub use listing::listing_at;
 pub use times::{SegmentTimes, StartList, TimesList, fragment_times};

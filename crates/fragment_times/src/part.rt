@@ -11,7 +11,7 @@ ghost use Rattle.fragment_times.specs.Parts as spec;
 ghost use Rattle.fragment_times.specs.Refusals.{IsNoFault, refusal};
 
 use crate::fault::at_part;
-use crate::told::{decode_time, first_of, media_scale};
+use crate::told::{decode_time, first_box, media_scale};
 use crate::{FileFault, TimesFault};
 use box_reader::{Boxes, PartFault, fronts_tell, read_part};
 use bridge_io::{Bytes, Name, Store};
@@ -155,7 +155,7 @@ fn ends_within(bytes: &[u8], first: u64, kind: [u8; 4]) -> bool
     requires { first + length bytes.now ≤ 2 ^ 63 }
     ensures { result ≡ true → spec.EndsWithin (first + length bytes.now) (spec.box_from kind first bytes.now) }
 {
-    match first_of(Boxes::over(bytes, first), kind) {
+    match first_box(Boxes::over(bytes, first), kind) {
         Ok(found) => {
             let head = found.head();
             head.at + head.size < first + bytes.len() as u64

@@ -12,11 +12,12 @@ ghost use Rattle.fragment_times.specs.Refusals.{refusal};
 ghost use Rattle.fragment_times.specs.Times as spec;
 
 use crate::TimesFault;
+use crate::listing::listing_at;
 use crate::part::{scale_at, start_at};
 use bridge_io::{Ledger, NoMemory, Sequence, Steps, Store};
 use presentation::Presentation;
 use std::alloc::Global;
-use timeline::{ListFault, Listing, Segment, closed_ends};
+use timeline::{ListFault, Listing, Segment};
 use url_parts::Base;
 
 /// What the files of a track in a section state.
@@ -132,24 +133,9 @@ impl Reading<'_> {
     {
         let initialization = self.presentation.initialization(section, track);
         let scale = scale_at(alloc, self.folder, initialization, store)?;
-        let listing = self.listing(section, track);
+        let listing = listing_at(self.presentation, section, track);
         let starts = self.starts(alloc, listing, store, steps)?;
         Ok(SegmentTimes { scale, starts })
-    }
-
-    /// The listed segments of a track in a section, which all have addresses.
-    fn listing(&self, section: usize, track: usize) -> Listing<'_>
-        requires listable { AreListable self.now.presentation.now }
-        requires section { section < length self.now.presentation.now.sections }
-        requires track { track < length self.now.presentation.now.tracks }
-        ensures left { result.left ≡ listed_at self.now.presentation.now section track }
-        ensures timeline { spec.IsTimelineAt self.now.presentation.now section track result.timeline }
-        ensures addressed { All (HasAddress result.timeline) result.left }
-    {
-        closed_ends();
-        let runs = self.presentation.runs(section, track);
-        let window = self.presentation.window(section);
-        runs.resume(&runs.seek(&window), &window)
     }
 
     /// The decode times that the segments state that are left.

@@ -17,7 +17,7 @@ pub(crate) fn media_scale(bytes: &[u8], first: u64) -> Result<u32, FileFault>
     ensures scale { result ≡ spec.media_scale_of (record { at = first; bytes = bytes.now }) }
     ensures positive { IfOk result (λ scale. 0 < scale) }
 {
-    let moov = first_of(Boxes::over(bytes, first), *b"moov")?;
+    let moov = first_box(Boxes::over(bytes, first), *b"moov")?;
     let scale = alone(&moov, *b"trak", track_scale(&moov))?;
     if scale == 0 {
         return Err(FileFault::Scale);
@@ -33,7 +33,7 @@ pub(crate) fn decode_time(bytes: &[u8], first: u64) -> Result<u64, FileFault>
     requires { first + length bytes.now ≤ 2 ^ 63 }
     ensures { result ≡ spec.decode_time_of (record { at = first; bytes = bytes.now }) }
 {
-    let moof = first_of(Boxes::over(bytes, first), *b"moof")?;
+    let moof = first_box(Boxes::over(bytes, first), *b"moof")?;
     let start = alone(&moof, *b"traf", track_start(&moof))?;
     if start >= 1 << 63 {
         return Err(FileFault::Range);
@@ -90,8 +90,8 @@ fn fault_among(found: &FileBox<'_>, kind: [u8; 4]) -> Option<FileFault>
 }
 
 /// The first box of a type among some.
-pub(crate) fn first_of<'a>(boxes: Boxes<'a>, kind: [u8; 4]) -> Result<FileBox<'a>, FileFault>
-    ensures { result ≡ spec.first_of kind boxes.entry }
+pub(crate) fn first_box<'a>(boxes: Boxes<'a>, kind: [u8; 4]) -> Result<FileBox<'a>, FileFault>
+    ensures { result ≡ spec.first_box kind boxes.entry }
 {
     match boxes.find(&OfType(kind)) {
         Ok(Some(found)) => Ok(found),
@@ -112,7 +112,7 @@ fn inside<'a>(found: &FileBox<'a>) -> Boxes<'a>
 fn child_of<'a>(found: &FileBox<'a>, kind: [u8; 4]) -> Result<FileBox<'a>, FileFault>
     ensures { result ≡ spec.child_of kind found.now }
 {
-    first_of(inside(found), kind)
+    first_box(inside(found), kind)
 }
 
 /// The version of a box that has one, 0 or 1 (4.2).

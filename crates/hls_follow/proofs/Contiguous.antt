@@ -8,6 +8,7 @@ use Rattle.std.specs.Option.{option_eq}
 use Rattle.std.proofs.lemmas.Bool.{eq-eqb, eqb-true, le-leb, le-ltb}
 use Rattle.std.proofs.lemmas.List.Elements.{All-nil, All-cons}
 use Rattle.std.proofs.lemmas.Option.{get_or_from_slice_get, slice_get_within}
+use Rattle.bridge_io.proofs.AndThen.{steps_of}
 use Rattle.hls_media.specs.declared.media.Media.{Media}
 use Rattle.hls_media.specs.declared.media.MediaSegment.{MediaSegment}
 use Rattle.reload_law.specs.declared.unlawful.Unlawful.TheVariants as rules
@@ -25,7 +26,6 @@ use Rattle.hls_follow.specs.Rules.{judged_all, judged_reload, reload_told}
 use Rattle.hls_follow.specs.Times.{behind_segment, former_time, is_late, last_of, time_of, timed_all, timed_from, timed_of}
 use Rattle.hls_follow.specs.Times.{unless_late}
 use Rattle.hls_follow.proofs.Staying.{parts_of, same_by}
-use Rattle.hls_follow.proofs.Steps.{steps_of}
 
 -- ---- what a former playlist tells of two numbers
 

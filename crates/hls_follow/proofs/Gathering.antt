@@ -3,10 +3,11 @@ use Rattle.std.proofs.Common.{◌≡◌, Bool, true, false, List, [], ◌∷◌,
 use Rattle.std.proofs.lemmas.List.{append-nil}
 use Rattle.std.proofs.lemmas.Option.{IfSome_then}
 use Rattle.std.specs.List.{list_any}
+use Rattle.bridge_io.specs.Answer.{and_then}
 use Rattle.hls_follow.specs.declared.fault.LiveFault.{LiveFault}
 use Rattle.hls_follow.specs.declared.fault.LiveFault.TheVariants.{Limit}
 use Rattle.hls_follow.specs.declared.state.TimedSegment.{TimedSegment}
-use Rattle.hls_follow.specs.Faults.{and_then, behind, told}
+use Rattle.hls_follow.specs.Faults.{behind, told}
 use Rattle.hls_follow.specs.Times.{is_late, unless_late}
 
 -- a member more

@@ -8,6 +8,7 @@ use Rattle.std.proofs.lemmas.Bool.{eq-eqb, eqb-true, eqb-false, le-ltb}
 use Rattle.std.proofs.lemmas.List.Elements.{All-nil, All-cons, All-append, All-head, All-map, All-tail}
 use Rattle.std.proofs.lemmas.Option.{get_or_from_slice_get, slice_get-map, slice_get_within}
 use Rattle.std.proofs.lemmas.Slice.Eq.{bytes_eq-Decides}
+use Rattle.bridge_io.proofs.AndThen.{steps_of}
 use Rattle.hls_master.specs.declared.track.MasterTrack.{MasterTrack}
 use Rattle.hls_media.specs.Laws.{IsBounded}
 use Rattle.hls_media.specs.declared.media.Media.{Media}
@@ -40,7 +41,6 @@ use Rattle.hls_follow.proofs.Contiguous as contiguous
 use Rattle.hls_follow.proofs.Listing as listing
 use Rattle.hls_follow.proofs.Sections.{first_sections, same_options, same_parts, same_ranges}
 use Rattle.hls_follow.proofs.Staying as staying
-use Rattle.hls_follow.proofs.Steps.{steps_of}
 
 -- ---- by induction over rounds
 

@@ -1,25 +1,26 @@
 -- What is refused of a track, rule by rule.
 use Rattle.std.proofs.Common.{◌≡◌, ◌<◌, ◌+◌, ℕ, List, [], ◌∷◌, map, length, drop, get_or, slice_get, Option, Result, Ok, Err, refl, sym}
 use Rattle.std.proofs.Common.{◌∙◌, ap}
+use Rattle.bridge_io.specs.Answer.{and_then}
+use Rattle.bridge_io.specs.Firsts.{first_fault}
 use Rattle.reload_law.specs.declared.unlawful.Unlawful.{Unlawful as Rule}
 use Rattle.reload_law.specs.declared.unlawful.Unlawful.TheVariants as rules
 use Rattle.hls_media.specs.declared.media.Media.{Media}
-use Rattle.hls_presentation.specs.Views.{first_fault, source_of}
+use Rattle.hls_presentation.specs.Views.{source_of}
 use Rattle.hls_presentation.specs.declared.fault.HlsFault.{HlsFault}
 use Rattle.hls_presentation.specs.declared.kept.Source.{Source as Held}
 use Rattle.hls_follow.specs.declared.fault.LiveFault.{LiveFault}
 use Rattle.hls_follow.specs.declared.fault.LiveFault.TheVariants.{Unlawful}
 use Rattle.hls_follow.specs.declared.state.FollowedTrack.{FollowedTrack}
-use Rattle.hls_follow.specs.Faults.{and_then}
-use Rattle.hls_follow.specs.Rules.{fault_of_track, first_of, judged_all, reload_told}
+use Rattle.hls_follow.specs.Rules.{fault_of_track, judged_all, reload_told}
 use Rattle.hls_follow.proofs.Keeping.{left_at}
 
-pub none_refused : (faults : List HlsFault) → Ok tt ≡ first_fault faults → Ok tt ≡ first_of faults
+pub none_refused : (faults : List HlsFault) → Ok tt ≡ first_fault faults → Ok tt ≡ first_fault (map fault_of_track faults)
 none_refused [] is = refl
 none_refused (fault ∷ faults) is = absurd (cc)
 
 pub one_refused : (faults : List HlsFault) (fault : HlsFault) → Err fault ≡ first_fault faults
-    → Err (fault_of_track fault) ≡ first_of faults
+    → Err (fault_of_track fault) ≡ first_fault (map fault_of_track faults)
 one_refused [] fault is = absurd (cc)
 one_refused (f ∷ faults) fault is = (let same : fault ≡ f = cc in rw same refl)
 

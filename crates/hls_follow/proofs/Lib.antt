@@ -2,7 +2,6 @@ pub mod Bounded
 pub mod Cutting
 pub mod Gathering
 pub mod Timing
-pub mod Steps
 pub mod Staying
 pub mod Judging
 pub mod Counting

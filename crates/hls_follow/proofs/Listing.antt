@@ -5,6 +5,7 @@ use Rattle.std.specs.List.{list_any}
 use Rattle.std.proofs.lemmas.List.{map-append}
 use Rattle.std.proofs.lemmas.List.Elements.{All-head, All-tail}
 use Rattle.std.proofs.lemmas.Option.{slice_get-map}
+use Rattle.bridge_io.proofs.AndThen.{steps_of}
 use Rattle.url_parts.specs.declared.address.Part.{Part}
 use Rattle.hls_media.specs.declared.media.MediaSegment.{MediaSegment}
 use Rattle.hls_presentation.specs.Presenting.{flattened}
@@ -27,7 +28,6 @@ use Rattle.hls_follow.specs.Times.{behind_segment, is_late, last_of, time_of, ti
 use Rattle.hls_follow.proofs.Contiguous.{length_timed}
 use Rattle.hls_follow.proofs.Sections.{AreCut, AreOf, cut, flat, segments_in, sections_at, unchanged_at}
 use Rattle.hls_follow.proofs.Staying.{Parts, same_by}
-use Rattle.hls_follow.proofs.Steps.{steps_of}
 
 -- ---- segments with their times
 

@@ -4,6 +4,7 @@ use Rattle.std.proofs.Common.{refl, sym, ◌∙◌, ap, subst, arith}
 use Rattle.std.proofs.lemmas.List.{length-map, map-append}
 use Rattle.std.proofs.lemmas.List.Elements.{All-nil, All-cons}
 use Rattle.std.proofs.lemmas.Option.{slice_get-get_or}
+use Rattle.bridge_io.proofs.AndThen.{steps_of}
 use Rattle.hls_media.specs.declared.media.MediaSegment.{MediaSegment}
 use Rattle.hls_presentation.specs.Tracks.{Source, sources}
 use Rattle.dash_writer.specs.Live.{first_time}
@@ -27,7 +28,6 @@ use Rattle.hls_follow.proofs.Contiguous.{some_at}
 use Rattle.hls_follow.proofs.Histories.{Any, at_index, from_first, last_are_listed, times_are}
 use Rattle.hls_follow.proofs.Listing.{period_is}
 use Rattle.hls_follow.proofs.Staying.{Parts, parts_of}
-use Rattle.hls_follow.proofs.Steps.{steps_of}
 
 -- ---- segments of a section one behind another
 

@@ -6,6 +6,8 @@ use Rattle.std.specs.Option.{option_eq}
 use Rattle.std.proofs.lemmas.Bool.{eqb-true}
 use Rattle.std.proofs.lemmas.List.Elements.{All-nil, All-cons}
 use Rattle.std.proofs.lemmas.Slice.Eq.{bytes_eq-Decides}
+use Rattle.bridge_io.proofs.AndThen.{steps_of}
+use Rattle.bridge_io.specs.Firsts.{first_fault}
 use Rattle.url_parts.specs.declared.address.Part.{Part}
 use Rattle.url_parts.specs.declared.range.Range.{Range}
 use Rattle.hls_media.specs.declared.media.Media.{Media}
@@ -13,12 +15,12 @@ use Rattle.hls_media.specs.declared.media.MediaSegment.{MediaSegment}
 use Rattle.hls_presentation.specs.declared.fault.HlsFault.TheVariants.{MapChanged, NoMap, ZeroDuration}
 use Rattle.hls_presentation.specs.Presenting.{flattened}
 use Rattle.hls_presentation.specs.Tracks.{Source, changes_map, fault_if, has_empty, lacks_maps, map_changes, map_changes_behind}
-use Rattle.hls_presentation.specs.Tracks.{same_part, same_range, segment_faults}
+use Rattle.hls_presentation.specs.Tracks.{same_part, same_range}
 use Rattle.hls_follow.specs.declared.fault.LiveFault.TheVariants.{NoTracks, SectionsDiffer}
 use Rattle.hls_follow.specs.declared.state.TimedSegment.{TimedSegment}
 use Rattle.hls_follow.specs.Groups.{groups_of, put_before}
-use Rattle.hls_follow.specs.Rules.{common_sections, first_of, has_sections, judged_segments, sections_behind, sections_in, sections_of}
-use Rattle.hls_follow.proofs.Steps.{steps_of}
+use Rattle.hls_follow.specs.Rules.{common_sections, fault_of_track, has_sections, judged_segments, judged_segments_of, sections_behind}
+use Rattle.hls_follow.specs.Rules.{sections_in, sections_of}
 
 -- ---- maps
 
@@ -171,10 +173,11 @@ flat (t ∷ rest) = put_flat t (groups_of rest) ∙ ap (λ (ts : List TimedSegme
 
 -- ---- what is judged of one track
 
-no_change : (media : Media) → first_of (segment_faults media) ≡ Ok tt → map_changes media.segments ≡ false
+no_change : (media : Media) → judged_segments_of media ≡ Ok tt → map_changes media.segments ≡ false
 no_change media is = by (lacks_maps media) (map_changes media.segments) (has_empty media.segments) is
   where
-    by : (l m e : Bool) → first_of (fault_if l NoMap ++ (fault_if m MapChanged ++ fault_if e ZeroDuration)) ≡ Ok tt → m ≡ false
+    by : (l m e : Bool) → first_fault (map fault_of_track (fault_if l NoMap ++ (fault_if m MapChanged ++ fault_if e ZeroDuration))) ≡ Ok tt
+        → m ≡ false
     by true m e is = absurd (cc)
     by false true e is = absurd (cc)
     by false false e is = refl
@@ -183,11 +186,11 @@ pub unchanged_at : (kept : List Source) (place : ℕ) (s : Source) → judged_se
     → map_changes s.media.segments ≡ false
 unchanged_at [] place s judged is = absurd (cc)
 unchanged_at (k ∷ kept) zero s judged is =
-    let j = steps_of (first_of (segment_faults k.media)) _ tt judged in
+    let j = steps_of (judged_segments_of k.media) _ tt judged in
     let same : k ≡ s = cc in
     subst (λ (s : Source). map_changes s.media.segments ≡ false) same (no_change k.media j.first)
 unchanged_at (k ∷ kept) (suc place) s judged is =
-    let j = steps_of (first_of (segment_faults k.media)) _ tt judged in
+    let j = steps_of (judged_segments_of k.media) _ tt judged in
     unchanged_at kept place s j.then is
 
 both : (a b : Bool) → (a && b) ≡ true → (a ≡ true) × (b ≡ true)

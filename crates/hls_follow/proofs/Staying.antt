@@ -4,6 +4,7 @@ use Rattle.std.proofs.Common.{slice_get, All, Option, Some, None, Ok, Err, ℤ, 
 use Rattle.std.specs.List.{list_any}
 use Rattle.std.proofs.lemmas.Bool.{le-ltb}
 use Rattle.std.proofs.lemmas.List.Elements.{All-nil, All-cons}
+use Rattle.bridge_io.proofs.AndThen.{steps_of}
 use Rattle.hls_master.specs.declared.track.MasterTrack.{MasterTrack}
 use Rattle.hls_media.specs.declared.media.Media.{Media}
 use Rattle.hls_media.specs.declared.media.MediaSegment.{MediaSegment}
@@ -25,7 +26,6 @@ use Rattle.hls_follow.specs.Rounds.{mpd_or_fault, placed_of, start_of, times_in}
 use Rattle.hls_follow.specs.Rules.{common_sections, judged_all, judged_at, judged_count, judged_reload, judged_section}
 use Rattle.hls_follow.specs.Rules.{judged_segments}
 use Rattle.hls_follow.specs.Times.{behind_segment, former_time, is_late, last_of, time_of, timed_all, timed_from, timed_of, unless_late}
-use Rattle.hls_follow.proofs.Steps.{steps_of}
 
 -- ---- the parts of what an accepted round leaves
 

@@ -1,5 +1,6 @@
 -- What is refused, and what goes on.
 use Rattle.std.specs.Prelude.{Bool, true, false, List, ◌++◌, Option, Some, None, Result, Ok, Err}
+use Rattle.bridge_io.specs.Answer.{and_then}
 use Rattle.hls_follow.specs.declared.fault.LiveFault.{LiveFault}
 use Rattle.hls_follow.specs.declared.fault.LiveFault.TheVariants.{Memory}
 
@@ -7,10 +8,6 @@ use Rattle.hls_follow.specs.declared.fault.LiveFault.TheVariants.{Memory}
 abbrev pub told : LiveFault → Option LiveFault
 told Memory = None
 told fault = Some fault
-
-abbrev pub and_then : {X Y : Type 0} → Result X LiveFault → (X → Result Y LiveFault) → Result Y LiveFault
-and_then (Ok x) next = next x
-and_then (Err fault) next = Err fault
 
 abbrev pub refused_if : Bool → LiveFault → Result (Unit {0}) LiveFault
 refused_if true fault = Err fault

@@ -1,5 +1,6 @@
 -- The Periods of a live presentation (ISO/IEC 23009-1, 5.3.2): one for each section that is listed.
 use Rattle.std.specs.Prelude.{ℕ, ◌+◌, ◌^◌, ◌==◌, nat_le, max, List, [], ◌∷◌, if◌then◌else◌, Option, Some, None, Result, Ok, Err}
+use Rattle.bridge_io.specs.Answer.{and_then}
 use Rattle.url_parts.specs.declared.address.Part.{Part}
 use Rattle.dash_writer.specs.declared.live.LivePeriod.{LivePeriod}
 use Rattle.dash_writer.specs.declared.live.LiveRun.{LiveRun}
@@ -8,7 +9,6 @@ use Rattle.hls_follow.specs.declared.fault.LiveFault.{LiveFault}
 use Rattle.hls_follow.specs.declared.fault.LiveFault.TheVariants.{Limit, NoMap}
 use Rattle.hls_follow.specs.declared.periods.Extent.{Extent}
 use Rattle.hls_follow.specs.declared.state.TimedSegment.{TimedSegment}
-use Rattle.hls_follow.specs.Faults.{and_then}
 use Rattle.hls_follow.specs.Groups.{row_at, row_end}
 use Rattle.hls_follow.specs.Times.{last_in}
 

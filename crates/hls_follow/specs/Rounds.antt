@@ -3,6 +3,7 @@ use Rattle.std.specs.Prelude.{ℕ, max, Bool, List, [], ◌∷◌, map, if◌the
 use Rattle.std.specs.Prelude.{ℤ, pos, neg_ℤ, ◌-ℤ◌, ◌*ℤ◌, int_lt}
 use Rattle.std.specs.Int.{int_div_euclid}
 use Rattle.std.specs.List.{list_all}
+use Rattle.bridge_io.specs.Answer.{and_then}
 use Rattle.hls_master.specs.declared.track.MasterTrack.{MasterTrack}
 use Rattle.hls_media.specs.declared.media.Media.{Media}
 use Rattle.hls_presentation.specs.Presenting.{track_of}
@@ -14,7 +15,6 @@ use Rattle.hls_follow.specs.declared.fault.LiveFault.TheVariants.{Limit}
 use Rattle.hls_follow.specs.declared.state.Followed.{Followed}
 use Rattle.hls_follow.specs.declared.state.FollowedTrack.{FollowedTrack}
 use Rattle.hls_follow.specs.declared.state.TimedSegment.{TimedSegment}
-use Rattle.hls_follow.specs.Faults.{and_then}
 use Rattle.hls_follow.specs.Groups.{groups_of}
 use Rattle.hls_follow.specs.Kept.{flags_of, formers_of, kept_by, periods_of}
 use Rattle.hls_follow.specs.Periods.{last_end, periods_from}

@@ -1,9 +1,11 @@
 -- What is refused of a round, rule by rule.
-use Rattle.std.specs.Prelude.{ℕ, ◌+◌, ◌-◌, ◌==◌, ◌||◌, nat_eq, nat_lt, Bool, List, [], ◌∷◌, length, slice_get, sum_by}
+use Rattle.std.specs.Prelude.{ℕ, ◌+◌, ◌-◌, ◌==◌, ◌||◌, nat_eq, nat_lt, Bool, List, [], ◌∷◌, length, map, slice_get, sum_by}
 use Rattle.std.specs.Prelude.{if◌then◌else◌, Option, Some, None, Result, Ok, Err, ℤ, int_lt}
 use Rattle.std.specs.Cmp.Lexicographic.{pointwise}
 use Rattle.std.specs.List.{list_all}
 use Rattle.std.specs.Option.{option_eq}
+use Rattle.bridge_io.specs.Answer.{and_then}
+use Rattle.bridge_io.specs.Firsts.{first_fault}
 use Rattle.hls_media.specs.declared.media.Media.{Media}
 use Rattle.hls_media.specs.declared.media.MediaSegment.{MediaSegment}
 use Rattle.reload_law.specs.Rules.{end_of, lawful, segments_from}
@@ -17,7 +19,7 @@ use Rattle.hls_follow.specs.declared.fault.LiveFault.TheVariants.{Ended, ClockBa
 use Rattle.hls_follow.specs.declared.fault.LiveFault.TheVariants.{NoTracks, Unlawful, SectionBack, Limit}
 use Rattle.hls_follow.specs.declared.state.Followed.{Followed}
 use Rattle.hls_follow.specs.declared.state.FollowedTrack.{FollowedTrack}
-use Rattle.hls_follow.specs.Faults.{and_then, refused_if}
+use Rattle.hls_follow.specs.Faults.{refused_if}
 use Rattle.hls_follow.specs.Times.{last_in}
 
 -- ---- the instant
@@ -36,13 +38,12 @@ fault_of_track hls.NoMap = NoMap
 fault_of_track hls.MapChanged = MapChanged
 fault_of_track fault = ZeroDuration
 
-abbrev pub first_of : List HlsFault → Result (Unit {0}) LiveFault
-first_of [] = Ok tt
-first_of (fault ∷ faults) = Err (fault_of_track fault)
+abbrev pub judged_segments_of : Media → Result (Unit {0}) LiveFault
+judged_segments_of media = first_fault (map fault_of_track (segment_faults media))
 
 abbrev pub judged_segments : List Source → Result (Unit {0}) LiveFault
 judged_segments [] = Ok tt
-judged_segments (s ∷ sources) = and_then (first_of (segment_faults s.media)) (λ _. judged_segments sources)
+judged_segments (s ∷ sources) = and_then (judged_segments_of s.media) (λ _. judged_segments sources)
 
 -- ---- sections
 

@@ -2,6 +2,7 @@
 use Rattle.std.specs.Prelude.{ℕ, ◌+◌, ◌-◌, ◌*◌, ◌^◌, ◌==◌, nat_le, nat_lt, Bool, List, [], ◌∷◌, length, slice_get, if◌then◌else◌}
 use Rattle.std.specs.Prelude.{unwrap_or, Option, Some, None, Result, Ok, Err}
 use Rattle.std.specs.List.{list_any}
+use Rattle.bridge_io.specs.Answer.{and_then}
 use Rattle.hls_media.specs.declared.media.Media.{Media}
 use Rattle.hls_media.specs.declared.media.MediaSegment.{MediaSegment}
 use Rattle.reload_law.specs.Rules.{end_of}
@@ -11,7 +12,6 @@ use Rattle.hls_follow.specs.declared.fault.LiveFault.TheVariants.{Limit}
 use Rattle.hls_follow.specs.declared.state.FollowedTrack.{FollowedTrack}
 use Rattle.hls_follow.specs.declared.state.TimedSegment.{TimedSegment}
 use Rattle.hls_follow.specs.declared.state.Last.{Last}
-use Rattle.hls_follow.specs.Faults.{and_then}
 
 -- the last of a list
 abbrev pub last_in : {X : Type 0} → List X → Option X

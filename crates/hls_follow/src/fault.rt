@@ -5,7 +5,6 @@ ghost use Rattle.hls_follow.specs.declared.fault.LiveFault.TheVariants.{Memory};
 use bridge_io::NoMemory;
 use iso_time::Instant;
 use reload_law::Unlawful;
-use std::alloc::{AllocError, AllocFailed};
 use thiserror::Error;
 
 /// Why a round of playlists may not follow those that were accepted. They are judged in this order; the third to the fifth track
@@ -66,32 +65,16 @@ pub enum LiveFault {
     Memory,
 }
 
-impl From<NoMemory> for LiveFault {
+/// Every error that tells want of memory alone.
+impl<E: Drop> From<E> for LiveFault
+where
+    NoMemory: From<E>,
+{
     ghost use Rattle.std.specs.Prelude.{◌≡◌};
 
     ghost from_gives = { λ _ fault. fault ≡ Memory };
 
-    fn from(_: NoMemory) -> LiveFault {
-        LiveFault::Memory
-    }
-}
-
-impl From<AllocError> for LiveFault {
-    ghost use Rattle.std.specs.Prelude.{◌≡◌};
-
-    ghost from_gives = { λ _ fault. fault ≡ Memory };
-
-    fn from(_: AllocError) -> LiveFault {
-        LiveFault::Memory
-    }
-}
-
-impl<T: Drop> From<AllocFailed<T>> for LiveFault {
-    ghost use Rattle.std.specs.Prelude.{◌≡◌};
-
-    ghost from_gives = { λ _ fault. fault ≡ Memory };
-
-    fn from(_: AllocFailed<T>) -> LiveFault {
+    fn from(_: E) -> LiveFault {
         LiveFault::Memory
     }
 }

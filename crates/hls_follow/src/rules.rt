@@ -51,7 +51,7 @@ pub(crate) fn check_tracks(kept: &[Source<'_>]) -> Result<(), LiveFault>
 }
 
 fn check_track(media: &Media) -> Result<(), LiveFault>
-    ensures { result ≡ spec.first_of (segment_faults media.now) }
+    ensures { result ≡ spec.judged_segments_of media.now }
 {
     match check_segments(media) {
         Ok(()) => Ok(()),

@@ -1,5 +1,6 @@
 -- How the reading of attributes goes on.
-use Rattle.std.proofs.Common.{◌≡◌, ◌≤◌, ℕ, zero, suc, ◌<◌, List, [], ◌∷◌, ◌++◌, length, Option, Some, None, option_map, option_and_then, refl, sym, ◌∙◌, ap, arith, append_assoc, length-append}
+use Rattle.std.proofs.Common.{◌≡◌, ◌≤◌, ℕ, zero, suc, ◌<◌, List, [], ◌∷◌, ◌++◌, length, Option, Some, None, option_map, option_and_then}
+use Rattle.std.proofs.Common.{refl, sym, ◌∙◌, ap, arith, append_assoc, length-append}
 use Rattle.hls_lines.specs.Attributes.{NameValue, attribute_at, after_comma, more_by, attributes_in, attributes_at}
 use Rattle.hls_lines.proofs.AttributeTexts.{attribute_written, comma_written}
 
@@ -22,7 +23,8 @@ no_attribute = refl
 abbrev pub first_then : (List ℕ → Option (List NameValue)) → Option (NameValue × List ℕ) → Option (List NameValue)
 first_then read first = option_and_then (λ found. option_map (λ others. found.0 ∷ others) (more_by read found.1)) first
 
-same_more : (read other : List ℕ → Option (List NameValue)) (rest : List ℕ) → ((next : List ℕ) → length next < length rest → read next ≡ other next) → more_by read rest ≡ more_by other rest
+same_more : (read other : List ℕ → Option (List NameValue)) (rest : List ℕ)
+    → ((next : List ℕ) → length next < length rest → read next ≡ other next) → more_by read rest ≡ more_by other rest
 same_more read other [] h = refl
 same_more read other (b ∷ bs) h = same_next (after_comma (b ∷ bs)) refl
   where
@@ -30,7 +32,8 @@ same_more read other (b ∷ bs) h = same_next (after_comma (b ∷ bs)) refl
     same_next None e = refl
     same_next (Some next) e = h next (comma_shorter (b ∷ bs) next e)
 
-same_first : (read other : List ℕ → Option (List NameValue)) (text : List ℕ) (first : Option (NameValue × List ℕ)) → attribute_at text ≡ first
+same_first : (read other : List ℕ → Option (List NameValue)) (text : List ℕ) (first : Option (NameValue × List ℕ))
+    → attribute_at text ≡ first
     → ((next : List ℕ) → length next < length text → read next ≡ other next) → first_then read first ≡ first_then other first
 same_first read other text None e h = refl
 same_first read other text (Some found) e h = ap (option_map (λ others. found.0 ∷ others))
@@ -44,13 +47,15 @@ same_most : (n m : ℕ) (text : List ℕ) → length text ≤ n → length text 
 same_most zero zero text h k = refl
 same_most zero (suc m) text h k = none_of_nothing text m h
 same_most (suc n) zero text h k = sym (none_of_nothing text n k)
-same_most (suc n) (suc m) text h k = same_first (attributes_in n) (attributes_in m) text (attribute_at text) refl (λ next less. same_most n m next (omega arith) (omega arith))
+same_most (suc n) (suc m) text h k = same_first (attributes_in n) (attributes_in m) text (attribute_at text) refl
+    (λ next less. same_most n m next (omega arith) (omega arith))
 
 -- the first attribute, and then the others of what follows it
 pub unrolled : (text : List ℕ) → attributes_at text ≡ first_then attributes_at (attribute_at text)
 unfolding attributes_at
 unrolled text = same_most (length text) (suc (length text)) text (omega arith) (omega arith)
-    ∙ same_first (attributes_in (length text)) attributes_at text (attribute_at text) refl (λ next less. same_most (length text) (length next) next (omega arith) (omega arith))
+    ∙ same_first (attributes_in (length text)) attributes_at text (attribute_at text) refl
+    (λ next less. same_most (length text) (length next) next (omega arith) (omega arith))
 
 -- ---- one step
 
@@ -66,26 +71,31 @@ GoesOn-begin text = record { same = kept (attributes_at text) }
     kept (Some more) = refl
 
 module _ (whole : List ℕ) (before : List NameValue) (rest : List ℕ) (on : GoesOn whole before rest) where
-  whole_is : (answer : Option (List NameValue)) → first_then attributes_at (attribute_at rest) ≡ answer → option_map (λ more. before ++ more) answer ≡ attributes_at whole
+  whole_is : (answer : Option (List NameValue)) → first_then attributes_at (attribute_at rest) ≡ answer
+      → option_map (λ more. before ++ more) answer ≡ attributes_at whole
   whole_is answer e = ap (option_map (λ more. before ++ more)) (sym (unrolled rest ∙ e)) ∙ on.same
 
   pub no_first : attribute_at rest ≡ None → None ≡ attributes_at whole
   no_first e = whole_is None (rw e refl)
 
-  pub the_last : (first : NameValue) (behind : List ℕ) → attribute_at rest ≡ Some (first, behind) → length behind ≡ 0 → Some (before ++ first ∷ []) ≡ attributes_at whole
+  pub the_last : (first : NameValue) (behind : List ℕ) → attribute_at rest ≡ Some (first, behind) → length behind ≡ 0
+      → Some (before ++ first ∷ []) ≡ attributes_at whole
   the_last first [] e none = whole_is (Some (first ∷ [])) (rw e refl)
   the_last first (b ∷ bs) e none = absurd (omega arith)
 
-  pub no_comma : (first : NameValue) (behind : List ℕ) → attribute_at rest ≡ Some (first, behind) → 0 < length behind → after_comma behind ≡ None → None ≡ attributes_at whole
+  pub no_comma : (first : NameValue) (behind : List ℕ) → attribute_at rest ≡ Some (first, behind) → 0 < length behind
+      → after_comma behind ≡ None → None ≡ attributes_at whole
   no_comma first [] e less none = absurd (omega arith)
   no_comma first (b ∷ bs) e less none = whole_is None (rw (e, none) refl)
 
-  pub one_more : (first : NameValue) (behind next : List ℕ) → attribute_at rest ≡ Some (first, behind) → 0 < length behind → after_comma behind ≡ Some next → GoesOn whole (before ++ first ∷ []) next
+  pub one_more : (first : NameValue) (behind next : List ℕ) → attribute_at rest ≡ Some (first, behind) → 0 < length behind
+      → after_comma behind ≡ Some next → GoesOn whole (before ++ first ∷ []) next
   one_more first [] next e less more = absurd (omega arith)
   one_more first (b ∷ bs) next e less more = record {
     same = regrouped (attributes_at next) ∙ whole_is (option_map (λ others. first ∷ others) (attributes_at next)) (rw (e, more) refl);
   }
     where
-      regrouped : (o : Option (List NameValue)) → option_map (λ others. (before ++ first ∷ []) ++ others) o ≡ option_map (λ others. before ++ others) (option_map (λ others. first ∷ others) o)
+      regrouped : (o : Option (List NameValue)) → option_map (λ others. (before ++ first ∷ []) ++ others) o
+          ≡ option_map (λ others. before ++ others) (option_map (λ others. first ∷ others) o)
       regrouped None = refl
       regrouped (Some others) = ap Some (append_assoc before (first ∷ []) others)

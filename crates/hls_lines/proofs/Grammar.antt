@@ -1,13 +1,18 @@
 -- Attribute lists are read as they are written.
-use Rattle.std.proofs.Common.{◌≡◌, ℕ, zero, suc, ◌<◌, ◌≤◌, Bool, true, false, ◌||◌, not, List, [], ◌∷◌, ◌++◌, length, eqb, Option, Some, None, option_map, option_and_then, Ok, Err, refl, sym, ◌∙◌, ap, subst, arith, inl, inr, ◌⊎◌, append_assoc, length-append, bytes_eq}
+use Rattle.std.proofs.Common.{◌≡◌, ℕ, zero, suc, ◌<◌, ◌≤◌, Bool, true, false, ◌||◌, not, List, [], ◌∷◌, ◌++◌, length, eqb, Option, Some}
+use Rattle.std.proofs.Common.{None, option_map, option_and_then, Ok, Err, refl, sym, ◌∙◌, ap, subst, arith, inl, inr, ◌⊎◌, append_assoc}
+use Rattle.std.proofs.Common.{length-append, bytes_eq}
 use Rattle.std.specs.List.{list_all, slice_get}
 use Rattle.std.proofs.lemmas.Bool.{cases_Bool, cases_lt, and_parts}
 use Rattle.std.proofs.lemmas.Option.{slice_get_within}
 use Rattle.std.proofs.lemmas.Slice.Eq.{bytes_eq-Decides}
 use Rattle.std.proofs.lemmas.List.{append-nil}
+use Rattle.bridge_io.specs.Texts.{is_among}
 use Rattle.bridge_io.specs.declared.place.Place.{Place}
-use Rattle.hls_lines.specs.Attributes.{NameValue, after_comma, attribute_at, attributes_at, attributes_of, is_name, is_name_byte, more_by, names_of, repeats_after, is_among}
-use Rattle.hls_lines.specs.Grammar.{AreWritten, IsWritten, HasDouble, ReadAreWritten, WrittenOneWay, AttributesAreTold, OtherTextsAreRefused, DoublesAreRefused}
+use Rattle.hls_lines.specs.Attributes.{NameValue, after_comma, attribute_at, attributes_at, attributes_of, is_name, is_name_byte, more_by}
+use Rattle.hls_lines.specs.Attributes.{names_of, repeats_after}
+use Rattle.hls_lines.specs.Grammar.{AreWritten, IsWritten, HasDouble, ReadAreWritten, WrittenOneWay, AttributesAreTold}
+use Rattle.hls_lines.specs.Grammar.{OtherTextsAreRefused, DoublesAreRefused}
 use Rattle.hls_lines.specs.Marks.{without_spaces}
 use Rattle.hls_lines.specs.declared.fault.LineFault.TheVariants.{Attribute, DoubleAttribute}
 use Rattle.hls_lines.proofs.AttributeLemmas.{first_then, unrolled}
@@ -26,11 +31,13 @@ record HasFirst (text : List ℕ) (attributes : List NameValue) : Type 0 where
 has_first : (text : List ℕ) (attributes : List NameValue) → attributes_at text ≡ Some attributes → HasFirst text attributes
 has_first text attributes e = of_first (attribute_at text) refl (sym (unrolled text) ∙ e)
   where
-    of_others : (first : NameValue × List ℕ) (o : Option (List NameValue)) → attribute_at text ≡ Some first → more_by attributes_at first.1 ≡ o → option_map (λ others. first.0 ∷ others) o ≡ Some attributes → HasFirst text attributes
+    of_others : (first : NameValue × List ℕ) (o : Option (List NameValue)) → attribute_at text ≡ Some first
+        → more_by attributes_at first.1 ≡ o → option_map (λ others. first.0 ∷ others) o ≡ Some attributes → HasFirst text attributes
     of_others first None f m e = absurd (cc)
     of_others first (Some others) f m e = record { first = first; others = others; read = f; more = m; is = cc }
 
-    of_first : (o : Option (NameValue × List ℕ)) → attribute_at text ≡ o → first_then attributes_at o ≡ Some attributes → HasFirst text attributes
+    of_first : (o : Option (NameValue × List ℕ)) → attribute_at text ≡ o → first_then attributes_at o ≡ Some attributes
+        → HasFirst text attributes
     of_first None f e = absurd (cc)
     of_first (Some first) f e = of_others first (more_by attributes_at first.1) f refl e
 
@@ -55,7 +62,8 @@ written (attribute ∷ []) text e =
     let front = attribute_written text has.first has.read in
     let same : has.first.0 ≡ attribute = cc (has.is) in
     elim (more_read has.first.1 has.others has.more) [
-      | inl end ↦ subst (λ (t : List ℕ). IsWritten attribute t) (sym (front.1.0 ∙ ap (λ r. front.0 ++ r) end.0 ∙ append-nil front.0)) (subst (λ (a : NameValue). IsWritten a front.0) same front.1.1)
+      | inl end ↦ subst (λ (t : List ℕ). IsWritten attribute t) (sym (front.1.0 ∙ ap (λ r. front.0 ++ r) end.0 ∙ append-nil front.0))
+          (subst (λ (a : NameValue). IsWritten a front.0) same front.1.1)
       | inr goes_on ↦ let none : has.others ≡ [] = cc (has.is) in absurd (never_empty goes_on.0 (goes_on.1.1 ∙ ap Some none))
     ]
 written (attribute ∷ (next ∷ others)) text e =
@@ -85,7 +93,8 @@ named_plain (b ∷ bs) rest e = let all = and_parts (not (eqb (length (b ∷ bs)
     rw (name_byte b (and_parts (is_name_byte b) (list_all is_name_byte bs) all.1).0).1 refl
 
 written_plain : (attribute : NameValue) (front rest : List ℕ) → IsWritten attribute front → without_spaces (front ++ rest) ≡ front ++ rest
-written_plain attribute front rest is = rw (is.is, append_assoc attribute.0 (61 ∷ is.value) rest) (named_plain attribute.0 (61 ∷ (is.value ++ rest)) is.named)
+written_plain attribute front rest is = rw (is.is, append_assoc attribute.0 (61 ∷ is.value) rest)
+    (named_plain attribute.0 (61 ∷ (is.value ++ rest)) is.named)
 
 not_spaced : (attributes : List NameValue) (text : List ℕ) → AreWritten attributes text → without_spaces text ≡ text
 not_spaced [] text are = absurd are
@@ -104,7 +113,8 @@ read (attribute ∷ []) text are =
     unrolled text ∙ rw first refl
 read (attribute ∷ (next ∷ others)) text are =
     let first = attribute_read attribute are.front (are.comma ++ are.rest) are.front_is (comma_stops are.comma are.rest are.comma_is) in
-    let more = more_there (are.comma ++ are.rest) are.rest (comma_read are.comma are.rest are.comma_is (not_spaced (next ∷ others) are.rest are.rest_is)) in
+    let more = more_there (are.comma ++ are.rest) are.rest (comma_read are.comma are.rest are.comma_is
+    (not_spaced (next ∷ others) are.rest are.rest_is)) in
     rw are.is (unrolled (are.front ++ (are.comma ++ are.rest)) ∙ rw (first, more, read (next ∷ others) are.rest are.rest_is) refl)
 
 pub read_are_written : ReadAreWritten
@@ -155,8 +165,10 @@ repeated before (name ∷ names) e = elim (cases_Bool (is_among name before)) [
       subst (λ (all : List (List ℕ)). HasDouble all) (append_assoc before (name ∷ []) names) (repeated (before ++ name ∷ []) names more)
 ]
 
-single : (before names : List (List ℕ)) → repeats_after before names ≡ false → (twice : HasDouble (before ++ names)) → length before ≤ twice.second → ⊥
-single before [] e twice le = let within = slice_get_within (before ++ []) twice.second twice.name twice.at_second in omega (arith, within, length-append before [])
+single : (before names : List (List ℕ)) → repeats_after before names ≡ false → (twice : HasDouble (before ++ names))
+    → length before ≤ twice.second → ⊥
+single before [] e twice le = let within = slice_get_within (before ++ []) twice.second twice.name twice.at_second in
+    omega (arith, within, length-append before [])
 single before (name ∷ names) e twice le =
     let new = none_of (is_among name before) (repeats_after (before ++ name ∷ []) names) e in
     elim (cases_lt (length before) twice.second) [
@@ -172,7 +184,8 @@ single before (name ∷ names) e twice le =
           }) (omega (arith, length-append before (name ∷ [])))
       | inr here ↦
           let at : twice.second ≡ length before = omega arith in
-          let same : name ≡ twice.name = let both : Some name ≡ Some twice.name = sym (get_seam before names name) ∙ ap (λ i. slice_get (before ++ name ∷ names) i) (sym at) ∙ twice.at_second in cc in
+          let same : name ≡ twice.name = let both : Some name ≡ Some twice.name = sym (get_seam before names name)
+          ∙ ap (λ i. slice_get (before ++ name ∷ names) i) (sym at) ∙ twice.at_second in cc in
           let earlier : twice.first < length before = omega (arith, twice.less) in
           let there = at_among twice.name before twice.first (sym (get_front before (name ∷ names) twice.first earlier) ∙ twice.at_first) in
           let never : true ≡ false = sym there ∙ ap (λ n. is_among n before) (sym same) ∙ new.0 in absurd (cc)
@@ -183,16 +196,20 @@ single before (name ∷ names) e twice le =
 -- the three answers to a text, with what it writes
 data Outcome (text : List ℕ) (place : Place) : Type 0 where
   nothing : attributes_at text ≡ None → attributes_of text place ≡ Err (Attribute place) → Outcome text place
-  double : (attributes : List NameValue) → AreWritten attributes text → HasDouble (names_of attributes) → attributes_of text place ≡ Err (DoubleAttribute place) → Outcome text place
-  listed : (attributes : List NameValue) → AreWritten attributes text → (HasDouble (names_of attributes) → ⊥) → attributes_of text place ≡ Ok attributes → Outcome text place
+  double : (attributes : List NameValue) → AreWritten attributes text → HasDouble (names_of attributes)
+      → attributes_of text place ≡ Err (DoubleAttribute place) → Outcome text place
+  listed : (attributes : List NameValue) → AreWritten attributes text → (HasDouble (names_of attributes) → ⊥)
+      → attributes_of text place ≡ Ok attributes → Outcome text place
 
 outcome : (text : List ℕ) (place : Place) → Outcome text place
 unfolding attributes_of
 outcome text place = of_list (attributes_at text) refl
   where
-    of_names : (attributes : List NameValue) (b : Bool) → attributes_at text ≡ Some attributes → repeats_after [] (names_of attributes) ≡ b → Outcome text place
+    of_names : (attributes : List NameValue) (b : Bool) → attributes_at text ≡ Some attributes → repeats_after [] (names_of attributes) ≡ b
+        → Outcome text place
     of_names attributes true e r = double attributes (written attributes text e) (repeated [] (names_of attributes) r) (rw (e, r) refl)
-    of_names attributes false e r = listed attributes (written attributes text e) (λ twice. single [] (names_of attributes) r twice (omega arith)) (rw (e, r) refl)
+    of_names attributes false e r = listed attributes (written attributes text e)
+        (λ twice. single [] (names_of attributes) r twice (omega arith)) (rw (e, r) refl)
 
     of_list : (o : Option (List NameValue)) → attributes_at text ≡ o → Outcome text place
     of_list None e = nothing e (rw e refl)
@@ -201,26 +218,34 @@ outcome text place = of_list (attributes_at text) refl
 unwritten : (text : List ℕ) (attributes : List NameValue) → attributes_at text ≡ None → AreWritten attributes text → ⊥
 unwritten text attributes none are = let some = read attributes text are in absurd (cc)
 
-told : (text : List ℕ) (place : Place) (attributes : List NameValue) → Outcome text place → attributes_of text place ≡ Ok attributes → AreWritten attributes text × (HasDouble (names_of attributes) → ⊥)
+told : (text : List ℕ) (place : Place) (attributes : List NameValue) → Outcome text place → attributes_of text place ≡ Ok attributes
+    → AreWritten attributes text × (HasDouble (names_of attributes) → ⊥)
 told text place attributes (nothing none err) e = absurd (cc)
 told text place attributes (double others are twice err) e = absurd (cc)
 told text place attributes (listed others are single ok) e = let same : others ≡ attributes = cc in
     subst (λ (a : List NameValue). AreWritten a text × (HasDouble (names_of a) → ⊥)) same (are, single)
 
-tells : (text : List ℕ) (place : Place) (attributes : List NameValue) → Outcome text place → AreWritten attributes text × (HasDouble (names_of attributes) → ⊥) → attributes_of text place ≡ Ok attributes
+tells : (text : List ℕ) (place : Place) (attributes : List NameValue) → Outcome text place
+    → AreWritten attributes text × (HasDouble (names_of attributes) → ⊥) → attributes_of text place ≡ Ok attributes
 tells text place attributes (nothing none err) is = absurd (unwritten text attributes none is.0)
-tells text place attributes (double others are twice err) is = absurd (is.1 (subst (λ (a : List NameValue). HasDouble (names_of a)) (written_one_way text others attributes are is.0) twice))
+tells text place attributes (double others are twice err) is =
+    absurd (is.1 (subst (λ (a : List NameValue). HasDouble (names_of a)) (written_one_way text others attributes are is.0) twice))
 tells text place attributes (listed others are single ok) is = ok ∙ ap Ok (written_one_way text others attributes are is.0)
 
 pub attributes_are_told : AttributesAreTold
-attributes_are_told text place attributes = (told text place attributes (outcome text place), tells text place attributes (outcome text place))
+attributes_are_told text place attributes = (
+  told text place attributes (outcome text place),
+  tells text place attributes (outcome text place),
+)
 
-refused : (text : List ℕ) (place : Place) → Outcome text place → attributes_of text place ≡ Err (Attribute place) → (attributes : List NameValue) → AreWritten attributes text → ⊥
+refused : (text : List ℕ) (place : Place) → Outcome text place → attributes_of text place ≡ Err (Attribute place)
+    → (attributes : List NameValue) → AreWritten attributes text → ⊥
 refused text place (nothing none err) e attributes are = unwritten text attributes none are
 refused text place (double others is twice err) e attributes are = absurd (cc)
 refused text place (listed others is single ok) e attributes are = absurd (cc)
 
-refuses : (text : List ℕ) (place : Place) → Outcome text place → ((attributes : List NameValue) → AreWritten attributes text → ⊥) → attributes_of text place ≡ Err (Attribute place)
+refuses : (text : List ℕ) (place : Place) → Outcome text place → ((attributes : List NameValue) → AreWritten attributes text → ⊥)
+    → attributes_of text place ≡ Err (Attribute place)
 refuses text place (nothing none err) never = err
 refuses text place (double others is twice err) never = absurd (never others is)
 refuses text place (listed others is single ok) never = absurd (never others is)
@@ -228,15 +253,18 @@ refuses text place (listed others is single ok) never = absurd (never others is)
 pub other_texts_are_refused : OtherTextsAreRefused
 other_texts_are_refused text place = (refused text place (outcome text place), refuses text place (outcome text place))
 
-doubled : (text : List ℕ) (place : Place) → Outcome text place → attributes_of text place ≡ Err (DoubleAttribute place) → (attributes : List NameValue) × (AreWritten attributes text × HasDouble (names_of attributes))
+doubled : (text : List ℕ) (place : Place) → Outcome text place → attributes_of text place ≡ Err (DoubleAttribute place)
+    → (attributes : List NameValue) × (AreWritten attributes text × HasDouble (names_of attributes))
 doubled text place (nothing none err) e = absurd (cc)
 doubled text place (double others is twice err) e = (others, (is, twice))
 doubled text place (listed others is single ok) e = absurd (cc)
 
-doubles : (text : List ℕ) (place : Place) → Outcome text place → (attributes : List NameValue) × (AreWritten attributes text × HasDouble (names_of attributes)) → attributes_of text place ≡ Err (DoubleAttribute place)
+doubles : (text : List ℕ) (place : Place) → Outcome text place → (attributes : List NameValue)
+    × (AreWritten attributes text × HasDouble (names_of attributes)) → attributes_of text place ≡ Err (DoubleAttribute place)
 doubles text place (nothing none err) has = absurd (unwritten text has.0 none has.1.0)
 doubles text place (double others is twice err) has = err
-doubles text place (listed others is single ok) has = absurd (single (subst (λ (a : List NameValue). HasDouble (names_of a)) (written_one_way text has.0 others has.1.0 is) has.1.1))
+doubles text place (listed others is single ok) has =
+    absurd (single (subst (λ (a : List NameValue). HasDouble (names_of a)) (written_one_way text has.0 others has.1.0 is) has.1.1))
 
 pub doubles_are_refused : DoublesAreRefused
 doubles_are_refused text place = (doubled text place (outcome text place), doubles text place (outcome text place))

@@ -1,9 +1,12 @@
 -- Scans of bytes from a place on.
-use Rattle.std.proofs.Common.{◌≡◌, ◌≢◌, ◌≤◌, ℕ, suc, ◌+◌, ◌-◌, ◌<◌, Bool, true, false, List, [], ◌∷◌, length, take, drop, position, get_or, Option, Some, None, Ok, Err, unwrap_or, not, refl, sym, ◌∙◌, ap, arith, inl, inr, cond, eqb, ltb, min, IsUtf8, IsCharBoundary, add-zero, option_map, zero}
+use Rattle.std.proofs.Common.{◌≡◌, ◌≢◌, ◌≤◌, ℕ, suc, ◌+◌, ◌-◌, ◌<◌, Bool, true, false, List, [], ◌∷◌, length, take, drop, position, get_or}
+use Rattle.std.proofs.Common.{Option, Some, None, Ok, Err, unwrap_or, not, refl, sym, ◌∙◌, ap, arith, inl, inr, cond, eqb, ltb, min, IsUtf8}
+use Rattle.std.proofs.Common.{IsCharBoundary, add-zero, option_map, zero}
 use Rattle.std.specs.List.{position_or_len, before_first, after_first, slice_split}
 use Rattle.std.specs.Str.{is_utf8}
 use Rattle.std.specs.Str.Lossy.{utf8_valid_len}
-use Rattle.std.proofs.lemmas.Str.{IsUtf8-from_is_utf8, is_utf8-from_IsUtf8, IsCharBoundary-end, IsCharBoundary-after_ascii, IsCharBoundary-before_ascii}
+use Rattle.std.proofs.lemmas.Str.{IsUtf8-from_is_utf8, is_utf8-from_IsUtf8, IsCharBoundary-end, IsCharBoundary-after_ascii}
+use Rattle.std.proofs.lemmas.Str.{IsCharBoundary-before_ascii}
 use Rattle.std.proofs.lemmas.Bool.{eqb-true, false≢true, cases_Bool, false_from_ne_true, ltb-true, ltb-false}
 use Rattle.std.proofs.lemmas.Bool.Decides.{nat_tests}
 use Rattle.std.proofs.Math.Seq.{drop-length}
@@ -20,7 +23,7 @@ use Rattle.byte_scan.specs.Lines.{is_line_feed}
 use Rattle.bridge_io.specs.Places.{place_of}
 use Rattle.bridge_io.specs.declared.place.Place.{Place}
 use Rattle.hls_lines.specs.Attributes.{ends_value}
-use Rattle.hls_lines.specs.Characters.{begins_with_high_control, high_control_from, first_control, first_of}
+use Rattle.hls_lines.specs.Characters.{begins_with_high_control, high_control_from, first_control, earlier_of}
 use Rattle.hls_lines.specs.Lines.{PlaylistLine, clean, text_lines, said_from, with_line, line_of, trimmed, behind}
 use Rattle.hls_lines.specs.Marks.{after_mark, is_mark, parts_at}
 use Rattle.hls_lines.specs.declared.fault.LineFault.TheVariants.{NotUtf8, BadChar}
@@ -42,11 +45,13 @@ first_place test bytes (Some at) found =
 position_none : (test : ℕ → Bool) (bytes : List ℕ) → position test bytes ≡ None → position_or_len test bytes ≡ length bytes
 position_none test bytes e = elim (cases_Bool (ltb (position_or_len test bytes) (length bytes))) [
   | inl less ↦ let never : Some (position_or_len test bytes) ≡ None = rw less at e in absurd (none-some _ (sym never))
-  | inr none ↦ let most : length bytes ≤ position_or_len test bytes = ltb-false _ _ none in omega (arith, prefix_len-le-length (λ b. not (test b)) bytes)
+  | inr none ↦ let most : length bytes ≤ position_or_len test bytes = ltb-false _ _ none in
+      omega (arith, prefix_len-le-length (λ b. not (test b)) bytes)
 ]
 
 -- an ASCII character has a boundary on either side
-pub mark_boundaries : (text : List ℕ) (mark at : ℕ) → IsUtf8 text → mark < 128 → position (is_mark mark) text ≡ Some at → IsCharBoundary text at × IsCharBoundary text (at + 1)
+pub mark_boundaries : (text : List ℕ) (mark at : ℕ) → IsUtf8 text → mark < 128 → position (is_mark mark) text ≡ Some at
+    → IsCharBoundary text at × IsCharBoundary text (at + 1)
 mark_boundaries text mark at utf8 ascii e =
     let found = position-Some (is_mark mark) text at 0 e in
     let low : get_or text at 0 < 128 = omega (arith, eqb-true (get_or text at 0) mark found.1) in
@@ -94,7 +99,8 @@ value_boundary text (Some at) e =
 
 -- ---- control characters
 
-not_here : (at : ℕ) (bytes : List ℕ) → begins_with_high_control bytes ≡ false → high_control_from at bytes ≡ high_control_from (suc at) (drop 1 bytes)
+not_here : (at : ℕ) (bytes : List ℕ) → begins_with_high_control bytes ≡ false
+    → high_control_from at bytes ≡ high_control_from (suc at) (drop 1 bytes)
 not_here at [] h = refl
 not_here at (b ∷ bs) h = rw h refl
 
@@ -107,7 +113,8 @@ here : (at : ℕ) (bytes : List ℕ) → begins_with_high_control bytes ≡ true
 here at [] h = absurd (false≢true h)
 here at (b ∷ bs) h = rw h refl
 
-pub begins_at : (bytes : List ℕ) (at : ℕ) → begins_with_high_control (take (length bytes - at) (drop at bytes)) ≡ true → high_control_from at (drop at bytes) ≡ Some at
+pub begins_at : (bytes : List ℕ) (at : ℕ) → begins_with_high_control (take (length bytes - at) (drop at bytes)) ≡ true
+    → high_control_from at (drop at bytes) ≡ Some at
 begins_at bytes at h = here at (drop at bytes) (rw take_rest at h)
 
 no_lead : (b : ℕ) (bs : List ℕ) → is_mark 194 b ≡ false → begins_with_high_control (b ∷ bs) ≡ false
@@ -115,7 +122,8 @@ no_lead b [] h = refl
 no_lead b (next ∷ bs) h = rw h refl
 
 -- bytes before the first lead begin no such character
-over : (from k : ℕ) (bytes : List ℕ) → ((j : ℕ) → j < k → is_mark 194 (get_or bytes j 0) ≡ false) → high_control_from from bytes ≡ high_control_from (from + k) (drop k bytes)
+over : (from k : ℕ) (bytes : List ℕ) → ((j : ℕ) → j < k → is_mark 194 (get_or bytes j 0) ≡ false)
+    → high_control_from from bytes ≡ high_control_from (from + k) (drop k bytes)
 over from zero bytes fails = rw add-zero refl
 over from (suc k) [] fails = refl
 over from (suc k) (b ∷ bs) fails =
@@ -131,11 +139,13 @@ lead_found bytes at passed e =
       over at passed (drop at bytes) found.2 ∙ ap (high_control_from (at + passed)) (drop-drop passed at bytes),
     )
 
-pub lead_lacking : (bytes : List ℕ) (at : ℕ) → None ≡ position (is_mark 194) (take (length bytes - at) (drop at bytes)) → high_control_from at (drop at bytes) ≡ None
+pub lead_lacking : (bytes : List ℕ) (at : ℕ) → None ≡ position (is_mark 194) (take (length bytes - at) (drop at bytes))
+    → high_control_from at (drop at bytes) ≡ None
 lead_lacking bytes at e =
     let rest = drop at bytes in
     let none = position_none (is_mark 194) rest (sym (rw take_rest at e)) in
-    over at (length rest) rest (λ j l. fails_before_first (is_mark 194) rest j 0 (omega arith)) ∙ ap (high_control_from _) (drop-length rest)
+    over at (length rest) rest (λ j l. fails_before_first (is_mark 194) rest j 0 (omega arith))
+    ∙ ap (high_control_from _) (drop-length rest)
 
 high_within : (from : ℕ) (bytes : List ℕ) (at : ℕ) → high_control_from from bytes ≡ Some at → at < from + length bytes
 high_within from [] at e = cc
@@ -144,14 +154,16 @@ high_within from (b ∷ bs) at e = elim (cases_Bool (begins_with_high_control (b
   | inr other ↦ let more : high_control_from (suc from) bs ≡ Some at = rw other at e in omega (arith, high_within (suc from) bs at more)
 ]
 
-first_within : (size : ℕ) (one other : Option ℕ) (at : ℕ) → ((k : ℕ) → one ≡ Some k → k < size) → ((k : ℕ) → other ≡ Some k → k < size) → first_of one other ≡ Some at → at < size
+first_within : (size : ℕ) (one other : Option ℕ) (at : ℕ) → ((k : ℕ) → one ≡ Some k → k < size) → ((k : ℕ) → other ≡ Some k → k < size)
+    → earlier_of one other ≡ Some at → at < size
 first_within size None other at h k e = k at e
 first_within size (Some x) None at h k e = h at e
 first_within size (Some x) (Some y) at h k e = let m : min x y ≡ at = cc in omega (arith, h x refl)
 
 pub control_within : (bytes : List ℕ) (at : ℕ) → first_control bytes ≡ Some at → at ≤ length bytes
 control_within bytes at e = let within = first_within (length bytes) (position (is_outside Playlist) bytes) (high_control_from 0 bytes) at
-    (λ k found. (position-Some (is_outside Playlist) bytes k 0 found).0) (λ k found. let within = high_within 0 bytes k found in omega arith) e in omega arith
+    (λ k found. (position-Some (is_outside Playlist) bytes k 0 found).0) (λ k found. let within = high_within 0 bytes k found in
+    omega arith) e in omega arith
 
 not_utf8 : (bytes : List ℕ) → ¬ (IsUtf8 bytes) → is_utf8 bytes ≡ false
 not_utf8 bytes never = elim (cases_Bool (is_utf8 bytes)) [ inl is ↦ absurd (never (IsUtf8-from_is_utf8 bytes is)) | inr other ↦ other ]
@@ -160,7 +172,8 @@ pub clean-bad : (bytes : List ℕ) → ¬ (IsUtf8 bytes) → clean bytes ≡ Err
 unfolding clean
 clean-bad bytes never = rw (not_utf8 bytes never) refl
 
-pub clean-control : (bytes : List ℕ) (at : ℕ) → IsUtf8 bytes → first_control bytes ≡ Some at → clean bytes ≡ Err (BadChar (place_of bytes at))
+pub clean-control : (bytes : List ℕ) (at : ℕ) → IsUtf8 bytes → first_control bytes ≡ Some at
+    → clean bytes ≡ Err (BadChar (place_of bytes at))
 unfolding clean
 clean-control bytes at is e = rw (is_utf8-from_IsUtf8 bytes is, e) refl
 
@@ -180,7 +193,8 @@ first_cut place text front back e =
 -- or it is the last one
 pub last_cut : (place : Place) (text : List ℕ) → None ≡ parts_at is_line_feed text
     → text_lines place text ≡ with_line (line_of (trimmed text) place) (text_lines place [])
-last_cut place text e = let none = parts_lacking is_line_feed text e in ap (said_from place) (slice_split_none is_line_feed text (λ k d h. fails_before_first is_line_feed text k d (omega arith)))
+last_cut place text e = let none = parts_lacking is_line_feed text e in
+    ap (said_from place) (slice_split_none is_line_feed text (λ k d h. fails_before_first is_line_feed text k d (omega arith)))
 
 with_fewer : (o : Option PlaylistLine) (others : List PlaylistLine) (n : ℕ) → length others ≤ n → length (with_line o others) ≤ n + 1
 with_fewer None others n h = omega arith
@@ -188,8 +202,17 @@ with_fewer (Some said) others n h = omega arith
 
 said_fewer : (place : Place) (lines : List (List ℕ)) → length (said_from place lines) ≤ length lines
 said_fewer place [] = omega arith
-said_fewer place (line ∷ lines) = omega (arith, with_fewer (line_of (trimmed line) place) (said_from (behind line place) lines) (length lines) (said_fewer (behind line place) lines))
+said_fewer place (line ∷ lines) = omega (
+  arith,
+  with_fewer (line_of (trimmed line) place) (said_from (behind line place) lines)
+      (length lines) (said_fewer (behind line place) lines),
+)
 
 -- no more lines than one more than the bytes
 pub few_lines : (place : Place) (text : List ℕ) → length (text_lines place text) ≤ length text + 1
-few_lines place text = omega (arith, said_fewer place (slice_split is_line_feed text), length-slice_split is_line_feed text, count_by-le-length is_line_feed text)
+few_lines place text = omega (
+  arith,
+  said_fewer place (slice_split is_line_feed text),
+  length-slice_split is_line_feed text,
+  count_by-le-length is_line_feed text,
+)

@@ -1,7 +1,9 @@
 -- Attribute lists (RFC 8216 4.2).
-use Rattle.std.specs.Prelude.{ℕ, zero, suc, ◌==◌, ◌||◌, ◌&&◌, not, Bool, false, List, [], ◌∷◌, ◌++◌, length, take, drop, map, position, unwrap_or, bytes_eq, if◌then◌else◌, Option, Some, None, option_and_then, option_map, Result, Ok, Err}
-use Rattle.std.specs.List.{list_any, list_all}
+use Rattle.std.specs.Prelude.{ℕ, zero, suc, ◌==◌, ◌||◌, ◌&&◌, not, Bool, false, List, [], ◌∷◌, ◌++◌, length, take, drop, map, position}
+use Rattle.std.specs.Prelude.{unwrap_or, bytes_eq, if◌then◌else◌, Option, Some, None, option_and_then, option_map, Result, Ok, Err}
+use Rattle.std.specs.List.{list_all}
 use Rattle.std.specs.Char.{is_ascii_alphanumeric}
+use Rattle.bridge_io.specs.Texts.{is_among}
 use Rattle.bridge_io.specs.declared.place.Place.{Place}
 use Rattle.hls_lines.specs.Marks.{after_mark, parts_at, without_spaces}
 use Rattle.hls_lines.specs.declared.fault.LineFault.{LineFault}
@@ -67,9 +69,6 @@ attributes_in (suc most) text =
 -- the attributes of a whole text, which are fewer than its bytes
 unfoldable pub attributes_at : List ℕ → Option (List NameValue)
 attributes_at text = attributes_in (length text) text
-
-abbrev pub is_among : List ℕ → List (List ℕ) → Bool
-is_among name names = list_any (λ other. bytes_eq name other) names
 
 -- some name stands among those before it
 abbrev pub repeats_after : List (List ℕ) → List (List ℕ) → Bool

@@ -15,11 +15,11 @@ high_control_from at [] = None
 high_control_from at (b ∷ bs) = if begins_with_high_control (b ∷ bs) then Some at else high_control_from (suc at) bs
 
 -- the first of two places
-abbrev pub first_of : Option ℕ → Option ℕ → Option ℕ
-first_of None other = other
-first_of (Some one) None = Some one
-first_of (Some one) (Some other) = Some (min one other)
+abbrev pub earlier_of : Option ℕ → Option ℕ → Option ℕ
+earlier_of None other = other
+earlier_of (Some one) None = Some one
+earlier_of (Some one) (Some other) = Some (min one other)
 
 -- where the first control character begins that is no tab, LF or CR
 abbrev pub first_control : List ℕ → Option ℕ
-first_control bytes = first_of (position (is_outside Playlist) bytes) (high_control_from 0 bytes)
+first_control bytes = earlier_of (position (is_outside Playlist) bytes) (high_control_from 0 bytes)

@@ -74,12 +74,15 @@ WrittenOneWay = (text : List ℕ) (one other : List NameValue) → AreWritten on
 
 -- attributes are told where a text writes them and no name stands twice
 abbrev pub AttributesAreTold : Type 0
-AttributesAreTold = (text : List ℕ) (place : Place) (attributes : List NameValue) → (attributes_of text place ≡ Ok attributes) ↔ (AreWritten attributes text × (HasDouble (names_of attributes) → ⊥))
+AttributesAreTold = (text : List ℕ) (place : Place) (attributes : List NameValue)
+    → (attributes_of text place ≡ Ok attributes) ↔ (AreWritten attributes text × (HasDouble (names_of attributes) → ⊥))
 
 -- a text is refused where it writes no list
 abbrev pub OtherTextsAreRefused : Type 0
-OtherTextsAreRefused = (text : List ℕ) (place : Place) → (attributes_of text place ≡ Err (Attribute place)) ↔ ((attributes : List NameValue) → AreWritten attributes text → ⊥)
+OtherTextsAreRefused = (text : List ℕ) (place : Place)
+    → (attributes_of text place ≡ Err (Attribute place)) ↔ ((attributes : List NameValue) → AreWritten attributes text → ⊥)
 
 -- and where it writes one in which a name stands twice
 abbrev pub DoublesAreRefused : Type 0
-DoublesAreRefused = (text : List ℕ) (place : Place) → (attributes_of text place ≡ Err (DoubleAttribute place)) ↔ ((attributes : List NameValue) × (AreWritten attributes text × HasDouble (names_of attributes)))
+DoublesAreRefused = (text : List ℕ) (place : Place) → (attributes_of text place ≡ Err (DoubleAttribute place)) ↔
+    ((attributes : List NameValue) × (AreWritten attributes text × HasDouble (names_of attributes)))

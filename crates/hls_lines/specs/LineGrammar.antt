@@ -1,5 +1,6 @@
 -- The lines of a playlist as a grammar (RFC 8216 4.1): which texts say which tags and URIs, and where.
-use Rattle.std.specs.Prelude.{◌≡◌, ℕ, ◌+◌, ◌<◌, ◌↔◌, ◌⊎◌, ◌||◌, drop, not, Bool, true, false, List, [], ◌∷◌, ◌++◌, length, count_by, codes, nat_eq, Option, Some, None, Ok, Err}
+use Rattle.std.specs.Prelude.{◌≡◌, ℕ, ◌+◌, ◌<◌, ◌↔◌, ◌⊎◌, ◌||◌, drop, not, Bool, true, false, List, [], ◌∷◌, ◌++◌, length, count_by, codes}
+use Rattle.std.specs.Prelude.{nat_eq, Option, Some, None, Ok, Err}
 use Rattle.std.specs.List.{join_with_byte, list_any, list_all, starts_with}
 use Rattle.std.specs.Str.{is_utf8}
 use Rattle.std.specs.Str.Lossy.{utf8_valid_len}
@@ -87,7 +88,8 @@ begins_with_control (b ∷ bs) = is_outside Playlist b || begins_with_high_contr
 -- such a character begins at this byte and at none before it, or at no byte
 abbrev pub IsFirstControl : List ℕ → Option ℕ → Type 0
 IsFirstControl bytes None = (k : ℕ) → begins_with_control (drop k bytes) ≡ false
-IsFirstControl bytes (Some at) = (begins_with_control (drop at bytes) ≡ true) × ((k : ℕ) → k < at → begins_with_control (drop k bytes) ≡ false)
+IsFirstControl bytes (Some at) = (begins_with_control (drop at bytes) ≡ true)
+    × ((k : ℕ) → k < at → begins_with_control (drop k bytes) ≡ false)
 
 -- Bytes are UTF-8 without control characters, and their first line is the header.
 pub record IsPlaylist (bytes : List ℕ) : Type 0 where

@@ -1,5 +1,6 @@
 -- The lines of a playlist (RFC 8216 4.1): tags and URIs, without blank lines and comments.
-use Rattle.std.specs.Prelude.{ℕ, ◌+◌, ◌-◌, ◌==◌, ◌||◌, ◌&&◌, not, is_some, Bool, true, false, List, [], ◌∷◌, length, take, codes, bytes_eq, nat_eq, if◌then◌else◌, unwrap_or, Option, Some, None, Result, Ok, Err}
+use Rattle.std.specs.Prelude.{ℕ, ◌+◌, ◌-◌, ◌==◌, ◌||◌, ◌&&◌, not, is_some, Bool, true, false, List, [], ◌∷◌, length, take, codes, bytes_eq}
+use Rattle.std.specs.Prelude.{nat_eq, if◌then◌else◌, unwrap_or, Option, Some, None, Result, Ok, Err}
 use Rattle.std.specs.List.{starts_with, before_first, slice_split, suffix_len}
 use Rattle.std.specs.Str.{is_utf8}
 use Rattle.std.specs.Str.Lossy.{utf8_valid_len}

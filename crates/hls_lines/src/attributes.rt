@@ -2,7 +2,8 @@
 ghost use Rattle.std.specs.Prelude.{◌≡◌, [], option_map, position, IfOk};
 ghost use Rattle.std.specs.List.{list_all};
 ghost use Rattle.bridge_io.specs.Answer.{Gives};
-ghost use Rattle.hls_lines.specs.Attributes.{is_name, is_name_byte, ends_value, value_at, plain_value, attribute_at, after_comma, attributes_at, attributes_of, repeats_after, names_of, value_of};
+ghost use Rattle.hls_lines.specs.Attributes.{is_name, is_name_byte, ends_value, value_at, plain_value, attribute_at, after_comma};
+ghost use Rattle.hls_lines.specs.Attributes.{attributes_at, attributes_of, repeats_after, names_of, value_of};
 ghost use Rattle.hls_lines.specs.Found.{found_of};
 ghost use Rattle.hls_lines.specs.Lines.{refusal};
 ghost use Rattle.hls_lines.specs.Pairs.{pair_of, pairs_of};

@@ -3,7 +3,6 @@ ghost use Rattle.std.specs.Prelude.{◌≡◌};
 ghost use Rattle.hls_lines.specs.declared.fault.LineFault.TheVariants.{Memory};
 
 use bridge_io::{NoMemory, Place};
-use std::alloc::{AllocError, AllocFailed};
 use thiserror::Error;
 
 /// Why bytes have no lines of a playlist, or a text no attributes. The first three are tried in this order over the
@@ -30,26 +29,14 @@ pub enum LineFault {
     Memory,
 }
 
-impl From<NoMemory> for LineFault {
+/// Every error that tells want of memory alone.
+impl<E: Drop> From<E> for LineFault
+where
+    NoMemory: From<E>,
+{
     ghost from_gives = { λ _ fault. fault ≡ Memory };
 
-    fn from(_: NoMemory) -> LineFault {
-        LineFault::Memory
-    }
-}
-
-impl From<AllocError> for LineFault {
-    ghost from_gives = { λ _ fault. fault ≡ Memory };
-
-    fn from(_: AllocError) -> LineFault {
-        LineFault::Memory
-    }
-}
-
-impl<T: Drop> From<AllocFailed<T>> for LineFault {
-    ghost from_gives = { λ _ fault. fault ≡ Memory };
-
-    fn from(_: AllocFailed<T>) -> LineFault {
+    fn from(_: E) -> LineFault {
         LineFault::Memory
     }
 }

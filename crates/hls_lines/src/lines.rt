@@ -1,7 +1,8 @@
 // The lines of a playlist.
 ghost use Rattle.std.specs.Prelude.{◌≡◌, ◌+◌, ◌-◌, ◌^◌, ◌≤◌, ◌⊎◌, ◌<◌, [], length, take, slice_index, option_map, count_by, IfNone};
 ghost use Rattle.std.specs.List.{suffix_len};
-ghost use Rattle.hls_lines.specs.Lines.{is_blank, line_of, trimmed, marked_line, behind, has_header, text_lines, with_line, is_uri, is_uri_line};
+ghost use Rattle.hls_lines.specs.Lines.{is_blank, line_of, trimmed, marked_line, behind, has_header, text_lines, with_line, is_uri};
+ghost use Rattle.hls_lines.specs.Lines.{is_uri_line};
 ghost use Rattle.hls_lines.specs.Bounds.{HasRoom};
 ghost use Rattle.hls_lines.specs.Said.{said};
 

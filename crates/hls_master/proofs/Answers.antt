@@ -1,14 +1,17 @@
 -- Answers that are read one after another.
 use Rattle.std.proofs.Common.{◌≡◌, ℕ, List, [], ◌∷◌, ◌++◌, Option, Some, None, Result, Ok, Err, IfSome, unwrap_or, refl, ap}
 use Rattle.bridge_io.specs.Answer.{Gives}
+use Rattle.bridge_io.specs.Firsts.{first_some}
 use Rattle.bridge_io.specs.declared.place.Place.{Place}
 use Rattle.hls_master.specs.declared.fault.MasterFault.{MasterFault}
-use Rattle.hls_master.specs.declared.fault.MasterFault.TheVariants.{Line, Missing, Value, Misplaced, Url, Muxed, GroupUnknown, SameName, Encryption, Unsupported, NoTracks, Limit, Memory}
-use Rattle.hls_master.specs.Faults.{first_of, answer, refusal}
+use Rattle.hls_master.specs.declared.fault.MasterFault.TheVariants.{Line, Missing, Value, Misplaced, Url, Muxed, GroupUnknown, SameName}
+use Rattle.hls_master.specs.declared.fault.MasterFault.TheVariants.{Encryption, Unsupported, NoTracks, Limit, Memory}
+use Rattle.hls_master.specs.Faults.{answer, refusal}
 use Rattle.hls_master.specs.Renditions.{missing}
 
 -- a fault that a definition gives
-pub told : {X Y : Type 0} (see : X → Y) (fault : MasterFault) (meaning : Result Y MasterFault) → meaning ≡ Err fault → Gives see refusal (Err fault) meaning
+pub told : {X Y : Type 0} (see : X → Y) (fault : MasterFault) (meaning : Result Y MasterFault) → meaning ≡ Err fault
+    → Gives see refusal (Err fault) meaning
 told see (Line f) meaning h = h
 told see (Missing p) meaning h = h
 told see (Value p) meaning h = h
@@ -41,17 +44,18 @@ fault_is None x f h = cc
 fault_is (Some g) x f h = cc
 
 -- the first of two lists
-pub behind_none : {F : Type 0} (one more : List (Option F)) → first_of one ≡ None → first_of (one ++ more) ≡ first_of more
+pub behind_none : {F : Type 0} (one more : List (Option F)) → first_some one ≡ None → first_some (one ++ more) ≡ first_some more
 behind_none [] more h = refl
 behind_none (Some f ∷ one) more h = cc
 behind_none (None ∷ one) more h = behind_none one more h
 
-pub before_more : {F : Type 0} (one more : List (Option F)) (f : F) → first_of one ≡ Some f → first_of (one ++ more) ≡ Some f
+pub before_more : {F : Type 0} (one more : List (Option F)) (f : F) → first_some one ≡ Some f → first_some (one ++ more) ≡ Some f
 before_more [] more f h = cc
 before_more (Some g ∷ one) more f h = h
 before_more (None ∷ one) more f h = before_more one more f h
 
 -- an attribute that is required, and is there
-pub is_found : (value : Option (List ℕ)) (place : Place) (text : List ℕ) → answer (missing place value) (unwrap_or value []) ≡ Ok text → value ≡ Some text
+pub is_found : (value : Option (List ℕ)) (place : Place) (text : List ℕ) → answer (missing place value) (unwrap_or value []) ≡ Ok text
+    → value ≡ Some text
 is_found None place text h = cc
 is_found (Some v) place text h = ap Some (value_is None v text h)

@@ -1,17 +1,25 @@
 -- The first mention of each address, one mention after another.
-use Rattle.std.proofs.Common.{◌≡◌, ℕ, ◌+◌, ◌<◌, Bool, true, false, cond, ◌||◌, not, List, [], ◌∷◌, ◌++◌, map, length, drop, get_or, None, refl, sym, ◌∙◌, ap, subst, append_assoc, length-append, bytes_eq, nat_lt, arith}
+use Rattle.std.proofs.Common.{◌≡◌, ℕ, ◌+◌, ◌<◌, Bool, true, false, cond, ◌||◌, not, List, [], ◌∷◌, ◌++◌, map, length, drop, get_or, None}
+use Rattle.std.proofs.Common.{refl, sym, ◌∙◌, ap, subst, append_assoc, length-append, bytes_eq, nat_lt, arith}
 use Rattle.std.proofs.lemmas.List.{drop_more, map-append}
 use Rattle.std.proofs.lemmas.Bool.Decides.{nat_tests}
-use Rattle.hls_master.specs.Texts.{is_among, SameTexts}
+use Rattle.bridge_io.specs.Texts.{is_among}
+use Rattle.hls_master.specs.Texts.{SameTexts}
 use Rattle.hls_master.specs.Tracks.{Mentioned, address_of, firsts_behind, few}
 
 same_more : (one other : List (List ℕ)) (text : List ℕ) → SameTexts one other → SameTexts (text ∷ one) (text ∷ other)
 same_more one other text is = record { same = λ q. ap (λ b. bytes_eq q text || b) (is.same q) }
 
-firsts_behind-same : (one other : List (List ℕ)) → SameTexts one other → (mentions : List Mentioned) → firsts_behind one mentions ≡ firsts_behind other mentions
+firsts_behind-same : (one other : List (List ℕ)) → SameTexts one other → (mentions : List Mentioned)
+    → firsts_behind one mentions ≡ firsts_behind other mentions
 firsts_behind-same one other is [] = refl
 firsts_behind-same one other is (mention ∷ mentions) =
-    rw (is.same (address_of mention), firsts_behind-same one other is mentions, firsts_behind-same (address_of mention ∷ one) (address_of mention ∷ other) (same_more one other (address_of mention) is) mentions) refl
+    rw (
+      is.same (address_of mention),
+      firsts_behind-same one other is mentions,
+      firsts_behind-same (address_of mention ∷ one) (address_of mention ∷ other) (same_more one other (address_of mention) is) mentions,
+    )
+    refl
 
 other_test : (a b : Bool) → a ≡ not b → a ≡ false → true ≡ b
 other_test a true e f = refl
@@ -29,16 +37,19 @@ module _ {M : Type 0} (see : M → Mentioned) (all : List M) (i : ℕ) (item : M
   one_left : map see (drop i all) ≡ see item ∷ later
   one_left = ap (map see) (drop_more all i item below) ∙ ap (λ x. see x ∷ later) (sym is)
 
-  module _ (addresses more : List (List ℕ)) (items : List M) (whole : List Mentioned) (text : List ℕ) (text_is : text ≡ address_of (see item)) (fresh : Bool) (new : fresh ≡ not (is_among text addresses))
+  module _ (addresses more : List (List ℕ)) (items : List M) (whole : List Mentioned) (text : List ℕ)
+      (text_is : text ≡ address_of (see item)) (fresh : Bool) (new : fresh ≡ not (is_among text addresses))
       (so_far : map see items ++ firsts_behind addresses (map see (drop i all)) ≡ whole) where
     abbrev choice : Bool → List Mentioned
-    choice known = map see items ++ cond known (firsts_behind addresses later) (see item ∷ firsts_behind (address_of (see item) ∷ addresses) later)
+    choice known = map see items ++ cond known (firsts_behind addresses later)
+        (see item ∷ firsts_behind (address_of (see item) ∷ addresses) later)
 
     chosen : choice (is_among (address_of (see item)) addresses) ≡ whole
     chosen = rw one_left at so_far
 
     pub not_first : fresh ≡ false → more ≡ addresses → map see items ++ firsts_behind more later ≡ whole
-    not_first old same = rw same (ap choice (other_test fresh (is_among text addresses) new old ∙ ap (λ t. is_among t addresses) text_is) ∙ chosen)
+    not_first old same = rw same (ap choice (other_test fresh (is_among text addresses) new old ∙ ap (λ t. is_among t addresses) text_is)
+        ∙ chosen)
 
     pub is_first : fresh ≡ true → map see items ++ (see item ∷ firsts_behind (address_of (see item) ∷ addresses) later) ≡ whole
     is_first one = ap choice (one_test fresh (is_among text addresses) new one ∙ ap (λ t. is_among t addresses) text_is) ∙ chosen
@@ -54,5 +65,7 @@ module _ {M : Type 0} (see : M → Mentioned) (all : List M) (i : ℕ) (item : M
 above : (all : List Mentioned) (n : ℕ) → n ≡ length all → 200 < n → few all ≡ None
 above all n e more = let long : nat_lt 200 (length all) ≡ true = grind (arith, nat_tests) in rw long refl
 
-pub too_many : (found later whole : List Mentioned) (mention : Mentioned) → found ++ (mention ∷ later) ≡ whole → length found ≡ 200 → None ≡ few whole
-too_many found later whole mention e n = sym (above whole (length whole) refl (omega (arith, length-append found (mention ∷ later), ap length e)))
+pub too_many : (found later whole : List Mentioned) (mention : Mentioned) → found ++ (mention ∷ later) ≡ whole → length found ≡ 200
+    → None ≡ few whole
+too_many found later whole mention e n =
+    sym (above whole (length whole) refl (omega (arith, length-append found (mention ∷ later), ap length e)))

@@ -1,5 +1,6 @@
 -- Kinds, groups and names of renditions in an ordered set.
-use Rattle.std.proofs.Common.{◌≡◌, ℕ, Bool, true, false, cond, ◌||◌, ◌&&◌, ◌==◌, List, [], ◌∷◌, ◌++◌, refl, sym, ◌∙◌, ap, Bor, bytes_eq, Less, Equal, Greater, Ordering, arith}
+use Rattle.std.proofs.Common.{◌≡◌, ℕ, Bool, true, false, cond, ◌||◌, ◌&&◌, ◌==◌, List, [], ◌∷◌, ◌++◌, refl, sym, ◌∙◌, ap, Bor, bytes_eq}
+use Rattle.std.proofs.Common.{Less, Equal, Greater, Ordering, arith}
 use Rattle.std.specs.List.{list_any}
 use Rattle.std.specs.Ordering.{nat_cmp, is_eq, ordering_then}
 use Rattle.std.specs.Cmp.Lexicographic.{slice_cmp}
@@ -8,11 +9,11 @@ use Rattle.std.specs.BTreeSet.{BTreeSet, UpdatesBy}
 use Rattle.std.proofs.lemmas.Map.Text.{is_eq-slice_cmp}
 use Rattle.std.proofs.lemmas.List.Folds.{list_any-append}
 use Rattle.std.proofs.lemmas.Bool.Decides.{nat_tests}
+use Rattle.bridge_io.proofs.Texts.{bytes_eq_sym}
 use Rattle.bridge_io.specs.declared.media.Kind.{Kind}
 use Rattle.bridge_io.specs.declared.media.Kind.TheVariants.{Video, Audio, Text}
 use Rattle.hls_master.specs.Names.{is_key, number_of}
 use Rattle.hls_master.specs.Renditions.{RenditionValue, has_name_of, same_kind}
-use Rattle.hls_master.proofs.TextSets.{flipped}
 
 abbrev pub Key : Type 0
 Key = ℕ × Bor (List ℕ) × Bor (List ℕ)
@@ -50,17 +51,26 @@ key_of one = (number_of one.kind, record { ref_ptr = (0, 0); now = one.group }, 
 
 is_at-key : (x y : Key) → is_at (by_key x) y ≡ (x.0 == y.0 && bytes_eq x.1.now y.1.now && bytes_eq x.2.now y.2.now)
 is_at-key x y = is_eq-then (ordering_then (nat_cmp x.0 y.0) (slice_cmp nat_cmp x.1.now y.1.now)) (slice_cmp nat_cmp x.2.now y.2.now)
-    ∙ rw (is_eq-then (nat_cmp x.0 y.0) (slice_cmp nat_cmp x.1.now y.1.now), is_eq-nat x.0 y.0, is_eq-slice_cmp x.1.now y.1.now, is_eq-slice_cmp x.2.now y.2.now) refl
+    ∙ rw (
+      is_eq-then (nat_cmp x.0 y.0) (slice_cmp nat_cmp x.1.now y.1.now),
+      is_eq-nat x.0 y.0,
+      is_eq-slice_cmp x.1.now y.1.now,
+      is_eq-slice_cmp x.2.now y.2.now,
+    ) refl
 
-pub has_name : (keys : List Key) (x : Key) (one : RenditionValue) → x.0 ≡ number_of one.kind → x.1.now ≡ one.group → x.2.now ≡ one.name → list_any (is_at (by_key x)) keys ≡ list_any (is_key one) keys
+pub has_name : (keys : List Key) (x : Key) (one : RenditionValue) → x.0 ≡ number_of one.kind → x.1.now ≡ one.group → x.2.now ≡ one.name
+    → list_any (is_at (by_key x)) keys ≡ list_any (is_key one) keys
 has_name [] x one k g n = refl
-has_name (key ∷ keys) x one k g n = ap (λ b. b || list_any (is_at (by_key x)) keys) (rw (← k, ← g, ← n) (is_at-key x key)) ∙ ap (λ b. is_key one key || b) (has_name keys x one k g n)
+has_name (key ∷ keys) x one k g n = ap (λ b. b || list_any (is_at (by_key x)) keys) (rw (← k, ← g, ← n) (is_at-key x key))
+    ∙ ap (λ b. is_key one key || b) (has_name keys x one k g n)
 
-same_names : (x : Key) (one new : RenditionValue) → x.0 ≡ number_of new.kind → x.1.now ≡ new.group → x.2.now ≡ new.name → is_at (by_key x) (key_of one) ≡ has_name_of one new
+same_names : (x : Key) (one new : RenditionValue) → x.0 ≡ number_of new.kind → x.1.now ≡ new.group → x.2.now ≡ new.name
+    → is_at (by_key x) (key_of one) ≡ has_name_of one new
 same_names x one new k g n = is_at-key x (key_of one)
-    ∙ rw (k, g, n, flipped new.group one.group, flipped new.name one.name, same_number new.kind one.kind) refl
+    ∙ rw (k, g, n, bytes_eq_sym new.group one.group, bytes_eq_sym new.name one.name, same_number new.kind one.kind) refl
 
-pub named_one_more : (old new : BTreeSet Key) (x : Key) (added : RenditionValue) → x.0 ≡ number_of added.kind → x.1.now ≡ added.group → x.2.now ≡ added.name → UpdatesBy by_key (by_key x) old new true
+pub named_one_more : (old new : BTreeSet Key) (x : Key) (added : RenditionValue) → x.0 ≡ number_of added.kind → x.1.now ≡ added.group
+    → x.2.now ≡ added.name → UpdatesBy by_key (by_key x) old new true
     → (before : List RenditionValue) → ((one : RenditionValue) → list_any (is_key one) old.keys ≡ list_any (has_name_of one) before)
     → (one : RenditionValue) → list_any (is_key one) new.keys ≡ list_any (has_name_of one) (before ++ added ∷ [])
 named_one_more old new x added k g n h before same one =

@@ -1,15 +1,9 @@
 -- First faults.
-use Rattle.std.specs.Prelude.{List, [], ◌∷◌, Option, Some, None, Result, Ok, Err}
+use Rattle.std.specs.Prelude.{Option, Some, None, Result, Ok, Err}
 use Rattle.hls_lines.specs.declared.fault.LineFault.{LineFault}
 use Rattle.hls_lines.specs.declared.fault.LineFault.TheVariants as line
 use Rattle.hls_master.specs.declared.fault.MasterFault.{MasterFault}
 use Rattle.hls_master.specs.declared.fault.MasterFault.TheVariants.{Line, Memory}
-
--- the first fault of those that stand in a list
-abbrev pub first_of : {F : Type 0} → List (Option F) → Option F
-first_of [] = None
-first_of (Some fault ∷ faults) = Some fault
-first_of (None ∷ faults) = first_of faults
 
 -- a value, unless there is a fault
 abbrev pub answer : {X F : Type 0} → Option F → X → Result X F

@@ -1,20 +1,22 @@
 -- Master playlists (RFC 8216 4.3.4).
-use Rattle.std.specs.Prelude.{ℕ, ◌&&◌, not, nat_lt, Bool, true, List, [], ◌∷◌, ◌++◌, length, map, filter, if◌then◌else◌, Option, Some, None, option_map, Result, Ok, Err}
+use Rattle.std.specs.Prelude.{ℕ, ◌&&◌, not, nat_lt, Bool, true, List, [], ◌∷◌, ◌++◌, length, map, filter, if◌then◌else◌, Option, Some, None}
+use Rattle.std.specs.Prelude.{option_map, Result, Ok, Err}
 use Rattle.std.specs.Option.{is_none}
+use Rattle.bridge_io.specs.Firsts.{first_some}
 use Rattle.bridge_io.specs.declared.media.Kind.{Kind}
 use Rattle.bridge_io.specs.declared.media.Kind.TheVariants.{Audio, Text}
 use Rattle.bridge_io.specs.declared.place.Place.{Place}
 use Rattle.bridge_io.specs.Places.{place_of}
+use Rattle.bridge_io.specs.Texts.{is_among}
 use Rattle.hls_lines.specs.Lines.{PlaylistLine, lines_of}
 use Rattle.hls_lines.specs.declared.fault.LineFault.{LineFault}
 use Rattle.hls_master.specs.declared.fault.MasterFault.{MasterFault}
 use Rattle.hls_master.specs.declared.fault.MasterFault.TheVariants.{Muxed, GroupUnknown, NoTracks, Limit}
 use Rattle.hls_master.specs.Codes.{has_code_in}
 use Rattle.hls_master.specs.Entries.{known_lines, entries_of}
-use Rattle.hls_master.specs.Faults.{first_of, answer, of_line}
+use Rattle.hls_master.specs.Faults.{answer, of_line}
 use Rattle.hls_master.specs.Mentions.{MentionsValue, mentions_of, entry_faults}
 use Rattle.hls_master.specs.Renditions.{RenditionValue, same_kind}
-use Rattle.hls_master.specs.Texts.{is_among}
 use Rattle.hls_master.specs.Tracks.{TrackValue, is_audio_variant, firsts_of, tracks_of}
 use Rattle.hls_master.specs.Variants.{VariantValue}
 
@@ -50,7 +52,8 @@ unknown_group mentions = option_map (λ place. GroupUnknown place)
     (first_place (names_unknown_group (groups_in Audio mentions.renditions) (groups_in Text mentions.renditions)) mentions.variants)
 
 abbrev pub muxed : MentionsValue → Option MasterFault
-muxed mentions = option_map (λ place. Muxed place) (first_place (is_muxed (map (λ rendition. rendition.address) mentions.renditions)) mentions.variants)
+muxed mentions = option_map (λ place. Muxed place)
+    (first_place (is_muxed (map (λ rendition. rendition.address) mentions.renditions)) mentions.variants)
 
 abbrev pub above_limit : Place → MentionsValue → Option MasterFault
 above_limit end mentions = if nat_lt 200 (length (firsts_of mentions)) then Some (Limit end) else None
@@ -61,7 +64,7 @@ end_faults end mentions = unknown_group mentions ∷ muxed mentions ∷ no_varia
 
 -- the tracks of mentions, or the first fault of the whole
 unfoldable pub whole_of : Place → MentionsValue → Result (List TrackValue) MasterFault
-whole_of end mentions = answer (first_of (end_faults end mentions)) (tracks_of mentions)
+whole_of end mentions = answer (first_some (end_faults end mentions)) (tracks_of mentions)
 
 -- the mentions of lines
 abbrev pub mentions_in : (master : List ℕ) → List PlaylistLine → MentionsValue
@@ -81,7 +84,7 @@ master_values bytes master = values_by master (lines_of bytes)
 
 -- the tracks that lines tell, or the first of their faults
 unfoldable pub master_in : (master : List ℕ) → (end : Place) → List PlaylistLine → Result (List TrackValue) MasterFault
-master_in master end lines = answer (first_of (faults_of master end lines)) (tracks_of (mentions_in master lines))
+master_in master end lines = answer (first_some (faults_of master end lines)) (tracks_of (mentions_in master lines))
 
 abbrev pub master_by : (master : List ℕ) → (end : Place) → Result (List PlaylistLine) LineFault → Result (List TrackValue) MasterFault
 master_by master end (Ok lines) = master_in master end lines

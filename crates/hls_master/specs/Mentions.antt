@@ -2,10 +2,11 @@
 use Rattle.std.specs.Prelude.{ℕ, List, [], ◌∷◌, ◌++◌, Option, Some, Result}
 use Rattle.std.specs.List.{flat_map}
 use Rattle.std.specs.Option.{option_to_list}
+use Rattle.bridge_io.specs.Firsts.{first_some}
 use Rattle.hls_lines.specs.Attributes.{attributes_of}
 use Rattle.hls_master.specs.declared.fault.MasterFault.{MasterFault}
 use Rattle.hls_master.specs.Entries.{MasterEntry, rendition, variant, stray}
-use Rattle.hls_master.specs.Faults.{first_of, answer}
+use Rattle.hls_master.specs.Faults.{answer}
 use Rattle.hls_master.specs.Renditions.{RenditionValue, rendition_value, rendition_fault, same_name}
 use Rattle.hls_master.specs.Variants.{VariantValue, variant_with, variant_fault, attributes_or_none}
 
@@ -47,15 +48,17 @@ mentions_of master entries = mentions_behind master nothing entries
 -- the first fault of an entry behind renditions
 abbrev pub entry_fault : (master : List ℕ) → List RenditionValue → MasterEntry → Option MasterFault
 entry_fault master before (rendition rest place) =
-    first_of (rendition_fault master place (attributes_of rest place) ∷ same_name before place (rendition_value master (attributes_of rest place)) ∷ [])
+    first_some (rendition_fault master place (attributes_of rest place) ∷ same_name before place
+    (rendition_value master (attributes_of rest place)) ∷ [])
 entry_fault master before (variant rest place uri uri_place) = variant_fault master place uri uri_place (attributes_of rest place)
 entry_fault master before (stray fault) = Some fault
 
 -- the faults of entries in their order, behind renditions
 abbrev pub entry_faults : (master : List ℕ) → List RenditionValue → List MasterEntry → List (Option MasterFault)
 entry_faults master before [] = []
-entry_faults master before (entry ∷ entries) = entry_fault master before entry ∷ entry_faults master (before ++ entry_rendition master entry) entries
+entry_faults master before (entry ∷ entries) = entry_fault master before entry ∷ entry_faults master
+    (before ++ entry_rendition master entry) entries
 
 -- what lines mention behind what was mentioned before, or their first fault
 unfoldable pub reading : (master : List ℕ) → MentionsValue → List MasterEntry → Result MentionsValue MasterFault
-reading master before entries = answer (first_of (entry_faults master before.renditions entries)) (mentions_behind master before entries)
+reading master before entries = answer (first_some (entry_faults master before.renditions entries)) (mentions_behind master before entries)

@@ -1,7 +1,9 @@
 -- Renditions: EXT-X-MEDIA (RFC 8216 4.3.4.1).
-use Rattle.std.specs.Prelude.{ℕ, ◌&&◌, ◌||◌, Bool, true, false, List, [], ◌∷◌, codes, bytes_eq, if◌then◌else◌, Option, Some, None, option_map, option_and_then, unwrap_or, Result, Ok, Err}
+use Rattle.std.specs.Prelude.{ℕ, ◌&&◌, ◌||◌, Bool, true, false, List, [], ◌∷◌, codes, bytes_eq, if◌then◌else◌, Option, Some, None}
+use Rattle.std.specs.Prelude.{option_map, option_and_then, unwrap_or, Result, Ok, Err}
 use Rattle.std.specs.List.{list_any}
 use Rattle.std.specs.Option.{option_eq}
+use Rattle.bridge_io.specs.Firsts.{first_some}
 use Rattle.bridge_io.specs.declared.media.Kind.{Kind}
 use Rattle.bridge_io.specs.declared.media.Kind.TheVariants.{Video, Audio, Text}
 use Rattle.bridge_io.specs.declared.place.Place.{Place}
@@ -10,7 +12,7 @@ use Rattle.hls_lines.specs.declared.fault.LineFault.{LineFault}
 use Rattle.mpd_values.specs.Languages.{is_language}
 use Rattle.hls_master.specs.declared.fault.MasterFault.{MasterFault}
 use Rattle.hls_master.specs.declared.fault.MasterFault.TheVariants.{Missing, Value, Muxed, SameName, Unsupported}
-use Rattle.hls_master.specs.Faults.{first_of, of_line}
+use Rattle.hls_master.specs.Faults.{of_line}
 use Rattle.hls_master.specs.Addresses.{address_value, address_fault}
 
 pub record RenditionValue : Type 0 where
@@ -45,7 +47,8 @@ kind_in attributes = option_and_then kind_of_type (value_of (codes "TYPE") attri
 abbrev pub type_fault : Place → Option (List ℕ) → Option MasterFault
 type_fault place None = Some (Missing place)
 type_fault place (Some type) = if bytes_eq type (codes "VIDEO") then Some (Unsupported place)
-    else (if bytes_eq type (codes "AUDIO") || (bytes_eq type (codes "SUBTITLES") || bytes_eq type (codes "CLOSED-CAPTIONS")) then None else Some (Value place))
+    else (if bytes_eq type (codes "AUDIO") || (bytes_eq type (codes "SUBTITLES") || bytes_eq type (codes "CLOSED-CAPTIONS")) then None
+    else Some (Value place))
 
 -- audio without a URI is in the variants' files
 abbrev pub uri_fault : Kind → Place → Option (List ℕ) → Option MasterFault
@@ -71,7 +74,8 @@ faults_by faults (Some kind) = faults kind
 abbrev pub rendition_fault : (master : List ℕ) → Place → Result (List NameValue) LineFault → Option MasterFault
 rendition_fault master place (Err fault) = Some (of_line fault)
 rendition_fault master place (Ok attributes) =
-    first_of (type_fault place (value_of (codes "TYPE") attributes) ∷ faults_by (rendition_faults master place attributes) (kind_in attributes))
+    first_some (type_fault place (value_of (codes "TYPE") attributes) ∷ faults_by (rendition_faults master place attributes)
+    (kind_in attributes))
 
 -- the rendition of a kind that attributes tell
 abbrev pub rendition_with : (master : List ℕ) → List NameValue → Kind → RenditionValue
@@ -109,4 +113,5 @@ same_name before place (Some one) = if list_any (has_name_of one) before then So
 
 -- the same kind, name and language
 abbrev pub same_rendition_set : RenditionValue → RenditionValue → Bool
-same_rendition_set one other = same_kind one.kind other.kind && (bytes_eq one.name other.name && option_eq bytes_eq one.language other.language)
+same_rendition_set one other = same_kind one.kind other.kind
+    && (bytes_eq one.name other.name && option_eq bytes_eq one.language other.language)

@@ -1,14 +1,15 @@
 -- The tracks of a master: the distinct addresses that it mentions.
-use Rattle.std.specs.Prelude.{ℕ, ◌+◌, ◌&&◌, not, Bool, false, List, [], ◌∷◌, ◌++◌, map, filter, length, nat_lt, bytes_eq, if◌then◌else◌, Option, Some, None, option_and_then}
+use Rattle.std.specs.Prelude.{ℕ, ◌+◌, ◌&&◌, not, Bool, false, List, [], ◌∷◌, ◌++◌, map, filter, length, nat_lt, bytes_eq, if◌then◌else◌}
+use Rattle.std.specs.Prelude.{Option, Some, None, option_and_then}
 use Rattle.std.specs.List.{list_any}
 use Rattle.std.specs.Option.{is_some, option_eq}
+use Rattle.bridge_io.specs.Texts.{is_among}
 use Rattle.bridge_io.specs.declared.media.Kind.{Kind}
 use Rattle.bridge_io.specs.declared.media.Kind.TheVariants.{Video, Audio, Text}
 use Rattle.bridge_io.specs.declared.media.Size.{Size}
 use Rattle.hls_master.specs.Codes.{has_code_in, selected}
 use Rattle.hls_master.specs.Mentions.{MentionsValue}
 use Rattle.hls_master.specs.Renditions.{RenditionValue, same_kind, same_rendition_set}
-use Rattle.hls_master.specs.Texts.{is_among}
 use Rattle.hls_master.specs.Variants.{VariantValue}
 
 pub record TrackValue : Type 0 where
@@ -89,7 +90,8 @@ group_of Video variant = None
 abbrev pub group_codecs : Kind → List ℕ → List VariantValue → Option (List ℕ)
 group_codecs kind group [] = None
 group_codecs kind group (variant ∷ variants) =
-    if option_eq bytes_eq (group_of kind variant) (Some group) && is_some variant.shown.codecs then variant.shown.codecs else group_codecs kind group variants
+    if option_eq bytes_eq (group_of kind variant) (Some group) && is_some variant.shown.codecs then variant.shown.codecs
+    else group_codecs kind group variants
 
 -- the bits a second of a rendition, of which HLS states none
 abbrev pub rendition_bandwidth : Kind → ℕ

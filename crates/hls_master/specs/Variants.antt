@@ -1,6 +1,7 @@
 -- Variants: EXT-X-STREAM-INF and the URI behind it (RFC 8216 4.3.4.2).
 use Rattle.std.specs.Prelude.{ℕ, List, [], ◌∷◌, ◌++◌, codes, Option, Some, None, option_and_then, unwrap_or, Result, Ok, Err}
 use Rattle.std.specs.Option.{is_some}
+use Rattle.bridge_io.specs.Firsts.{first_some}
 use Rattle.bridge_io.specs.declared.media.Size.{Size}
 use Rattle.bridge_io.specs.declared.place.Place.{Place}
 use Rattle.hls_lines.specs.Attributes.{NameValue, value_of}
@@ -9,7 +10,7 @@ use Rattle.mpd_values.specs.Codecs.{are_read_codes}
 use Rattle.mpd_values.specs.Numbers.{numeral_of}
 use Rattle.hls_master.specs.declared.fault.MasterFault.{MasterFault}
 use Rattle.hls_master.specs.declared.fault.MasterFault.TheVariants.{Unsupported}
-use Rattle.hls_master.specs.Faults.{first_of, of_line}
+use Rattle.hls_master.specs.Faults.{of_line}
 use Rattle.hls_master.specs.Addresses.{address_value, address_fault}
 use Rattle.hls_master.specs.Renditions.{text_at, missing, malformed}
 use Rattle.hls_master.specs.Values.{is_bandwidth, size_of, size_within, rate_of, rate_within}
@@ -60,9 +61,10 @@ variant_faults master place uri uri_place attributes =
     ∷ (shown_faults place attributes ++ address_fault master uri_place uri ∷ [])
 
 -- the first fault of an EXT-X-STREAM-INF line by its attributes, or of its URI
-abbrev pub variant_fault : (master : List ℕ) → Place → (uri : List ℕ) → (uri_place : Place) → Result (List NameValue) LineFault → Option MasterFault
+abbrev pub variant_fault : (master : List ℕ) → Place → (uri : List ℕ) → (uri_place : Place) → Result (List NameValue) LineFault
+    → Option MasterFault
 variant_fault master place uri uri_place (Err fault) = Some (of_line fault)
-variant_fault master place uri uri_place (Ok attributes) = first_of (variant_faults master place uri uri_place attributes)
+variant_fault master place uri uri_place (Ok attributes) = first_some (variant_faults master place uri uri_place attributes)
 
 -- the variant that attributes and a URI tell
 abbrev pub variant_with : (master : List ℕ) → Place → (uri : List ℕ) → List NameValue → VariantValue

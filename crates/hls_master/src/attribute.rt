@@ -14,7 +14,8 @@ pub(crate) fn required<'a>(
     name: &str,
     place: Place,
 ) -> Result<&'a str, MasterFault>
-    ensures { mapped (λ value. value.now) result ≡ answer (missing place (value_of name.now attributes.now)) (text_at name.now attributes.now) }
+    ensures { mapped (λ value. value.now) result ≡ answer (missing place (value_of name.now attributes.now))
+        (text_at name.now attributes.now) }
 {
     match attributes.get(name) {
         None => Err(MasterFault::Missing(place)),

@@ -64,7 +64,8 @@ pub fn next_entry<'a>(lines: &mut Lines<'a>) -> Option<Entry<'a>>
 
 /// The variant of an EXT-X-STREAM-INF, whose URI is the next known line.
 fn join_uri<'a>(lines: &mut Lines<'a>, rest: &'a str, place: Place) -> Entry<'a>
-    ensures { IsNext (entries_of (stream rest.now place ∷ known_lines lines.old)) (Some (entry_seen result)) (entries_of (known_lines lines.new)) }
+    ensures { IsNext (entries_of (stream rest.now place ∷ known_lines lines.old)) (Some (entry_seen result))
+        (entries_of (known_lines lines.new)) }
 {
     let known = next_known(lines);
     match uri_in(known) {

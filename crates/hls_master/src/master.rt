@@ -136,7 +136,8 @@ fn few_tracks(
     mentions: &Mentions<'_>,
     end: Place,
 ) -> Result<MasterTracks, MasterFault>
-    ensures { Gives (λ tracks. map track_seen tracks) refusal result (answer (above_limit end (mentions_seen mentions.now)) (tracks_of (mentions_seen mentions.now))) }
+    ensures { Gives (λ tracks. map track_seen tracks) refusal result
+        (answer (above_limit end (mentions_seen mentions.now)) (tracks_of (mentions_seen mentions.now))) }
 {
     match firsts_of(alloc, mentions)? {
         Some(firsts) => Ok(read_tracks(alloc, mentions.variants.as_slice(), firsts.as_slice())?),
@@ -150,7 +151,8 @@ fn firsts_of<'m, 'a>(
     alloc: Global,
     mentions: &'m Mentions<'a>,
 ) -> Result<Option<Vec<Mention<'m, 'a>>>, NoMemory>
-    ensures { IfOk result (λ found. option_map (λ firsts. map mention_seen firsts.items) found ≡ few (firsts_of (mentions_seen mentions.now))) }
+    ensures { IfOk result (λ found. option_map (λ firsts. map mention_seen firsts.items) found
+        ≡ few (firsts_of (mentions_seen mentions.now))) }
 {
     let all = mentions_of(
         alloc,

@@ -3,7 +3,8 @@ ghost use Rattle.std.specs.Prelude.{◌≡◌, [], ◌++◌, map, filter, option
 ghost use Rattle.std.specs.List.{list_any};
 ghost use Rattle.hls_master.specs.SeenTags.{rendition_seen, variant_seen};
 ghost use Rattle.hls_master.specs.SeenTracks.{mention_seen};
-ghost use Rattle.hls_master.specs.Tracks.{address_of, by_kind, by_rendition, by_variant, few, firsts_behind, has_kind, kind_of, same_set, sets_behind};
+ghost use Rattle.hls_master.specs.Tracks.{address_of, by_kind, by_rendition, by_variant, few, firsts_behind, has_kind, kind_of, same_set};
+ghost use Rattle.hls_master.specs.Tracks.{sets_behind};
 
 use crate::rendition::{Rendition, same_kind};
 use crate::texts::Texts;
@@ -61,7 +62,8 @@ pub(crate) fn mentions_of<'m, 'a>(
     renditions: &'m [Rendition<'a>],
     variants: &'m [Variant<'a>],
 ) -> Result<Vec<Mention<'m, 'a>>, NoMemory>
-    ensures { IfOk result (λ all. map mention_seen all.items ≡ map by_rendition (map rendition_seen renditions.now) ++ map by_variant (map variant_seen variants.now)) }
+    ensures { IfOk result (λ all. map mention_seen all.items ≡ map by_rendition (map rendition_seen renditions.now)
+        ++ map by_variant (map variant_seen variants.now)) }
 {
     let mut mentions = Vec::with_capacity(alloc, renditions.len() + variants.len())?;
     for rendition in renditions {
@@ -78,7 +80,8 @@ pub(crate) fn find_firsts<'m, 'a>(
     alloc: Global,
     mentions: &[Mention<'m, 'a>],
 ) -> Result<Option<Vec<Mention<'m, 'a>>>, NoMemory>
-    ensures { IfOk result (λ found. option_map (λ firsts. map mention_seen firsts.items) found ≡ few (firsts_behind [] (map mention_seen mentions.now))) }
+    ensures { IfOk result (λ found. option_map (λ firsts. map mention_seen firsts.items) found
+        ≡ few (firsts_behind [] (map mention_seen mentions.now))) }
 {
     let mut firsts = Vec::new(alloc);
     let mut addresses = Texts::new(alloc);
@@ -113,7 +116,8 @@ fn add_kind<'m, 'a>(
     firsts: &[Mention<'m, 'a>],
     kind: Kind,
 ) -> Result<(), NoMemory>
-    ensures { OnOk result (map mention_seen ordered.new.items ≡ map mention_seen ordered.old.items ++ filter (has_kind kind) (map mention_seen firsts.now)) }
+    ensures { OnOk result (map mention_seen ordered.new.items ≡ map mention_seen ordered.old.items
+        ++ filter (has_kind kind) (map mention_seen firsts.now)) }
 {
     for mention in firsts {
         if same_kind(kind, mention.kind()) {

@@ -60,7 +60,8 @@ impl<'a> Mentions<'a> {
     ) -> Result<(), MasterFault>
         requires { NamesOf names.old (mentions_seen self.old).renditions }
         ensures added { Gives (λ _. mentions_seen self.new) refusal result
-            (answer (entry_fault base.now (mentions_seen self.old).renditions (entry_seen entry.entry)) (mentions_behind base.now (mentions_seen self.old) (entry_seen entry.entry ∷ []))) }
+            (answer (entry_fault base.now (mentions_seen self.old).renditions (entry_seen entry.entry))
+            (mentions_behind base.now (mentions_seen self.old) (entry_seen entry.entry ∷ []))) }
         ensures named { OnOk result (NamesOf names.new (mentions_seen self.new).renditions) }
     {
         match entry {
@@ -86,7 +87,8 @@ impl<'a> Mentions<'a> {
     ) -> Result<(), MasterFault>
         requires { NamesOf names.old (mentions_seen self.old).renditions }
         ensures added { Gives (λ _. mentions_seen self.new) refusal result
-            (answer (same_name (mentions_seen self.old).renditions place (Some (rendition_seen rendition.entry))) (with_rendition (mentions_seen self.old) (rendition_seen rendition.entry))) }
+            (answer (same_name (mentions_seen self.old).renditions place (Some (rendition_seen rendition.entry)))
+            (with_rendition (mentions_seen self.old) (rendition_seen rendition.entry))) }
         ensures named { OnOk result (NamesOf names.new (mentions_seen self.new).renditions) }
     {
         if !names.add(&rendition)? {
@@ -97,7 +99,8 @@ impl<'a> Mentions<'a> {
     }
 
     fn add_variant(&mut self, variant: Variant<'a>) -> Result<(), MasterFault>
-        ensures { Gives (λ _. mentions_seen self.new) refusal result (Ok (with_variant (mentions_seen self.old) (variant_seen variant.entry))) }
+        ensures { Gives (λ _. mentions_seen self.new) refusal result
+            (Ok (with_variant (mentions_seen self.old) (variant_seen variant.entry))) }
     {
         self.variants.push(variant)?;
         Ok(())

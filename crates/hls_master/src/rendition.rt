@@ -2,10 +2,12 @@
 ghost use Rattle.std.specs.Prelude.{◌≡◌, [], bytes_eq, option_map, option_and_then, unwrap_or};
 ghost use Rattle.std.specs.Option.{option_eq};
 ghost use Rattle.bridge_io.specs.Answer.{Gives};
+ghost use Rattle.bridge_io.specs.Firsts.{first_some};
 ghost use Rattle.hls_lines.specs.Attributes.{attributes_of};
 ghost use Rattle.mpd_values.specs.Languages.{is_language};
-ghost use Rattle.hls_master.specs.Faults.{answer, first_of, mapped, refusal};
-ghost use Rattle.hls_master.specs.Renditions.{rendition_fault, rendition_faults, rendition_value, rendition_with, type_fault, kind_of_type, uri_fault, malformed, same_kind, same_rendition_set};
+ghost use Rattle.hls_master.specs.Faults.{answer, mapped, refusal};
+ghost use Rattle.hls_master.specs.Renditions.{rendition_fault, rendition_faults, rendition_value, rendition_with, type_fault, kind_of_type};
+ghost use Rattle.hls_master.specs.Renditions.{uri_fault, malformed, same_kind, same_rendition_set};
 ghost use Rattle.hls_master.specs.SeenTags.{rendition_seen, text_seen};
 
 use crate::MasterFault;
@@ -104,7 +106,7 @@ fn rendition_of<'a>(
     place: Place,
 ) -> Result<Rendition<'a>, MasterFault>
     ensures { Gives rendition_seen refusal result
-        (answer (first_of (rendition_faults base.now place attributes.now kind)) (rendition_with base.now attributes.now kind)) }
+        (answer (first_some (rendition_faults base.now place attributes.now kind)) (rendition_with base.now attributes.now kind)) }
 {
     let group = required(attributes, "GROUP-ID", place)?;
     let name = required(attributes, "NAME", place)?;

@@ -22,7 +22,8 @@ impl<'a> Model for Texts<'a> {
 }
 
 impl<'a> Texts<'a> {
-    ghost use Rattle.hls_master.specs.Texts.{is_among, SameTexts};
+    ghost use Rattle.bridge_io.specs.Texts.{is_among};
+    ghost use Rattle.hls_master.specs.Texts.{SameTexts};
 
     pub(crate) fn new(alloc: Global) -> Texts<'a>
         ensures { result ≡ [] }

@@ -3,7 +3,8 @@ ghost use Rattle.std.specs.Prelude.{◌≡◌, ◌++◌, map, filter, option_map
 ghost use Rattle.hls_master.specs.Codes.{selected};
 ghost use Rattle.hls_master.specs.SeenTags.{rendition_seen, text_seen, variant_seen};
 ghost use Rattle.hls_master.specs.SeenTracks.{mention_seen, track_seen};
-ghost use Rattle.hls_master.specs.Tracks.{group_codecs, rendition_bandwidth, rendition_track, same_set, track_of, tracks_among, tracks_of_sets, variant_track};
+ghost use Rattle.hls_master.specs.Tracks.{group_codecs, rendition_bandwidth, rendition_track, same_set, track_of, tracks_among};
+ghost use Rattle.hls_master.specs.Tracks.{tracks_of_sets, variant_track};
 
 use crate::codes::select_codes;
 use crate::mention::{Mention, find_sets};
@@ -57,7 +58,8 @@ fn tracks_of_sets(
     firsts: &[Mention<'_, '_>],
     sets: &[Mention<'_, '_>],
 ) -> Result<MasterTracks, NoMemory>
-    ensures { IfOk result (λ tracks. map track_seen tracks ≡ tracks_of_sets (map variant_seen variants.now) (map mention_seen firsts.now) 0 (map mention_seen sets.now)) }
+    ensures { IfOk result (λ tracks. map track_seen tracks ≡ tracks_of_sets (map variant_seen variants.now) (map mention_seen firsts.now) 0
+        (map mention_seen sets.now)) }
 {
     let mut tracks = MasterTracks::new(alloc);
     for (number, set) in sets.iter().enumerate() {
@@ -75,7 +77,8 @@ fn add_set(
     number: usize,
     set: Mention<'_, '_>,
 ) -> Result<(), NoMemory>
-    ensures { OnOk result (map track_seen tracks.new ≡ map track_seen tracks.old ++ map (track_of (map variant_seen variants.now) number) (filter (same_set (mention_seen set.entry)) (map mention_seen firsts.now))) }
+    ensures { OnOk result (map track_seen tracks.new ≡ map track_seen tracks.old ++ map (track_of (map variant_seen variants.now) number)
+        (filter (same_set (mention_seen set.entry)) (map mention_seen firsts.now))) }
 {
     for mention in firsts {
         if set.has_set_of(*mention) {

@@ -2,11 +2,12 @@
 ghost use Rattle.std.specs.Prelude.{◌≡◌, [], ◌∷◌, codes, option_and_then, unwrap_or};
 ghost use Rattle.std.specs.Option.{is_some};
 ghost use Rattle.bridge_io.specs.Answer.{Gives};
+ghost use Rattle.bridge_io.specs.Firsts.{first_some};
 ghost use Rattle.hls_lines.specs.Attributes.{attributes_of, value_of};
 ghost use Rattle.mpd_values.specs.Codecs.{are_read_codes};
 ghost use Rattle.mpd_values.specs.Numbers.{numeral_of};
 ghost use Rattle.hls_master.specs.Codes.{has_code_in};
-ghost use Rattle.hls_master.specs.Faults.{answer, first_of, mapped, refusal};
+ghost use Rattle.hls_master.specs.Faults.{answer, mapped, refusal};
 ghost use Rattle.hls_master.specs.Renditions.{malformed, missing, text_at};
 ghost use Rattle.hls_master.specs.SeenTags.{rate_seen, shown_seen, text_seen, variant_seen};
 ghost use Rattle.hls_master.specs.Tracks.{group_of, is_audio_variant, variant_kind};
@@ -62,7 +63,8 @@ pub fn read_variant<'a>(
     uri_place: Place,
 ) -> Result<Variant<'a>, MasterFault>
     ensures { Gives variant_seen refusal result
-        (answer (variant_fault base.now place uri.now uri_place (attributes_of rest.now place)) (variant_with base.now place uri.now (attributes_or_none (attributes_of rest.now place)))) }
+        (answer (variant_fault base.now place uri.now uri_place (attributes_of rest.now place))
+        (variant_with base.now place uri.now (attributes_or_none (attributes_of rest.now place)))) }
 {
     let attributes = read_attributes(alloc, rest, place)?;
     variant_of(alloc, base, &attributes, place, uri, uri_place)
@@ -77,7 +79,8 @@ fn variant_of<'a>(
     uri_place: Place,
 ) -> Result<Variant<'a>, MasterFault>
     ensures { Gives variant_seen refusal result
-        (answer (first_of (variant_faults base.now place uri.now uri_place attributes.now)) (variant_with base.now place uri.now attributes.now)) }
+        (answer (first_some (variant_faults base.now place uri.now uri_place attributes.now))
+        (variant_with base.now place uri.now attributes.now)) }
 {
     let text = required(attributes, "BANDWIDTH", place)?;
     let bandwidth = read_bandwidth(text, place)?;
@@ -105,7 +108,7 @@ fn read_bandwidth(text: &str, place: Place) -> Result<u64, MasterFault>
 }
 
 fn read_shown<'a>(attributes: &Attributes<'a>, place: Place) -> Result<Shown<'a>, MasterFault>
-    ensures { mapped shown_seen result ≡ answer (first_of (shown_faults place attributes.now)) (shown_value attributes.now) }
+    ensures { mapped shown_seen result ≡ answer (first_some (shown_faults place attributes.now)) (shown_value attributes.now) }
 {
     let codecs = read_codecs(attributes.get("CODECS"), place)?;
     let size = read_resolution(attributes.get("RESOLUTION"), place)?;
@@ -130,7 +133,8 @@ fn read_codecs(codecs: Option<&str>, place: Place) -> Result<Option<&str>, Maste
 }
 
 fn read_resolution(size: Option<&str>, place: Place) -> Result<Option<Size>, MasterFault>
-    ensures { result ≡ answer (malformed (λ text. is_some (size_within text)) place (text_seen size.entry)) (option_and_then size_of (text_seen size.entry)) }
+    ensures { result ≡ answer (malformed (λ text. is_some (size_within text)) place (text_seen size.entry))
+        (option_and_then size_of (text_seen size.entry)) }
 {
     match size {
         None => Ok(None),
@@ -142,7 +146,8 @@ fn read_resolution(size: Option<&str>, place: Place) -> Result<Option<Size>, Mas
 }
 
 fn read_rate(rate: Option<&str>, place: Place) -> Result<Option<Ratio>, MasterFault>
-    ensures { mapped rate_seen result ≡ answer (malformed (λ text. is_some (rate_within text)) place (text_seen rate.entry)) (option_and_then rate_of (text_seen rate.entry)) }
+    ensures { mapped rate_seen result ≡ answer (malformed (λ text. is_some (rate_within text)) place (text_seen rate.entry))
+        (option_and_then rate_of (text_seen rate.entry)) }
 {
     match rate {
         None => Ok(None),

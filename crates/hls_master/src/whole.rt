@@ -16,7 +16,8 @@ pub(crate) fn find_unknown_group(
     renditions: &[Rendition<'_>],
     variants: &[Variant<'_>],
 ) -> Result<Option<Place>, NoMemory>
-    ensures { IfOk result (λ place. place ≡ first_place (names_unknown_group (groups_in Kind.Audio (map rendition_seen renditions.now)) (groups_in Kind.Text (map rendition_seen renditions.now))) (map variant_seen variants.now)) }
+    ensures { IfOk result (λ place. place ≡ first_place (names_unknown_group (groups_in Kind.Audio (map rendition_seen renditions.now))
+        (groups_in Kind.Text (map rendition_seen renditions.now))) (map variant_seen variants.now)) }
 {
     let audio = groups_of(alloc, renditions, Kind::Audio)?;
     let text = groups_of(alloc, renditions, Kind::Text)?;
@@ -66,7 +67,8 @@ pub(crate) fn find_muxed(
     renditions: &[Rendition<'_>],
     variants: &[Variant<'_>],
 ) -> Result<Option<Place>, NoMemory>
-    ensures { IfOk result (λ place. place ≡ first_place (is_muxed (map (λ rendition. rendition.address) (map rendition_seen renditions.now))) (map variant_seen variants.now)) }
+    ensures { IfOk result (λ place. place ≡ first_place
+        (is_muxed (map (λ rendition. rendition.address) (map rendition_seen renditions.now))) (map variant_seen variants.now)) }
 {
     let addresses = addresses_of(alloc, renditions)?;
     Ok(first_muxed(&addresses, variants))

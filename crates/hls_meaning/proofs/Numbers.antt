@@ -1,5 +1,6 @@
 -- The numbers of sections rise, and are those that some segment has.
-use Rattle.std.proofs.Common.{◌≡◌, ℕ, zero, suc, ◌+◌, ◌<◌, ◌≤◌, ◌==◌, ◌||◌, cond, Bool, true, false, List, [], ◌∷◌, filter, refl, sym, ◌∙◌, ap, subst, ⊎_elim, arith}
+use Rattle.std.proofs.Common.{◌≡◌, ℕ, zero, suc, ◌+◌, ◌<◌, ◌≤◌, ◌==◌, ◌||◌, cond, Bool, true, false, List, [], ◌∷◌, filter, refl, sym, ◌∙◌}
+use Rattle.std.proofs.Common.{ap, subst, ⊎_elim, arith}
 use Rattle.std.specs.Prelude.{nat_lt, slice_index}
 use Rattle.std.specs.List.{list_any, range_with_len}
 use Rattle.std.specs.List.Sorted.{IsStrictlyIncreasing}
@@ -33,7 +34,8 @@ segments_rise (s ∷ later) ms rises = segments_rise later (with_number s.sectio
 
 sources_rise : (sources : List Source) (ms : List ℕ) → RisesFrom 0 ms → RisesFrom 0 (numbers_among ms sources)
 sources_rise [] ms rises = rises
-sources_rise (source ∷ later) ms rises = sources_rise later (numbers_with ms source.media.segments) (segments_rise source.media.segments ms rises)
+sources_rise (source ∷ later) ms rises = sources_rise later (numbers_with ms source.media.segments)
+    (segments_rise source.media.segments ms rises)
 
 increasing : (low : ℕ) (xs : List ℕ) → RisesFrom low xs → IsStrictlyIncreasing xs
 increasing low [] rises k within = absurd (omega arith)
@@ -68,13 +70,16 @@ module _ (number : ℕ) where
   with_told : (n : ℕ) (ms : List ℕ) → has number (with_number n ms) ≡ (n == number) || has number ms
   with_told n [] = refl
   with_told n (m ∷ later) =
-      cond_both (n == m) (m ∷ later) (cond (nat_lt n m) (n ∷ m ∷ later) (m ∷ with_number n later)) (λ ms. has number ms ≡ (n == number) || has number (m ∷ later))
+      cond_both (n == m) (m ∷ later) (cond (nat_lt n m) (n ∷ m ∷ later) (m ∷ with_number n later))
+      (λ ms. has number ms ≡ (n == number) || has number (m ∷ later))
       (λ same. or_twice (m == number) (has number later) ∙ ap (λ k. (k == number) || has number (m ∷ later)) (sym (eqb-true n m same)))
-      (λ other. cond_both (nat_lt n m) (n ∷ m ∷ later) (m ∷ with_number n later) (λ ms. has number ms ≡ (n == number) || has number (m ∷ later))
+      (λ other. cond_both (nat_lt n m) (n ∷ m ∷ later) (m ∷ with_number n later) (λ ms. has number ms
+      ≡ (n == number) || has number (m ∷ later))
       (λ less. refl)
       (λ more. ap (λ b. (m == number) || b) (with_told n later) ∙ or_swap (m == number) (n == number) (has number later)))
 
-  segments_told : (segments : List MediaSegment) (ms : List ℕ) → has number (numbers_with ms segments) ≡ list_any (is_in number) segments || has number ms
+  segments_told : (segments : List MediaSegment) (ms : List ℕ) → has number (numbers_with ms segments)
+      ≡ list_any (is_in number) segments || has number ms
   segments_told [] ms = refl
   segments_told (s ∷ later) ms =
       segments_told later (with_number s.section ms) ∙ ap (λ b. list_any (is_in number) later || b) (with_told s.section ms)
@@ -83,7 +88,8 @@ module _ (number : ℕ) where
   sources_told : (sources : List Source) (ms : List ℕ) → has number (numbers_among ms sources) ≡ is_told sources number || has number ms
   sources_told [] ms = refl
   sources_told (source ∷ later) ms =
-      sources_told later (numbers_with ms source.media.segments) ∙ ap (λ b. is_told later number || b) (segments_told source.media.segments ms)
+      sources_told later (numbers_with ms source.media.segments)
+      ∙ ap (λ b. is_told later number || b) (segments_told source.media.segments ms)
       ∙ or_apart (is_told later number) (list_any (is_in number) source.media.segments) (has number ms)
 
 or_false : (b : Bool) → b || false ≡ b
@@ -99,7 +105,8 @@ numbers_are_told sources number = sources_told number sources [] ∙ or_false (i
 none_before : (number low : ℕ) (xs : List ℕ) → RisesFrom low xs → number < low → has number xs ≡ false
 none_before number low [] rises before = refl
 none_before number low (x ∷ xs) rises before =
-    or_from (x == number) (has number xs) (ne_eqb x number (λ same. absurd (omega (arith, rises.0)))) (none_before number (x + 1) xs rises.1 (omega (arith, rises.0)))
+    or_from (x == number) (has number xs) (ne_eqb x number (λ same. absurd (omega (arith, rises.0))))
+    (none_before number (x + 1) xs rises.1 (omega (arith, rises.0)))
 
 module _ (told : ℕ → Bool) where
   abbrev Tells : ℕ → List ℕ → Type 0
@@ -118,7 +125,8 @@ module _ (told : ℕ → Bool) where
   left : (low : ℕ) (xs ys : List ℕ) → told low ≡ false → xs ≡ ys → xs ≡ cond (told low) (low ∷ ys) ys
   left low xs ys is same = rw is same
 
-  same_numbers : (count low bound : ℕ) (xs : List ℕ) → low + count ≡ bound → ((n : ℕ) → told n ≡ true → n < bound) → RisesFrom low xs → Tells low xs → xs ≡ filter told (range_with_len low count)
+  same_numbers : (count low bound : ℕ) (xs : List ℕ) → low + count ≡ bound → ((n : ℕ) → told n ≡ true → n < bound) → RisesFrom low xs
+      → Tells low xs → xs ≡ filter told (range_with_len low count)
   same_numbers zero low bound [] end below rises tells = refl
   same_numbers zero low bound (x ∷ xs) end below rises tells =
       absurd (omega (arith, rises.0, below x (sym (tells x rises.0) ∙ found x x xs refl)))
@@ -129,11 +137,15 @@ module _ (told : ℕ → Bool) where
       let rest : List ℕ = filter told (range_with_len (low + 1) count) in
       ⊎_elim
       (λ same. ap (λ y. y ∷ xs) same ∙ kept low xs rest (sym (tells low (omega arith)) ∙ found low x xs same)
-      (same_numbers count (low + 1) bound xs (omega (arith, end)) below (subst (λ y. RisesFrom (y + 1) xs) same rises.1) (λ n later. sym (pass n x xs (λ is. absurd (omega arith))) ∙ tells n (omega arith))))
-      (λ other. left low (x ∷ xs) rest (sym (tells low (omega arith)) ∙ none_before low (low + 1) (x ∷ xs) (omega (arith, rises.0, other), rises.1) (omega arith))
-      (same_numbers count (low + 1) bound (x ∷ xs) (omega (arith, end)) below (omega (arith, rises.0, other), rises.1) (λ n later. tells n (omega arith))))
+      (same_numbers count (low + 1) bound xs (omega (arith, end)) below (subst (λ y. RisesFrom (y + 1) xs) same rises.1)
+      (λ n later. sym (pass n x xs (λ is. absurd (omega arith))) ∙ tells n (omega arith))))
+      (λ other. left low (x ∷ xs) rest (sym (tells low (omega arith))
+      ∙ none_before low (low + 1) (x ∷ xs) (omega (arith, rises.0, other), rises.1) (omega arith))
+      (same_numbers count (low + 1) bound (x ∷ xs) (omega (arith, end)) below (omega (arith, rises.0, other), rises.1)
+      (λ n later. tells n (omega arith))))
       (cases_eq x low)
 
 pub numbers_are_those_told : NumbersAreThoseTold
 numbers_are_those_told sources bound below =
-    same_numbers (is_told sources) bound 0 bound (numbers_among [] sources) (omega arith) below (sources_rise sources [] tt) (λ n least. numbers_are_told sources n)
+    same_numbers (is_told sources) bound 0 bound (numbers_among [] sources) (omega arith) below (sources_rise sources [] tt)
+    (λ n least. numbers_are_told sources n)

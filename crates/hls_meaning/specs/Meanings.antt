@@ -1,6 +1,7 @@
 -- What a master and its media playlists mean (RFC 8216, 4.3.2 to 4.3.4), without any limit, and without bounds on numbers
 -- and on the length of addresses.
-use Rattle.std.specs.Prelude.{ℕ, ◌&&◌, not, Bool, true, false, List, [], ◌∷◌, length, map, filter, is_none, Option, Some, None, option_map, option_and_then, Result, Ok, Err}
+use Rattle.std.specs.Prelude.{ℕ, ◌&&◌, not, Bool, true, false, List, [], ◌∷◌, length, map, filter, is_none, Option, Some, None, option_map}
+use Rattle.std.specs.Prelude.{option_and_then, Result, Ok, Err}
 use Rattle.std.specs.List.{list_any}
 use Rattle.bridge_io.specs.Outside.{Files}
 use Rattle.bridge_io.specs.declared.media.Kind.{Kind}

@@ -11,4 +11,5 @@ written (Err fault) = []
 
 -- the URL that a reference gives against a base, whatever its length, scheme and bytes
 unfoldable pub address_of : List ℕ → List ℕ → List ℕ
-address_of base reference = if is_absolute reference then written (parse_url None reference) else written (parse_url (url_of base) reference)
+address_of base reference = if is_absolute reference then written (parse_url None reference)
+    else written (parse_url (url_of base) reference)

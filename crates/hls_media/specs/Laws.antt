@@ -40,4 +40,5 @@ ReadIsBounded = (bytes url : List ℕ) (media : Media) → media_of bytes url �
 
 -- what is read is what the lines of the file mean
 abbrev pub ReadIsMeant : Type 0
-ReadIsMeant = (bytes url : List ℕ) (media : Media) → media_of bytes url ≡ Ok media → (lines : List PlaylistLine) × ((lines_of bytes ≡ Ok lines) × (media_values url lines ≡ media))
+ReadIsMeant = (bytes url : List ℕ) (media : Media) → media_of bytes url ≡ Ok media → (lines : List PlaylistLine)
+    × ((lines_of bytes ≡ Ok lines) × (media_values url lines ≡ media))

@@ -1,6 +1,10 @@
 -- Media playlists (RFC 8216 4.3.2 and 4.3.3): what their lines mean, and which lines are at fault.
-use Rattle.std.specs.Prelude.{ℕ, ◌+◌, ◌-◌, ◌*◌, ◌^◌, ◌==◌, ◌&&◌, ◌||◌, not, nat_lt, Bool, true, false, List, [], ◌∷◌, ◌++◌, length, codes, bytes_eq, if◌then◌else◌, unwrap_or, is_some, slice_get, Option, Some, None, option_and_then, option_map, Result, Ok, Err}
+use Rattle.std.specs.Prelude.{ℕ, ◌+◌, ◌-◌, ◌*◌, ◌^◌, ◌==◌, ◌&&◌, ◌||◌, not, nat_lt, Bool, true, false, List, [], ◌∷◌, ◌++◌, length, codes}
+use Rattle.std.specs.Prelude.{bytes_eq, if◌then◌else◌, unwrap_or, is_some, slice_get, Option, Some, None, option_and_then, option_map}
+use Rattle.std.specs.Prelude.{Result, Ok, Err}
 use Rattle.std.specs.List.{list_any}
+use Rattle.bridge_io.specs.Answer.{and_then}
+use Rattle.bridge_io.specs.Firsts.{first_of}
 use Rattle.bridge_io.specs.Places.{place_of}
 use Rattle.bridge_io.specs.declared.place.Place.{Place}
 use Rattle.hls_lines.specs.Attributes.{NameValue, attributes_at, attributes_of, value_of}
@@ -108,11 +112,6 @@ abbrev pub unless : Bool → MediaFault → Option MediaFault
 unless true f = None
 unless false f = Some f
 
--- the value or the fault of a step before another
-abbrev pub and_then : {A B : Type 0} → Result A MediaFault → (A → Result B MediaFault) → Result B MediaFault
-and_then (Ok a) next = next a
-and_then (Err f) next = Err f
-
 abbrev pub value_or_fault : {A : Type 0} → Place → Option A → Result A MediaFault
 value_or_fault place (Some value) = Ok value
 value_or_fault place None = Err (fault.Value place)
@@ -156,7 +155,8 @@ map_range_of place (Some text) = and_then (value_or_fault place (fitting (range_
 
 -- an address of a map with its range
 abbrev pub map_at : List ℕ → Place → List ℕ → Option Range → Result Part MediaFault
-map_at url place reference range = and_then (address_or_fault place (resolve url reference)) (λ address. Ok (record { address = address; range = range }))
+map_at url place reference range = and_then (address_or_fault place (resolve url reference))
+    (λ address. Ok (record { address = address; range = range }))
 
 abbrev pub map_in : List ℕ → Place → List NameValue → Result Part MediaFault
 map_in url place attributes = and_then (value_or_fault place (value_of (codes "URI") attributes))
@@ -205,7 +205,8 @@ abbrev pub most_segments : ℕ
 most_segments = 100_000
 
 abbrev pub segment_with : State → ℕ → List ℕ → Result (Option Range) MediaFault → Result MediaSegment MediaFault
-segment_with s duration address range = and_then range (λ range. Ok (record { address = address; range = range; map = s.map; duration = duration; section = section_of s }))
+segment_with s duration address range = and_then range
+    (λ range. Ok (record { address = address; range = range; map = s.map; duration = duration; section = section_of s }))
 
 abbrev pub segment_at : List ℕ → State → List ℕ → Place → ℕ → Result MediaSegment MediaFault
 segment_at url s text place duration = if length s.segments == most_segments then Err (fault.Limit place)
@@ -246,7 +247,8 @@ abbrev pub long_faults : ℕ → List PlaylistLine → List MediaFault
 long_faults target [] = []
 long_faults target (uri text place ∷ lines) = long_faults target lines
 long_faults target (tag name rest place ∷ lines) =
-    with_fault (unless (not (bytes_eq name (codes "EXTINF") && is_long target (duration_of rest))) (fault.LongSegment place)) (long_faults target lines)
+    with_fault (unless (not (bytes_eq name (codes "EXTINF") && is_long target (duration_of rest))) (fault.LongSegment place))
+    (long_faults target lines)
 
 -- the faults of all lines together
 abbrev pub whole_faults : Place → Option ℕ → List PlaylistLine → List MediaFault
@@ -256,10 +258,6 @@ whole_faults end (Some target) lines = long_faults target lines
 -- the faults of a playlist of these lines, of which the first is told
 abbrev pub faults_of : Place → List ℕ → List PlaylistLine → List MediaFault
 faults_of end url lines = line_faults url nothing lines ++ whole_faults end (after_all url nothing lines).target lines
-
-abbrev pub first_fault : List MediaFault → Option MediaFault
-first_fault [] = None
-first_fault (f ∷ others) = Some f
 
 abbrev pub values_or_fault : Option MediaFault → Media → Result Media MediaFault
 values_or_fault None media = Ok media
@@ -272,7 +270,7 @@ lines_or_fault (Err f) = Err (fault.Line f)
 
 -- what lines mean, or their first fault
 unfoldable pub media_in : Place → List ℕ → List PlaylistLine → Result Media MediaFault
-media_in end url lines = values_or_fault (first_fault (faults_of end url lines)) (media_values url lines)
+media_in end url lines = values_or_fault (first_of (faults_of end url lines)) (media_values url lines)
 
 -- What a media playlist means, or its first fault.
 unfoldable pub media_of : List ℕ → List ℕ → Result Media MediaFault

@@ -1,15 +1,20 @@
 -- The tags of media playlists, by name (RFC 8216 4.3, and its second edition's draft).
 use Rattle.std.specs.Prelude.{ℕ, List, codes, bytes_eq, ◌||◌, if◌then◌else◌}
 use Rattle.hls_media.specs.declared.tag.Tag.{Tag}
-use Rattle.hls_media.specs.declared.tag.Tag.TheVariants.{TargetDuration, MediaSequence, DiscontinuitySequence, Duration, ByteRange, Discontinuity, Map, EndList, Key, SessionKey, DateRange, LowLatency, Unsupported, Master, Other}
+use Rattle.hls_media.specs.declared.tag.Tag.TheVariants.{TargetDuration, MediaSequence, DiscontinuitySequence, Duration, ByteRange}
+use Rattle.hls_media.specs.declared.tag.Tag.TheVariants.{Discontinuity, Map, EndList, Key, SessionKey, DateRange, LowLatency, Unsupported}
+use Rattle.hls_media.specs.declared.tag.Tag.TheVariants.{Master, Other}
 
 abbrev pub refused_tag_of : List ℕ → Tag
 refused_tag_of name =
     if bytes_eq name (codes "EXT-X-SESSION-KEY") then SessionKey
     else (if bytes_eq name (codes "EXT-X-DATERANGE") then DateRange
-    else (if bytes_eq name (codes "EXT-X-PART") || bytes_eq name (codes "EXT-X-PART-INF") || bytes_eq name (codes "EXT-X-PRELOAD-HINT") || bytes_eq name (codes "EXT-X-SKIP") then LowLatency
-    else (if bytes_eq name (codes "EXT-X-GAP") || bytes_eq name (codes "EXT-X-DEFINE") || bytes_eq name (codes "EXT-X-I-FRAMES-ONLY") then Unsupported
-    else (if bytes_eq name (codes "EXT-X-STREAM-INF") || bytes_eq name (codes "EXT-X-MEDIA") || bytes_eq name (codes "EXT-X-I-FRAME-STREAM-INF") then Master
+    else (if bytes_eq name (codes "EXT-X-PART") || bytes_eq name (codes "EXT-X-PART-INF") || bytes_eq name (codes "EXT-X-PRELOAD-HINT")
+    || bytes_eq name (codes "EXT-X-SKIP") then LowLatency
+    else (if bytes_eq name (codes "EXT-X-GAP") || bytes_eq name (codes "EXT-X-DEFINE") || bytes_eq name (codes "EXT-X-I-FRAMES-ONLY")
+    then Unsupported
+    else (if bytes_eq name (codes "EXT-X-STREAM-INF") || bytes_eq name (codes "EXT-X-MEDIA")
+    || bytes_eq name (codes "EXT-X-I-FRAME-STREAM-INF") then Master
     else Other))))
 
 abbrev pub list_tag_of : List ℕ → Tag

@@ -1,5 +1,6 @@
 -- What the lines of a media playlist tell, in words over whole lists (RFC 8216 4.3.2 and 4.3.3).
-use Rattle.std.specs.Prelude.{◌≡◌, ℕ, ◌+◌, ◌++◌, Bool, true, false, List, [], ◌∷◌, length, reverse, slice_get, count_by, if◌then◌else◌, Option, Some, None, option_map, unwrap_or, is_some}
+use Rattle.std.specs.Prelude.{◌≡◌, ℕ, ◌+◌, ◌++◌, Bool, true, false, List, [], ◌∷◌, length, reverse, slice_get, count_by, if◌then◌else◌}
+use Rattle.std.specs.Prelude.{Option, Some, None, option_map, unwrap_or, is_some}
 use Rattle.bridge_io.specs.declared.place.Place.{Place}
 use Rattle.hls_lines.specs.Lines.{PlaylistLine, is_uri, tag, uri}
 use Rattle.hls_media.specs.Addresses.{address_of}
@@ -82,7 +83,8 @@ number_told kind lines = unwrap_or (option_map (λ told. unwrap_or (number_of to
 abbrev pub segment_behind : List ℕ → List PlaylistLine → List ℕ → MediaSegment
 segment_behind url before text = let address = address_of url text in record {
   address = address;
-  range = option_map (λ told. unwrap_or (range_from (former_end address (media_values url before).segments) told.0) no_range) (told_since is_byte_range before);
+  range = option_map (λ told. unwrap_or (range_from (former_end address (media_values url before).segments) told.0) no_range)
+      (told_since is_byte_range before);
   map = option_map (λ told. map_value url told.0) (last_told is_map before);
   duration = unwrap_or (option_map (λ told. unwrap_or (duration_of told.0) 0) (told_since is_duration before)) 0;
   section = number_told is_first_section before + count_by (is_of is_discontinuity) before;
@@ -93,7 +95,8 @@ segment_behind url before text = let address = address_of url text in record {
 -- each URI ends a segment, which is told by the lines before it
 abbrev pub SegmentsAreTold : Type 0
 SegmentsAreTold = (url : List ℕ) (before : List PlaylistLine) (text : List ℕ) (place : Place) (behind : List PlaylistLine)
-    → slice_get (media_values url (before ++ uri text place ∷ behind)).segments (count_by is_uri before) ≡ Some (segment_behind url before text)
+    → slice_get (media_values url (before ++ uri text place ∷ behind)).segments (count_by is_uri before)
+    ≡ Some (segment_behind url before text)
 
 -- there is a segment for each URI, and the last tag of a kind tells a playlist's number
 pub record IsTold (url : List ℕ) (lines : List PlaylistLine) : Type 0 where

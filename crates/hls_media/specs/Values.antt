@@ -1,5 +1,6 @@
 -- The values of a media playlist's tags (RFC 8216 4.3.2 and 4.3.3).
-use Rattle.std.specs.Prelude.{ℕ, ◌+◌, ◌-◌, ◌*◌, ◌^◌, ◌==◌, ◌&&◌, not, nat_lt, nat_le, Bool, false, List, [], length, take, if◌then◌else◌, unwrap_or, is_some, Option, Some, None}
+use Rattle.std.specs.Prelude.{ℕ, ◌+◌, ◌-◌, ◌*◌, ◌^◌, ◌==◌, ◌&&◌, not, nat_lt, nat_le, Bool, false, List, [], length, take, if◌then◌else◌}
+use Rattle.std.specs.Prelude.{unwrap_or, is_some, Option, Some, None}
 use Rattle.std.specs.Str.{all_ascii_digits}
 use Rattle.std.specs.Str.Parse.{digits_value}
 use Rattle.hls_lines.specs.Marks.{parts_at}
@@ -62,9 +63,9 @@ range_parts None text = (text, None)
 range_parts (Some parts) text = (parts.0, Some parts.1)
 
 -- where a range begins: at its offset, or else where it begins without one
-abbrev pub first_of : Option ℕ → Option (List ℕ) → Option ℕ
-first_of otherwise None = otherwise
-first_of otherwise (Some offset) = number_of offset
+abbrev pub first_byte : Option ℕ → Option (List ℕ) → Option ℕ
+first_byte otherwise None = otherwise
+first_byte otherwise (Some offset) = number_of offset
 
 abbrev pub range_with : Option ℕ → Option ℕ → Option Range
 range_with (Some count) (Some first) = if count == 0 then None else Some (record { first = first; count = count })
@@ -74,7 +75,7 @@ range_with None first = None
 -- the range that `n[@o]` tells, where one without offset begins at a place or nowhere
 unfoldable pub range_from : Option ℕ → List ℕ → Option Range
 range_from otherwise text = let parts = range_parts (parts_at is_at text) text in
-    range_with (number_of parts.0) (first_of otherwise parts.1)
+    range_with (number_of parts.0) (first_byte otherwise parts.1)
 
 abbrev pub end_of : Range → ℕ
 end_of range = range.first + range.count

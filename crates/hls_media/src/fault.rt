@@ -4,7 +4,6 @@ ghost use Rattle.hls_media.specs.declared.fault.MediaFault.TheVariants.{Memory};
 
 use bridge_io::{NoMemory, Place};
 use hls_lines::LineFault;
-use std::alloc::AllocFailed;
 use thiserror::Error;
 use url_parts::UrlFault;
 
@@ -57,18 +56,14 @@ pub enum MediaFault {
     Memory,
 }
 
-impl From<NoMemory> for MediaFault {
+/// Every error that tells want of memory alone.
+impl<E: Drop> From<E> for MediaFault
+where
+    NoMemory: From<E>,
+{
     ghost from_gives = { λ _ fault. fault ≡ Memory };
 
-    fn from(_: NoMemory) -> MediaFault {
-        MediaFault::Memory
-    }
-}
-
-impl<T: Drop> From<AllocFailed<T>> for MediaFault {
-    ghost from_gives = { λ _ fault. fault ≡ Memory };
-
-    fn from(_: AllocFailed<T>) -> MediaFault {
+    fn from(_: E) -> MediaFault {
         MediaFault::Memory
     }
 }

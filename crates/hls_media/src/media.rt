@@ -2,9 +2,10 @@
 ghost use Rattle.std.specs.Prelude.{◌≡◌, length, Some, None, true, option_map};
 ghost use Rattle.std.specs.List.{list_all};
 ghost use Rattle.bridge_io.specs.Answer.{Gives};
+ghost use Rattle.bridge_io.specs.Firsts.{first_of};
 ghost use Rattle.bridge_io.specs.Places.{place_of};
 ghost use Rattle.hls_lines.specs.Lines.{lines_of};
-ghost use Rattle.hls_media.specs.Media.{media_of, media_in, lines_or_fault, first_fault, long_faults, is_long, is_short, refusal};
+ghost use Rattle.hls_media.specs.Media.{media_of, media_in, lines_or_fault, long_faults, is_long, is_short, refusal};
 ghost use Rattle.hls_media.specs.Values.{duration_of};
 ghost use Rattle.hls_media.specs.declared.fault.MediaFault.TheVariants.{LongSegment};
 
@@ -94,8 +95,8 @@ fn media_in(alloc: Global, lines: Lines<'_>, bytes: &[u8], base: &Base) -> Resul
 /// Where an EXTINF stands for the first time that is more than half a second above the target duration. The lines are
 /// read once more only where one of their segments is.
 fn first_long(segments: &[MediaSegment], lines: Lines<'_>, target: u64) -> Option<Place>
-    requires { list_all (is_short target) segments.now ≡ true → first_fault (long_faults target lines) ≡ None }
-    ensures { option_map LongSegment result ≡ first_fault (long_faults target lines.entry) }
+    requires { list_all (is_short target) segments.now ≡ true → first_of (long_faults target lines) ≡ None }
+    ensures { option_map LongSegment result ≡ first_of (long_faults target lines.entry) }
 {
     if are_short(segments, target) {
         return None;
@@ -110,7 +111,7 @@ fn are_short(segments: &[MediaSegment], target: u64) -> bool
 }
 
 fn first_long_line(mut lines: Lines<'_>, target: u64) -> Option<Place>
-    ensures { option_map LongSegment result ≡ first_fault (long_faults target lines.entry) }
+    ensures { option_map LongSegment result ≡ first_of (long_faults target lines.entry) }
 {
     while let Some(line) = lines.next() {
         if let Line::Tag { name, rest, place } = line {

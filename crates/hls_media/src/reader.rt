@@ -1,9 +1,12 @@
 // The lines of a playlist, one after another.
 ghost use Rattle.std.specs.Prelude.{◌≡◌, ◌^◌, ◌<◌, [], Some, None, option_map, IfOk, IfErr, IfSome};
 ghost use Rattle.bridge_io.specs.Answer.{Gives};
+ghost use Rattle.bridge_io.specs.Firsts.{first_of};
 ghost use Rattle.hls_lines.specs.Attributes.{attributes_of};
 ghost use Rattle.url_parts.specs.Addresses.{resolve};
-ghost use Rattle.hls_media.specs.Media.{target_of, early_number_of, length_of, key_of, written_range_of, address_or_fault, attributes_or_fault, map_of, map_range_of, end_within, former_end, segment_range, segment_of, fault_in, refusal, after_tag, tag_fault, after_uri, after_all, line_faults, first_fault, media_at};
+ghost use Rattle.hls_media.specs.Media.{target_of, early_number_of, length_of, key_of, written_range_of, address_or_fault};
+ghost use Rattle.hls_media.specs.Media.{attributes_or_fault, map_of, map_range_of, end_within, former_end, segment_range, segment_of};
+ghost use Rattle.hls_media.specs.Media.{fault_in, refusal, after_tag, tag_fault, after_uri, after_all, line_faults, media_at};
 ghost use Rattle.hls_media.specs.States.{nothing};
 ghost use Rattle.hls_media.specs.Views.{state_of, Does};
 
@@ -100,7 +103,8 @@ impl<'a> Reader<'a> {
         uri_follows: bool,
     ) -> Result<(), MediaFault>
         requires { self.old.discontinuities < 2 ^ 63 }
-        ensures { Does (tag_fault base.now (state_of self.old) tag rest.now place uri_follows) (after_tag base.now (state_of self.old) tag rest.now place) result (state_of self.new) }
+        ensures { Does (tag_fault base.now (state_of self.old) tag rest.now place uri_follows)
+            (after_tag base.now (state_of self.old) tag rest.now place) result (state_of self.new) }
     {
         match tag {
             Tag::TargetDuration => self.target = Some(self.target_of(rest, place)?),
@@ -190,7 +194,8 @@ impl<'a> Reader<'a> {
         place: Place,
     ) -> Result<(), MediaFault>
         requires { self.old.discontinuities < 2 ^ 63 }
-        ensures { Does (fault_in (segment_of base.now (state_of self.old) text.now place)) (after_uri base.now (state_of self.old) text.now) result (state_of self.new) }
+        ensures { Does (fault_in (segment_of base.now (state_of self.old) text.now place))
+            (after_uri base.now (state_of self.old) text.now) result (state_of self.new) }
     {
         let segment = self.segment_of(alloc, base, text, place)?;
         self.segments.push(segment)?;
@@ -330,8 +335,10 @@ pub(crate) fn read_lines<'a>(
     lines: Lines<'a>,
     base: &Base,
 ) -> Result<Reader<'a>, MediaFault>
-    ensures ok { IfOk result (λ reader. (line_faults base.now nothing lines.entry ≡ []) × (state_of reader ≡ after_all base.now nothing lines.entry)) }
-    ensures fault { IfErr result (λ fault. IfSome (refusal fault) (λ told. first_fault (line_faults base.now nothing lines.entry) ≡ Some told)) }
+    ensures ok { IfOk result (λ reader. (line_faults base.now nothing lines.entry ≡ [])
+        × (state_of reader ≡ after_all base.now nothing lines.entry)) }
+    ensures fault { IfErr result (λ fault. IfSome (refusal fault) (λ told. first_of (line_faults base.now nothing lines.entry)
+        ≡ Some told)) }
 {
     let mut lines = lines;
     let mut uris = lines.count_uris();

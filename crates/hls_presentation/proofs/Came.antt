@@ -1,8 +1,10 @@
 -- What comes from playlists.
-use Rattle.std.proofs.Common.{◌≡◌, ℕ, suc, ◌+◌, ◌*◌, false, List, [], ◌∷◌, map, length, All, Option, Some, None, Result, Ok, Err, refl, sym, ◌∙◌, ap, subst, arith, length-append}
+use Rattle.std.proofs.Common.{◌≡◌, ℕ, suc, ◌+◌, ◌*◌, false, List, [], ◌∷◌, map, length, All, Option, Some, None, Result, Ok, Err, refl, sym}
+use Rattle.std.proofs.Common.{◌∙◌, ap, subst, arith, length-append}
 use Rattle.std.proofs.lemmas.List.{length-map}
 use Rattle.std.proofs.lemmas.List.Elements.{All-nil, All-cons, All-head, All-tail, All-map, All-filter, All-weaker}
 use Rattle.std.proofs.lemmas.List.FromFn.{length-range_with_len}
+use Rattle.bridge_io.proofs.AndThen.{steps_of}
 use Rattle.timeline.specs.declared.fault.TimeFault.{TimeFault}
 use Rattle.timeline.specs.Expansions.{Closed, Extent, SegmentTimeline, is_open}
 use Rattle.timeline.specs.SegmentTimelines.{unless_fault}
@@ -13,11 +15,13 @@ use Rattle.presentation.specs.declared.parts.Content.{Content}
 use Rattle.presentation.specs.Origins.{CameFromPlaylists, IsAddressed, IsSilent}
 use Rattle.presentation.specs.Presented.{Presented, AreFilled, IsEnded, of_parts}
 use Rattle.hls_presentation.specs.Origins.{IsSilentTrack}
-use Rattle.hls_presentation.specs.Presenting.{content_of, content_with, contents_of, extents_from, flattened, hls_presented_of, initialization_of, nanos_by_tick, part_of, parts_of, parts_with, presented_from, presented_of_kept, runs_of, sections_from, ticks_by_second, timed, timeline_with, track_of}
+use Rattle.hls_presentation.specs.Presenting.{content_of, content_with, contents_of, extents_from, flattened, hls_presented_of}
+use Rattle.hls_presentation.specs.Presenting.{initialization_of, nanos_by_tick, part_of, parts_of, parts_with, presented_from}
+use Rattle.hls_presentation.specs.Presenting.{presented_of_kept, runs_of, sections_from, ticks_by_second, timed, timeline_with, track_of}
 use Rattle.hls_presentation.specs.Sections.{group_at, groups_in, row_at, rows_of, section_count, whole_faults}
 use Rattle.hls_presentation.specs.Tracks.{Source, is_kept, kept, left_out, sources, track_faults}
 use Rattle.hls_presentation.proofs.Faults.{given}
-use Rattle.hls_presentation.proofs.Gathering.{all_gathered, length_gathered, steps_of}
+use Rattle.hls_presentation.proofs.Gathering.{all_gathered, length_gathered}
 
 -- ---- what a track has in a section
 
@@ -41,7 +45,8 @@ addressed : (nanos : ℕ) (group : List MediaSegment) (content : Content) → co
 addressed nanos group content is =
     let s = steps_of (initialization_of group) _ content is in
     let t = steps_of (runs_of nanos group) _ content s.then in
-    let whole : timeline_with (ticks_by_second nanos) (parts_of group) (extents_from nanos 0 group) ≡ t.value = unless_ok _ _ t.value (timed_ok _ t.value t.first) in
+    let whole : timeline_with (ticks_by_second nanos) (parts_of group) (extents_from nanos 0 group) ≡ t.value =
+    unless_ok _ _ t.value (timed_ok _ t.value t.first) in
     let same : content_with s.value t.value ≡ content = (let h = t.then in cc) in
     subst (λ (c : Content). IsAddressed c.runs) same (subst IsAddressed whole (record {
       parts = parts_of group;
@@ -52,17 +57,22 @@ addressed nanos group content is =
 
 pub all_addressed : (nanos : ℕ) (rows : List (List (List MediaSegment))) (contents : List Content) → contents_of nanos rows ≡ Ok contents
     → All (λ (content : Content). IsAddressed content.runs) contents
-all_addressed nanos rows contents is = all_gathered (content_of nanos) (λ (content : Content). IsAddressed content.runs) (addressed nanos) (flattened rows) contents is
+all_addressed nanos rows contents is = all_gathered (content_of nanos) (λ (content : Content). IsAddressed content.runs) (addressed nanos)
+    (flattened rows) contents is
 
-pub all_ended : (nanos : ℕ) (rows : List (List (List MediaSegment))) (contents : List Content) → contents_of nanos rows ≡ Ok contents → All IsEnded contents
-all_ended nanos rows contents is = All-weaker (λ (content : Content). IsAddressed content.runs) IsEnded (λ content is. is.ended) contents (all_addressed nanos rows contents is)
+pub all_ended : (nanos : ℕ) (rows : List (List (List MediaSegment))) (contents : List Content) → contents_of nanos rows ≡ Ok contents
+    → All IsEnded contents
+all_ended nanos rows contents is = All-weaker (λ (content : Content). IsAddressed content.runs) IsEnded (λ content is. is.ended) contents
+    (all_addressed nanos rows contents is)
 
 -- ---- one content for each section and track
 
-length_rows : (tracks : List (List (List MediaSegment))) (places : List ℕ) → length (flattened (map (row_at tracks) places)) ≡ length places * length tracks
+length_rows : (tracks : List (List (List MediaSegment))) (places : List ℕ) → length (flattened (map (row_at tracks) places))
+    ≡ length places * length tracks
 length_rows tracks [] = omega arith
 length_rows tracks (place ∷ places) =
-    length-append (row_at tracks place) (flattened (map (row_at tracks) places)) ∙ omega (arith, length-map tracks (group_at place), length_rows tracks places)
+    length-append (row_at tracks place) (flattened (map (row_at tracks) places))
+    ∙ omega (arith, length-map tracks (group_at place), length_rows tracks places)
 
 pub length_sections : (place start : ℕ) (rows : List (List (List MediaSegment))) → length (sections_from place start rows) ≡ length rows
 length_sections place start [] = refl
@@ -73,20 +83,25 @@ pub all_filled : (nanos : ℕ) (kept : List Source) (contents : List Content) �
 all_filled nanos kept contents is =
     let tracks = map groups_in kept in
     let count = section_count tracks in
-    let one : length contents ≡ length (flattened (rows_of tracks)) = length_gathered (content_of nanos) (flattened (rows_of tracks)) contents is in
-    let sections : length (sections_from 0 0 (rows_of tracks)) ≡ count = length_sections 0 0 (rows_of tracks) ∙ length-map _ _ ∙ length-range_with_len 0 count in
+    let one : length contents ≡ length (flattened (rows_of tracks)) = length_gathered (content_of nanos)
+    (flattened (rows_of tracks)) contents is in
+    let sections : length (sections_from 0 0 (rows_of tracks)) ≡ count = length_sections 0 0 (rows_of tracks) ∙ length-map _ _
+    ∙ length-range_with_len 0 count in
     one ∙ length_rows tracks _ ∙ ap (λ n. n * length tracks) (length-range_with_len 0 count ∙ sym sections)
     ∙ ap (λ n. length (sections_from 0 0 (rows_of tracks)) * n) (length-map kept groups_in ∙ sym (length-map kept track_of))
 
 -- ---- the whole
 
-silent_sources : (P : MasterTrack → Type 0) (tracks : List MasterTrack) (medias : List Media) → All P tracks → All (λ (s : Source). P s.track) (sources tracks medias)
+silent_sources : (P : MasterTrack → Type 0) (tracks : List MasterTrack) (medias : List Media) → All P tracks
+    → All (λ (s : Source). P s.track) (sources tracks medias)
 silent_sources P [] medias all = All-nil _
 silent_sources P (track ∷ tracks) [] all = All-nil _
 silent_sources P (track ∷ tracks) (media ∷ medias) all =
-    All-cons (λ (s : Source). P s.track) (record { track = track; media = media }) (sources tracks medias) (All-head P track tracks all) (silent_sources P tracks medias (All-tail P track tracks all))
+    All-cons (λ (s : Source). P s.track) (record { track = track; media = media }) (sources tracks medias) (All-head P track tracks all)
+    (silent_sources P tracks medias (All-tail P track tracks all))
 
-pub came : (tracks : List MasterTrack) (medias : List Media) (p : Presented) → hls_presented_of tracks medias ≡ Ok p → All IsSilentTrack tracks → CameFromPlaylists p
+pub came : (tracks : List MasterTrack) (medias : List Media) (p : Presented) → hls_presented_of tracks medias ≡ Ok p
+    → All IsSilentTrack tracks → CameFromPlaylists p
 unfolding hls_presented_of presented_of_kept presented_from
 came tracks medias p is silent =
     let all = sources tracks medias in
@@ -99,5 +114,6 @@ came tracks medias p is silent =
       finished = refl;
       filled = all_filled (nanos_by_tick ours) ours s.value s.first;
       addressed = all_addressed (nanos_by_tick ours) rows s.value s.first;
-      silent = All-map IsSilent track_of ours (All-filter is_kept (λ (s : Source). IsSilentTrack s.track) all (silent_sources IsSilentTrack tracks medias silent));
+      silent = All-map IsSilent track_of ours (All-filter is_kept (λ (s : Source). IsSilentTrack s.track) all
+          (silent_sources IsSilentTrack tracks medias silent));
     })

@@ -1,39 +1,46 @@
 -- Sums and lists of places.
-use Rattle.std.proofs.Common.{◌≡◌, ℕ, zero, suc, Bool, true, false, cond, eqb, ◌+◌, ◌*◌, ◌<◌, List, [], ◌∷◌, ◌++◌, map, flat_map, get_or, slice_get, length, All, Result, Ok, refl, sym, ◌∙◌, ap, arith}
+use Rattle.std.proofs.Common.{◌≡◌, ℕ, zero, suc, Bool, true, false, cond, eqb, ◌+◌, ◌*◌, ◌<◌, List, [], ◌∷◌, ◌++◌, map, flat_map, get_or}
+use Rattle.std.proofs.Common.{slice_get, length, All, Result, Ok, refl, sym, ◌∙◌, ap, arith}
 use Rattle.std.specs.List.{range_with_len, sum_by}
 use Rattle.std.specs.Option.{option_map_or}
 use Rattle.std.proofs.lemmas.List.{get_or-append-add, get_or-map, get_or_append_left, length-map}
 use Rattle.std.proofs.lemmas.List.Concat.{flat_map-cons}
 use Rattle.std.proofs.lemmas.List.Elements.{All-head, All-tail}
 use Rattle.std.proofs.lemmas.List.Sums.{sum_by-cons}
+use Rattle.bridge_io.proofs.AndThen.{steps_of}
 use Rattle.hls_media.specs.declared.media.MediaSegment.{MediaSegment}
 use Rattle.hls_presentation.specs.declared.fault.HlsFault.{HlsFault}
 use Rattle.hls_presentation.specs.Presenting.{flattened, gathered}
 use Rattle.hls_presentation.specs.Sections.{group_at, groups_of, put_before, row_at}
-use Rattle.hls_presentation.proofs.Gathering.{steps_of}
 
 -- ---- sums
 
 -- a sum over the places of a list
-pub spread : {X : Type 0} (f : X → ℕ) (d : X) (xs : List X) (h : ℕ → ℕ) (from : ℕ) → ((k : ℕ) → k < length xs → h (from + k) ≡ f (get_or xs k d))
+pub spread : {X : Type 0} (f : X → ℕ) (d : X) (xs : List X) (h : ℕ → ℕ) (from : ℕ)
+    → ((k : ℕ) → k < length xs → h (from + k) ≡ f (get_or xs k d))
     → sum_by h (range_with_len from (length xs)) ≡ sum_by f xs
 spread f d [] h from same = refl
 spread f d (x ∷ xs) h from same =
     let start : from ≡ from + 0 = omega arith in
     let first : h from ≡ f x = ap h start ∙ same 0 (omega arith) in
-    let later = spread f d xs h (from + 1) (λ k within. (let moved : (from + 1) + k ≡ from + suc k = omega arith in ap h moved ∙ same (suc k) (omega arith))) in
-    sum_by-cons h from (range_with_len (from + 1) (length xs)) ∙ ap (λ n. n + sum_by h (range_with_len (from + 1) (length xs))) first ∙ ap (λ n. f x + n) later ∙ sym (sum_by-cons f x xs)
+    let later = spread f d xs h (from + 1) (λ k within. (let moved : (from + 1) + k ≡ from + suc k = omega arith in
+    ap h moved ∙ same (suc k) (omega arith))) in
+    sum_by-cons h from (range_with_len (from + 1) (length xs)) ∙ ap (λ n. n + sum_by h (range_with_len (from + 1) (length xs))) first
+    ∙ ap (λ n. f x + n) later ∙ sym (sum_by-cons f x xs)
 
-pub sum_mapped : {X Y : Type 0} (f : X → ℕ) (g : Y → ℕ) (h : Y → X) → ((y : Y) → f (h y) ≡ g y) → (ys : List Y) → sum_by f (map h ys) ≡ sum_by g ys
+pub sum_mapped : {X Y : Type 0} (f : X → ℕ) (g : Y → ℕ) (h : Y → X) → ((y : Y) → f (h y) ≡ g y) → (ys : List Y)
+    → sum_by f (map h ys) ≡ sum_by g ys
 sum_mapped f g h same [] = refl
-sum_mapped f g h same (y ∷ ys) = sum_by-cons f (h y) (map h ys) ∙ ap (λ n. n + sum_by f (map h ys)) (same y) ∙ ap (λ n. g y + n) (sum_mapped f g h same ys) ∙ sym (sum_by-cons g y ys)
+sum_mapped f g h same (y ∷ ys) = sum_by-cons f (h y) (map h ys) ∙ ap (λ n. n + sum_by f (map h ys)) (same y)
+    ∙ ap (λ n. g y + n) (sum_mapped f g h same ys) ∙ sym (sum_by-cons g y ys)
 
 put_sum : (s : MediaSegment) (groups : List (List MediaSegment)) → sum_by length (put_before s groups) ≡ suc (sum_by length groups)
 put_sum s [] = refl
 put_sum s ([] ∷ groups) = omega (arith, sum_by-cons length (s ∷ []) groups, sum_by-cons length [] groups)
 put_sum s ((next ∷ rest) ∷ groups) = put_by (eqb s.section next.section)
   where
-    put_by : (b : Bool) → sum_by length (cond b ((s ∷ next ∷ rest) ∷ groups) ((s ∷ []) ∷ (next ∷ rest) ∷ groups)) ≡ suc (sum_by length ((next ∷ rest) ∷ groups))
+    put_by : (b : Bool) → sum_by length (cond b ((s ∷ next ∷ rest) ∷ groups) ((s ∷ []) ∷ (next ∷ rest) ∷ groups))
+        ≡ suc (sum_by length ((next ∷ rest) ∷ groups))
     put_by true = omega (arith, sum_by-cons length (s ∷ next ∷ rest) groups, sum_by-cons length (next ∷ rest) groups)
     put_by false = omega (arith, sum_by-cons length (s ∷ []) ((next ∷ rest) ∷ groups))
 
@@ -45,7 +52,8 @@ groups_sum (s ∷ rest) = put_sum s (groups_of rest) ∙ ap suc (groups_sum rest
 
 pub flat_none : {X Y : Type 0} (f : X → List Y) (xs : List X) → All (λ x. f x ≡ []) xs → flat_map f xs ≡ []
 flat_none f [] all = refl
-flat_none f (x ∷ xs) all = flat_map-cons f x xs ∙ ap (λ ys. ys ++ flat_map f xs) (All-head (λ x. f x ≡ []) x xs all) ∙ flat_none f xs (All-tail (λ x. f x ≡ []) x xs all)
+flat_none f (x ∷ xs) all = flat_map-cons f x xs ∙ ap (λ ys. ys ++ flat_map f xs) (All-head (λ x. f x ≡ []) x xs all)
+    ∙ flat_none f xs (All-tail (λ x. f x ≡ []) x xs all)
 
 pub option_at : {X Y : Type 0} (f : X → Y) (xs : List X) (k : ℕ) (d : Y) → option_map_or f (slice_get xs k) d ≡ get_or (map f xs) k d
 option_at f [] k d = refl
@@ -66,7 +74,8 @@ flat_at groups (place ∷ places) (suc s) t here there =
     let row = row_at groups place in
     let rest = flattened (map (row_at groups) places) in
     let moved : suc s * length groups + t ≡ length row + (s * length groups + t) = omega (arith, length-map groups (group_at place)) in
-    ap (λ k. get_or (row ++ rest) k []) moved ∙ get_or-append-add row rest (s * length groups + t) [] ∙ flat_at groups places s t (omega arith) there
+    ap (λ k. get_or (row ++ rest) k []) moved ∙ get_or-append-add row rest (s * length groups + t) []
+    ∙ flat_at groups places s t (omega arith) there
 
 -- ---- what is gathered, seen by something that tells of what it was made
 
@@ -77,4 +86,5 @@ gathered_same give f g each (x ∷ xs) zs is =
     let s = steps_of (give x) _ zs is in
     let t = steps_of (gathered give xs) _ zs s.then in
     let same : s.value ∷ t.value ≡ zs = (let h = t.then in cc) in
-    ap (map f) (sym same) ∙ ap (λ z. z ∷ map f t.value) (each x s.value s.first) ∙ ap (λ zs. g x ∷ zs) (gathered_same give f g each xs t.value t.first)
+    ap (map f) (sym same) ∙ ap (λ z. z ∷ map f t.value) (each x s.value s.first)
+    ∙ ap (λ zs. g x ∷ zs) (gathered_same give f g each xs t.value t.first)

@@ -1,10 +1,11 @@
 -- The first of some faults.
 use Rattle.std.proofs.Common.{◌≡◌, List, [], ◌∷◌, ◌++◌, Result, Ok, Err, refl, ap}
 use Rattle.bridge_io.specs.Answer.{Gives}
+use Rattle.bridge_io.specs.Firsts.{first_fault}
 use Rattle.hls_presentation.specs.declared.fault.HlsFault.{HlsFault}
-use Rattle.hls_presentation.specs.declared.fault.HlsFault.TheVariants.{NotEnded, NoMap, MapChanged, ZeroDuration, SectionsDiffer, Limit, NoTracks, Memory}
+use Rattle.hls_presentation.specs.declared.fault.HlsFault.TheVariants.{NotEnded, NoMap, MapChanged, ZeroDuration, SectionsDiffer, Limit}
+use Rattle.hls_presentation.specs.declared.fault.HlsFault.TheVariants.{NoTracks, Memory}
 use Rattle.hls_presentation.specs.Presenting.{refusal, unless_any}
-use Rattle.hls_presentation.specs.Views.{first_fault}
 
 pub passed : (faults more : List HlsFault) → first_fault faults ≡ Ok tt → first_fault (faults ++ more) ≡ first_fault more
 passed [] more none = refl
@@ -15,7 +16,8 @@ stopped [] more fault is = absurd (cc)
 stopped (first ∷ faults) more fault is = is
 
 -- a fault that a definition gives
-pub told : {X Y : Type 0} (see : X → Y) (fault : HlsFault) (meaning : Result Y HlsFault) → meaning ≡ Err fault → Gives see refusal (Err fault) meaning
+pub told : {X Y : Type 0} (see : X → Y) (fault : HlsFault) (meaning : Result Y HlsFault) → meaning ≡ Err fault
+    → Gives see refusal (Err fault) meaning
 told see NotEnded meaning is = is
 told see NoMap meaning is = is
 told see MapChanged meaning is = is
@@ -30,7 +32,8 @@ module _ {Y : Type 0} where
   none_told [] next none = refl
   none_told (fault ∷ faults) next none = absurd (cc)
 
-  pub first_told : {X : Type 0} (see : X → Y) (faults : List HlsFault) (next : Result Y HlsFault) (fault : HlsFault) → first_fault faults ≡ Err fault → Gives see refusal (Err fault) (unless_any faults next)
+  pub first_told : {X : Type 0} (see : X → Y) (faults : List HlsFault) (next : Result Y HlsFault) (fault : HlsFault)
+      → first_fault faults ≡ Err fault → Gives see refusal (Err fault) (unless_any faults next)
   first_told see [] next fault is = absurd (cc)
   first_told see (first ∷ faults) next fault is = told see fault (Err first) (let same : first ≡ fault = cc in ap Err same)
 

@@ -1,5 +1,6 @@
 -- What is presented of playlists lies in rows.
-use Rattle.std.proofs.Common.{◌≡◌, ℕ, zero, cond, suc, ◌+◌, ◌-◌, ◌/◌, ◌<◌, ◌≤◌, ℤ, pos, ◌*ℤ◌, Bool, true, false, List, [], ◌∷◌, map, length, All, Option, Some, None, Ok, refl, sym, ◌∙◌, ap, subst, arith}
+use Rattle.std.proofs.Common.{◌≡◌, ℕ, zero, cond, suc, ◌+◌, ◌-◌, ◌/◌, ◌<◌, ◌≤◌, ℤ, pos, ◌*ℤ◌, Bool, true, false, List, [], ◌∷◌, map, length}
+use Rattle.std.proofs.Common.{All, Option, Some, None, Ok, refl, sym, ◌∙◌, ap, subst, arith}
 use Rattle.std.specs.Prelude.{int_le}
 use Rattle.std.specs.List.{list_any}
 use Rattle.std.proofs.Math.Nat.{div-mul-le_self, zero-div}
@@ -8,6 +9,7 @@ use Rattle.std.proofs.lemmas.Bool.Decides.{nat_tests}
 use Rattle.std.proofs.lemmas.Int.{ints}
 use Rattle.std.proofs.lemmas.List.Elements.{All-nil, All-cons}
 use Rattle.std.proofs.lemmas.Nat.{le-div}
+use Rattle.bridge_io.proofs.AndThen.{steps_of}
 use Rattle.exact_time.specs.Time.{in_units}
 use Rattle.timeline.specs.declared.fault.TimeFault.{TimeFault}
 use Rattle.timeline.specs.declared.fault.TimeFault.TheVariants.{ZeroDuration}
@@ -18,12 +20,14 @@ use Rattle.hls_media.specs.declared.media.MediaSegment.{MediaSegment}
 use Rattle.presentation.specs.declared.parts.Content.{Content}
 use Rattle.presentation.specs.Presented.{of_parts}
 use Rattle.hls_presentation.specs.Laid.{IsLaidOut, IsRow, PresentedAreLaidOut, in_row, sections_by}
-use Rattle.hls_presentation.specs.Presenting.{content_of, content_with, contents_of, extent_at, extents_from, fault_of_extents, flattened, hls_presented_of, initialization_of, nanos_by_tick, parts_of, parts_with, presented_from, presented_of_kept, runs_of, section_at, sections_from, ticks_by_second, timeline_with}
+use Rattle.hls_presentation.specs.Presenting.{content_of, content_with, contents_of, extent_at, extents_from, fault_of_extents, flattened}
+use Rattle.hls_presentation.specs.Presenting.{hls_presented_of, initialization_of, nanos_by_tick, parts_of, parts_with, presented_from}
+use Rattle.hls_presentation.specs.Presenting.{presented_of_kept, runs_of, section_at, sections_from, ticks_by_second, timeline_with}
 use Rattle.hls_presentation.specs.Sections.{groups_in, row_length, rows_of, whole_faults}
 use Rattle.hls_presentation.specs.Tracks.{kept, left_out, sources, track_faults}
 use Rattle.hls_presentation.proofs.Came.{timed_ok, unless_ok}
 use Rattle.hls_presentation.proofs.Faults.{given}
-use Rattle.hls_presentation.proofs.Gathering.{all_gathered, steps_of}
+use Rattle.hls_presentation.proofs.Gathering.{all_gathered}
 
 -- ---- segments in a row
 
@@ -35,13 +39,15 @@ later : (n a d : ℕ) → 0 < n → a / n ≤ (a + d) / n
 later n a d some = le-div (a / n) (a + d) n some (omega (arith, div-mul-le_self a n))
 
 module _ (nanos : ℕ) (some : 0 < nanos) where
-  rows : (start : ℕ) (group : List MediaSegment) → extents_from nanos start group ≡ in_row (ticks_by_second nanos) (start / nanos) (durations_from nanos start group)
+  rows : (start : ℕ) (group : List MediaSegment) → extents_from nanos start group
+      ≡ in_row (ticks_by_second nanos) (start / nanos) (durations_from nanos start group)
   rows start [] = refl
   rows start (s ∷ rest) =
       let end = start + s.duration in
       let same : start / nanos + (end / nanos - start / nanos) ≡ end / nanos = omega (arith, later nanos start s.duration some) in
       ap (λ xs. extent_at nanos start end ∷ xs) (rows end rest)
-      ∙ ap (λ n. record { start = in_units (ticks_by_second nanos) (start / nanos); end = in_units (ticks_by_second nanos) n } ∷ in_row (ticks_by_second nanos) n (durations_from nanos end rest)) (sym same)
+      ∙ ap (λ n. record { start = in_units (ticks_by_second nanos) (start / nanos); end = in_units (ticks_by_second nanos) n }
+      ∷ in_row (ticks_by_second nanos) n (durations_from nanos end rest)) (sym same)
 
 -- ---- each of which lasts some time
 
@@ -54,7 +60,8 @@ lasting ticks from zero is =
     absurd (let bad = rw (none, at_most_itself (pos from *ℤ pos ticks)) at is in cc)
 lasting ticks from (suc d) is = omega arith
 
-pub all_lasting : (ticks from : ℕ) (durations : List ℕ) → list_any lasts_no_time (in_row ticks from durations) ≡ false → All (λ d. 0 < d) durations
+pub all_lasting : (ticks from : ℕ) (durations : List ℕ) → list_any lasts_no_time (in_row ticks from durations) ≡ false
+    → All (λ d. 0 < d) durations
 all_lasting ticks from [] is = All-nil _
 all_lasting ticks from (d ∷ durations) is =
     let parts = or_parts _ _ is in
@@ -79,7 +86,8 @@ pub record IsRowOf (scale : ℕ) (group : List MediaSegment) (runs : SegmentTime
   pub row : IsRow scale runs
   pub many : length row.durations ≡ length group
 
-pub row : (nanos : ℕ) → 0 < nanos → (group : List MediaSegment) (content : Content) → content_of nanos group ≡ Ok content → IsRowOf (ticks_by_second nanos) group content.runs
+pub row : (nanos : ℕ) → 0 < nanos → (group : List MediaSegment) (content : Content) → content_of nanos group ≡ Ok content
+    → IsRowOf (ticks_by_second nanos) group content.runs
 row nanos positive [] content is = absurd (cc)
 row nanos positive (s ∷ rest) content is =
     let group = s ∷ rest in
@@ -92,12 +100,14 @@ row nanos positive (s ∷ rest) content is =
     let whole : timeline_with ticks (parts_of group) xs ≡ two.value = unless_ok _ _ two.value ok in
     let same : content_with one.value two.value ≡ content = (let h = two.then in cc) in
     let zero : 0 / nanos ≡ 0 = zero-div nanos in
-    let laid : xs ≡ in_row ticks 0 (durations_from nanos 0 group) = rows nanos positive 0 group ∙ ap (λ n. in_row ticks n (durations_from nanos 0 group)) zero in
+    let laid : xs ≡ in_row ticks 0 (durations_from nanos 0 group) = rows nanos positive 0 group
+    ∙ ap (λ n. in_row ticks n (durations_from nanos 0 group)) zero in
     subst (λ (c : Content). IsRowOf ticks group c.runs) same (subst (IsRowOf ticks group) whole (record {
       row = record {
         durations = durations_from nanos 0 group;
         some = omega arith;
-        lasting = all_lasting ticks 0 (durations_from nanos 0 group) (ap (list_any lasts_no_time) (sym laid) ∙ no_first _ ZeroDuration _ fault);
+        lasting = all_lasting ticks 0 (durations_from nanos 0 group) (ap (list_any lasts_no_time) (sym laid)
+            ∙ no_first _ ZeroDuration _ fault);
         members = ap (map Closed) laid;
         ticks = refl;
         origin = refl;
@@ -108,9 +118,11 @@ row nanos positive (s ∷ rest) content is =
 
 -- ---- sections
 
-lengths : (place start : ℕ) (rows : List (List (List MediaSegment))) → sections_from place start rows ≡ sections_by place start (map row_length rows)
+lengths : (place start : ℕ) (rows : List (List (List MediaSegment))) → sections_from place start rows
+    ≡ sections_by place start (map row_length rows)
 lengths place start [] = refl
-lengths place start (row ∷ rows) = ap (λ sections. section_at place start (row_length row) ∷ sections) (lengths (place + 1) (start + row_length row) rows)
+lengths place start (row ∷ rows) = ap (λ sections. section_at place start (row_length row) ∷ sections)
+    (lengths (place + 1) (start + row_length row) rows)
 
 -- ---- the whole
 
@@ -132,5 +144,6 @@ presented_are_laid_out tracks medias p is =
       lengths = map row_length rows;
       sections = lengths 0 0 rows;
       ticks = ticks_by_second nanos;
-      rows = all_gathered (content_of nanos) (λ (content : Content). IsRow (ticks_by_second nanos) content.runs) (λ group content is. (row nanos (positive _) group content is).row) (flattened rows) s.value s.first;
+      rows = all_gathered (content_of nanos) (λ (content : Content). IsRow (ticks_by_second nanos) content.runs)
+          (λ group content is. (row nanos (positive _) group content is).row) (flattened rows) s.value s.first;
     })

@@ -25,22 +25,27 @@ count_rows tracks = length-map _ _ ∙ length-range_with_len 0 (section_count tr
 -- ---- how long they last
 
 pub length_next : (tracks : List (List (List MediaSegment))) (place count : ℕ) → place < count
-    → sum_by row_length (rows_from tracks place (count - place)) ≡ row_length (row_at tracks place) + sum_by row_length (rows_from tracks (place + 1) (count - (place + 1)))
+    → sum_by row_length (rows_from tracks place (count - place)) ≡ row_length (row_at tracks place) + sum_by row_length
+    (rows_from tracks (place + 1) (count - (place + 1)))
 length_next tracks place count within =
-    ap (sum_by row_length) (row_next tracks place count within) ∙ sum_by-cons row_length (row_at tracks place) (rows_from tracks (place + 1) (count - (place + 1)))
+    ap (sum_by row_length) (row_next tracks place count within)
+    ∙ sum_by-cons row_length (row_at tracks place) (rows_from tracks (place + 1) (count - (place + 1)))
 
 skipped : {X : Type 0} (test : X → Bool) (x : X) (xs : List X) → test x ≡ false → list_any test (x ∷ xs) ≡ list_any test xs
 skipped test x xs is = rw is refl
 
 -- the next one isn't too long
 pub short_next : (tracks : List (List (List MediaSegment))) (place count : ℕ) → place < count → row_length (row_at tracks place) < 2 ^ 63
-    → list_any is_too_long (rows_from tracks place (count - place)) ≡ list_any is_too_long (rows_from tracks (place + 1) (count - (place + 1)))
+    → list_any is_too_long (rows_from tracks place (count - place))
+    ≡ list_any is_too_long (rows_from tracks (place + 1) (count - (place + 1)))
 short_next tracks place count within short =
     ap (list_any is_too_long) (row_next tracks place count within)
-    ∙ skipped is_too_long (row_at tracks place) (rows_from tracks (place + 1) (count - (place + 1))) (lt-leb (2 ^ 63) (row_length (row_at tracks place)) short)
+    ∙ skipped is_too_long (row_at tracks place) (rows_from tracks (place + 1) (count - (place + 1)))
+    (lt-leb (2 ^ 63) (row_length (row_at tracks place)) short)
 
 -- where none is too long, those behind the next one aren't
-pub short_later : (tracks : List (List (List MediaSegment))) (place count : ℕ) → place < count → list_any is_too_long (rows_from tracks place (count - place)) ≡ false
+pub short_later : (tracks : List (List (List MediaSegment))) (place count : ℕ) → place < count
+    → list_any is_too_long (rows_from tracks place (count - place)) ≡ false
     → list_any is_too_long (rows_from tracks (place + 1) (count - (place + 1))) ≡ false
 short_later tracks place count within short =
     (or_parts (is_too_long (row_at tracks place)) _ (sym (ap (list_any is_too_long) (row_next tracks place count within)) ∙ short)).1
@@ -55,7 +60,8 @@ within_limit rows is =
     let parts = or_parts _ _ is in
     record { short = parts.0; total = leb-false (10 ^ 19) _ (or_parts _ _ parts.1).0 }
 
-pub many_if : (rows : List (List (List MediaSegment))) (count : ℕ) → list_any is_too_long rows ≡ false → sum_by row_length rows < 10 ^ 19 → length rows ≡ count → ltb 1000 count ≡ is_over_limit rows
+pub many_if : (rows : List (List (List MediaSegment))) (count : ℕ) → list_any is_too_long rows ≡ false → sum_by row_length rows < 10 ^ 19
+    → length rows ≡ count → ltb 1000 count ≡ is_over_limit rows
 many_if rows count short small many =
     let few : leb (10 ^ 19) (sum_by row_length rows) ≡ false = lt-leb (10 ^ 19) (sum_by row_length rows) small in
     rw (short, few) (ap (ltb 1000) (sym many))

@@ -1,5 +1,6 @@
 -- Segments that last some time, one after another, have times.
-use Rattle.std.proofs.Common.{◌≡◌, ℕ, ◌+◌, ◌-◌, ◌*◌, ◌/◌, ◌%◌, ◌^◌, ◌<◌, ◌≤◌, ℤ, pos, ◌*ℤ◌, ◌-ℤ◌, ◌≤ℤ◌, ◌<ℤ◌, Bool, false, ◌||◌, Some, refl, ◌∙◌, ap, arith}
+use Rattle.std.proofs.Common.{◌≡◌, ℕ, ◌+◌, ◌-◌, ◌*◌, ◌/◌, ◌%◌, ◌^◌, ◌<◌, ◌≤◌, ℤ, pos, ◌*ℤ◌, ◌-ℤ◌, ◌≤ℤ◌, ◌<ℤ◌, Bool, false, ◌||◌, Some, refl}
+use Rattle.std.proofs.Common.{◌∙◌, ap, arith}
 use Rattle.std.specs.Prelude.{int_le, int_lt, unsigned_abs}
 use Rattle.std.proofs.Math.Nat.{div-one, mul-le-mul_left}
 use Rattle.std.proofs.lemmas.Bool.Decides.{nat_tests}
@@ -49,7 +50,8 @@ set scale p q fit =
     let small : q + 1 ≤ 2 ^ 63 = omega (arith, fit.small) in
     let later : (pos p *ℤ pos scale) <ℤ (pos q *ℤ pos scale) = omega (arith, ints, mul-le-mul_left scale rising, fit.some) in
     let end : (pos q *ℤ pos scale) <ℤ ((pos (2 ^ 63) -ℤ pos 0) *ℤ pos scale) = omega (arith, ints, mul-le-mul_left scale small, fit.some) in
-    let short : ((pos q *ℤ pos scale -ℤ pos p *ℤ pos scale) *ℤ pos 1) ≤ℤ (pos 1000000 *ℤ pos (scale * scale)) = omega (arith, ints, mul-le-mul_left scale fit.short) in
+    let short : ((pos q *ℤ pos scale -ℤ pos p *ℤ pos scale) *ℤ pos 1) ≤ℤ (pos 1000000 *ℤ pos (scale * scale)) =
+    omega (arith, ints, mul-le-mul_left scale fit.short) in
     let near : (pos q *ℤ pos 1) ≤ℤ (pos 100000000000 *ℤ pos scale) = omega (arith, ints, fit.near) in
     record {
       lasting = not_at_most (pos q *ℤ pos scale) (pos p *ℤ pos scale) later;
@@ -60,7 +62,19 @@ set scale p q fit =
     }
 
 pub fit_micros : (a d : ℕ) → 0 < d → d ≤ 10 ^ 15 → d % 1000 ≡ 0 → a + d < 2 ^ 63 → IsFit 1000000 (a / 1000) ((a + d) / 1000)
-fit_micros a d some short whole small = record { some = omega arith; rising = omega arith; short = omega arith; small = omega arith; near = omega arith }
+fit_micros a d some short whole small = record {
+  some = omega arith;
+  rising = omega arith;
+  short = omega arith;
+  small = omega arith;
+  near = omega arith;
+}
 
 pub fit_nanos : (a d : ℕ) → 0 < d → d ≤ 10 ^ 15 → a + d < 2 ^ 63 → IsFit 1000000000 (a / 1) ((a + d) / 1)
-fit_nanos a d some short small = rw (div-one a, div-one (a + d)) (record { some = omega arith; rising = omega arith; short = omega arith; small = omega arith; near = omega arith })
+fit_nanos a d some short small = rw (div-one a, div-one (a + d)) (record {
+  some = omega arith;
+  rising = omega arith;
+  short = omega arith;
+  small = omega arith;
+  near = omega arith;
+})

@@ -22,12 +22,14 @@ lasting : (spans : List Span) → list_any (λ span. lasts_no_time (extent_of sp
 lasting [] = refl
 lasting (span ∷ spans) = rw (lasting spans) refl
 
-pub spans_told : (spans : List Span) (scale : Scale) (parts : List Part) (ticks : ℕ) (xs : List Extent) → map extent_of spans ≡ xs → scale.ticks ≡ ticks → scale.offset ≡ 0 → scale.start_number ≡ 1
+pub spans_told : (spans : List Span) (scale : Scale) (parts : List Part) (ticks : ℕ) (xs : List Extent) → map extent_of spans ≡ xs
+    → scale.ticks ≡ ticks → scale.offset ≡ 0 → scale.start_number ≡ 1
     → timeline_of_spans spans scale (Addresses parts) ≡ timeline_of_extents ticks parts xs
 spans_told spans scale parts ticks xs is same offset first = rw (lasting spans, members spans, is, same, offset, first) refl
 
 -- a fault of times is none of memory, or tells nothing
-pub times_told : (fault : TimeFault) (told meant : Result SegmentTimeline TimeFault) → told ≡ meant → Gives (λ (runs : SegmentTimeline). runs) time_refusal (Err fault) told
+pub times_told : (fault : TimeFault) (told meant : Result SegmentTimeline TimeFault) → told ≡ meant
+    → Gives (λ (runs : SegmentTimeline). runs) time_refusal (Err fault) told
     → Gives (λ (runs : SegmentTimeline). runs) refusal (Err (fault_of_times fault)) (timed meant)
 times_told ZeroDuration told meant same is = ap timed (sym same ∙ is)
 times_told Range told meant same is = ap timed (sym same ∙ is)

@@ -12,7 +12,8 @@ use Rattle.hls_presentation.specs.Presenting.{hls_presented_of, section_at}
 -- segments that last so many ticks each, one behind another
 abbrev pub in_row : (ticks from : ℕ) → List ℕ → List Extent
 in_row ticks from [] = []
-in_row ticks from (d ∷ durations) = record { start = in_units ticks from; end = in_units ticks (from + d) } ∷ in_row ticks (from + d) durations
+in_row ticks from (d ∷ durations) = record { start = in_units ticks from; end = in_units ticks (from + d) }
+    ∷ in_row ticks (from + d) durations
 
 -- They begin with the section, at no media time but the time itself, and there are some: each lasts a tick or more.
 pub record IsRow (scale : ℕ) (runs : SegmentTimeline) : Type 0 where
@@ -38,4 +39,5 @@ pub record IsLaidOut (p : Presented) : Type 0 where
 
 -- what is presented of playlists is so
 abbrev pub PresentedAreLaidOut : Type 0
-PresentedAreLaidOut = (tracks : List MasterTrack) (medias : List Media) (p : Presented) → hls_presented_of tracks medias ≡ Ok p → IsLaidOut p
+PresentedAreLaidOut = (tracks : List MasterTrack) (medias : List Media) (p : Presented) → hls_presented_of tracks medias ≡ Ok p
+    → IsLaidOut p

@@ -1,5 +1,6 @@
 -- What is refused.
 use Rattle.std.specs.Prelude.{◌≡◌, ◌≤◌, List, length, sum_by, All, Ok, Err}
+use Rattle.bridge_io.specs.Firsts.{first_fault}
 use Rattle.hls_master.specs.declared.track.MasterTrack.{MasterTrack}
 use Rattle.hls_media.specs.Laws.{IsBounded}
 use Rattle.hls_media.specs.declared.media.Media.{Media}
@@ -7,7 +8,6 @@ use Rattle.presentation.specs.Counting.{counted, count_of_all}
 use Rattle.presentation.specs.Presented.{Presented}
 use Rattle.hls_presentation.specs.declared.fault.HlsFault.{HlsFault}
 use Rattle.hls_presentation.specs.Presenting.{faults_in, hls_presented_of}
-use Rattle.hls_presentation.specs.Views.{first_fault}
 
 -- Of playlists that are read nothing is refused but for the faults of tracks and of the whole, and their segments always
 -- have times.
@@ -17,5 +17,6 @@ OnlyFaultsAreRefused = (tracks : List MasterTrack) (medias : List Media) (fault 
 
 -- The segments of playlists that are read, at most 500,000 in all, are counted, and no fault is told of them.
 abbrev pub PlaylistsAreCounted : Type 0
-PlaylistsAreCounted = (tracks : List MasterTrack) (medias : List Media) (p : Presented) → All IsBounded medias → sum_by (λ media. length media.segments) medias ≤ 500_000
+PlaylistsAreCounted = (tracks : List MasterTrack) (medias : List Media) (p : Presented) → All IsBounded medias
+    → sum_by (λ media. length media.segments) medias ≤ 500_000
     → hls_presented_of tracks medias ≡ Ok p → counted p ≡ Ok (count_of_all p)

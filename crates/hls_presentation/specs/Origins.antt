@@ -11,4 +11,5 @@ IsSilentTrack track = track.kind ≡ Video → track.language ≡ None
 
 -- the tracks of a master that is read are so
 abbrev pub ReadAreSilent : Type 0
-ReadAreSilent = (bytes url : List ℕ) (tracks : List MasterTrack) → master_of bytes url ≡ Ok (map track_seen tracks) → All IsSilentTrack tracks
+ReadAreSilent = (bytes url : List ℕ) (tracks : List MasterTrack) → master_of bytes url ≡ Ok (map track_seen tracks)
+    → All IsSilentTrack tracks

@@ -1,6 +1,8 @@
 -- What a master and its media playlists give as a presentation, or the first refusal.
-use Rattle.std.specs.Prelude.{ℕ, ◌+◌, ◌/◌, ◌%◌, ◌^◌, ◌==◌, not, Bool, List, [], ◌∷◌, ◌++◌, length, map, decimal, if◌then◌else◌, Option, Some, None, Result, Ok, Err}
+use Rattle.std.specs.Prelude.{ℕ, ◌+◌, ◌/◌, ◌%◌, ◌^◌, ◌==◌, not, Bool, List, [], ◌∷◌, ◌++◌, length, map, decimal, if◌then◌else◌, Option}
+use Rattle.std.specs.Prelude.{Some, None, Result, Ok, Err}
 use Rattle.std.specs.List.{list_all, list_any}
+use Rattle.bridge_io.specs.Answer.{and_then}
 use Rattle.exact_time.specs.Time.{in_units}
 use Rattle.timeline.specs.declared.fault.TimeFault.{TimeFault}
 use Rattle.timeline.specs.declared.fault.TimeFault.TheVariants.{ListLength, ZeroDuration, Memory as NoRoom}
@@ -28,10 +30,6 @@ abbrev pub refusal : HlsFault → Option HlsFault
 refusal Memory = None
 refusal fault = Some fault
 
-abbrev pub and_then : {X Y : Type 0} → Result X HlsFault → (X → Result Y HlsFault) → Result Y HlsFault
-and_then (Ok x) next = next x
-and_then (Err fault) next = Err fault
-
 -- ---- times
 
 -- nanoseconds of a tick: a microsecond where every duration is a whole number of them, otherwise a nanosecond
@@ -49,7 +47,10 @@ ticks_by_second nanos = 10 ^ 9 / nanos
 
 -- from one time to another, each in nanoseconds and rounded down to ticks
 abbrev pub extent_at : (nanos start end : ℕ) → Extent
-extent_at nanos start end = record { start = in_units (ticks_by_second nanos) (start / nanos); end = in_units (ticks_by_second nanos) (end / nanos) }
+extent_at nanos start end = record {
+  start = in_units (ticks_by_second nanos) (start / nanos);
+  end = in_units (ticks_by_second nanos) (end / nanos);
+}
 
 -- each segment begins where the one before it ends, from the section's start on
 abbrev pub extents_from : (nanos start : ℕ) → List MediaSegment → List Extent
@@ -84,11 +85,19 @@ timed (Err fault) = Err Limit
 
 -- segments with these times and files, numbered from 1
 abbrev pub timeline_with : (ticks : ℕ) → List Part → List Extent → SegmentTimeline
-timeline_with ticks parts xs = record { members = map Closed xs; ticks = ticks; origin = 0; offset = 0; first_number = 1; names = Addresses parts }
+timeline_with ticks parts xs = record {
+  members = map Closed xs;
+  ticks = ticks;
+  origin = 0;
+  offset = 0;
+  first_number = 1;
+  names = Addresses parts;
+}
 
 abbrev pub fault_of_extents : List Part → List Extent → Option TimeFault
 fault_of_extents parts xs = or_fault (fault_if (list_any lasts_no_time xs) ZeroDuration)
-    (or_fault (segment_fault span_breaks_limits None (map Closed xs)) (fault_if (not (are_paired (Some (length parts)) (map Closed xs))) ListLength))
+    (or_fault (segment_fault span_breaks_limits None (map Closed xs))
+    (fault_if (not (are_paired (Some (length parts)) (map Closed xs))) ListLength))
 
 abbrev pub timeline_of_extents : (ticks : ℕ) → List Part → List Extent → Result SegmentTimeline TimeFault
 timeline_of_extents ticks parts xs = unless_fault (fault_of_extents parts xs) (timeline_with ticks parts xs)
@@ -100,7 +109,8 @@ abbrev pub content_with : Part → SegmentTimeline → Content
 content_with initialization runs = record { initialization = initialization; runs = runs }
 
 abbrev pub content_of : ℕ → List MediaSegment → Result Content HlsFault
-content_of nanos group = and_then (initialization_of group) (λ initialization. and_then (runs_of nanos group) (λ runs. Ok (content_with initialization runs)))
+content_of nanos group = and_then (initialization_of group) (λ initialization. and_then (runs_of nanos group)
+    (λ runs. Ok (content_with initialization runs)))
 
 -- what each of some things gives, in their order, or the first refusal
 abbrev pub gathered : {X Y : Type 0} → (X → Result Y HlsFault) → List X → Result (List Y) HlsFault
@@ -153,7 +163,8 @@ parts_with tracks others rows contents = record {
 }
 
 unfoldable pub presented_from : List Source → (left_out : ℕ) → List (List (List MediaSegment)) → Result Presented HlsFault
-presented_from tracks others rows = and_then (contents_of (nanos_by_tick tracks) rows) (λ contents. Ok (of_parts (parts_with tracks others rows contents)))
+presented_from tracks others rows = and_then (contents_of (nanos_by_tick tracks) rows)
+    (λ contents. Ok (of_parts (parts_with tracks others rows contents)))
 
 -- the first of some faults, otherwise what comes then
 abbrev pub unless_any : {X : Type 0} → List HlsFault → Result X HlsFault → Result X HlsFault
@@ -166,7 +177,8 @@ presented_of_kept tracks others = let groups = map groups_in tracks in
 
 -- The presentation of a master's tracks with one media playlist each, or the first refusal.
 unfoldable pub hls_presented_of : List MasterTrack → List Media → Result Presented HlsFault
-hls_presented_of tracks medias = let all = sources tracks medias in unless_any (track_faults all) (presented_of_kept (kept all) (left_out all))
+hls_presented_of tracks medias = let all = sources tracks medias in
+    unless_any (track_faults all) (presented_of_kept (kept all) (left_out all))
 
 -- all that is refused, in order
 abbrev pub faults_in : List MasterTrack → List Media → List HlsFault

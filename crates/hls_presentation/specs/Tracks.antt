@@ -1,5 +1,6 @@
 -- The tracks of a master with their media playlists: which are kept, and what is refused of one.
-use Rattle.std.specs.Prelude.{ℕ, ◌==◌, ◌&&◌, not, Bool, true, false, List, [], ◌∷◌, ◌++◌, filter, flat_map, is_none, if◌then◌else◌, bytes_eq}
+use Rattle.std.specs.Prelude.{ℕ, ◌==◌, ◌&&◌, not, Bool, true, false, List, [], ◌∷◌, ◌++◌, filter, flat_map, is_none, if◌then◌else◌}
+use Rattle.std.specs.Prelude.{bytes_eq}
 use Rattle.std.specs.List.{list_any, count_by}
 use Rattle.std.specs.Option.{option_eq}
 use Rattle.bridge_io.specs.declared.media.Kind.{Kind}

@@ -1,8 +1,9 @@
 // What is refused of one track.
 ghost use Rattle.std.specs.Prelude.{◌≡◌, map};
 ghost use Rattle.std.specs.Option.{option_eq};
+ghost use Rattle.bridge_io.specs.Firsts.{first_fault};
 ghost use Rattle.hls_presentation.specs.Tracks as spec;
-ghost use Rattle.hls_presentation.specs.Views.{source_of, first_fault};
+ghost use Rattle.hls_presentation.specs.Views.{source_of};
 
 use crate::HlsFault;
 use crate::kept::{Source, is_left_out, lacks_maps};

@@ -95,7 +95,8 @@ impl Ticks {
         contents: &mut ContentList,
     ) -> Result<(), HlsFault>
         requires { row_length (row_at tracks.now place) < 2 ^ 63 }
-        ensures { Gives (λ _. contents.new) spec.refusal result (spec.behind contents.old (spec.gathered (spec.content_of self.nanos) (row_at tracks.now place))) }
+        ensures { Gives (λ _. contents.new) spec.refusal result
+            (spec.behind contents.old (spec.gathered (spec.content_of self.nanos) (row_at tracks.now place))) }
     {
         for track in tracks {
             let content = self.content(alloc, track.at(place))?;

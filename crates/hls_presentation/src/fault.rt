@@ -3,7 +3,6 @@ ghost use Rattle.std.specs.Prelude.{◌≡◌};
 ghost use Rattle.hls_presentation.specs.declared.fault.HlsFault.TheVariants.{Memory};
 
 use bridge_io::NoMemory;
-use std::alloc::{AllocError, AllocFailed};
 use thiserror::Error;
 
 /// Why a master and its media playlists give no presentation. The first four are judged track by track in the order of the
@@ -37,32 +36,16 @@ pub enum HlsFault {
     Memory,
 }
 
-impl From<NoMemory> for HlsFault {
+/// Every error that tells want of memory alone.
+impl<E: Drop> From<E> for HlsFault
+where
+    NoMemory: From<E>,
+{
     ghost use Rattle.std.specs.Prelude.{◌≡◌};
 
     ghost from_gives = { λ _ fault. fault ≡ Memory };
 
-    fn from(_: NoMemory) -> HlsFault {
-        HlsFault::Memory
-    }
-}
-
-impl From<AllocError> for HlsFault {
-    ghost use Rattle.std.specs.Prelude.{◌≡◌};
-
-    ghost from_gives = { λ _ fault. fault ≡ Memory };
-
-    fn from(_: AllocError) -> HlsFault {
-        HlsFault::Memory
-    }
-}
-
-impl<T: Drop> From<AllocFailed<T>> for HlsFault {
-    ghost use Rattle.std.specs.Prelude.{◌≡◌};
-
-    ghost from_gives = { λ _ fault. fault ≡ Memory };
-
-    fn from(_: AllocFailed<T>) -> HlsFault {
+    fn from(_: E) -> HlsFault {
         HlsFault::Memory
     }
 }

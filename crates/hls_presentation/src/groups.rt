@@ -1,8 +1,9 @@
 // The sections of media playlists.
 ghost use Rattle.std.specs.Prelude.{◌≡◌, ◌≤◌, map, length, IfOk};
 ghost use Rattle.std.specs.List.{prefix_len};
+ghost use Rattle.bridge_io.specs.Firsts.{first_fault};
 ghost use Rattle.hls_presentation.specs.Sections as spec;
-ghost use Rattle.hls_presentation.specs.Views.{first_fault, source_of};
+ghost use Rattle.hls_presentation.specs.Views.{source_of};
 
 use crate::HlsFault;
 use crate::kept::Source;

@@ -73,7 +73,8 @@ fn present_groups(
 ) -> Result<Presentation, HlsFault>
     requires groups { groups.now ≡ map groups_in (map source_of kept.now) }
     requires short { is_over_limit (rows_of groups.now) ≡ false }
-    ensures { Gives (λ presentation. presentation) spec.refusal result (spec.presented_from (map source_of kept.now) left_out (rows_of groups.now)) }
+    ensures { Gives (λ presentation. presentation) spec.refusal result
+        (spec.presented_from (map source_of kept.now) left_out (rows_of groups.now)) }
 {
     let contents = Ticks::of(kept).contents(alloc, groups)?;
     let tracks = tracks_of(alloc, kept)?;

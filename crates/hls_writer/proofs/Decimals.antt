@@ -18,4 +18,5 @@ drop-padded_digits (suc k) width (suc all) n same = drop-padded_digits k width a
 pub last_digits : (width before n : ℕ) → before + width ≡ 9 → take (9 - before) (drop before (padded_digits 9 n)) ≡ padded_digits width n
 last_digits width before n nine =
     let all : 9 ≡ before + width = omega arith in
-    rw (drop-padded_digits before width 9 n all) (take_all (9 - before) (padded_digits width n) (omega (arith, length-padded_digits width n)))
+    rw (drop-padded_digits before width 9 n all) (take_all (9 - before) (padded_digits width n)
+    (omega (arith, length-padded_digits width n)))

@@ -1,5 +1,6 @@
 -- Items one after another.
-use Rattle.std.proofs.Common.{◌≡◌, ℕ, ◌+◌, ◌<◌, Bool, true, false, List, [], ◌∷◌, ◌++◌, length, drop, get_or, map, Option, refl, sym, ap, ◌∙◌}
+use Rattle.std.proofs.Common.{◌≡◌, ℕ, ◌+◌, ◌<◌, Bool, true, false, List, [], ◌∷◌, ◌++◌, length, drop, get_or, map, Option, refl, sym, ap}
+use Rattle.std.proofs.Common.{◌∙◌}
 use Rattle.std.specs.Bool.{then_some}
 use Rattle.std.proofs.lemmas.List.{drop_more, map-append}
 use Rattle.std.proofs.lemmas.List.Concat.{flat_map-append}
@@ -7,8 +8,8 @@ use Rattle.hls_writer.specs.Items.{item_of}
 use Rattle.hls_writer.specs.Lines.{WrittenLine, line_text, lines_text}
 use Rattle.hls_writer.specs.Playlists.{items_lines, end_lines, last_section}
 use Rattle.hls_writer.specs.Rows.{all_written}
-use Rattle.hls_writer.specs.declared.line.Line.{Line}
-use Rattle.hls_writer.specs.declared.line.Line.TheVariants.{EndList}
+use Rattle.hls_writer.specs.declared.line.Tag.{Tag}
+use Rattle.hls_writer.specs.declared.line.Tag.TheVariants.{EndList}
 use Rattle.hls_writer.specs.declared.items.MediaItem.{MediaItem}
 use Rattle.hls_writer.proofs.Sections.{more_items}
 
@@ -25,10 +26,13 @@ joined digits former last front back is = rw (is, map-append item_of front back)
     (more_items digits former (map item_of front) (map item_of back) [] _ refl)
 
 -- the three parts of a playlist's text
-pub media_text : (head items end : List WrittenLine) → (lines_text head ++ lines_text items) ++ lines_text end ≡ lines_text (head ++ items ++ end)
-media_text head items end = sym (flat_map-append line_text (head ++ items) end ∙ ap (λ t. t ++ lines_text end) (flat_map-append line_text head items))
+pub media_text : (head items end : List WrittenLine) → (lines_text head ++ lines_text items) ++ lines_text end
+    ≡ lines_text (head ++ items ++ end)
+media_text head items end = sym (flat_map-append line_text (head ++ items) end
+    ∙ ap (λ t. t ++ lines_text end) (flat_map-append line_text head items))
 
 -- the last line, if it is there
-pub end_text : (ended : Bool) (end : Option Line) → end ≡ then_some ended EndList → lines_text (all_written (end ∷ [])) ≡ lines_text (end_lines ended)
+pub end_text : (ended : Bool) (end : Option Tag) → end ≡ then_some ended EndList
+    → lines_text (all_written (end ∷ [])) ≡ lines_text (end_lines ended)
 end_text true end is = rw is refl
 end_text false end is = rw is refl

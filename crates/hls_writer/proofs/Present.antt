@@ -1,49 +1,59 @@
 -- Lines that may be missing.
-use Rattle.std.proofs.Common.{◌≡◌, ℕ, List, [], ◌∷◌, ◌++◌, flat_map, get_or, Option, None, Some, option_map, option_to_list, refl, sym, ap, ◌∙◌, append_assoc, replicate, if◌then◌else◌}
+use Rattle.std.proofs.Common.{◌≡◌, ℕ, List, [], ◌∷◌, ◌++◌, flat_map, get_or, Option, None, Some, option_map, option_to_list, refl, sym, ap}
+use Rattle.std.proofs.Common.{◌∙◌, append_assoc, replicate, if◌then◌else◌}
 use Rattle.std.proofs.lemmas.List.{append-nil}
 use Rattle.std.proofs.lemmas.List.Concat.{flat_map-append}
-use Rattle.hls_writer.specs.Lines.{WrittenLine, line_text, lines_text, discontinuity, initialization, program_date_time, duration, byte_range, uri}
+use Rattle.hls_writer.specs.Lines.{WrittenLine, line_text, lines_text, discontinuity, initialization, program_date_time, duration}
+use Rattle.hls_writer.specs.Lines.{byte_range, uri}
 use Rattle.hls_writer.specs.Playlists.{Item, begins_section, front_lines, item_lines, last_lines, rise}
 use Rattle.hls_writer.specs.Rows.{written, all_written}
-use Rattle.hls_writer.specs.declared.line.Line.{Line}
+use Rattle.hls_writer.specs.declared.line.Tag.{Tag}
 
 -- the text of a line, if it is there
-abbrev pub there_text : Option Line → List ℕ
+abbrev pub there_text : Option Tag → List ℕ
 there_text line = lines_text (option_to_list (option_map written line))
 
-pub lines_text-all_written : (lines : List (Option Line)) → lines_text (all_written lines) ≡ flat_map there_text lines
+pub lines_text-all_written : (lines : List (Option Tag)) → lines_text (all_written lines) ≡ flat_map there_text lines
 lines_text-all_written [] = refl
 lines_text-all_written (line ∷ lines) =
-    flat_map-append line_text (option_to_list (option_map written line)) (all_written lines) ∙ ap (λ t. there_text line ++ t) (lines_text-all_written lines)
+    flat_map-append line_text (option_to_list (option_map written line)) (all_written lines)
+    ∙ ap (λ t. there_text line ++ t) (lines_text-all_written lines)
 
 -- a line that is there, as it was read from a list
-pub there_text-some : (lines : List (Option Line)) (i : ℕ) (item : Option Line) (line : Line) → item ≡ get_or lines i item → item ≡ Some line → line_text (written line) ≡ there_text (get_or lines i item)
+pub there_text-some : (lines : List (Option Tag)) (i : ℕ) (item : Option Tag) (line : Tag) → item ≡ get_or lines i item → item ≡ Some line
+    → line_text (written line) ≡ there_text (get_or lines i item)
 there_text-some lines i item line at some = sym (ap there_text (sym at ∙ some) ∙ append-nil (line_text (written line)))
 
 -- and a missing one
-pub there_text-none : (lines : List (Option Line)) (i : ℕ) (item : Option Line) → item ≡ get_or lines i item → item ≡ None → [] ≡ there_text (get_or lines i item)
+pub there_text-none : (lines : List (Option Tag)) (i : ℕ) (item : Option Tag) → item ≡ get_or lines i item → item ≡ None
+    → [] ≡ there_text (get_or lines i item)
 there_text-none lines i item at none = sym (ap there_text (sym at ∙ none))
 
 -- ---- the lines of a segment, one text after another
 
 abbrev front_options : (former : Option ℕ) → Item → List (Option WrittenLine)
-front_options former item = (if begins_section former item.section then Some (initialization item.map) else None) ∷ option_map program_date_time item.date ∷ []
+front_options former item = (if begins_section former item.section then Some (initialization item.map) else None)
+    ∷ option_map program_date_time item.date ∷ []
 
 abbrev last_options : (digits : ℕ) → Item → List (Option WrittenLine)
 last_options digits item = Some (duration digits item.duration) ∷ option_map byte_range item.part.range ∷ Some (uri item.part.address) ∷ []
 
 pub item_text : (digits : ℕ) (former : Option ℕ) (item : Item) →
-    (lines_text (replicate (rise former item.section) discontinuity) ++ lines_text (front_lines former item)) ++ lines_text (last_lines digits item) ≡ lines_text (item_lines digits former item)
+    (lines_text (replicate (rise former item.section) discontinuity) ++ lines_text (front_lines former item))
+    ++ lines_text (last_lines digits item) ≡ lines_text (item_lines digits former item)
 item_text digits former item =
     let steps = replicate (rise former item.section) discontinuity in
     append_assoc (lines_text steps) (lines_text (front_lines former item)) (lines_text (last_lines digits item))
     ∙ ap (λ t. lines_text steps ++ t) (sym (flat_map-append line_text (front_lines former item) (last_lines digits item)))
     ∙ sym (flat_map-append line_text steps (front_lines former item ++ last_lines digits item))
-    ∙ ap (λ lines. lines_text (steps ++ lines)) (sym (flat_map-append option_to_list (front_options former item) (last_options digits item)))
+    ∙ ap (λ lines. lines_text (steps ++ lines))
+    (sym (flat_map-append option_to_list (front_options former item) (last_options digits item)))
 
 pub last_text : (digits : ℕ) (item : Item) →
-    (line_text (duration digits item.duration) ++ lines_text (option_to_list (option_map byte_range item.part.range))) ++ line_text (uri item.part.address) ≡ lines_text (last_lines digits item)
+    (line_text (duration digits item.duration) ++ lines_text (option_to_list (option_map byte_range item.part.range)))
+    ++ line_text (uri item.part.address) ≡ lines_text (last_lines digits item)
 last_text digits item =
     let range = option_to_list (option_map byte_range item.part.range) in
     append_assoc (line_text (duration digits item.duration)) (lines_text range) (line_text (uri item.part.address))
-    ∙ ap (λ t. line_text (duration digits item.duration) ++ t) (ap (λ t. lines_text range ++ t) (sym (append-nil _)) ∙ sym (flat_map-append line_text range (uri item.part.address ∷ [])))
+    ∙ ap (λ t. line_text (duration digits item.duration) ++ t) (ap (λ t. lines_text range ++ t) (sym (append-nil _))
+    ∙ sym (flat_map-append line_text range (uri item.part.address ∷ [])))

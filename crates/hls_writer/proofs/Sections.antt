@@ -1,5 +1,6 @@
 -- The segments of a section one after another.
-use Rattle.std.proofs.Common.{◌≡◌, ℕ, List, [], ◌∷◌, ◌++◌, All, Option, None, Some, Ok, IfSome, option_map, refl, sym, ap, ◌∙◌, append_assoc}
+use Rattle.std.proofs.Common.{◌≡◌, ℕ, List, [], ◌∷◌, ◌++◌, All, Option, None, Some, Ok, IfSome, option_map, refl, sym, ap, ◌∙◌}
+use Rattle.std.proofs.Common.{append_assoc}
 use Rattle.std.proofs.lemmas.List.Concat.{flat_map-append}
 use Rattle.std.proofs.lemmas.List.Elements.{All-head, All-tail}
 use Rattle.url_parts.specs.declared.address.Part.{Part}
@@ -14,41 +15,51 @@ use Rattle.hls_writer.specs.Lines.{line_text, lines_text}
 use Rattle.hls_writer.specs.Playlists.{Item, item_lines, items_lines, last_section}
 
 -- one more item is added to what goes on to a whole text
-pub one_more : (digits : ℕ) (former : Option ℕ) (item : Item) (items : List Item) (done whole : List ℕ) → done ++ lines_text (items_lines digits former (item ∷ items)) ≡ whole
+pub one_more : (digits : ℕ) (former : Option ℕ) (item : Item) (items : List Item) (done whole : List ℕ)
+    → done ++ lines_text (items_lines digits former (item ∷ items)) ≡ whole
     → (done ++ lines_text (item_lines digits former item)) ++ lines_text (items_lines digits (Some item.section) items) ≡ whole
 one_more digits former item items done whole goes =
     let rest = items_lines digits (Some item.section) items in
     append_assoc done (lines_text (item_lines digits former item)) (lines_text rest)
     ∙ ap (λ t. done ++ t) (sym (flat_map-append line_text (item_lines digits former item) rest)) ∙ goes
 
-items_append : (digits : ℕ) (former : Option ℕ) (xs ys : List Item) → items_lines digits former (xs ++ ys) ≡ items_lines digits former xs ++ items_lines digits (last_section former xs) ys
+items_append : (digits : ℕ) (former : Option ℕ) (xs ys : List Item) → items_lines digits former (xs ++ ys)
+    ≡ items_lines digits former xs ++ items_lines digits (last_section former xs) ys
 items_append digits former [] ys = refl
 items_append digits former (x ∷ xs) ys =
     ap (λ lines. item_lines digits former x ++ lines) (items_append digits (Some x.section) xs ys)
-    ∙ sym (append_assoc (item_lines digits former x) (items_lines digits (Some x.section) xs) (items_lines digits (last_section (Some x.section) xs) ys))
+    ∙ sym (append_assoc (item_lines digits former x) (items_lines digits (Some x.section) xs)
+    (items_lines digits (last_section (Some x.section) xs) ys))
 
 -- some more items are added to what goes on to a whole text
-pub more_items : (digits : ℕ) (former : Option ℕ) (xs ys : List Item) (done whole : List ℕ) → done ++ lines_text (items_lines digits former (xs ++ ys)) ≡ whole
+pub more_items : (digits : ℕ) (former : Option ℕ) (xs ys : List Item) (done whole : List ℕ)
+    → done ++ lines_text (items_lines digits former (xs ++ ys)) ≡ whole
     → (done ++ lines_text (items_lines digits former xs)) ++ lines_text (items_lines digits (last_section former xs) ys) ≡ whole
 more_items digits former xs ys done whole goes =
     let later = items_lines digits (last_section former xs) ys in
     append_assoc done (lines_text (items_lines digits former xs)) (lines_text later)
-    ∙ ap (λ t. done ++ t) (sym (flat_map-append line_text (items_lines digits former xs) later) ∙ ap lines_text (sym (items_append digits former xs ys))) ∙ goes
+    ∙ ap (λ t. done ++ t) (sym (flat_map-append line_text (items_lines digits former xs) later)
+    ∙ ap lines_text (sym (items_append digits former xs ys))) ∙ goes
 
 module _ (map : Part) (section : ℕ) (old new : PrintedRest) where
   abbrev pub left : PrintedRest → List Item
   left rest = items_at rest.timeline map section rest.left
 
-  pub next_item : (times : Timing) (duration : ℕ) (part : Part) → IsPassed old times duration new → part_of_timing old.timeline times ≡ Ok part → left old ≡ item_of part map section duration ∷ left new
+  pub next_item : (times : Timing) (duration : ℕ) (part : Part) → IsPassed old times duration new
+      → part_of_timing old.timeline times ≡ Ok part → left old ≡ item_of part map section duration ∷ left new
   next_item times duration part next has = rw (next.next, has, next.timeline) refl
 
-  pub first_addressed : (times : Timing) (duration : ℕ) → IsPassed old times duration new → All (λ x. HasAddress old.timeline x.times) old.left → HasAddress old.timeline times
+  pub first_addressed : (times : Timing) (duration : ℕ) → IsPassed old times duration new
+      → All (λ x. HasAddress old.timeline x.times) old.left → HasAddress old.timeline times
   first_addressed times duration next all =
-      All-head (λ (x : PrintedTiming). HasAddress old.timeline x.times) (record { times = times; duration = duration }) new.left (rw next.next at all)
+      All-head (λ (x : PrintedTiming). HasAddress old.timeline x.times) (record { times = times; duration = duration }) new.left
+      (rw next.next at all)
 
-  pub still_addressed : (times : Timing) (duration : ℕ) → IsPassed old times duration new → All (λ x. HasAddress old.timeline x.times) old.left → All (λ x. HasAddress new.timeline x.times) new.left
+  pub still_addressed : (times : Timing) (duration : ℕ) → IsPassed old times duration new
+      → All (λ x. HasAddress old.timeline x.times) old.left → All (λ x. HasAddress new.timeline x.times) new.left
   still_addressed times duration next all = rw next.timeline
-      (All-tail (λ (x : PrintedTiming). HasAddress old.timeline x.times) (record { times = times; duration = duration }) new.left (rw next.next at all))
+      (All-tail (λ (x : PrintedTiming). HasAddress old.timeline x.times) (record { times = times; duration = duration }) new.left
+      (rw next.next at all))
 
   pub no_more : IsAtEnd old new → left old ≡ []
   no_more end = rw end.none refl
@@ -56,12 +67,15 @@ module _ (map : Part) (section : ℕ) (old new : PrintedRest) where
 -- ---- what a presentation tells of a track in a section
 
 module _ (unit section : ℕ) (listed : List Timing) (map : Part) (rest : PrintedRest) where
-  pub rest_items : (o : Option Content) → option_map (λ content. content.initialization) o ≡ Some map → IfSome o (λ content. rest ≡ rest_of content.runs listed unit)
+  pub rest_items : (o : Option Content) → option_map (λ content. content.initialization) o ≡ Some map
+      → IfSome o (λ content. rest ≡ rest_of content.runs listed unit)
       → items_at rest.timeline map section rest.left ≡ option_map_or (content_items unit section listed) o []
   rest_items None is_map is = absurd (cc)
   rest_items (Some content) is_map is = let same : content.initialization ≡ map = cc in rw (is, ← same) refl
 
-  pub rest_addressed : (o : Option Content) → option_map (λ content. content.initialization) o ≡ Some map → IfSome o (λ content. rest ≡ rest_of content.runs listed unit)
-      → IfSome o (λ content. All (λ x. HasAddress content.runs x.times) (printed_timings unit listed)) → All (λ x. HasAddress rest.timeline x.times) rest.left
+  pub rest_addressed : (o : Option Content) → option_map (λ content. content.initialization) o ≡ Some map
+      → IfSome o (λ content. rest ≡ rest_of content.runs listed unit)
+      → IfSome o (λ content. All (λ x. HasAddress content.runs x.times) (printed_timings unit listed))
+      → All (λ x. HasAddress rest.timeline x.times) rest.left
   rest_addressed None is_map is all = absurd (cc)
   rest_addressed (Some content) is_map is all = rw is all

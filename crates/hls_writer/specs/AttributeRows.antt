@@ -1,7 +1,8 @@
 -- Attributes as they are written.
 use Rattle.std.specs.Prelude.{ℕ, List, map, Option, option_map}
 use Rattle.std.specs.Borrow.{Bor}
-use Rattle.hls_writer.specs.Attributes.{WrittenAttribute, media_type, group_id, name, language, default, autoselect, playlist, bandwidth, codecs, resolution, frame_rate, renditions}
+use Rattle.hls_writer.specs.Attributes.{WrittenAttribute, media_type, group_id, name, language, default, autoselect, playlist, bandwidth}
+use Rattle.hls_writer.specs.Attributes.{codecs, resolution, frame_rate, renditions}
 use Rattle.hls_writer.specs.Renditions.{present}
 use Rattle.hls_writer.specs.declared.attribute.Attribute.{Attribute}
 use Rattle.hls_writer.specs.declared.attribute.Attribute.TheVariants as attribute

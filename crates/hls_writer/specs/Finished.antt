@@ -20,7 +20,13 @@ part_or_none (Err fault) = record { address = []; range = None }
 
 -- a segment of a section, with its printed duration
 abbrev pub item_of : (part initialization : Part) → (section duration : ℕ) → Item
-item_of part initialization section duration = record { part = part; map = initialization; duration = duration; section = section; date = None }
+item_of part initialization section duration = record {
+  part = part;
+  map = initialization;
+  duration = duration;
+  section = section;
+  date = None;
+}
 
 abbrev pub item_at : SegmentTimeline → (initialization : Part) → (section : ℕ) → PrintedTiming → Item
 item_at timeline initialization section x = item_of (part_or_none (part_of_timing timeline x.times)) initialization section x.duration

@@ -13,4 +13,5 @@ AreLines (line ∷ lines) = IsOneLine line × AreLines lines
 
 -- Cut at each LF, the text of some lines gives them again, and nothing behind the last one.
 abbrev pub LinesAreReadAgain : Type 0
-LinesAreReadAgain = (lines : List WrittenLine) → AreLines lines → slice_split (λ b. b == 10) (lines_text lines) ≡ map line_bytes lines ++ [] ∷ []
+LinesAreReadAgain = (lines : List WrittenLine) → AreLines lines → slice_split (λ b. b == 10) (lines_text lines)
+    ≡ map line_bytes lines ++ [] ∷ []

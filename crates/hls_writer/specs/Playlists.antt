@@ -1,8 +1,10 @@
 -- The lines of media playlists (RFC 8216, 4.3.2 and 4.3.3), finished and followed.
-use Rattle.std.specs.Prelude.{ℕ, ◌-◌, nat_lt, Bool, true, List, [], ◌∷◌, ◌++◌, replicate, Option, Some, None, option_map, option_to_list, if◌then◌else◌, ℤ}
+use Rattle.std.specs.Prelude.{ℕ, ◌-◌, nat_lt, Bool, true, List, [], ◌∷◌, ◌++◌, replicate, Option, Some, None, option_map, option_to_list}
+use Rattle.std.specs.Prelude.{if◌then◌else◌, ℤ}
 use Rattle.std.specs.List.{flat_map}
 use Rattle.url_parts.specs.declared.address.Part.{Part}
-use Rattle.hls_writer.specs.Lines.{WrittenLine, header, version, target_duration, media_sequence, discontinuity_sequence, on_demand, discontinuity, initialization, program_date_time, duration, byte_range, uri, end_list, lines_text}
+use Rattle.hls_writer.specs.Lines.{WrittenLine, header, version, target_duration, media_sequence, discontinuity_sequence, on_demand}
+use Rattle.hls_writer.specs.Lines.{discontinuity, initialization, program_date_time, duration, byte_range, uri, end_list, lines_text}
 
 -- a segment as a playlist lists it
 pub record Item : Type 0 where
@@ -51,7 +53,8 @@ front_lines former item = present (
 
 -- and the others, of the segment alone
 abbrev pub last_lines : (digits : ℕ) → Item → List WrittenLine
-last_lines digits item = duration digits item.duration ∷ option_to_list (option_map byte_range item.part.range) ++ uri item.part.address ∷ []
+last_lines digits item = duration digits item.duration ∷ option_to_list (option_map byte_range item.part.range) ++ uri item.part.address
+    ∷ []
 
 -- the lines of a segment behind one of a section
 abbrev pub item_lines : (digits : ℕ) (former : Option ℕ) → Item → List WrittenLine

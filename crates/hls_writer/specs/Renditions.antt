@@ -1,5 +1,6 @@
 -- The renditions of a master (RFC 8216, 4.3.4.1).
-use Rattle.std.specs.Prelude.{ℕ, ◌+◌, ◌==◌, ◌&&◌, Bool, false, List, [], ◌∷◌, ◌++◌, map, take, slice_get, position, count_by, if◌then◌else◌, Option, Some, option_map, option_and_then, option_to_list, unwrap_or}
+use Rattle.std.specs.Prelude.{ℕ, ◌+◌, ◌==◌, ◌&&◌, Bool, false, List, [], ◌∷◌, ◌++◌, map, take, slice_get, position, count_by, if◌then◌else◌}
+use Rattle.std.specs.Prelude.{Option, Some, option_map, option_and_then, option_to_list, unwrap_or}
 use Rattle.std.specs.List.{flat_map, list_any}
 use Rattle.std.specs.Option.{option_map_or}
 use Rattle.bridge_io.specs.declared.media.Kind.{Kind}
@@ -88,13 +89,15 @@ filled_renditions tracks keys found group (members ∷ later) =
 -- the text tracks, from a number on
 abbrev pub text_from : List Rendition → ℕ → List ℕ → List Rendition
 text_from found number [] = found
-text_from found number (place ∷ later) = text_from (found ++ (record { group = Subtitles; number = number; track = place }) ∷ []) (number + 1) later
+text_from found number (place ∷ later) = text_from (found ++ (record { group = Subtitles; number = number; track = place }) ∷ [])
+    (number + 1) later
 
 -- The audio tracks, each in its own group; then by group and set the tracks that fill a group that isn't their own; then
 -- the text tracks.
 abbrev pub renditions_of : List Track → (groups : List (List ℕ)) → List Rendition
 renditions_of tracks groups =
-    own_renditions tracks (keys_of tracks) groups ++ filled_renditions tracks (keys_of tracks) [] 0 groups ++ text_from [] 0 (places_of kind.Text tracks)
+    own_renditions tracks (keys_of tracks) groups ++ filled_renditions tracks (keys_of tracks) [] 0 groups
+    ++ text_from [] 0 (places_of kind.Text tracks)
 
 abbrev pub language_at : List Track → ℕ → Option (List ℕ)
 language_at tracks place = option_and_then (λ track. track.language) (slice_get tracks place)

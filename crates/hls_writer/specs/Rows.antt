@@ -1,14 +1,15 @@
 -- Lines and segments as they are written.
 use Rattle.std.specs.Prelude.{⊤, List, map, Option, option_map, IfSome}
 use Rattle.iso_time.specs.Instant.{IsWritable}
-use Rattle.hls_writer.specs.Lines.{WrittenLine, header, version, target_duration, media_sequence, discontinuity_sequence, on_demand, discontinuity, initialization, program_date_time, byte_range, end_list}
+use Rattle.hls_writer.specs.Lines.{WrittenLine, header, version, target_duration, media_sequence, discontinuity_sequence, on_demand}
+use Rattle.hls_writer.specs.Lines.{discontinuity, initialization, program_date_time, byte_range, end_list}
 use Rattle.hls_writer.specs.Playlists.{Item, present}
-use Rattle.hls_writer.specs.declared.line.Line.{Line}
-use Rattle.hls_writer.specs.declared.line.Line.TheVariants as line
+use Rattle.hls_writer.specs.declared.line.Tag.{Tag}
+use Rattle.hls_writer.specs.declared.line.Tag.TheVariants as line
 use Rattle.hls_writer.specs.declared.entry.Entry.{Entry}
 
 -- what a line says
-abbrev pub written : Line → WrittenLine
+abbrev pub written : Tag → WrittenLine
 written line.Header = header
 written (line.Version number) = version number
 written (line.TargetDuration seconds) = target_duration seconds
@@ -22,7 +23,7 @@ written (line.ByteRange range) = byte_range range
 written line.EndList = end_list
 
 -- what those say that are there
-abbrev pub all_written : List (Option Line) → List WrittenLine
+abbrev pub all_written : List (Option Tag) → List WrittenLine
 all_written lines = present (map (option_map written) lines)
 
 abbrev pub entry_item : Entry → Item
@@ -35,9 +36,9 @@ entry_item entry = record {
 }
 
 -- a date is one of the years 1000 to 9999
-abbrev pub CanBeWritten : Line → Type 0
+abbrev pub CanBeWritten : Tag → Type 0
 CanBeWritten (line.ProgramDateTime instant) = IsWritable instant
 CanBeWritten line = ⊤
 
-abbrev pub CanBeThere : Option Line → Type 0
+abbrev pub CanBeThere : Option Tag → Type 0
 CanBeThere line = IfSome line CanBeWritten

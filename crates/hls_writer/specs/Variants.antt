@@ -1,5 +1,6 @@
 -- The variants of a master (RFC 8216, 4.3.4.2).
-use Rattle.std.specs.Prelude.{ℕ, Bool, is_some, ◌+◌, ◌*◌, ◌==◌, max, List, [], ◌∷◌, ◌++◌, map, slice_get, if◌then◌else◌, Option, Some, None, option_map, option_and_then, option_to_list, unwrap_or}
+use Rattle.std.specs.Prelude.{ℕ, Bool, is_some, ◌+◌, ◌*◌, ◌==◌, max, List, [], ◌∷◌, ◌++◌, map, slice_get, if◌then◌else◌, Option, Some, None}
+use Rattle.std.specs.Prelude.{option_map, option_and_then, option_to_list, unwrap_or}
 use Rattle.std.specs.List.{flat_map, list_any, slice_split}
 use Rattle.std.specs.Option.{option_map_or}
 use Rattle.bridge_io.specs.declared.media.Kind.TheVariants as kind

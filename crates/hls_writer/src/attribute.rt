@@ -1,14 +1,13 @@
 // Attributes of the lines of a master.
 ghost use Rattle.std.specs.Prelude.{◌≡◌, ◌++◌, ◌∷◌, [], flat_map, option_map};
-ghost use Rattle.file_pieces.specs.Adding.{Adds, shown};
+ghost use Rattle.bridge_io.specs.Adding.{Adds, shown};
 ghost use Rattle.hls_writer.specs.AttributeRows.{told, all_told, texts_of};
 ghost use Rattle.hls_writer.specs.Attributes.{attribute_bytes, attributes_bytes, further_bytes, codecs};
 ghost use Rattle.iso_time.specs.Digits.{padded_digits};
 ghost use Rattle.hls_writer.specs.Attributes as spec;
 
 use crate::line::decimal_at;
-use bridge_io::{Fail, FileWriter, Size, Store};
-use file_pieces::{Piece, push_pieces};
+use bridge_io::{Fail, FileWriter, Piece, Size, Store, push_pieces};
 
 /// A group of renditions (RFC 8216, 4.3.4.1.1).
 #[derive(Clone, Copy)]
@@ -277,7 +276,8 @@ pub fn push_tag<F: Store>(
     others: &[Option<Attribute<'_>>],
 ) -> Result<(), Fail>
     ensures { let shows = shown F.files F.read_faults F.write_faults in
-        Adds (tag.now ++ attributes_bytes (told first.entry) (all_told others.now) ++ 10 ∷ []) writer.old writer.new (shows store.old) (shows store.new) result }
+        Adds (tag.now ++ attributes_bytes (told first.entry) (all_told others.now) ++ 10 ∷ []) writer.old writer.new (shows store.old)
+        (shows store.new) result }
 {
     push_pieces(writer, store, &[Piece::Text(tag)])?;
     first.push_to(writer, store)?;

@@ -1,12 +1,12 @@
 // Segments as playlists list them.
 ghost use Rattle.std.specs.Prelude.{◌≡◌, All, replicate, option_map, option_to_list, IfSome};
 ghost use Rattle.iso_time.specs.Instant.{IsWritable};
-ghost use Rattle.file_pieces.specs.Adding.{Adds, shown};
+ghost use Rattle.bridge_io.specs.Adding.{Adds, shown};
 ghost use Rattle.hls_writer.specs.Lines.{lines_text, discontinuity, program_date_time, byte_range};
 ghost use Rattle.hls_writer.specs.Playlists.{rise, begins_section, front_lines, last_lines, item_lines};
 ghost use Rattle.hls_writer.specs.Rows.{written, all_written, entry_item, CanBeThere};
 
-use crate::line::{Line, push_duration, push_lines, push_uri};
+use crate::line::{Tag, push_duration, push_lines, push_uri};
 use bridge_io::{Fail, FileWriter, Store};
 use exact_time::Digits;
 use iso_time::Instant;
@@ -40,7 +40,8 @@ impl Entry<'_> {
     ) -> Result<(), Fail>
         requires { IfSome self.now.date IsWritable }
         ensures { let shows = shown F.files F.read_faults F.write_faults in
-            Adds (lines_text (item_lines digits former (entry_item self.now))) writer.old writer.new (shows store.old) (shows store.new) result }
+            Adds (lines_text (item_lines digits former (entry_item self.now))) writer.old writer.new (shows store.old)
+            (shows store.new) result }
     {
         push_discontinuities(writer, store, rise(former, self.section))?;
         self.push_front(writer, store, former)?;
@@ -64,23 +65,23 @@ impl Entry<'_> {
         push_lines(writer, store, &self.front(former))
     }
 
-    fn front(&self, former: Option<u64>) -> [Option<Line<'_>>; 2]
+    fn front(&self, former: Option<u64>) -> [Option<Tag<'_>>; 2]
         requires { IfSome self.now.date IsWritable }
         ensures written { all_written result ≡ front_lines former (entry_item self.now) }
         ensures can { All CanBeThere result }
     {
         [
-            begins_section(former, self.section).then_some(Line::Map(self.map)),
+            begins_section(former, self.section).then_some(Tag::Map(self.map)),
             self.date_line(),
         ]
     }
 
-    fn date_line(&self) -> Option<Line<'_>>
+    fn date_line(&self) -> Option<Tag<'_>>
         requires { IfSome self.now.date IsWritable }
         ensures written { option_map written result ≡ option_map program_date_time self.now.date }
         ensures can { CanBeThere result }
     {
-        Some(Line::ProgramDateTime(self.date?))
+        Some(Tag::ProgramDateTime(self.date?))
     }
 
     /// Adds the lines of the segment alone.
@@ -100,11 +101,12 @@ impl Entry<'_> {
 
     fn push_range<F: Store>(&self, writer: &mut FileWriter<'_>, store: &mut F) -> Result<(), Fail>
         ensures { let shows = shown F.files F.read_faults F.write_faults in
-            Adds (lines_text (option_to_list (option_map byte_range self.now.range))) writer.old writer.new (shows store.old) (shows store.new) result }
+            Adds (lines_text (option_to_list (option_map byte_range self.now.range))) writer.old writer.new (shows store.old)
+            (shows store.new) result }
     {
         match self.range {
             None => Ok(()),
-            Some(range) => Line::ByteRange(range).push_to(writer, store),
+            Some(range) => Tag::ByteRange(range).push_to(writer, store),
         }
     }
 }
@@ -133,7 +135,7 @@ fn push_discontinuities<F: Store>(
         Adds (lines_text (replicate count discontinuity)) writer.old writer.new (shows store.old) (shows store.new) result }
 {
     for _step in 0..count {
-        Line::Discontinuity.push_to(writer, store)?;
+        Tag::Discontinuity.push_to(writer, store)?;
     }
     Ok(())
 }

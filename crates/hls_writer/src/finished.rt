@@ -7,18 +7,18 @@ ghost use Rattle.bridge_io.specs.declared.outside.Fail.TheVariants.{Memory};
 ghost use Rattle.presentation.specs.Laws.{HasAddress};
 ghost use Rattle.presentation.specs.Verifying.{verified};
 ghost use Rattle.hls_writer.specs.Verified.{IsVerified};
-ghost use Rattle.file_pieces.specs.Adding.{Adds, shown};
+ghost use Rattle.bridge_io.specs.Adding.{Adds, shown};
 ghost use Rattle.hls_writer.specs.Finished as spec;
 ghost use Rattle.hls_writer.specs.Lines.{lines_text, on_demand};
 ghost use Rattle.hls_writer.specs.Playlists.{head_lines, items_lines, item_lines, last_section};
 ghost use Rattle.hls_writer.specs.Rows.{all_written, CanBeThere};
 ghost use Rattle.timeline.specs.Listed.{CanBeNamed, part_of_timing, timing_of};
 ghost use Rattle.timeline.specs.Written.{part_with};
-ghost use Rattle.file_pieces.specs.declared.fault.OutFault.TheVariants.{WriteFault};
+ghost use Rattle.bridge_io.specs.declared.out_fault.OutFault.TheVariants.{WriteFault};
 
 use crate::OutFault;
 use crate::entry::Entry;
-use crate::line::{Line, push_lines};
+use crate::line::{Tag, push_lines};
 use bridge_io::{Fail, FileWriter, Ledger, Name, Steps, Store};
 use exact_time::Digits;
 use presentation::{Longest, Presentation, PrintedSegments};
@@ -47,7 +47,8 @@ pub fn write_media<F: Store, L: Ledger>(
 ) -> Result<(), OutFault>
     requires track { track < length presentation.now.tracks }
     requires verified { verified presentation.now (10 ^ digits) ≡ Ok longest.now }
-    ensures ok { OnOk result (Changes (put name.now (spec.media_text presentation.now digits track)) (F.files store.old) (F.files store.new)) }
+    ensures ok { OnOk result (Changes (put name.now (spec.media_text presentation.now digits track)) (F.files store.old)
+        (F.files store.new)) }
     ensures err { OnErr result ((F.files store.new ≡ F.files store.old)
         ⊎ HasFront name.now (spec.media_text presentation.now digits track) (F.files store.old) (F.files store.new)) }
     ensures cause { HasCause WriteFault (F.write_faults store.old) (F.write_faults store.new) result }
@@ -81,9 +82,11 @@ fn write_playlist<F: Store, L: Ledger>(
 ) -> Result<(), OutFault>
     requires track { track.now.track < length track.now.presentation.now.tracks }
     requires verified { IsVerified track.now.presentation.now track.now.digits }
-    ensures ok { OnOk result (Changes (put name.now (spec.track_text track.now.presentation.now track.now.digits track.now.track target)) (F.files store.old) (F.files store.new)) }
+    ensures ok { OnOk result (Changes (put name.now (spec.track_text track.now.presentation.now track.now.digits track.now.track target))
+        (F.files store.old) (F.files store.new)) }
     ensures err { OnErr result ((F.files store.new ≡ F.files store.old)
-        ⊎ HasFront name.now (spec.track_text track.now.presentation.now track.now.digits track.now.track target) (F.files store.old) (F.files store.new)) }
+        ⊎ HasFront name.now (spec.track_text track.now.presentation.now track.now.digits track.now.track target) (F.files store.old)
+        (F.files store.new)) }
     ensures cause { HasCause WriteFault (F.write_faults store.old) (F.write_faults store.new) result }
     ensures reads { F.read_faults store.new ≡ F.read_faults store.old }
 {
@@ -105,23 +108,24 @@ fn push_playlist<F: Store, L: Ledger>(
     requires track { track.now.track < length track.now.presentation.now.tracks }
     requires verified { IsVerified track.now.presentation.now track.now.digits }
     ensures { let shows = shown F.files F.read_faults F.write_faults in
-        Adds (spec.track_text track.now.presentation.now track.now.digits track.now.track target) writer.old writer.new (shows store.old) (shows store.new) result }
+        Adds (spec.track_text track.now.presentation.now track.now.digits track.now.track target) writer.old writer.new (shows store.old)
+        (shows store.new) result }
 {
     push_lines(writer, store, &head_lines(target))?;
     push_sections(alloc, track, writer, store, steps)?;
-    push_lines(writer, store, &[Some(Line::EndList)])
+    push_lines(writer, store, &[Some(Tag::EndList)])
 }
 
-fn head_lines(target: u64) -> [Option<Line<'static>>; 5]
+fn head_lines(target: u64) -> [Option<Tag<'static>>; 5]
     ensures written { all_written result ≡ head_lines target 0 on_demand }
     ensures can { All CanBeThere result }
 {
     [
-        Some(Line::Header),
-        Some(Line::Version(6)),
-        Some(Line::TargetDuration(target)),
-        Some(Line::MediaSequence(0)),
-        Some(Line::OnDemand),
+        Some(Tag::Header),
+        Some(Tag::Version(6)),
+        Some(Tag::TargetDuration(target)),
+        Some(Tag::MediaSequence(0)),
+        Some(Tag::OnDemand),
     ]
 }
 
@@ -165,7 +169,7 @@ fn push_section<F: Store, L: Ledger>(
     ensures last { let items = spec.section_items track.now.presentation.now (10 ^ track.now.digits) track.now.track section in
         IfOk result (λ last. last ≡ last_section former items) }
 {
-    let place = Place {
+    let place = InSection {
         map: track.presentation.initialization(section, track.track),
         section: section as u64,
         digits: track.digits,
@@ -178,7 +182,7 @@ fn push_section<F: Store, L: Ledger>(
 
 /// What the segments of a section have in common.
 #[derive(Clone, Copy)]
-struct Place<'a> {
+struct InSection<'a> {
     map: &'a Part,
     section: u64,
     digits: Digits,
@@ -231,7 +235,7 @@ fn target_of(units: u64, digits: Digits) -> u64
 fn push_segments<F: Store, L: Ledger>(
     alloc: Global,
     mut segments: PrintedSegments<'_>,
-    place: &Place<'_>,
+    place: &InSection<'_>,
     former: Option<u64>,
     writer: &mut FileWriter<'_>,
     store: &mut F,
@@ -259,7 +263,7 @@ fn push_segment<F: Store>(
     addresses: &AddressWriter<'_>,
     range: Option<Range>,
     duration: u64,
-    place: &Place<'_>,
+    place: &InSection<'_>,
     former: Option<u64>,
     writer: &mut FileWriter<'_>,
     store: &mut F,

@@ -4,16 +4,16 @@ ghost use Rattle.bridge_io.specs.Fault.{HasCause};
 ghost use Rattle.bridge_io.specs.Outside.{put, Changes};
 ghost use Rattle.bridge_io.specs.Written.{HasFront};
 ghost use Rattle.iso_time.specs.Instant.{IsWritable};
-ghost use Rattle.file_pieces.specs.Adding.{Adds, shown};
+ghost use Rattle.bridge_io.specs.Adding.{Adds, shown};
 ghost use Rattle.hls_writer.specs.Items.{item_of, items_text};
 ghost use Rattle.hls_writer.specs.Lines.{lines_text, discontinuity_sequence};
 ghost use Rattle.hls_writer.specs.Playlists.{head_lines, items_lines, last_section};
 ghost use Rattle.hls_writer.specs.Rows.{all_written, entry_item, CanBeThere};
-ghost use Rattle.file_pieces.specs.declared.fault.OutFault.TheVariants.{WriteFault};
+ghost use Rattle.bridge_io.specs.declared.out_fault.OutFault.TheVariants.{WriteFault};
 
 use crate::OutFault;
 use crate::entry::Entry;
-use crate::line::{Line, push_lines};
+use crate::line::{Tag, push_lines};
 use bridge_io::{Fail, FileWriter, Name, Sequence, Store};
 use exact_time::Digits;
 use iso_time::Instant;
@@ -56,16 +56,17 @@ pub struct MediaItem {
 pub type ItemList = Sequence<MediaItem>;
 
 impl MediaHead {
-    fn lines(&self) -> [Option<Line<'static>>; 5]
-        ensures written { all_written result ≡ head_lines self.now.target self.now.sequence (discontinuity_sequence self.now.first_section) }
+    fn lines(&self) -> [Option<Tag<'static>>; 5]
+        ensures written { all_written result ≡ head_lines self.now.target self.now.sequence
+            (discontinuity_sequence self.now.first_section) }
         ensures can { All CanBeThere result }
     {
         [
-            Some(Line::Header),
-            Some(Line::Version(6)),
-            Some(Line::TargetDuration(self.target)),
-            Some(Line::MediaSequence(self.sequence)),
-            Some(Line::DiscontinuitySequence(self.first_section)),
+            Some(Tag::Header),
+            Some(Tag::Version(6)),
+            Some(Tag::TargetDuration(self.target)),
+            Some(Tag::MediaSequence(self.sequence)),
+            Some(Tag::DiscontinuitySequence(self.first_section)),
         ]
     }
 }
@@ -154,7 +155,7 @@ fn push_playlist<F: Store>(
 {
     push_lines(writer, store, &head.lines())?;
     push_slices(writer, store, head.digits, front, back)?;
-    let end = head.ended.then_some(Line::EndList);
+    let end = head.ended.then_some(Tag::EndList);
     push_lines(writer, store, &[end])
 }
 

@@ -12,7 +12,7 @@ mod master;
 mod renditions;
 mod variants;
 
-pub use file_pieces::OutFault;
+pub use bridge_io::OutFault;
 pub use finished::write_media;
 pub use items::{ItemList, MediaHead, MediaItem, write_item_slices, write_items};
 pub use master::write_master;

@@ -1,19 +1,18 @@
 // Lines of playlists.
 ghost use Rattle.std.specs.Prelude.{◌≡◌, ◌+◌, ◌/◌, ◌%◌, ◌<◌, ◌++◌, ◌∷◌, [], All, decimal};
 ghost use Rattle.iso_time.specs.Digits.{padded_digits};
-ghost use Rattle.file_pieces.specs.Adding.{Adds, shown};
+ghost use Rattle.bridge_io.specs.Adding.{Adds, shown};
 ghost use Rattle.hls_writer.specs.Lines.{line_text, lines_text, initialization, duration, uri};
 ghost use Rattle.hls_writer.specs.Rows.{written, all_written, CanBeWritten, CanBeThere};
 
-use bridge_io::{Fail, FileWriter, Store};
+use bridge_io::{Fail, FileWriter, Piece, Store, push_pieces};
 use exact_time::Digits;
-use file_pieces::{Piece, push_pieces};
 use iso_time::{Instant, write_instant_ms};
 use url_parts::{Part, Range};
 
 /// A line of a playlist (RFC 8216, 4.3).
 #[derive(Clone, Copy)]
-pub enum Line<'a> {
+pub enum Tag<'a> {
     /// EXTM3U (4.3.1.1).
     Header,
     /// EXT-X-VERSION (4.3.1.2).
@@ -38,7 +37,7 @@ pub enum Line<'a> {
     EndList,
 }
 
-impl Line<'_> {
+impl Tag<'_> {
     /// Adds the line with its end.
     #[tactic(auto, unfolding(crate::specs::Lines::line_bytes))]
     pub fn push_to<F: Store>(&self, writer: &mut FileWriter<'_>, store: &mut F) -> Result<(), Fail>
@@ -47,25 +46,25 @@ impl Line<'_> {
             Adds (line_text (written self.now)) writer.old writer.new (shows store.old) (shows store.new) result }
     {
         match *self {
-            Line::Header => push_pieces(writer, store, &[Piece::Text(b"#EXTM3U\n")]),
-            Line::Version(number) => push_numbered(writer, store, b"#EXT-X-VERSION:", number),
-            Line::TargetDuration(seconds) => {
+            Tag::Header => push_pieces(writer, store, &[Piece::Text(b"#EXTM3U\n")]),
+            Tag::Version(number) => push_numbered(writer, store, b"#EXT-X-VERSION:", number),
+            Tag::TargetDuration(seconds) => {
                 push_numbered(writer, store, b"#EXT-X-TARGETDURATION:", seconds)
             }
-            Line::MediaSequence(number) => {
+            Tag::MediaSequence(number) => {
                 push_numbered(writer, store, b"#EXT-X-MEDIA-SEQUENCE:", number)
             }
-            Line::DiscontinuitySequence(number) => {
+            Tag::DiscontinuitySequence(number) => {
                 push_numbered(writer, store, b"#EXT-X-DISCONTINUITY-SEQUENCE:", number)
             }
-            Line::OnDemand => {
+            Tag::OnDemand => {
                 push_pieces(writer, store, &[Piece::Text(b"#EXT-X-PLAYLIST-TYPE:VOD\n")])
             }
-            Line::Discontinuity => {
+            Tag::Discontinuity => {
                 push_pieces(writer, store, &[Piece::Text(b"#EXT-X-DISCONTINUITY\n")])
             }
-            Line::Map(part) => push_map(writer, store, part),
-            Line::ProgramDateTime(instant) => push_pieces(
+            Tag::Map(part) => push_map(writer, store, part),
+            Tag::ProgramDateTime(instant) => push_pieces(
                 writer,
                 store,
                 &[
@@ -74,7 +73,7 @@ impl Line<'_> {
                     Piece::Text(b"\n"),
                 ],
             ),
-            Line::ByteRange(range) => push_pieces(
+            Tag::ByteRange(range) => push_pieces(
                 writer,
                 store,
                 &[
@@ -85,7 +84,7 @@ impl Line<'_> {
                     Piece::Text(b"\n"),
                 ],
             ),
-            Line::EndList => push_pieces(writer, store, &[Piece::Text(b"#EXT-X-ENDLIST\n")]),
+            Tag::EndList => push_pieces(writer, store, &[Piece::Text(b"#EXT-X-ENDLIST\n")]),
         }
     }
 }
@@ -206,7 +205,7 @@ pub(crate) fn decimal_at(number: u64, unit: u64) -> u8
 pub fn push_lines<F: Store>(
     writer: &mut FileWriter<'_>,
     store: &mut F,
-    lines: &[Option<Line<'_>>],
+    lines: &[Option<Tag<'_>>],
 ) -> Result<(), Fail>
     requires { All CanBeThere lines.now }
     ensures { let shows = shown F.files F.read_faults F.write_faults in

@@ -4,7 +4,7 @@ ghost use Rattle.std.specs.List.{flat_map};
 ghost use Rattle.bridge_io.specs.Fault.{HasCause};
 ghost use Rattle.bridge_io.specs.Outside.{put, Changes};
 ghost use Rattle.bridge_io.specs.Written.{HasFront};
-ghost use Rattle.file_pieces.specs.Adding.{Adds, shown};
+ghost use Rattle.bridge_io.specs.Adding.{Adds, shown};
 ghost use Rattle.hls_writer.specs.Lines.{header, version, line_text, lines_text};
 ghost use Rattle.hls_writer.specs.Master.{master_text, lines_with};
 ghost use Rattle.hls_writer.specs.Renditions.{places_of, renditions_of, rendition_line, rendition_text};
@@ -12,15 +12,14 @@ ghost use Rattle.hls_writer.specs.Variants.{variants_of, variant_lines, variant_
 ghost use Rattle.hls_writer.specs.AttributeRows.{texts_in};
 ghost use Rattle.bridge_io.specs.declared.media.Kind.TheVariants.{Text};
 ghost use Rattle.hls_writer.specs.Rows.{all_written, CanBeThere};
-ghost use Rattle.file_pieces.specs.declared.fault.OutFault.TheVariants.{WriteFault};
+ghost use Rattle.bridge_io.specs.declared.out_fault.OutFault.TheVariants.{WriteFault};
 
 use crate::OutFault;
 use crate::attribute::{Attribute, push_tag};
-use crate::line::{Line, push_lines};
+use crate::line::{Tag, push_lines};
 use crate::renditions::{Rendition, places_of, renditions_of};
 use crate::variants::{Cast, Variant, code_lists, variants_of};
-use bridge_io::{Fail, FileWriter, Kind, Name, NoMemory, Store};
-use file_pieces::{Piece, push_pieces};
+use bridge_io::{Fail, FileWriter, Kind, Name, NoMemory, Piece, Store, push_pieces};
 use presentation::{Group, Presentation, Track};
 use std::alloc::Global;
 
@@ -78,7 +77,7 @@ fn push_all<F: Store>(
     ensures { let shows = shown F.files F.read_faults F.write_faults in
         Adds (lines_text (lines_with tracks.now groups.now)) writer.old writer.new (shows store.old) (shows store.new) result }
 {
-    push_lines(writer, store, &[Some(Line::Header), Some(Line::Version(6))])?;
+    push_lines(writer, store, &[Some(Tag::Header), Some(Tag::Version(6))])?;
     push_renditions(alloc, tracks, groups, writer, store)?;
     push_variants(alloc, tracks, groups, writer, store)
 }
@@ -92,7 +91,8 @@ fn push_renditions<F: Store>(
     store: &mut F,
 ) -> Result<(), Fail>
     ensures { let shows = shown F.files F.read_faults F.write_faults in
-        Adds (lines_text (map (rendition_line tracks.now) (renditions_of tracks.now groups.now))) writer.old writer.new (shows store.old) (shows store.new) result }
+        Adds (lines_text (map (rendition_line tracks.now) (renditions_of tracks.now groups.now))) writer.old writer.new (shows store.old)
+        (shows store.new) result }
 {
     let renditions = renditions_of(alloc, tracks, groups)?;
     push_rendition_lines(writer, store, tracks, &renditions)
@@ -142,7 +142,8 @@ fn push_variants<F: Store>(
     store: &mut F,
 ) -> Result<(), Fail>
     ensures { let shows = shown F.files F.read_faults F.write_faults in
-        Adds (lines_text (flat_map (variant_lines tracks.now groups.now (places_of Text tracks.now)) (variants_of tracks.now groups.now))) writer.old writer.new (shows store.old) (shows store.new) result }
+        Adds (lines_text (flat_map (variant_lines tracks.now groups.now (places_of Text tracks.now)) (variants_of tracks.now groups.now)))
+        writer.old writer.new (shows store.old) (shows store.new) result }
 {
     let variants = variants_of(alloc, tracks, groups)?;
     let texts = places_of(alloc, Kind::Text, tracks)?;
@@ -160,7 +161,8 @@ fn push_told<'a, F: Store>(
     variants: &[Variant],
 ) -> Result<(), Fail>
     ensures { let shows = shown F.files F.read_faults F.write_faults in
-        Adds (flat_map (variant_text tracks.now groups.now texts.now) variants.now) writer.old writer.new (shows store.old) (shows store.new) result }
+        Adds (flat_map (variant_text tracks.now groups.now texts.now) variants.now) writer.old writer.new (shows store.old)
+        (shows store.new) result }
 {
     let codes = code_lists(alloc, tracks)?;
     let cast = Cast {
@@ -180,7 +182,8 @@ fn push_variant_lines<F: Store>(
     variants: &[Variant],
 ) -> Result<(), Fail>
     ensures { let shows = shown F.files F.read_faults F.write_faults in
-        Adds (flat_map (variant_text cast.now.tracks.now cast.now.groups.now cast.now.texts.now) variants.now) writer.old writer.new (shows store.old) (shows store.new) result }
+        Adds (flat_map (variant_text cast.now.tracks.now cast.now.groups.now cast.now.texts.now) variants.now) writer.old writer.new
+        (shows store.old) (shows store.new) result }
 {
     for variant in variants {
         push_variant(alloc, writer, store, cast, *variant)?;
@@ -197,7 +200,8 @@ fn push_variant<F: Store>(
     variant: Variant,
 ) -> Result<(), Fail>
     ensures { let shows = shown F.files F.read_faults F.write_faults in
-        Adds (variant_text cast.now.tracks.now cast.now.groups.now cast.now.texts.now variant) writer.old writer.new (shows store.old) (shows store.new) result }
+        Adds (variant_text cast.now.tracks.now cast.now.groups.now cast.now.texts.now variant) writer.old writer.new (shows store.old)
+        (shows store.new) result }
 {
     match cast.codes(alloc, variant)? {
         Some(codes) => push_coded_variant(writer, store, cast, variant, Some(codes.as_slice())),
@@ -215,7 +219,8 @@ fn push_coded_variant<F: Store>(
     codes: Option<&[&str]>,
 ) -> Result<(), Fail>
     ensures { let shows = shown F.files F.read_faults F.write_faults in
-        Adds (coded_text cast.now.tracks.now cast.now.groups.now cast.now.texts.now (option_map texts_in codes.entry) variant) writer.old writer.new (shows store.old) (shows store.new) result }
+        Adds (coded_text cast.now.tracks.now cast.now.groups.now cast.now.texts.now (option_map texts_in codes.entry) variant) writer.old
+        writer.new (shows store.old) (shows store.new) result }
 {
     push_tag(
         writer,

@@ -184,7 +184,8 @@ impl<'a> Cast<'a, '_> {
         variant: Variant,
         codes: Option<&'c [&'c str]>,
     ) -> [Option<Attribute<'c>>; 5]
-        ensures { all_told result ≡ spec.variant_attributes self.now.tracks.now self.now.texts.now (option_map texts_in codes.entry) variant }
+        ensures { all_told result ≡ spec.variant_attributes self.now.tracks.now self.now.texts.now
+            (option_map texts_in codes.entry) variant }
     {
         [
             codecs_attribute(codes),

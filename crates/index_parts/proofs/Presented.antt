@@ -1,6 +1,9 @@
 -- A presentation that is made track by track is the one that is meant.
-use Rattle.std.proofs.Common.{◌≡◌, ℕ, suc, Bool, true, false, nat_lt, List, [], ◌∷◌, ◌++◌, cond, filter, length, map, if◌then◌else◌, Result, Ok, Err, refl, sym, ◌∙◌, ap}
+use Rattle.std.proofs.Common.{◌≡◌, ℕ, suc, Bool, true, false, nat_lt, List, [], ◌∷◌, ◌++◌, cond, filter, length, map, if◌then◌else◌, Result}
+use Rattle.std.proofs.Common.{Ok, Err, refl, sym, ◌∙◌, ap}
 use Rattle.std.proofs.lemmas.List.{length-map}
+use Rattle.bridge_io.proofs.AndThen.{steps_of}
+use Rattle.bridge_io.specs.Answer.{and_then}
 use Rattle.bridge_io.specs.declared.media.Kind.{Kind}
 use Rattle.bridge_io.specs.declared.media.Kind.TheVariants.{Video, Audio, Text}
 use Rattle.bridge_io.specs.Outside.{Files}
@@ -8,8 +11,6 @@ use Rattle.presentation.specs.declared.fault.PresentationFault.TheVariants.{Limi
 use Rattle.presentation.specs.declared.track.Track.{Track}
 use Rattle.presentation.specs.Presented.{Presented}
 use Rattle.presentation.specs.Rows.{in_order, is_of, track_of}
-use Rattle.presentation.specs.Told.{and_then}
-use Rattle.presentation.proofs.Filling.{steps_of}
 use Rattle.index_parts.specs.declared.fault.IndexFault.{IndexFault}
 use Rattle.index_parts.specs.declared.fault.IndexFault.TheVariants.{Presentation}
 use Rattle.index_parts.specs.declared.located.Listed.{Listed}

@@ -1,5 +1,6 @@
 -- The presentation of a Period, made track by track, where contents past the limit of segments aren't kept.
 use Rattle.std.specs.Prelude.{ℕ, ◌+◌, ◌-◌, ◌^◌, ◌==◌, min, nat_lt, List, [], ◌∷◌, ◌++◌, length, map, if◌then◌else◌, Result, Ok, Err}
+use Rattle.bridge_io.specs.Answer.{and_then}
 use Rattle.bridge_io.specs.declared.media.Kind.{Kind}
 use Rattle.bridge_io.specs.declared.media.Kind.TheVariants.{Video, Audio, Text}
 use Rattle.bridge_io.specs.Outside.{Files}
@@ -8,7 +9,6 @@ use Rattle.presentation.specs.declared.parts.Content.{Content}
 use Rattle.presentation.specs.declared.track.Track.{Track}
 use Rattle.presentation.specs.Presented.{Presented}
 use Rattle.presentation.specs.Rows.{in_order, is_of, track_of}
-use Rattle.presentation.specs.Told.{and_then}
 use Rattle.index_parts.specs.declared.fault.IndexFault.{IndexFault}
 use Rattle.index_parts.specs.declared.fault.IndexFault.TheVariants.{Presentation}
 use Rattle.index_parts.specs.declared.located.Listed.{Listed}

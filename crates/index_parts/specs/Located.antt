@@ -1,5 +1,6 @@
 -- What an MPD tells of a media file with an index inside, and what a Representation has by it: ISO/IEC 23009-1, 5.3.9.2.
 use Rattle.std.specs.Prelude.{ℕ, nat_lt, List, length, if◌then◌else◌, Option, Some, None, Result, Ok, Err}
+use Rattle.bridge_io.specs.Answer.{and_then}
 use Rattle.bridge_io.specs.Outside.{Files}
 use Rattle.box_reader.specs.Parts.{part_of}
 use Rattle.segment_index.specs.Index.{Index}
@@ -11,7 +12,7 @@ use Rattle.timeline.specs.Names.{referred}
 use Rattle.mpd_levels.specs.declared.initialization.Initialization.{Initialization}
 use Rattle.mpd_rules.specs.declared.rows.Description.{Description}
 use Rattle.mpd_rules.specs.Indexes.{Index as IndexTold}
-use Rattle.presentation.specs.Told.{and_then, part_with, told_as}
+use Rattle.presentation.specs.Told.{part_with, told_as}
 use Rattle.index_parts.specs.declared.fault.FileFault.TheVariants.{Absent}
 use Rattle.index_parts.specs.declared.fault.IndexFault.{IndexFault}
 use Rattle.index_parts.specs.declared.fault.IndexFault.TheVariants.{OutsideBase, TooLong, File}

@@ -1,5 +1,6 @@
 -- The civil date and time of an instant, found by day numbers alone.
-use Rattle.std.proofs.Common.{◌≡◌, ℕ, zero, suc, ◌-◌, ◌/◌, ◌%◌, ◌<◌, ◌≤◌, inl, inr, Bool, true, false, not, refl, sym, subst, ◌∙◌, arith, ℤ, pos, neg_ℤ, negsuc, ◌+ℤ◌, ◌-ℤ◌, ◌*ℤ◌, ◌<ℤ◌, ◌≤ℤ◌, int_lt, unsigned_abs}
+use Rattle.std.proofs.Common.{◌≡◌, ℕ, zero, suc, ◌-◌, ◌/◌, ◌%◌, ◌<◌, ◌≤◌, inl, inr, Bool, true, false, not, refl, sym, subst, ◌∙◌, arith, ℤ}
+use Rattle.std.proofs.Common.{pos, neg_ℤ, negsuc, ◌+ℤ◌, ◌-ℤ◌, ◌*ℤ◌, ◌<ℤ◌, ◌≤ℤ◌, int_lt, unsigned_abs}
 use Rattle.std.proofs.Math.Numerals.{add-one}
 use Rattle.std.specs.Int.{int_div_euclid, int_rem_euclid}
 use Rattle.std.proofs.lemmas.Bool.{cases_lt, false≢true}
@@ -13,7 +14,8 @@ use Rattle.jiff_core.specs.Time.{time_nanos}
 use Rattle.jiff_core.specs.DateTime.{civil_nanos}
 use Rattle.jiff_core.proofs.CalendarLemmas.{days_in_month_bounds}
 use Rattle.jiff_core.proofs.SignedLemmas.{signed_arith}
-use Rattle.jiff_core.proofs.DateLemmas.{epoch_day-lt, epoch_day-ordinal, days_from_civil-day, days_from_civil-next_month, days_from_civil-next_year}
+use Rattle.jiff_core.proofs.DateLemmas.{epoch_day-lt, epoch_day-ordinal, days_from_civil-day, days_from_civil-next_month}
+use Rattle.jiff_core.proofs.DateLemmas.{days_from_civil-next_year}
 use Rattle.jiff_core.proofs.DateTimeLemmas.{civil_nanos-parts, epoch_day-civil_nanos, time_nanos_bound}
 use Rattle.iso_time.specs.Laws.{CalendarDaysHaveDates, IsCalendarDay}
 use Rattle.iso_time.proofs.DigitLemmas.{by_bool}
@@ -22,13 +24,15 @@ use Rattle.iso_time.specs.Civil.{last_passing, year_of, month_of, day_of, civil_
 use Rattle.iso_time.specs.Instant.{IsWritable, IsReadable}
 
 -- the last number that passes
-last_passing-is : (p : ℕ → Bool) (limit k : ℕ) → k ≤ limit → p k ≡ true → ((j : ℕ) → k < j → j ≤ limit → p j ≡ false) → last_passing p limit ≡ k
+last_passing-is : (p : ℕ → Bool) (limit k : ℕ) → k ≤ limit → p k ≡ true → ((j : ℕ) → k < j → j ≤ limit → p j ≡ false)
+    → last_passing p limit ≡ k
 unfolding last_passing
 last_passing-is p zero k h passes above = omega arith
 last_passing-is p (suc n) k h passes above =
     elim (cases_lt n k) [
       | inl last ↦ let same : k ≡ suc n = omega arith in rw (rw same at passes) (sym same)
-      | inr below ↦ rw (above (suc n) (omega arith) (omega arith)) (last_passing-is p n k below passes (λ j more least. above j more (omega arith)))
+      | inr below ↦ rw (above (suc n) (omega arith) (omega arith))
+          (last_passing-is p n k below passes (λ j more least. above j more (omega arith)))
     ]
 
 last_passing-le : (p : ℕ → Bool) (limit : ℕ) → last_passing p limit ≤ limit
@@ -38,8 +42,8 @@ last_passing-le p (suc n) =
     by_bool (p (suc n)) (λ t. rw t (omega arith)) (λ f. rw f (omega (arith, last_passing-le p n)))
 
 -- the first day of a month
-first_of : (y m : ℕ) → y ≤ 9999 → 1 ≤ m → m ≤ 12 → Date
-first_of y m h low high = record {
+first_day : (y m : ℕ) → y ≤ 9999 → 1 ≤ m → m ≤ 12 → Date
+first_day y m h low high = record {
   year = pos y;
   month = m;
   day = 1;
@@ -56,32 +60,36 @@ year_began d y e =
 
 day_in_month : (d : Date) (y : ℕ) → d.year ≡ pos y → epoch_day d +ℤ pos 1 ≡ days_from_civil (pos y) d.month 1 +ℤ pos d.day
 day_in_month d y e =
-    subst (λ z. epoch_day d +ℤ pos 1 ≡ days_from_civil z d.month 1 +ℤ pos d.day) e (days_from_civil-day d.year d.month d.day 1 d.day_in.0 (omega arith))
+    subst (λ z. epoch_day d +ℤ pos 1 ≡ days_from_civil z d.month 1 +ℤ pos d.day) e
+    (days_from_civil-day d.year d.month d.day 1 d.day_in.0 (omega arith))
 
 -- and before a later one begins
 year_of-is : (d : Date) (y : ℕ) → d.year ≡ pos y → year_of (epoch_day d) ≡ y
-unfolding year_of first_of
+unfolding year_of first_day
 year_of-is d y e =
-    last_passing-is (λ year. not (int_lt (epoch_day d) (days_from_civil (pos year) 1 1))) 9999 y (omega (arith, signed_arith, d.year_in)) (not_before _ _ (year_began d y e))
-    (λ j more least. before _ _ (epoch_day-lt d (first_of j 1 least (omega arith) (omega arith)) (inl (omega (arith, signed_arith, e)))))
+    last_passing-is (λ year. not (int_lt (epoch_day d) (days_from_civil (pos year) 1 1))) 9999 y (omega (arith, signed_arith, d.year_in))
+    (not_before _ _ (year_began d y e))
+    (λ j more least. before _ _ (epoch_day-lt d (first_day j 1 least (omega arith) (omega arith)) (inl (omega (arith, signed_arith, e)))))
 
 month_of-is : (d : Date) (y : ℕ) → d.year ≡ pos y → month_of y (epoch_day d) ≡ d.month
-unfolding month_of first_of
+unfolding month_of first_day
 month_of-is d y e =
     let limit : y ≤ 9999 = omega (arith, signed_arith, d.year_in) in
     let began : days_from_civil (pos y) d.month 1 ≤ℤ epoch_day d = omega (arith, signed_arith, day_in_month d y e, d.day_in.0) in
     last_passing-is (λ month. not (int_lt (epoch_day d) (days_from_civil (pos y) month 1))) 12 d.month d.month_in.1 (not_before _ _ began)
-    (λ j more least. before _ _ (epoch_day-lt d (first_of y j limit (omega arith) least) (inr (e, inl more))))
+    (λ j more least. before _ _ (epoch_day-lt d (first_day y j limit (omega arith) least) (inr (e, inl more))))
 
 day_of-is : (d : Date) (y : ℕ) → d.year ≡ pos y → day_of y d.month (epoch_day d) ≡ d.day
 day_of-is d y e =
-    let since : epoch_day d -ℤ days_from_civil (pos y) d.month 1 ≡ pos (d.day - 1) = omega (arith, signed_arith, day_in_month d y e, d.day_in.0) in
+    let since : epoch_day d -ℤ days_from_civil (pos y) d.month 1 ≡ pos (d.day - 1) =
+    omega (arith, signed_arith, day_in_month d y e, d.day_in.0) in
     rw since (omega (arith, d.day_in.0))
 
 -- the time of day is what the days leave
 rest_of : (dt : DateTime) → unsigned_abs (int_rem_euclid (civil_nanos dt) day_nanos) ≡ time_nanos dt.time
 rest_of dt =
-    let rest : int_rem_euclid (civil_nanos dt) day_nanos ≡ pos (time_nanos dt.time) = omega (arith, signed_arith, civil_nanos-parts dt, time_nanos_bound dt.time) in
+    let rest : int_rem_euclid (civil_nanos dt) day_nanos ≡ pos (time_nanos dt.time) =
+    omega (arith, signed_arith, civil_nanos-parts dt, time_nanos_bound dt.time) in
     rw rest refl
 
 clock_parts : (t : Time) → (time_nanos t / 3_600_000_000_000 ≡ t.hour) × (time_nanos t / 60_000_000_000 % 60 ≡ t.minute)
@@ -93,10 +101,22 @@ pub instant_text-civil : (dt : DateTime) (y : ℕ) → dt.date.year ≡ pos y �
 unfolding instant_text
 instant_text-civil dt y e =
     let t = clock_parts dt.time in
-    rw (← epoch_day-civil_nanos dt, rest_of dt, year_of-is dt.date y e, month_of-is dt.date y e, day_of-is dt.date y e, e, t.0, t.1, t.2, t.3) refl
+    rw (
+      ← epoch_day-civil_nanos dt,
+      rest_of dt,
+      year_of-is dt.date y e,
+      month_of-is dt.date y e,
+      day_of-is dt.date y e,
+      e,
+      t.0,
+      t.1,
+      t.2,
+      t.3,
+    ) refl
 
 -- the last number that passes does so, and the next one doesn't
-last_passing-found : (p : ℕ → Bool) (limit k : ℕ) → k ≤ limit → p k ≡ true → (k ≤ last_passing p limit) × (last_passing p limit ≤ limit) × (p (last_passing p limit) ≡ true)
+last_passing-found : (p : ℕ → Bool) (limit k : ℕ) → k ≤ limit → p k ≡ true → (k ≤ last_passing p limit) × (last_passing p limit ≤ limit)
+    × (p (last_passing p limit) ≡ true)
 unfolding last_passing
 last_passing-found p zero k h passes = let none : k ≡ 0 = omega arith in (omega arith, omega arith, rw none at passes)
 last_passing-found p (suc n) k h passes =
@@ -131,15 +151,26 @@ unsigned (pos n) h = refl
 unsigned (negsuc n) h = absurd (omega (arith, signed_arith))
 
 -- from the year 0 on there is a number of the year
-pub year_from_writable : (dt : DateTime) (nanos : ℤ) → civil_nanos dt ≡ nanos → IsWritable nanos → dt.date.year ≡ pos (unsigned_abs dt.date.year)
-unfolding first_of
+pub year_from_writable : (dt : DateTime) (nanos : ℤ) → civil_nanos dt ≡ nanos → IsWritable nanos
+    → dt.date.year ≡ pos (unsigned_abs dt.date.year)
+unfolding first_day
 year_from_writable dt nanos e h =
     unsigned _ (by_lt_z dt.date.year (pos 0)
-    (λ lt. absurd (omega (arith, signed_arith, h, e, civil_nanos-parts dt, time_nanos_bound dt.time, year_zero, epoch_day-lt dt.date (first_of 0 1 (omega arith) (omega arith) (omega arith)) (inl lt))))
+    (λ lt. absurd (omega (
+      arith,
+      signed_arith,
+      h,
+      e,
+      civil_nanos-parts dt,
+      time_nanos_bound dt.time,
+      year_zero,
+      epoch_day-lt dt.date (first_day 0 1 (omega arith) (omega arith) (omega arith)) (inl lt),
+    )))
     (λ ge. ge))
 
 -- the year and the month of a day begin by then, and the next ones don't
-year_found : (day : ℤ) → IsCalendarDay day → (year_of day ≤ 9999) × (days_from_civil (pos (year_of day)) 1 1 ≤ℤ day) × (day <ℤ days_from_civil (pos (suc (year_of day))) 1 1)
+year_found : (day : ℤ) → IsCalendarDay day → (year_of day ≤ 9999) × (days_from_civil (pos (year_of day)) 1 1 ≤ℤ day)
+    × (day <ℤ days_from_civil (pos (suc (year_of day))) 1 1)
 unfolding year_of
 year_found day h =
     let p = λ (year : ℕ). not (int_lt day (days_from_civil (pos year) 1 1)) in
@@ -196,7 +227,8 @@ civil_date day h =
     )
 
 -- the days and the rest of an instant
-pub day_split : (nanos : ℤ) → (nanos ≡ int_div_euclid nanos day_nanos *ℤ day_nanos +ℤ pos (unsigned_abs (int_rem_euclid nanos day_nanos))) × (unsigned_abs (int_rem_euclid nanos day_nanos) < 86_400_000_000_000)
+pub day_split : (nanos : ℤ) → (nanos ≡ int_div_euclid nanos day_nanos *ℤ day_nanos +ℤ pos (unsigned_abs (int_rem_euclid nanos day_nanos)))
+    × (unsigned_abs (int_rem_euclid nanos day_nanos) < 86_400_000_000_000)
 day_split nanos = omega (arith, signed_arith)
 
 pub readable_day : (nanos : ℤ) → IsReadable nanos → IsCalendarDay (int_div_euclid nanos day_nanos)

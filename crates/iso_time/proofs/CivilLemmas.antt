@@ -1,5 +1,6 @@
 -- Dates, times and offsets that exist, and the nanoseconds that they name.
-use Rattle.std.proofs.Common.{◌≡◌, ◌&&◌, ◌⊎◌, inl, inr, nat_le, nat_lt, Ok, Err, true, false, not, refl, sym, ap, ◌∙◌, arith, ℤ, pos, neg_ℤ, ◌-ℤ◌, ◌*ℤ◌, ◌<ℤ◌, ◌≤ℤ◌, int_lt, to_z, of_z}
+use Rattle.std.proofs.Common.{◌≡◌, ◌&&◌, ◌⊎◌, inl, inr, nat_le, nat_lt, Ok, Err, true, false, not, refl, sym, ap, ◌∙◌, arith, ℤ, pos, neg_ℤ}
+use Rattle.std.proofs.Common.{◌-ℤ◌, ◌*ℤ◌, ◌<ℤ◌, ◌≤ℤ◌, int_lt, to_z, of_z}
 use Rattle.std.specs.Int.{w32, w128}
 use Rattle.std.proofs.lemmas.Bool.Decides.{nat_tests}
 use Rattle.std.proofs.lemmas.Bool.{and_parts, and_from, false≢true, leb-true, ltb-true}
@@ -13,7 +14,8 @@ use Rattle.jiff_core.proofs.SignedLemmas.{signed_arith}
 use Rattle.jiff_core.proofs.DateTimeLemmas.{civil_nanos-parts}
 use Rattle.iso_time.specs.declared.instant.Offset.{Offset}
 use Rattle.iso_time.specs.declared.instant.Fields.{Fields}
-use Rattle.iso_time.specs.Instant.{IsCivil, is_civil, IsOffset, is_offset, AreShort, civil_nanos, Exists, IsReadable, is_readable, instant_nanos, answer_of}
+use Rattle.iso_time.specs.Instant.{IsCivil, is_civil, IsOffset, is_offset, AreShort, civil_nanos, Exists, IsReadable, is_readable}
+use Rattle.iso_time.specs.Instant.{instant_nanos, answer_of}
 use Rattle.iso_time.specs.declared.instant.InstantFault.TheVariants.{Date, Range}
 use Rattle.iso_time.proofs.DigitLemmas.{by_bool}
 
@@ -42,7 +44,17 @@ IsCivil-true f short h =
     let h4 = and_parts _ (nat_le f.day (days_in_month (pos f.year) f.month)) h5.0 in
     let h3 = and_parts _ (nat_le 1 f.day) h4.0 in
     let h2 = and_parts (nat_le 1 f.month) (nat_le f.month 12) h3.0 in
-    omega (arith, signed_arith, leb-true _ _ h2.0, leb-true _ _ h2.1, leb-true _ _ h3.1, leb-true _ _ h4.1, ltb-true _ _ h5.1, ltb-true _ _ h6.1, ltb-true _ _ h7.1)
+    omega (
+      arith,
+      signed_arith,
+      leb-true _ _ h2.0,
+      leb-true _ _ h2.1,
+      leb-true _ _ h3.1,
+      leb-true _ _ h4.1,
+      ltb-true _ _ h5.1,
+      ltb-true _ _ h6.1,
+      ltb-true _ _ h7.1,
+    )
 
 pub is_offset-true : (o : Offset) → IsOffset o → is_offset o ≡ true
 is_offset-true o h = grind (arith, nat_tests)
@@ -87,7 +99,8 @@ answer_of-missing f short h =
     by_bool (is_civil f && is_offset f.offset) (λ t. absurd (h (Exists-true f short t))) (λ t. rw t refl)
 
 -- what jiff's clock shows is what the fields say
-pub civil_nanos-is : (f : Fields) (dt : DateTime) → IsYmd (pos f.year) (pos f.month) (pos f.day) dt.date → IsHms (pos f.hour) (pos f.minute) (pos f.second) (pos f.nanos) dt.time → jiff_nanos dt ≡ civil_nanos f
+pub civil_nanos-is : (f : Fields) (dt : DateTime) → IsYmd (pos f.year) (pos f.month) (pos f.day) dt.date
+    → IsHms (pos f.hour) (pos f.minute) (pos f.second) (pos f.nanos) dt.time → jiff_nanos dt ≡ civil_nanos f
 civil_nanos-is f dt ymd hms =
     let month : dt.date.month ≡ f.month = omega (arith, signed_arith, ymd.1) in
     let day : dt.date.day ≡ f.day = omega (arith, signed_arith, ymd.2) in
@@ -95,5 +108,6 @@ civil_nanos-is f dt ymd hms =
 
 -- the difference that the code computes, where each step fits
 pub local-ahead : (local ahead : ℤ) → IsCivilNanos local → IsWithin 53_940 ahead
-    → to_z w128 (of_z w128 (to_z w128 (of_z w128 local) -ℤ to_z w128 (of_z w128 (to_z w128 (of_z w128 (to_z w32 (of_z w32 ahead))) *ℤ pos 1_000_000_000)))) ≡ local -ℤ ahead *ℤ pos 1_000_000_000
+    → to_z w128 (of_z w128 (to_z w128 (of_z w128 local) -ℤ to_z w128
+    (of_z w128 (to_z w128 (of_z w128 (to_z w32 (of_z w32 ahead))) *ℤ pos 1_000_000_000)))) ≡ local -ℤ ahead *ℤ pos 1_000_000_000
 local-ahead local ahead b s = omega (arith, signed_arith)

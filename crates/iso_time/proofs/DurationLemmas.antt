@@ -1,45 +1,55 @@
 -- A duration's parts are read from its text, and from nothing else.
-use Rattle.std.proofs.Common.{◌≡◌, ℕ, ◌==◌, ◌&&◌, ◌^◌, nat_le, nat_lt, ◌↔◌, false, List, [], ◌∷◌, ◌++◌, drop, Option, None, Some, IfSome, Result, Ok, Err, eq-eqb, eqb-true, ne_eqb, arith, ◌<◌, refl, sym, ap, subst, ◌∙◌, append_assoc}
+use Rattle.std.proofs.Common.{◌≡◌, ℕ, ◌==◌, ◌&&◌, ◌^◌, nat_le, nat_lt, ◌↔◌, false, List, [], ◌∷◌, ◌++◌, drop, Option, None, Some, IfSome}
+use Rattle.std.proofs.Common.{Result, Ok, Err, eq-eqb, eqb-true, ne_eqb, arith, ◌<◌, refl, sym, ap, subst, ◌∙◌, append_assoc}
 use Rattle.std.proofs.lemmas.List.{drop_at}
 use Rattle.std.proofs.lemmas.Option.{option_and_then_some}
 use Rattle.std.proofs.lemmas.Bool.{ltb-true, ltb-false, lt-ltb, le-ltb, false≢true}
 use Rattle.std.specs.Option.{option_map_or}
 use Rattle.std.specs.List.{prefix_len}
 use Rattle.std.specs.Char.{is_ascii_digit}
-use Rattle.iso_time.specs.Digits.{run_at, after_mark, before_mark, fraction_at, optional_text, fraction_text, optional_rest}
-use Rattle.iso_time.specs.Duration.{SecondsParts, ClockParts, DurationParts, IsNumber, IsSeconds, IsClock, IsDuration, IsDurationText, part_text, seconds_text, clock_text, parts_text, has_clock, has_part, part_at, seconds_of, clock_of, parts_of, months_of, nanos_of, answer_of, duration_of, DenotesDuration}
+use Rattle.iso_time.specs.Digits.{leading_digits, after_mark, before_mark, fraction_at, optional_text, fraction_text, optional_rest}
+use Rattle.iso_time.specs.Duration.{SecondsParts, ClockParts, DurationParts, IsNumber, IsSeconds, IsClock, IsDuration, IsDurationText}
+use Rattle.iso_time.specs.Duration.{part_text, seconds_text, clock_text, parts_text, has_clock, has_part, part_at, seconds_of, clock_of}
+use Rattle.iso_time.specs.Duration.{parts_of, months_of, nanos_of, answer_of, duration_of, DenotesDuration}
 use Rattle.iso_time.specs.declared.duration.DurationFault.{DurationFault}
 use Rattle.iso_time.specs.declared.duration.DurationFault.TheVariants.{Shape, Calendar, Range}
 use Rattle.iso_time.specs.Laws.{DurationsHaveOneSpelling, DurationsAreDenoted}
 use Rattle.iso_time.proofs.DigitLemmas.{by_bool}
-use Rattle.iso_time.proofs.ReadingLemmas.{NoDigit, prefix_len-run, run_at-run, run_at-found, after_mark-mark, after_mark-found, before_mark-mark, before_mark-found, found_or_text-cases, fraction_at-text, fraction_at-found, value_at_end-found, value_if-found, optional_rest-text, optional_rest-found, none_some, some_same}
+use Rattle.iso_time.proofs.ReadingLemmas.{NoDigit, prefix_len-run, leading_digits-run, leading_digits-found, after_mark-mark}
+use Rattle.iso_time.proofs.ReadingLemmas.{after_mark-found, before_mark-mark, before_mark-found, found_or_text-cases, fraction_at-text}
+use Rattle.iso_time.proofs.ReadingLemmas.{fraction_at-found, value_at_end-found, value_if-found, optional_rest-text, optional_rest-found}
+use Rattle.iso_time.proofs.ReadingLemmas.{none_some, some_same}
 
 -- the byte behind the digits at the front isn't this letter
 abbrev NotNext : ℕ → List ℕ → Type 0
 NotNext letter text = after_mark letter (drop (prefix_len is_ascii_digit text) text) ≡ None
 
-part_at-found : (letter : ℕ) (text : List ℕ) → (text ≡ optional_text (part_text letter) (part_at letter text).0 ++ (part_at letter text).1) × IfSome (part_at letter text).0 IsNumber
+part_at-found : (letter : ℕ) (text : List ℕ) → (text ≡ optional_text (part_text letter) (part_at letter text).0 ++ (part_at letter text).1)
+    × IfSome (part_at letter text).0 IsNumber
 unfolding part_at
 part_at-found letter text =
-    found_or_text-cases (λ r. (text ≡ optional_text (part_text letter) r.0 ++ r.1) × IfSome r.0 IsNumber) (before_mark letter (run_at 1 20 text)) text
+    found_or_text-cases (λ r. (text ≡ optional_text (part_text letter) r.0 ++ r.1) × IfSome r.0 IsNumber)
+    (before_mark letter (leading_digits 1 20 text)) text
     (λ none. (refl, tt))
-    (λ run is. let found = run_at-found 1 20 text (run.0, letter ∷ run.1) (before_mark-found letter _ run is) in
+    (λ run is. let found = leading_digits-found 1 20 text (run.0, letter ∷ run.1) (before_mark-found letter _ run is) in
     (found.0 ∙ sym (append_assoc run.0 (letter ∷ []) run.1), found.1))
 
 part_at-none : (letter : ℕ) (text : List ℕ) → NotNext letter text → part_at letter text ≡ (None, text)
-unfolding part_at run_at
+unfolding part_at leading_digits
 part_at-none letter text h =
     let len = prefix_len is_ascii_digit text in
     by_bool (nat_le 1 len && nat_le len 20) (λ t. rw (t, h) refl) (λ f. rw f refl)
 
-part_at-text : (letter : ℕ) (digits : Option (List ℕ)) (rest : List ℕ) → is_ascii_digit letter ≡ false → IfSome digits IsNumber → NotNext letter rest → part_at letter (optional_text (part_text letter) digits ++ rest) ≡ (digits, rest)
+part_at-text : (letter : ℕ) (digits : Option (List ℕ)) (rest : List ℕ) → is_ascii_digit letter ≡ false → IfSome digits IsNumber
+    → NotNext letter rest → part_at letter (optional_text (part_text letter) digits ++ rest) ≡ (digits, rest)
 unfolding part_at
 part_at-text letter None rest letter_is h next = part_at-none letter rest next
 part_at-text letter (Some ds) rest letter_is h next =
     let none : NoDigit (letter ∷ rest) = rw letter_is refl in
-    rw (append_assoc, before_mark-mark letter _ ds rest (run_at-run 1 20 ds (letter ∷ rest) h none)) refl
+    rw (append_assoc, before_mark-mark letter _ ds rest (leading_digits-run 1 20 ds (letter ∷ rest) h none)) refl
 
-NotNext-part : (letter other : ℕ) (digits : Option (List ℕ)) (rest : List ℕ) → (other == letter) ≡ false → is_ascii_digit other ≡ false → IfSome digits IsNumber → NotNext letter rest → NotNext letter (optional_text (part_text other) digits ++ rest)
+NotNext-part : (letter other : ℕ) (digits : Option (List ℕ)) (rest : List ℕ) → (other == letter) ≡ false → is_ascii_digit other ≡ false
+    → IfSome digits IsNumber → NotNext letter rest → NotNext letter (optional_text (part_text other) digits ++ rest)
 unfolding after_mark
 NotNext-part letter other None rest apart other_is h next = next
 NotNext-part letter other (Some ds) rest apart other_is h next =
@@ -54,14 +64,18 @@ seconds_of-text : (s : SecondsParts) → IsSeconds s → seconds_of (seconds_tex
 unfolding seconds_of after_mark
 seconds_of-text s h =
     let tail = optional_text fraction_text s.fraction ++ 83 ∷ [] in
-    rw (append_assoc, run_at-run 1 20 s.whole tail h.whole (no_digit-fraction s.fraction), fraction_at-text s.fraction (83 ∷ []) h.fraction refl refl) refl
+    rw (
+      append_assoc,
+      leading_digits-run 1 20 s.whole tail h.whole (no_digit-fraction s.fraction),
+      fraction_at-text s.fraction (83 ∷ []) h.fraction refl refl,
+    ) refl
 
 seconds_of-found : (text : List ℕ) (s : SecondsParts) → seconds_of text ≡ Some s → (text ≡ seconds_text s) × IsSeconds s
 unfolding seconds_of
 seconds_of-found text s h =
-    option_and_then_some _ (run_at 1 20 text) s h (λ whole run more.
+    option_and_then_some _ (leading_digits 1 20 text) s h (λ whole run more.
     option_and_then_some _ (after_mark 83 (fraction_at whole.1).1) s more (λ rest mark last.
-    let found = run_at-found 1 20 text whole run in
+    let found = leading_digits-found 1 20 text whole run in
     let fraction = fraction_at-found whole.1 in
     let front = optional_text fraction_text (fraction_at whole.1).0 in
     let end = value_at_end-found _ s rest last in
@@ -72,7 +86,7 @@ seconds_of-found text s h =
     )))
 
 seconds_of-nil : seconds_of [] ≡ None
-unfolding seconds_of run_at
+unfolding seconds_of leading_digits
 seconds_of-nil = refl
 
 clock_of-nil : clock_of [] ≡ None
@@ -88,12 +102,14 @@ unfolding after_mark
 NotNext-clock letter None apart = refl
 NotNext-clock letter (Some c) apart = rw apart refl
 
-NotNext-seconds : (letter : ℕ) (seconds : Option SecondsParts) → (46 == letter) ≡ false → (83 == letter) ≡ false → IfSome seconds IsSeconds → NotNext letter (optional_text seconds_text seconds)
+NotNext-seconds : (letter : ℕ) (seconds : Option SecondsParts) → (46 == letter) ≡ false → (83 == letter) ≡ false → IfSome seconds IsSeconds
+    → NotNext letter (optional_text seconds_text seconds)
 unfolding after_mark
 NotNext-seconds letter None point apart h = refl
 NotNext-seconds letter (Some s) point apart h =
     let tail = optional_text fraction_text s.fraction ++ 83 ∷ [] in
-    rw (append_assoc, prefix_len-run s.whole tail h.whole.ascii (no_digit-fraction s.fraction), drop_at s.whole tail _ refl) (after_fraction s.fraction) where
+    rw (append_assoc, prefix_len-run s.whole tail h.whole.ascii (no_digit-fraction s.fraction), drop_at s.whole tail _ refl)
+    (after_fraction s.fraction) where
       after_fraction : (fraction : Option (List ℕ)) → after_mark letter (optional_text fraction_text fraction ++ 83 ∷ []) ≡ None
       after_fraction None = rw apart refl
       after_fraction (Some ds) = rw point refl
@@ -109,7 +125,8 @@ clock_of-text c h =
       after_mark-mark,
       part_at-text 72 c.hours (minutes ++ seconds) refl h.hours (NotNext-part 72 77 c.minutes seconds refl refl h.minutes next),
       part_at-text 77 c.minutes seconds refl h.minutes (NotNext-seconds 77 c.seconds refl refl h.seconds),
-      optional_rest-text seconds_of seconds_text c.seconds seconds_of-nil (λ s is. seconds_of-text s (subst (λ o. IfSome o IsSeconds) is h.seconds)),
+      optional_rest-text seconds_of seconds_text c.seconds seconds_of-nil
+          (λ s is. seconds_of-text s (subst (λ o. IfSome o IsSeconds) is h.seconds)),
       h.some,
     ) refl
 
@@ -125,7 +142,8 @@ clock_of-found text c h =
     let front = optional_text (part_text 72) (part_at 72 rest).0 in
     let middle = optional_text (part_text 77) (part_at 77 (part_at 72 rest).1).0 in
     subst (λ c. (text ≡ clock_text c) × IsClock c) some.1 (
-      after_mark-found 84 text rest mark ∙ ap (λ t. 84 ∷ t) (hours.0 ∙ ap (λ t. front ++ t) (minutes.0 ∙ ap (λ t. middle ++ t) found.0) ∙ sym (append_assoc front middle _)),
+      after_mark-found 84 text rest mark ∙ ap (λ t. 84 ∷ t) (hours.0 ∙ ap (λ t. front ++ t) (minutes.0 ∙ ap (λ t. middle ++ t) found.0)
+          ∙ sym (append_assoc front middle _)),
       record { hours = hours.1; minutes = minutes.1; seconds = found.1; some = some.0 },
     )))
 
@@ -139,11 +157,13 @@ parts_of-text p h =
     let months = optional_text (part_text 77) p.months in
     let days = optional_text (part_text 68) p.days in
     let clock = optional_text clock_text p.clock in
-    let after_months = λ (letter : ℕ). λ (d : (68 == letter) ≡ false). λ (t : (84 == letter) ≡ false). NotNext-part letter 68 p.days clock d refl h.days (NotNext-clock letter p.clock t) in
+    let after_months = λ (letter : ℕ). λ (d : (68 == letter) ≡ false). λ (t : (84 == letter)
+    ≡ false). NotNext-part letter 68 p.days clock d refl h.days (NotNext-clock letter p.clock t) in
     rw (
       ← regrouped years months days clock,
       after_mark-mark,
-      part_at-text 89 p.years (months ++ (days ++ clock)) refl h.years (NotNext-part 89 77 p.months (days ++ clock) refl refl h.months (after_months 89 refl refl)),
+      part_at-text 89 p.years (months ++ (days ++ clock)) refl h.years
+          (NotNext-part 89 77 p.months (days ++ clock) refl refl h.months (after_months 89 refl refl)),
       part_at-text 77 p.months (days ++ clock) refl h.months (after_months 77 refl refl),
       part_at-text 68 p.days clock refl h.days (NotNext-clock 68 p.clock refl),
       optional_rest-text clock_of clock_text p.clock clock_of-nil (λ c is. clock_of-text c (subst (λ o. IfSome o IsClock) is h.clock)),
@@ -169,7 +189,8 @@ parts_of-found text p h =
       parts = record { years = years.1; months = months.1; days = days.1; clock = found.1; some = some.0 };
       spelled =
           after_mark-found 80 text rest mark
-          ∙ ap (λ t. 80 ∷ t) (years.0 ∙ ap (λ t. first ++ t) (months.0 ∙ ap (λ t. second ++ t) (days.0 ∙ ap (λ t. third ++ t) found.0)) ∙ regrouped first second third _);
+          ∙ ap (λ t. 80 ∷ t) (years.0 ∙ ap (λ t. first ++ t) (months.0 ∙ ap (λ t. second ++ t) (days.0 ∙ ap (λ t. third ++ t) found.0))
+          ∙ regrouped first second third _);
     })))
 
 pub parts_of-spelled : (text : List ℕ) (p : DurationParts) → IsDurationText text p → parts_of text ≡ Some p
@@ -213,5 +234,6 @@ denoted text answer =
     (λ e. subst (DenotesDuration text) e (duration_of-denotes text), duration_of-is text answer)
 
 -- so what equals it does too
-pub exactly : (text : List ℕ) (result : Result ℕ DurationFault) → result ≡ duration_of text → (answer : Result ℕ DurationFault) → (result ≡ answer) ↔ DenotesDuration text answer
+pub exactly : (text : List ℕ) (result : Result ℕ DurationFault) → result ≡ duration_of text → (answer : Result ℕ DurationFault)
+    → (result ≡ answer) ↔ DenotesDuration text answer
 exactly text result e answer = rw e (denoted text answer)

@@ -1,37 +1,48 @@
 -- An instant's parts are read from its text, and from nothing else.
-use Rattle.std.proofs.Common.{◌≡◌, ℕ, ◌==◌, ◌^◌, ◌↔◌, Bool, true, false, if◌then◌else◌, List, [], ◌∷◌, ◌++◌, length, Option, None, Some, IfSome, inl, inr, Result, Ok, Err, IfOk, eqb-true, arith, ◌<◌, refl, sym, ap, subst, ◌∙◌, append_assoc, append-nil, ℤ}
+use Rattle.std.proofs.Common.{◌≡◌, ℕ, ◌==◌, ◌^◌, ◌↔◌, Bool, true, false, if◌then◌else◌, List, [], ◌∷◌, ◌++◌, length, Option, None, Some}
+use Rattle.std.proofs.Common.{IfSome, inl, inr, Result, Ok, Err, IfOk, eqb-true, arith, ◌<◌, refl, sym, ap, subst, ◌∙◌, append_assoc}
+use Rattle.std.proofs.Common.{append-nil, ℤ}
 use Rattle.std.proofs.lemmas.Option.{option_and_then_some}
 use Rattle.std.specs.Option.{option_map_or}
 use Rattle.iso_time.specs.declared.instant.InstantFault.{InstantFault}
 use Rattle.iso_time.specs.declared.instant.InstantFault.TheVariants.{Shape, Date, Range}
 use Rattle.std.specs.Prelude.{option_map, unwrap_or}
-use Rattle.iso_time.specs.Digits.{IsRun, number_of, fraction_nanos, after_mark, before_mark, digits_at, fraction_at, optional_text, fraction_text}
-use Rattle.iso_time.specs.Instant.{Zone, unstated, utc, shifted, InstantParts, IsField, IsZone, IsInstant, IsInstantText, zone_text, parts_text, colon_or_text, colon_at, shift_of, zone_of, parts_of, fields_of, answer_of, instant_of, DenotesInstant, AreShort, IsReadable, instant_nanos}
+use Rattle.iso_time.specs.Digits.{AreDigits, number_of, fraction_nanos, after_mark, before_mark, digits_at, fraction_at, optional_text}
+use Rattle.iso_time.specs.Digits.{fraction_text}
+use Rattle.iso_time.specs.Instant.{Zone, unstated, utc, shifted, InstantParts, IsField, IsZone, IsInstant, IsInstantText, zone_text}
+use Rattle.iso_time.specs.Instant.{parts_text, colon_or_text, colon_at, shift_of, zone_of, parts_of, fields_of, answer_of, instant_of}
+use Rattle.iso_time.specs.Instant.{DenotesInstant, AreShort, IsReadable, instant_nanos}
 use Rattle.iso_time.specs.Laws.{InstantsHaveOneSpelling, InstantsAreDenoted}
 use Rattle.iso_time.proofs.DigitLemmas.{by_bool, number_of-lt, fraction_nanos-lt}
 use Rattle.iso_time.proofs.CivilLemmas.{cases_exists, cases_readable, answer_of-in_range, answer_of-out_of_range, answer_of-missing}
-use Rattle.iso_time.proofs.ReadingLemmas.{NoDigit, digits_at-run, digits_at-all, digits_at-found, after_mark-mark, after_mark-found, after_mark-digits, before_mark-mark, before_mark-found, fraction_at-text, fraction_at-found, value_at_end-found, none_some, some_same}
+use Rattle.iso_time.proofs.ReadingLemmas.{NoDigit, digits_at-run, digits_at-all, digits_at-found, after_mark-mark, after_mark-found}
+use Rattle.iso_time.proofs.ReadingLemmas.{after_mark-digits, before_mark-mark, before_mark-found, fraction_at-text, fraction_at-found}
+use Rattle.iso_time.proofs.ReadingLemmas.{value_at_end-found, none_some, some_same}
 
 -- `hh:mm` or `hhmm`
 abbrev shift_text : Bool → List ℕ → List ℕ → List ℕ
 shift_text colon hours minutes = hours ++ ((if colon then 58 ∷ [] else []) ++ minutes)
 
-colon_at-text : (colon : Bool) (minutes : List ℕ) → IsField 2 minutes → colon_at ((if colon then 58 ∷ [] else []) ++ minutes) ≡ (colon, minutes)
+colon_at-text : (colon : Bool) (minutes : List ℕ) → IsField 2 minutes → colon_at ((if colon then 58 ∷ [] else []) ++ minutes)
+    ≡ (colon, minutes)
 colon_at-text true minutes h = rw (after_mark-mark 58 minutes) refl
 colon_at-text false minutes h = rw (after_mark-digits 58 minutes refl h.ascii) refl
 
-shift_of-text : (behind colon : Bool) (hours minutes : List ℕ) → IsField 2 hours → IsField 2 minutes → shift_of behind (shift_text colon hours minutes) ≡ Some (shifted behind colon hours minutes)
+shift_of-text : (behind colon : Bool) (hours minutes : List ℕ) → IsField 2 hours → IsField 2 minutes
+    → shift_of behind (shift_text colon hours minutes) ≡ Some (shifted behind colon hours minutes)
 unfolding shift_of
 shift_of-text behind colon hours minutes h m =
     rw (digits_at-run 2 hours ((if colon then 58 ∷ [] else []) ++ minutes) h, colon_at-text colon minutes m, digits_at-all 2 minutes m) refl
 
 colon_at-found : (text : List ℕ) → text ≡ (if (colon_at text).0 then 58 ∷ [] else []) ++ (colon_at text).1
 colon_at-found text = by_mark (after_mark 58 text) refl where
-  by_mark : (r : Option (List ℕ)) → after_mark 58 text ≡ r → text ≡ (if (colon_or_text text r).0 then 58 ∷ [] else []) ++ (colon_or_text text r).1
+  by_mark : (r : Option (List ℕ)) → after_mark 58 text ≡ r → text ≡ (if (colon_or_text text r).0 then 58 ∷ [] else [])
+      ++ (colon_or_text text r).1
   by_mark None e = refl
   by_mark (Some rest) e = after_mark-found 58 text rest e
 
-shift_of-found : (behind : Bool) (text : List ℕ) (z : Zone) → shift_of behind text ≡ Some z → ((if behind then 45 else 43) ∷ text ≡ zone_text z) × IsZone z
+shift_of-found : (behind : Bool) (text : List ℕ) (z : Zone) → shift_of behind text ≡ Some z
+    → ((if behind then 45 else 43) ∷ text ≡ zone_text z) × IsZone z
 unfolding shift_of
 shift_of-found behind text z h =
     option_and_then_some _ (digits_at 2 text) z h (λ hours first more.
@@ -106,7 +117,8 @@ parts_of-text p h =
       zone_of-text p.zone h.zone,
     ) refl
 
-field-found : (mark width : ℕ) (text : List ℕ) (run : List ℕ × List ℕ) → before_mark mark (digits_at width text) ≡ Some run → (text ≡ run.0 ++ mark ∷ run.1) × IsField width run.0
+field-found : (mark width : ℕ) (text : List ℕ) (run : List ℕ × List ℕ) → before_mark mark (digits_at width text) ≡ Some run
+    → (text ≡ run.0 ++ mark ∷ run.1) × IsField width run.0
 field-found mark width text run h = digits_at-found width text (run.0, mark ∷ run.1) (before_mark-found mark _ run h)
 
 pub parts_of-found : (text : List ℕ) (p : InstantParts) → parts_of text ≡ Some p → IsInstantText text p
@@ -133,7 +145,8 @@ parts_of-found text p h =
     let after_month = mo.0 ∙ ap (λ t. month.0 ++ 45 ∷ t) (d.0 ∙ ap (λ t. day.0 ++ 84 ∷ t) after_hour) in
     subst (λ p. IsInstantText text p) (some_same last) (record {
       parts = record { year = y.1; month = mo.1; day = d.1; hour = h.1; minute = mi.1; second = s.1; fraction = f.1; zone = z.1 };
-      spelled = y.0 ∙ ap (λ t. year.0 ++ 45 ∷ t) after_month ∙ sym (regrouped year.0 (45 ∷ month.0) (45 ∷ day.0) (84 ∷ hour.0) (58 ∷ minute.0) (58 ∷ second.0) front (zone_text zone));
+      spelled = y.0 ∙ ap (λ t. year.0 ++ 45 ∷ t) after_month
+          ∙ sym (regrouped year.0 (45 ∷ month.0) (45 ∷ day.0) (84 ∷ hour.0) (58 ∷ minute.0) (58 ∷ second.0) front (zone_text zone));
     }))))))))
 
 pub parts_of-spelled : (text : List ℕ) (p : InstantParts) → IsInstantText text p → parts_of text ≡ Some p
@@ -147,7 +160,7 @@ number_below width ds h =
     let size : length ds ≡ width = omega (arith, h.enough, h.few) in
     rw size at (number_of-lt ds h.ascii)
 
-fraction_below : (fraction : Option (List ℕ)) → IfSome fraction (IsRun 1 30) → unwrap_or (option_map fraction_nanos fraction) 0 < 10 ^ 9
+fraction_below : (fraction : Option (List ℕ)) → IfSome fraction (AreDigits 1 30) → unwrap_or (option_map fraction_nanos fraction) 0 < 10 ^ 9
 fraction_below None h = omega arith
 fraction_below (Some ds) h = fraction_nanos-lt ds h.ascii
 
@@ -178,7 +191,8 @@ answer_of-denotes text p h =
 instant_of-denotes : (text : List ℕ) → DenotesInstant text (instant_of text)
 unfolding instant_of
 instant_of-denotes text = by_parts (parts_of text) refl where
-  by_parts : (r : Option InstantParts) → parts_of text ≡ r → DenotesInstant text (option_map_or (λ p. answer_of (fields_of p)) r (Err Shape))
+  by_parts : (r : Option InstantParts) → parts_of text ≡ r
+      → DenotesInstant text (option_map_or (λ p. answer_of (fields_of p)) r (Err Shape))
   by_parts None e = λ p h. none_some (sym e ∙ parts_of-spelled text p h)
   by_parts (Some p) e = answer_of-denotes text p (parts_of-found text p e)
 
@@ -205,7 +219,8 @@ denoted text answer =
     (λ e. subst (DenotesInstant text) e (instant_of-denotes text), instant_of-is text answer)
 
 -- so what equals it does too
-pub exactly : (text : List ℕ) (result : Result ℤ InstantFault) → result ≡ instant_of text → (answer : Result ℤ InstantFault) → (result ≡ answer) ↔ DenotesInstant text answer
+pub exactly : (text : List ℕ) (result : Result ℤ InstantFault) → result ≡ instant_of text → (answer : Result ℤ InstantFault)
+    → (result ≡ answer) ↔ DenotesInstant text answer
 exactly text result e answer = rw e (denoted text answer)
 
 pub readable : (text : List ℕ) (result : Result ℤ InstantFault) → result ≡ instant_of text → IfOk result IsReadable

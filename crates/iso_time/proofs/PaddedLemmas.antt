@@ -1,5 +1,6 @@
 -- Numbers written in a fixed number of digits, and fractions.
-use Rattle.std.proofs.Common.{◌≡◌, ℕ, zero, suc, ◌+◌, ◌-◌, ◌*◌, ◌/◌, ◌%◌, ◌^◌, ◌<◌, ◌≤◌, true, List, [], ◌∷◌, ◌++◌, length, take, drop, refl, sym, ap, ◌∙◌, inl, inr, arith, length-drop}
+use Rattle.std.proofs.Common.{◌≡◌, ℕ, zero, suc, ◌+◌, ◌-◌, ◌*◌, ◌/◌, ◌%◌, ◌^◌, ◌<◌, ◌≤◌, true, List, [], ◌∷◌, ◌++◌, length, take, drop}
+use Rattle.std.proofs.Common.{refl, sym, ap, ◌∙◌, inl, inr, arith, length-drop}
 use Rattle.std.specs.Char.{digit_value, is_ascii_digit}
 use Rattle.std.specs.Str.{IsAscii}
 use Rattle.std.specs.Str.Parse.{digits_value_after}
@@ -9,10 +10,11 @@ use Rattle.std.proofs.lemmas.Bool.{and_from, le-leb, cases_lt}
 use Rattle.std.proofs.lemmas.List.{take_all, take-append-drop}
 use Rattle.std.proofs.lemmas.Str.{digit_value_digit, IsAscii-append}
 use Rattle.std.proofs.lemmas.Str.Ascii.{IsAscii-cons, IsAscii-nil}
-use Rattle.iso_time.specs.Digits.{IsRun, number_of, fraction_nanos, padded_digits}
+use Rattle.exact_time.proofs.Decimals.{ten_pow-pos}
+use Rattle.iso_time.specs.Digits.{AreDigits, number_of, fraction_nanos, padded_digits}
 use Rattle.iso_time.specs.Civil.{moment_text}
 use Rattle.iso_time.specs.Laws.{FractionsAreRoundedDown}
-use Rattle.iso_time.proofs.DigitLemmas.{ten_pow-pos, number_of-lt, ascii_drop}
+use Rattle.iso_time.proofs.DigitLemmas.{number_of-lt, ascii_drop}
 use Rattle.iso_time.proofs.PlaceLemmas.{mod-places}
 
 places_digit : (d : ℕ) → d < 10 → digit_value (48 + d) ≡ d
@@ -25,7 +27,8 @@ number_after-padded_digits (suc w) n k =
     let d = n / 10 ^ w % 10 in
     let next : 10 ^ suc w ≡ 10 * 10 ^ w = omega (arith, pow-suc 10 w) in
     let whole : (k * 10 + d) * 10 ^ w + n % 10 ^ w ≡ k * 10 ^ suc w + n % 10 ^ suc w = rw (mod-places w n, next) (omega arith) in
-    ap (λ v. digits_value_after 10 (k * 10 + v) (padded_digits w n)) (places_digit d (omega arith)) ∙ number_after-padded_digits w n (k * 10 + d) ∙ whole
+    ap (λ v. digits_value_after 10 (k * 10 + v) (padded_digits w n)) (places_digit d (omega arith))
+    ∙ number_after-padded_digits w n (k * 10 + d) ∙ whole
 
 pub number_of-padded_digits : (w n : ℕ) → n < 10 ^ w → number_of (padded_digits w n) ≡ n
 number_of-padded_digits w n h = omega (arith, number_after-padded_digits w n 0, mod-eq_of_lt h)
@@ -33,12 +36,16 @@ number_of-padded_digits w n h = omega (arith, number_after-padded_digits w n 0, 
 is_digit : (d : ℕ) → d < 10 → is_ascii_digit (48 + d) ≡ true
 is_digit d h = and_from _ _ (le-leb 48 (48 + d) (omega arith)) (le-leb (48 + d) 57 (omega arith))
 
-pub IsRun-padded_digits : (w n : ℕ) → IsRun w w (padded_digits w n)
+pub AreDigits-padded_digits : (w n : ℕ) → AreDigits w w (padded_digits w n)
 unfolding padded_digits
-IsRun-padded_digits zero n = record { ascii = refl; enough = omega arith; few = omega arith }
-IsRun-padded_digits (suc w) n =
-    let rest = IsRun-padded_digits w n in
-    record { ascii = and_from _ _ (is_digit (n / 10 ^ w % 10) (omega arith)) rest.ascii; enough = omega (arith, rest.enough); few = omega (arith, rest.few) }
+AreDigits-padded_digits zero n = record { ascii = refl; enough = omega arith; few = omega arith }
+AreDigits-padded_digits (suc w) n =
+    let rest = AreDigits-padded_digits w n in
+    record {
+      ascii = and_from _ _ (is_digit (n / 10 ^ w % 10) (omega arith)) rest.ascii;
+      enough = omega (arith, rest.enough);
+      few = omega (arith, rest.few);
+    }
 
 -- a moment's text is ASCII
 padded_ascii : (w n : ℕ) → IsAscii (padded_digits w n)
@@ -47,13 +54,15 @@ padded_ascii zero n = IsAscii-nil
 padded_ascii (suc w) n = IsAscii-cons (48 + n / 10 ^ w % 10) (padded_digits w n) (omega arith) (padded_ascii w n)
 
 marked_ascii : (mark w n : ℕ) (front : List ℕ) → mark < 128 → IsAscii front → IsAscii (front ++ mark ∷ padded_digits w n)
-marked_ascii mark w n front h f = IsAscii-append front (mark ∷ padded_digits w n) f (IsAscii-cons mark (padded_digits w n) h (padded_ascii w n))
+marked_ascii mark w n front h f = IsAscii-append front (mark ∷ padded_digits w n) f
+    (IsAscii-cons mark (padded_digits w n) h (padded_ascii w n))
 
 pub moment_text-ascii : (year month day hour minute second millis : ℕ) → IsAscii (moment_text year month day hour minute second millis)
 unfolding moment_text
 moment_text-ascii year month day hour minute second millis =
     let date = marked_ascii 45 2 day _ (omega arith) (marked_ascii 45 2 month _ (omega arith) (padded_ascii 4 year)) in
-    let clock = marked_ascii 58 2 second _ (omega arith) (marked_ascii 58 2 minute _ (omega arith) (marked_ascii 84 2 hour _ (omega arith) date)) in
+    let clock = marked_ascii 58 2 second _ (omega arith) (marked_ascii 58 2 minute _ (omega arith)
+    (marked_ascii 84 2 hour _ (omega arith) date)) in
     IsAscii-append _ (90 ∷ []) (marked_ascii 46 3 millis _ (omega arith) clock) (IsAscii-cons 90 [] (omega arith) IsAscii-nil)
 
 -- ---- fractions
@@ -67,7 +76,8 @@ value_after-split k [] = omega arith
 value_after-split k (d ∷ ds) =
     let v = digit_value d in
     let next : 10 ^ suc (length ds) ≡ 10 * 10 ^ length ds = omega (arith, pow-suc 10 (length ds)) in
-    let whole : (k * 10 + v) * 10 ^ length ds + number_of ds ≡ k * 10 ^ suc (length ds) + ((0 + v) * 10 ^ length ds + number_of ds) = rw next (omega arith) in
+    let whole : (k * 10 + v) * 10 ^ length ds + number_of ds ≡ k * 10 ^ suc (length ds) + ((0 + v) * 10 ^ length ds + number_of ds) =
+    rw next (omega arith) in
     value_after-split (k * 10 + v) ds ∙ whole ∙ ap (λ n. k * 10 ^ suc (length ds) + n) (sym (value_after-split (0 + v) ds))
 
 pub fraction_floor : FractionsAreRoundedDown

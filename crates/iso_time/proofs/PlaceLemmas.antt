@@ -1,14 +1,15 @@
 -- The decimal places of a number: which are 0, and what they write.
-use Rattle.std.proofs.Common.{◌≡◌, ℕ, zero, suc, ◌+◌, ◌*◌, ◌/◌, ◌%◌, ◌^◌, ◌<◌, ◌≤◌, ◌==◌, ◌&&◌, Bool, true, false, if◌then◌else◌, List, [], ◌∷◌, ◌++◌, length, eq-eqb, ne_eqb, append-nil, append_assoc, refl, sym, ap, ◌∙◌, arith}
+use Rattle.std.proofs.Common.{◌≡◌, ℕ, zero, suc, ◌+◌, ◌*◌, ◌/◌, ◌%◌, ◌^◌, ◌<◌, ◌≤◌, ◌==◌, ◌&&◌, Bool, true, false, if◌then◌else◌, List, []}
+use Rattle.std.proofs.Common.{◌∷◌, ◌++◌, length, eq-eqb, ne_eqb, append-nil, append_assoc, refl, sym, ap, ◌∙◌, arith}
 use Rattle.std.proofs.Math.Nat.{pow-suc, mod-lt, mod-one}
 use Rattle.std.proofs.lemmas.Nat.{div-add-mod', mod-mul-add, mul-add-lt}
 use Rattle.std.proofs.lemmas.Bool.Decides.{nat_tests}
 use Rattle.std.proofs.lemmas.Bool.{false≢true}
 use Rattle.std.proofs.lemmas.Fmt.{length-decimal-le}
 use Rattle.std.specs.Fmt.{decimal}
+use Rattle.exact_time.proofs.Decimals.{ten_pow-pos}
 use Rattle.iso_time.specs.Digits.{padded_digits}
 use Rattle.iso_time.specs.Duration.{is_empty, without_zeros}
-use Rattle.iso_time.proofs.DigitLemmas.{ten_pow-pos}
 
 -- one more place
 mod-ten : (n p : ℕ) → 0 < p → n % (10 * p) ≡ (n / p % 10) * p + n % p
@@ -52,18 +53,21 @@ without_zeros-none w n h =
     nil_from_is_empty _ (is_empty-without_zeros w n ∙ eq-eqb _ _ h)
 
 -- and otherwise the first one is
-pub without_zeros-more : (k w n : ℕ) → k ≡ suc w → ¬ (n % 10 ^ k ≡ 0) → without_zeros (padded_digits k n) ≡ (48 + n / 10 ^ w % 10) ∷ without_zeros (padded_digits w n)
+pub without_zeros-more : (k w n : ℕ) → k ≡ suc w → ¬ (n % 10 ^ k ≡ 0) → without_zeros (padded_digits k n)
+    ≡ (48 + n / 10 ^ w % 10) ∷ without_zeros (padded_digits w n)
 unfolding padded_digits without_zeros
 without_zeros-more k w n e h =
     let some : is_empty (without_zeros (padded_digits (suc w) n)) ≡ false = is_empty-without_zeros (suc w) n ∙ ne_eqb _ _ (rw e at h) in
-    let test : ((48 + n / 10 ^ w % 10 == 48) && is_empty (without_zeros (padded_digits w n))) ≡ false = sym (is_empty-chosen _ _ _) ∙ some in
+    let test : ((48 + n / 10 ^ w % 10 == 48) && is_empty (without_zeros (padded_digits w n))) ≡ false = sym (is_empty-chosen _ _ _)
+    ∙ some in
     rw (e, test) refl
 
 -- a text written so far, and what is left to write
 pub written_end : (now left all : List ℕ) → left ≡ [] → now ++ left ≡ all → now ≡ all
 written_end now left all e h = sym (append-nil now) ∙ ap (λ x. now ++ x) (sym e) ∙ h
 
-pub written_more : (now next left rest all : List ℕ) (d : ℕ) → left ≡ d ∷ rest → now ++ left ≡ all → next ≡ now ++ d ∷ [] → next ++ rest ≡ all
+pub written_more : (now next left rest all : List ℕ) (d : ℕ) → left ≡ d ∷ rest → now ++ left ≡ all → next ≡ now ++ d ∷ []
+    → next ++ rest ≡ all
 written_more now next left rest all d e h n = rw (n, append_assoc) (rw e at h)
 
 -- the whole seconds of a duration have at most ten digits

@@ -1,5 +1,7 @@
 -- What is written is read again.
-use Rattle.std.proofs.Common.{◌≡◌, ℕ, suc, ◌+◌, ◌-◌, ◌*◌, ◌/◌, ◌%◌, ◌^◌, ◌<◌, ◌≤◌, ◌==◌, ◌&&◌, true, false, IsTrue, if◌then◌else◌, List, [], ◌∷◌, length, take, Option, None, Some, IfSome, Ok, eqb-true, refl, sym, ap, subst, ◌∙◌, arith, ℤ, pos, ◌+ℤ◌, ◌*ℤ◌, unsigned_abs}
+use Rattle.std.proofs.Common.{◌≡◌, ℕ, suc, ◌+◌, ◌-◌, ◌*◌, ◌/◌, ◌%◌, ◌^◌, ◌<◌, ◌≤◌, ◌==◌, ◌&&◌, true, false, IsTrue, if◌then◌else◌, List, []}
+use Rattle.std.proofs.Common.{◌∷◌, length, take, Option, None, Some, IfSome, Ok, eqb-true, refl, sym, ap, subst, ◌∙◌, arith, ℤ, pos, ◌+ℤ◌}
+use Rattle.std.proofs.Common.{◌*ℤ◌, unsigned_abs}
 use Rattle.std.specs.Int.{int_div_euclid, int_rem_euclid}
 use Rattle.std.specs.Prelude.{option_map, unwrap_or}
 use Rattle.std.specs.Fmt.{decimal}
@@ -11,11 +13,12 @@ use Rattle.std.proofs.lemmas.Bool.{and_parts, and_from, false≢true}
 use Rattle.std.proofs.lemmas.Str.Parse.{IsNumeralModel, numerals_by_value, tells_all_ascii_digits}
 use Rattle.std.proofs.lemmas.Fmt.{digits_decimal, digits_value-decimal, length-decimal-le, decimal_nonempty}
 use Rattle.std.proofs.lemmas.List.{take_all}
-use Rattle.iso_time.specs.Digits.{IsRun, number_of, fraction_nanos, padded_digits, optional_text, fraction_text}
+use Rattle.iso_time.specs.Digits.{AreDigits, number_of, fraction_nanos, padded_digits, optional_text, fraction_text}
 use Rattle.iso_time.specs.Duration.{DurationParts, is_empty, without_zeros, nanos_text, duration_text}
 use Rattle.iso_time.specs.Civil.{moment_text, instant_text, day_nanos, year_of, month_of, day_of}
 use Rattle.iso_time.specs.declared.instant.Fields.{Fields}
-use Rattle.iso_time.specs.Instant.{InstantParts, utc, IsInstantText, fields_of, AreShort, Exists, answer_of, instant_of, instant_nanos, IsReadable}
+use Rattle.iso_time.specs.Instant.{InstantParts, utc, IsInstantText, fields_of, AreShort, Exists, answer_of, instant_of, instant_nanos}
+use Rattle.iso_time.specs.Instant.{IsReadable}
 use Rattle.iso_time.specs.Laws.{DurationsAreReadAgain, InstantsAreReadAgain, IsDateOfDay, floor_millis}
 use Rattle.iso_time.proofs.DigitLemmas.{by_bool}
 use Rattle.jiff_core.proofs.SignedLemmas.{signed_arith}
@@ -25,7 +28,7 @@ use Rattle.jiff_core.specs.Time.{IsTime}
 use Rattle.jiff_core.proofs.CalendarLemmas.{days_in_month_bounds}
 use Rattle.iso_time.proofs.CivilLemmas.{answer_of-in_range}
 use Rattle.iso_time.proofs.InstantLemmas.{instant_of-spelled}
-use Rattle.iso_time.proofs.PaddedLemmas.{number_of-padded_digits, IsRun-padded_digits}
+use Rattle.iso_time.proofs.PaddedLemmas.{number_of-padded_digits, AreDigits-padded_digits}
 use Rattle.iso_time.proofs.PlaceLemmas.{is_empty-without_zeros}
 use Rattle.iso_time.proofs.DurationLemmas.{duration_of-is}
 
@@ -51,9 +54,11 @@ Trimmed-zero ds t = record { ascii = refl; few = omega arith; value = λ k. t.va
       let next : 10 ^ suc len ≡ 10 * 10 ^ len = omega (arith, pow-suc 10 len) in
       rw (places, others, next) (omega arith)
 
-Trimmed-cons : (d : ℕ) (ds trimmed : List ℕ) → is_ascii_digit d ≡ true → Trimmed ds trimmed → Trimmed (d ∷ ds) (if (d == 48) && is_empty trimmed then [] else (d ∷ trimmed))
+Trimmed-cons : (d : ℕ) (ds trimmed : List ℕ) → is_ascii_digit d ≡ true → Trimmed ds trimmed
+    → Trimmed (d ∷ ds) (if (d == 48) && is_empty trimmed then [] else (d ∷ trimmed))
 Trimmed-cons d ds [] digit t =
-    by_bool (d == 48) (λ zero_is. rw (zero_is, eqb-true d 48 zero_is) (Trimmed-zero ds t)) (λ other. rw other (Trimmed-keep d ds [] digit t))
+    by_bool (d == 48) (λ zero_is. rw (zero_is, eqb-true d 48 zero_is) (Trimmed-zero ds t))
+    (λ other. rw other (Trimmed-keep d ds [] digit t))
 Trimmed-cons d ds (e ∷ es) digit t =
     by_bool (d == 48) (λ zero_is. rw zero_is (Trimmed-keep d ds (e ∷ es) digit t)) (λ other. rw other (Trimmed-keep d ds (e ∷ es) digit t))
 
@@ -78,23 +83,28 @@ not_empty [] h = absurd (false≢true (sym h))
 not_empty (d ∷ ds) h = omega arith
 
 -- the fraction is one, and has these nanoseconds
-fraction_of-is : (nanos : ℕ) → nanos < 10 ^ 9 → IfSome (fraction_of nanos) (IsRun 1 30) × (unwrap_or (option_map fraction_nanos (fraction_of nanos)) 0 ≡ nanos)
+fraction_of-is : (nanos : ℕ) → nanos < 10 ^ 9 → IfSome (fraction_of nanos) (AreDigits 1 30)
+    × (unwrap_or (option_map fraction_nanos (fraction_of nanos)) 0 ≡ nanos)
 fraction_of-is nanos h = by_bool (nanos == 0) (λ none. rw none (tt, sym (eqb-true nanos 0 none))) (λ some. rw some (run some, value)) where
   ds : List ℕ
   ds = without_zeros (padded_digits 9 nanos)
 
   trimmed : Trimmed (padded_digits 9 nanos) ds
-  trimmed = Trimmed-without_zeros (padded_digits 9 nanos) (IsRun-padded_digits 9 nanos).ascii
+  trimmed = Trimmed-without_zeros (padded_digits 9 nanos) (AreDigits-padded_digits 9 nanos).ascii
 
-  run : (nanos == 0) ≡ false → IsRun 1 30 ds
+  run : (nanos == 0) ≡ false → AreDigits 1 30 ds
   run some =
       let same : nanos % 10 ^ 9 ≡ nanos = mod-eq_of_lt h in
       let more = not_empty ds (rw same at (is_empty-without_zeros 9 nanos) ∙ some) in
-      record { ascii = trimmed.ascii; enough = more; few = omega (arith, trimmed.few, (IsRun-padded_digits 9 nanos).few) }
+      record { ascii = trimmed.ascii; enough = more; few = omega (arith, trimmed.few, (AreDigits-padded_digits 9 nanos).few) }
 
   value : fraction_nanos ds ≡ nanos
   value =
-      let size : length (padded_digits 9 nanos) ≡ 9 = omega (arith, (IsRun-padded_digits 9 nanos).few, (IsRun-padded_digits 9 nanos).enough) in
+      let size : length (padded_digits 9 nanos) ≡ 9 = omega (
+        arith,
+        (AreDigits-padded_digits 9 nanos).few,
+        (AreDigits-padded_digits 9 nanos).enough,
+      ) in
       let whole : number_of (padded_digits 9 nanos) ≡ number_of ds * 10 ^ (9 - length ds) = rw size at (trimmed.value 0) in
       let all : take 9 ds ≡ ds = take_all 9 ds (omega (arith, trimmed.few)) in
       rw all (sym whole ∙ number_of-padded_digits 9 nanos h)
@@ -104,15 +114,23 @@ parts_for nanos = record {
   years = None;
   months = None;
   days = None;
-  clock = Some (record { hours = None; minutes = None; seconds = Some (record { whole = decimal (nanos / 10 ^ 9); fraction = fraction_of (nanos % 10 ^ 9) }) });
+  clock = Some (record {
+    hours = None;
+    minutes = None;
+    seconds = Some (record { whole = decimal (nanos / 10 ^ 9); fraction = fraction_of (nanos % 10 ^ 9) });
+  });
 }
 
 own_digits : IsNumeralModel (λ ds. all_ascii_digits ds ≡ true) number_of
 own_digits = numerals_by_value (λ ds. all_ascii_digits ds ≡ true) tells_all_ascii_digits
 
-decimal-run : (n : ℕ) → n < 10 ^ 10 → IsRun 1 20 (decimal n)
+decimal-run : (n : ℕ) → n < 10 ^ 10 → AreDigits 1 20 (decimal n)
 decimal-run n h =
-    record { ascii = digits_decimal own_digits n (omega arith); enough = decimal_nonempty n (omega arith); few = length-decimal-le 20 n (omega arith) (omega arith) (omega arith) }
+    record {
+      ascii = digits_decimal own_digits n (omega arith);
+      enough = decimal_nonempty n (omega arith);
+      few = length-decimal-le 20 n (omega arith) (omega arith) (omega arith);
+    }
 
 pub durations_again : DurationsAreReadAgain
 unfolding duration_text parts_for
@@ -127,7 +145,12 @@ durations_again nanos h =
           years = tt;
           months = tt;
           days = tt;
-          clock = record { hours = tt; minutes = tt; seconds = record { whole = decimal-run seconds (omega arith); fraction = fraction.0 }; some = refl };
+          clock = record {
+            hours = tt;
+            minutes = tt;
+            seconds = record { whole = decimal-run seconds (omega arith); fraction = fraction.0 };
+            some = refl;
+          };
           some = refl;
         };
         spelled = rw (nanos_text-fraction (nanos % 10 ^ 9)) refl;
@@ -165,17 +188,22 @@ moment_fields year month day hour minute second millis = record {
   offset = record { behind = false; hours = 0; minutes = 0 };
 }
 
-moment_text-spelled : (year month day hour minute second millis : ℕ) → IsInstantText (moment_text year month day hour minute second millis) (moment_parts year month day hour minute second millis)
+moment_text-spelled : (year month day hour minute second millis : ℕ)
+    → IsInstantText (moment_text year month day hour minute second millis) (moment_parts year month day hour minute second millis)
 unfolding moment_text moment_parts
 moment_text-spelled year month day hour minute second millis = record {
   parts = record {
-    year = IsRun-padded_digits 4 year;
-    month = IsRun-padded_digits 2 month;
-    day = IsRun-padded_digits 2 day;
-    hour = IsRun-padded_digits 2 hour;
-    minute = IsRun-padded_digits 2 minute;
-    second = IsRun-padded_digits 2 second;
-    fraction = record { ascii = (IsRun-padded_digits 3 millis).ascii; enough = omega (arith, (IsRun-padded_digits 3 millis).enough); few = omega (arith, (IsRun-padded_digits 3 millis).few) };
+    year = AreDigits-padded_digits 4 year;
+    month = AreDigits-padded_digits 2 month;
+    day = AreDigits-padded_digits 2 day;
+    hour = AreDigits-padded_digits 2 hour;
+    minute = AreDigits-padded_digits 2 minute;
+    second = AreDigits-padded_digits 2 second;
+    fraction = record {
+      ascii = (AreDigits-padded_digits 3 millis).ascii;
+      enough = omega (arith, (AreDigits-padded_digits 3 millis).enough);
+      few = omega (arith, (AreDigits-padded_digits 3 millis).few);
+    };
     zone = tt;
   };
   spelled = refl;
@@ -183,11 +211,12 @@ moment_text-spelled year month day hour minute second millis = record {
 
 millis-padded_digits : (millis : ℕ) → millis < 1000 → fraction_nanos (padded_digits 3 millis) ≡ millis * 10 ^ 6
 millis-padded_digits millis h =
-    let run = IsRun-padded_digits 3 millis in
+    let run = AreDigits-padded_digits 3 millis in
     let size : length (padded_digits 3 millis) ≡ 3 = omega (arith, run.enough, run.few) in
     rw (take_all 9 (padded_digits 3 millis) (omega (arith, run.few)), size, number_of-padded_digits 3 millis h) refl
 
-moment_fields-parts : (year month day hour minute second millis : ℕ) → AreShort (moment_fields year month day hour minute second millis) → millis < 1000
+moment_fields-parts : (year month day hour minute second millis : ℕ) → AreShort (moment_fields year month day hour minute second millis)
+    → millis < 1000
     → fields_of (moment_parts year month day hour minute second millis) ≡ moment_fields year month day hour minute second millis
 unfolding moment_parts moment_fields
 moment_fields-parts year month day hour minute second millis h small =
@@ -201,8 +230,10 @@ moment_fields-parts year month day hour minute second millis h small =
       millis-padded_digits millis small,
     ) refl
 
-moment_again : (year month day hour minute second millis : ℕ) → Exists (moment_fields year month day hour minute second millis) → day < 100 → millis < 1000
-    → (nanos : ℤ) → instant_nanos (moment_fields year month day hour minute second millis) ≡ nanos → IsReadable nanos → instant_of (moment_text year month day hour minute second millis) ≡ Ok nanos
+moment_again : (year month day hour minute second millis : ℕ) → Exists (moment_fields year month day hour minute second millis) → day < 100
+    → millis < 1000
+    → (nanos : ℤ) → instant_nanos (moment_fields year month day hour minute second millis) ≡ nanos → IsReadable nanos
+    → instant_of (moment_text year month day hour minute second millis) ≡ Ok nanos
 unfolding moment_fields
 moment_again year month day hour minute second millis exists day_is small nanos is readable =
     let f = moment_fields year month day hour minute second millis in
@@ -220,14 +251,19 @@ moment_again year month day hour minute second millis exists day_is small nanos 
     ∙ answer_of-in_range f exists (subst IsReadable (sym is) readable) ∙ ap Ok is
 
 -- the clock of a day, down to milliseconds
-clock_exists : (rest : ℕ) → rest < 86_400_000_000_000 → IsTime (pos (rest / 3_600_000_000_000)) (pos (rest / 60_000_000_000 % 60)) (pos (rest / 1_000_000_000 % 60)) (pos (rest / 1_000_000 % 1_000 * 10 ^ 6))
+clock_exists : (rest : ℕ) → rest < 86_400_000_000_000
+    → IsTime (pos (rest / 3_600_000_000_000)) (pos (rest / 60_000_000_000 % 60)) (pos (rest / 1_000_000_000 % 60))
+    (pos (rest / 1_000_000 % 1_000 * 10 ^ 6))
 clock_exists rest h = omega (arith, signed_arith)
 
-clock_millis : (rest : ℕ) → (rest / 3_600_000_000_000 * 3600 + rest / 60_000_000_000 % 60 * 60 + rest / 1_000_000_000 % 60) * 10 ^ 9 + rest / 1_000_000 % 1_000 * 10 ^ 6 ≡ rest / 1_000_000 * 1_000_000
+clock_millis : (rest : ℕ) → (rest / 3_600_000_000_000 * 3600 + rest / 60_000_000_000 % 60 * 60 + rest / 1_000_000_000 % 60) * 10 ^ 9
+    + rest / 1_000_000 % 1_000 * 10 ^ 6 ≡ rest / 1_000_000 * 1_000_000
 clock_millis rest = omega arith
 
-moment_value : (year month date : ℕ) (day nanos : ℤ) (rest : ℕ) → days_from_civil (pos year) month date ≡ day → nanos ≡ day *ℤ day_nanos +ℤ pos rest
-    → instant_nanos (moment_fields year month date (rest / 3_600_000_000_000) (rest / 60_000_000_000 % 60) (rest / 1_000_000_000 % 60) (rest / 1_000_000 % 1_000)) ≡ floor_millis nanos
+moment_value : (year month date : ℕ) (day nanos : ℤ) (rest : ℕ) → days_from_civil (pos year) month date ≡ day
+    → nanos ≡ day *ℤ day_nanos +ℤ pos rest
+    → instant_nanos (moment_fields year month date (rest / 3_600_000_000_000) (rest / 60_000_000_000 % 60) (rest / 1_000_000_000 % 60)
+    (rest / 1_000_000 % 1_000)) ≡ floor_millis nanos
 unfolding moment_fields
 moment_value year month date day nanos rest e split = rw (e, clock_millis) (omega (arith, signed_arith, split))
 

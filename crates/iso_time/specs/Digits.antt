@@ -1,12 +1,13 @@
 -- Runs of ASCII digits, and how a text begins with one.
-use Rattle.std.specs.Prelude.{ℕ, zero, suc, ◌+◌, ◌-◌, ◌*◌, ◌/◌, ◌%◌, ◌^◌, ◌≤◌, ◌==◌, ◌&&◌, nat_le, Bool, IsTrue, List, [], ◌∷◌, length, take, drop, Option, Some, None, option_and_then, option_map, if◌then◌else◌}
+use Rattle.std.specs.Prelude.{ℕ, zero, suc, ◌+◌, ◌-◌, ◌*◌, ◌/◌, ◌%◌, ◌^◌, ◌≤◌, ◌==◌, ◌&&◌, nat_le, Bool, IsTrue, List, [], ◌∷◌, length}
+use Rattle.std.specs.Prelude.{take, drop, Option, Some, None, option_and_then, option_map, if◌then◌else◌}
 use Rattle.std.specs.List.{prefix_len}
 use Rattle.std.specs.Char.{is_ascii_digit}
 use Rattle.std.specs.Str.{all_ascii_digits}
 use Rattle.std.specs.Str.Parse.{digits_value}
 
 -- ASCII digits, at least so many and at most so many
-pub record IsRun (least most : ℕ) (digits : List ℕ) : Type 0 where
+pub record AreDigits (least most : ℕ) (digits : List ℕ) : Type 0 where
   pub ascii : IsTrue (all_ascii_digits digits)
   pub enough : least ≤ length digits
   pub few : length digits ≤ most
@@ -76,8 +77,8 @@ abbrev pub number_found : Found (List ℕ) → Found ℕ
 number_found found = option_map (λ p. (number_of p.0, p.1)) found
 
 -- all the digits that the text begins with, where there are as many as asked
-unfoldable pub run_at : ℕ → ℕ → List ℕ → Found (List ℕ)
-run_at least most text =
+unfoldable pub leading_digits : ℕ → ℕ → List ℕ → Found (List ℕ)
+leading_digits least most text =
     let len = prefix_len is_ascii_digit text in
     if nat_le least len && nat_le len most then Some (take len text, drop len text) else None
 
@@ -90,4 +91,4 @@ before_mark mark found = do
 
 -- a point and one to thirty digits, where the text begins so
 unfoldable pub fraction_at : List ℕ → Option (List ℕ) × List ℕ
-fraction_at text = found_or_text (after_mark 46 text >>= run_at 1 30) text
+fraction_at text = found_or_text (after_mark 46 text >>= leading_digits 1 30) text

@@ -1,11 +1,13 @@
 -- Durations as XML Schema part 2, 3.2.6 writes them: `PnYnMnDTnHnMnS`.
 use Rattle.std.specs.Option.{option_map_or}
-use Rattle.std.specs.Prelude.{◌≡◌, ◌≢◌, ℕ, ◌+◌, ◌*◌, ◌/◌, ◌%◌, ◌^◌, ◌<◌, ◌≤◌, ◌==◌, ◌&&◌, ◌||◌, nat_lt, Bool, true, false, IsTrue, List, [], ◌∷◌, ◌++◌, Option, option_map, unwrap_or, is_some, IfSome, Result, Ok, Err, if◌then◌else◌}
+use Rattle.std.specs.Prelude.{◌≡◌, ◌≢◌, ℕ, ◌+◌, ◌*◌, ◌/◌, ◌%◌, ◌^◌, ◌<◌, ◌≤◌, ◌==◌, ◌&&◌, ◌||◌, nat_lt, Bool, true, false, IsTrue, List, []}
+use Rattle.std.specs.Prelude.{◌∷◌, ◌++◌, Option, option_map, unwrap_or, is_some, IfSome, Result, Ok, Err, if◌then◌else◌}
 use Rattle.std.specs.Fmt.{decimal}
 use Rattle.iso_time.specs.declared.duration.DurationFault.{DurationFault}
 use Rattle.iso_time.specs.declared.duration.DurationFault.TheVariants.{Shape, Calendar, Range}
 use Rattle.iso_time.specs.declared.duration.Extent.{Extent}
-use Rattle.iso_time.specs.Digits.{IsRun, number_of, fraction_nanos, padded_digits, optional_text, fraction_text, ◌>>=◌, value_if, value_at_end, optional_rest, found_or_text, before_mark, after_mark, run_at, fraction_at}
+use Rattle.iso_time.specs.Digits.{AreDigits, number_of, fraction_nanos, padded_digits, optional_text, fraction_text, ◌>>=◌, value_if}
+use Rattle.iso_time.specs.Digits.{value_at_end, optional_rest, found_or_text, before_mark, after_mark, leading_digits, fraction_at}
 
 -- the digits of the seconds, and those after their point
 pub record SecondsParts : Type 0 where
@@ -46,11 +48,11 @@ parts_text p =
 
 -- a number has 1 to 20 digits
 abbrev pub IsNumber : List ℕ → Type 0
-IsNumber digits = IsRun 1 20 digits
+IsNumber digits = AreDigits 1 20 digits
 
 -- and a fraction 1 to 30
 abbrev pub IsFraction : List ℕ → Type 0
-IsFraction digits = IsRun 1 30 digits
+IsFraction digits = AreDigits 1 30 digits
 
 pub record IsSeconds (s : SecondsParts) : Type 0 where
   pub whole : IsNumber s.whole
@@ -121,12 +123,12 @@ DenotesDuration text (Err Range) =
 
 -- a number with its letter, where the text begins so
 unfoldable pub part_at : ℕ → List ℕ → Option (List ℕ) × List ℕ
-part_at letter text = found_or_text (before_mark letter (run_at 1 20 text)) text
+part_at letter text = found_or_text (before_mark letter (leading_digits 1 20 text)) text
 
 -- the seconds, where the whole text is that
 unfoldable pub seconds_of : List ℕ → Option SecondsParts
 seconds_of text = do
-  whole ← run_at 1 20 text
+  whole ← leading_digits 1 20 text
   rest ← after_mark 83 (fraction_at whole.1).1
   value_at_end (record { whole = whole.0; fraction = (fraction_at whole.1).0 }) rest
 

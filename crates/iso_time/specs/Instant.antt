@@ -1,13 +1,16 @@
 -- Instants as XML Schema part 2, 3.2.7 writes them: `YYYY-MM-DDThh:mm:ss` with a fraction and an offset.
 use Rattle.std.specs.Option.{option_map_or}
-use Rattle.std.specs.Prelude.{◌≡◌, ℕ, ◌+◌, ◌*◌, ◌^◌, ◌<◌, ◌≤◌, ◌==◌, ◌&&◌, not, nat_lt, nat_le, Bool, true, false, List, [], ◌∷◌, ◌++◌, Option, Some, None, option_map, unwrap_or, IfSome, Result, Ok, Err, if◌then◌else◌, ℤ, pos, neg_ℤ, ◌+ℤ◌, ◌-ℤ◌, ◌*ℤ◌, ◌≤ℤ◌, ◌<ℤ◌, int_lt}
+use Rattle.std.specs.Prelude.{◌≡◌, ℕ, ◌+◌, ◌*◌, ◌^◌, ◌<◌, ◌≤◌, ◌==◌, ◌&&◌, not, nat_lt, nat_le, Bool, true, false, List, [], ◌∷◌, ◌++◌}
+use Rattle.std.specs.Prelude.{Option, Some, None, option_map, unwrap_or, IfSome, Result, Ok, Err, if◌then◌else◌, ℤ, pos, neg_ℤ, ◌+ℤ◌, ◌-ℤ◌}
+use Rattle.std.specs.Prelude.{◌*ℤ◌, ◌≤ℤ◌, ◌<ℤ◌, int_lt}
 use Rattle.jiff_core.specs.Calendar.{IsDate, days_in_month}
 use Rattle.jiff_core.specs.Time.{IsTime}
 use Rattle.iso_time.specs.declared.instant.InstantFault.{InstantFault}
 use Rattle.iso_time.specs.declared.instant.InstantFault.TheVariants.{Shape, Date, Range}
 use Rattle.iso_time.specs.declared.instant.Offset.{Offset}
 use Rattle.iso_time.specs.declared.instant.Fields.{Fields}
-use Rattle.iso_time.specs.Digits.{IsRun, number_of, fraction_nanos, optional_text, fraction_text, ◌>>=◌, value_at_end, before_mark, after_mark, digits_at, fraction_at}
+use Rattle.iso_time.specs.Digits.{AreDigits, number_of, fraction_nanos, optional_text, fraction_text, ◌>>=◌, value_at_end, before_mark}
+use Rattle.iso_time.specs.Digits.{after_mark, digits_at, fraction_at}
 use Rattle.iso_time.specs.Civil.{midnight}
 
 -- what stands behind the time of day
@@ -42,7 +45,7 @@ parts_text p =
 
 -- so many digits
 abbrev pub IsField : ℕ → List ℕ → Type 0
-IsField width digits = IsRun width width digits
+IsField width digits = AreDigits width width digits
 
 abbrev pub IsZone : Zone → Type 0
 IsZone unstated = Unit {0}
@@ -56,7 +59,7 @@ pub record IsInstant (p : InstantParts) : Type 0 where
   pub hour : IsField 2 p.hour
   pub minute : IsField 2 p.minute
   pub second : IsField 2 p.second
-  pub fraction : IfSome p.fraction (IsRun 1 30)
+  pub fraction : IfSome p.fraction (AreDigits 1 30)
   pub zone : IsZone p.zone
 
 -- the text is written with these parts

@@ -3,7 +3,7 @@ use Rattle.std.specs.Prelude.{◌≡◌, ℕ, ◌*◌, ◌/◌, ◌^◌, ◌<◌
 use Rattle.std.specs.Int.{int_div_euclid}
 use Rattle.iso_time.specs.declared.duration.DurationFault.{DurationFault}
 use Rattle.iso_time.specs.declared.instant.InstantFault.{InstantFault}
-use Rattle.iso_time.specs.Digits.{IsRun, number_of, fraction_nanos}
+use Rattle.iso_time.specs.Digits.{AreDigits, number_of, fraction_nanos}
 use Rattle.iso_time.specs.Duration.{DurationParts, IsDurationText, DenotesDuration, duration_of, duration_text}
 use Rattle.iso_time.specs.Instant.{InstantParts, IsInstantText, DenotesInstant, IsReadable, instant_of}
 use Rattle.iso_time.specs.Civil.{instant_text, midnight, year_of, month_of, day_of}
@@ -21,7 +21,7 @@ InstantsHaveOneSpelling =
 -- the digits behind a point write their fraction of a second, rounded down to nanoseconds
 abbrev pub FractionsAreRoundedDown : Type 0
 FractionsAreRoundedDown =
-    (digits : List ℕ) → IsRun 1 30 digits → fraction_nanos digits ≡ number_of digits * 10 ^ 9 / 10 ^ length digits
+    (digits : List ℕ) → AreDigits 1 30 digits → fraction_nanos digits ≡ number_of digits * 10 ^ 9 / 10 ^ length digits
 
 -- what is read of a text is what the text denotes, and nothing else
 abbrev pub DurationsAreDenoted : Type 0

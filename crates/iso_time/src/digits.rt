@@ -7,7 +7,7 @@ ghost use Rattle.iso_time.specs.Digits as spec;
 
 /// The number that at most twenty digits write.
 fn number(digits: &[u8]) -> u128
-    requires { spec.IsRun 0 20 digits.now }
+    requires { spec.AreDigits 0 20 digits.now }
     ensures value { result ≡ spec.number_of digits.now }
     ensures bound { result < 10 ^ length digits.now }
 {
@@ -28,10 +28,10 @@ fn run_len(text: &[u8]) -> usize
 }
 
 /// All the digits that the text begins with, where there are from `least` to `most` of them.
-#[tactic(auto, unfolding(crate::specs::Digits::run_at))]
+#[tactic(auto, unfolding(crate::specs::Digits::leading_digits))]
 fn run(text: &[u8], least: usize, most: usize) -> Option<(&[u8], &[u8])>
-    ensures found { option_map (λ p. (p.0.now, p.1.now)) result ≡ spec.run_at least most text.now }
-    ensures digits { IfSome result (λ p. spec.IsRun least most p.0.now) }
+    ensures found { option_map (λ p. (p.0.now, p.1.now)) result ≡ spec.leading_digits least most text.now }
+    ensures digits { IfSome result (λ p. spec.AreDigits least most p.0.now) }
 {
     let len = run_len(text);
     if len < least || len > most {
@@ -43,7 +43,7 @@ fn run(text: &[u8], least: usize, most: usize) -> Option<(&[u8], &[u8])>
 /// The number of one to twenty digits, all that the text begins with.
 pub(crate) fn whole_number(text: &[u8]) -> Option<(u128, &[u8])>
     ensures found { option_map (λ p. (p.0, p.1.now)) result
-        ≡ spec.number_found (spec.run_at 1 20 text.now) }
+        ≡ spec.number_found (spec.leading_digits 1 20 text.now) }
     ensures bound { IfSome result (λ p. p.0 < 10 ^ 20) }
 {
     let (digits, rest) = run(text, 1, 20)?;
@@ -102,7 +102,7 @@ pub(crate) fn fraction(text: &[u8]) -> (u32, &[u8])
 
 /// The nanoseconds that the digits behind a point write: the first nine, and 0 for each that lacks.
 fn leading_nanos(digits: &[u8]) -> u32
-    requires { spec.IsRun 0 30 digits.now }
+    requires { spec.AreDigits 0 30 digits.now }
     ensures value { result ≡ spec.fraction_nanos digits.now }
     ensures bound { result < 10 ^ 9 }
 {

@@ -1,5 +1,7 @@
 //! Laws of the definitions, as contracts of functions that do nothing.
-ghost use Rattle.iso_time.specs.Laws.{DurationsHaveOneSpelling, InstantsHaveOneSpelling, DurationsAreDenoted, InstantsAreDenoted, DurationsAreReadAgain, InstantsAreReadAgain, CalendarDaysHaveDates, BoundsAreMidnights, FractionsAreRoundedDown};
+ghost use Rattle.iso_time.specs.Laws.{DurationsHaveOneSpelling, InstantsHaveOneSpelling, DurationsAreDenoted, InstantsAreDenoted};
+ghost use Rattle.iso_time.specs.Laws.{DurationsAreReadAgain, InstantsAreReadAgain, CalendarDaysHaveDates, BoundsAreMidnights};
+ghost use Rattle.iso_time.specs.Laws.{FractionsAreRoundedDown};
 
 /// No text is a duration in two ways.
 pub fn durations_have_one_spelling()

@@ -16,7 +16,8 @@ place_fits : (n : Next) → IsNext n → n.place ≤ 1000000000000
 place_fits n is = omega (arith, is.within, known_fit n is)
 
 -- a Period's place, and how many resets there were
-pub numbers_fit : (n : Next) → IsNext n → (n.place ≤ 1000000000000) × ((n.standing.now).resets ≤ 10000000) × (length (p_of n).sections ≤ 1000)
+pub numbers_fit : (n : Next) → IsNext n → (n.place ≤ 1000000000000) × ((n.standing.now).resets ≤ 10000000)
+    × (length (p_of n).sections ≤ 1000)
 numbers_fit n is = (place_fits n is, resets_fit n is, is.few)
 
 -- whether a new section begins doesn't depend on the instant

@@ -1,5 +1,6 @@
 -- Where the new segments of a section begin.
-use Rattle.std.proofs.Common.{◌≡◌, ℕ, ◌+◌, ◌<◌, nat_lt, ◌==◌, Bool, true, false, List, [], ◌∷◌, length, take, map, Option, Some, None, refl, sym, ◌∙◌, ap, subst, arith}
+use Rattle.std.proofs.Common.{◌≡◌, ℕ, ◌+◌, ◌<◌, nat_lt, ◌==◌, Bool, true, false, List, [], ◌∷◌, length, take, map, Option, Some, None, refl}
+use Rattle.std.proofs.Common.{sym, ◌∙◌, ap, subst, arith}
 use Rattle.std.specs.Prelude.{IfSome, filter, option_map}
 use Rattle.std.specs.Option.{option_map_or}
 use Rattle.std.proofs.lemmas.Bool.Decides.{nat_tests}
@@ -37,7 +38,8 @@ here_by_end l k place same end =
 later_all : (l : Last) (k place : ℕ) → place < k → (end : Time) → is_later l place k end ≡ true
 later_all l k place less end = let is : nat_lt place k ≡ true = grind (arith, nat_tests, less) in rw is refl
 
-module _ (p : Presented) (place : ℕ) (of : Track) (t s : ℕ) (l : Last) (last : of.last ≡ Some l) (content : Content) (is : content_at p s t ≡ Some content) where
+module _ (p : Presented) (place : ℕ) (of : Track) (t s : ℕ) (l : Last) (last : of.last ≡ Some l) (content : Content)
+    (is : content_at p s t ≡ Some content) where
   abbrev window : Window
   window = window_of p s
 
@@ -45,16 +47,19 @@ module _ (p : Presented) (place : ℕ) (of : Track) (t s : ℕ) (l : Last) (last
   all = expansion content.runs window
 
   new_are : new_timings p place of t s ≡ filter (λ x. is_later l of.place (place + s) x.end) (listed window all)
-  new_are = (let by : new_timings p place of t s ≡ filter (λ x. is_later l of.place (place + s) x.end) (listed_at p s t) = rw last refl in by)
+  new_are = (let by : new_timings p place of t s ≡ filter (λ x. is_later l of.place (place + s) x.end) (listed_at p s t) = rw last refl in
+      by)
       ∙ ap (filter (λ x. is_later l of.place (place + s) x.end)) (listed_of p s t content is)
 
   there : (cursor : ℕ) → listed_from cursor content.runs window ≡ new_timings p place of t s → StartsNew p place of t s cursor
-  there cursor same = subst (λ (o : Option Content). IfSome o (λ c. listed_from cursor c.runs window ≡ new_timings p place of t s)) (sym is) same
+  there cursor same = subst (λ (o : Option Content). IfSome o (λ c. listed_from cursor c.runs window ≡ new_timings p place of t s))
+      (sym is) same
 
   pub starts_behind : (cursor : ℕ) → place + s ≡ of.place → IsPlaceAfter l.end all cursor → StartsNew p place of t s cursor
   starts_behind cursor same after = there cursor
       (listed_later l.end window all cursor after
-      ∙ filter_agree (λ x. before l.end x.end) (λ x. is_later l of.place (place + s) x.end) (λ x. sym (here_by_end l (place + s) of.place same x.end)) (listed window all)
+      ∙ filter_agree (λ x. before l.end x.end) (λ x. is_later l of.place (place + s) x.end)
+      (λ x. sym (here_by_end l (place + s) of.place same x.end)) (listed window all)
       ∙ sym new_are)
 
   pub starts_first : (cursor : ℕ) → of.place < place + s → listed window (take cursor all) ≡ [] → StartsNew p place of t s cursor
@@ -67,7 +72,8 @@ module _ (p : Presented) (place : ℕ) (of : Track) (t s : ℕ) (l : Last) (last
       → listed_from cursor r w ≡ new_timings p place of t s
   starts_there cursor r w starts runs same =
       ap (λ q. listed_from cursor q w) (sym runs) ∙ ap (λ v. listed_from cursor content.runs v) same
-      ∙ (let at : listed_from cursor content.runs window ≡ new_timings p place of t s = subst (λ (o : Option Content). IfSome o (λ c. listed_from cursor c.runs window ≡ new_timings p place of t s)) is starts in at)
+      ∙ (let at : listed_from cursor content.runs window ≡ new_timings p place of t s =
+      subst (λ (o : Option Content). IfSome o (λ c. listed_from cursor c.runs window ≡ new_timings p place of t s)) is starts in at)
 
 -- there are as many new segments as new times
 length-made : (n : Numbering) (place start : ℕ) (o : Option Content) (xs : List Timing) → (o ≡ None → xs ≡ [])
@@ -75,5 +81,7 @@ length-made : (n : Numbering) (place start : ℕ) (o : Option Content) (xs : Lis
 length-made n place start None xs none = ap (λ (ys : List Timing). length ys) (sym (none refl))
 length-made n place start (Some content) xs none = length-map xs (segment_with n place start content)
 
-pub length-new : (n : Numbering) (p : Presented) (place : ℕ) (of : Track) (t s : ℕ) → length (new_in n p place of t s) ≡ length (new_timings p place of t s)
-length-new n p place of t s = length-made n (place + s) (start_of p s) (content_at p s t) (new_timings p place of t s) (λ none. (rw none refl))
+pub length-new : (n : Numbering) (p : Presented) (place : ℕ) (of : Track) (t s : ℕ)
+    → length (new_in n p place of t s) ≡ length (new_timings p place of t s)
+length-new n p place of t s = length-made n (place + s) (start_of p s) (content_at p s t) (new_timings p place of t s)
+    (λ none. (rw none refl))

@@ -17,12 +17,13 @@ use Rattle.live_meaning.specs.Known.{ids_of}
 use Rattle.live_meaning.specs.Histories.{numbering_of}
 use Rattle.live_meaning.specs.States.{new_of}
 use Rattle.live_meaning.specs.Refusals.{ids_in}
+use Rattle.live_meaning.proofs.InForce.{id_there}
 use Rattle.live_judge.specs.declared.track_next.TrackNext.{TrackNext}
 use Rattle.live_judge.specs.Coming.{IsTrackNext, c_of, coming_of, p_of, t_of}
 use Rattle.live_judge.specs.New.{IsFirstNew, new_in, new_timings}
 use Rattle.live_judge.proofs.Contents.{length-new}
 use Rattle.live_judge.proofs.New.{new_is}
-use Rattle.live_judge.proofs.Places.{id_there, place_there}
+use Rattle.live_judge.proofs.Places.{place_there}
 
 abbrev pub times_in : TrackNext → ℕ → List Timing
 times_in l s = new_timings (p_of l.next.now) (l.next.now).place (t_of l) l.index s
@@ -35,13 +36,15 @@ count_in l s = length (times_in l s)
 
 pub new_there : (l : TrackNext) → IsTrackNext l → new_of (c_of l) l.index (t_of l) ≡ flat_map (news_in l) (sections_of (p_of l.next.now))
 new_there l is = new_is (c_of l) (l.next.now).place (t_of l) l.index
-    (λ s less. place_there (ids_of (c_of l).known) (ids_in (p_of l.next.now)) (l.next.now).place s (id_at (p_of l.next.now) s) is.next.stands (id_there (p_of l.next.now).sections s less))
+    (λ s less. place_there (ids_of (c_of l).known) (ids_in (p_of l.next.now)) (l.next.now).place s
+    (id_at (p_of l.next.now) s) is.next.stands (id_there (p_of l.next.now).sections s less))
 
 sums_same : (f g : ℕ → ℕ) (xs : List ℕ) → ((s : ℕ) → f s ≡ g s) → sum_by f xs ≡ sum_by g xs
 sums_same f g [] same = refl
 sums_same f g (x ∷ xs) same = omega (arith, sum_by-cons f x xs, sum_by-cons g x xs, same x, sums_same f g xs same)
 
-pub count_there : (l : TrackNext) → IsTrackNext l → length (new_of (c_of l) l.index (t_of l)) ≡ sum_by (count_in l) (sections_of (p_of l.next.now))
+pub count_there : (l : TrackNext) → IsTrackNext l → length (new_of (c_of l) l.index (t_of l))
+    ≡ sum_by (count_in l) (sections_of (p_of l.next.now))
 count_there l is =
     ap (λ (xs : List Segment). length xs) (new_there l is)
     ∙ length-flat_map (news_in l) (sections_of (p_of l.next.now))
@@ -52,21 +55,25 @@ count_there l is =
 
 pub none_in : (l : TrackNext) (s : ℕ) → times_in l s ≡ [] → news_in l s ≡ []
 none_in l s none =
-    nil_from_length (news_in l s) (length-new (numbering_of (c_of l)) (p_of l.next.now) (l.next.now).place (t_of l) l.index s ∙ ap (λ (xs : List Timing). length xs) none)
+    nil_from_length (news_in l s) (length-new (numbering_of (c_of l)) (p_of l.next.now) (l.next.now).place (t_of l) l.index s
+    ∙ ap (λ (xs : List Timing). length xs) none)
 
 -- there is nothing new before a section
 abbrev pub IsNoneNew : TrackNext → ℕ → Type 0
 IsNoneNew l i = flat_map (news_in l) (sections_of (p_of l.next.now)) ≡ flat_map (news_in l) (from_on i (length (p_of l.next.now).sections))
 
 first_place : (l : TrackNext) (i : ℕ) → i < length (p_of l.next.now).sections → IsNoneNew l i
-    → flat_map (news_in l) (sections_of (p_of l.next.now)) ≡ news_in l i ++ flat_map (news_in l) (from_on (i + 1) (length (p_of l.next.now).sections))
+    → flat_map (news_in l) (sections_of (p_of l.next.now)) ≡ news_in l i ++ flat_map (news_in l)
+    (from_on (i + 1) (length (p_of l.next.now).sections))
 first_place l i within before = before ∙ ap (flat_map (news_in l)) (from_on-first i (length (p_of l.next.now).sections) within)
 
 pub none_more : (l : TrackNext) (i : ℕ) → i < length (p_of l.next.now).sections → times_in l i ≡ [] → IsNoneNew l i → IsNoneNew l (i + 1)
 none_more l i within none before =
-    first_place l i within before ∙ ap (λ (xs : List Segment). xs ++ flat_map (news_in l) (from_on (i + 1) (length (p_of l.next.now).sections))) (none_in l i none)
+    first_place l i within before ∙ ap (λ (xs : List Segment). xs ++ flat_map (news_in l)
+    (from_on (i + 1) (length (p_of l.next.now).sections))) (none_in l i none)
 
-pub none_new : (l : TrackNext) (i : ℕ) → IsTrackNext l → i ≡ length (p_of l.next.now).sections → IsNoneNew l i → new_of (c_of l) l.index (t_of l) ≡ []
+pub none_new : (l : TrackNext) (i : ℕ) → IsTrackNext l → i ≡ length (p_of l.next.now).sections → IsNoneNew l i
+    → new_of (c_of l) l.index (t_of l) ≡ []
 none_new l i is end before =
     new_there l is ∙ before ∙ ap (λ j. flat_map (news_in l) (from_on j (length (p_of l.next.now).sections))) end
     ∙ ap (flat_map (news_in l)) (from_on-end (length (p_of l.next.now).sections))
@@ -94,7 +101,8 @@ pub first_new_is : (l : TrackNext) (i number : ℕ) (t : Timing) → IsTrackNext
     → slice_get (times_in l i) 0 ≡ Some t → IsWithinLimits t → number ≡ (l.next.now).place + i + (coming_of l.next.now).resets
     → IsFirstNew number t (new_of (c_of l) l.index (t_of l))
 first_new_is l i number t is within before at limits numbered =
-    let one = made (numbering_of (c_of l)) ((l.next.now).place + i) (start_of (p_of l.next.now) i) t (content_at (p_of l.next.now) i l.index) (times_in l i) (λ none. (rw none refl)) at in
+    let one = made (numbering_of (c_of l)) ((l.next.now).place + i) (start_of (p_of l.next.now) i) t
+    (content_at (p_of l.next.now) i l.index) (times_in l i) (λ none. (rw none refl)) at in
     record {
       segment = one.segment;
       first = ap (λ (xs : List Segment). slice_get xs 0) (new_there l is ∙ first_place l i within before)

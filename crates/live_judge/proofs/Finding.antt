@@ -1,5 +1,6 @@
 -- An id is found at its place.
-use Rattle.std.proofs.Common.{◌≡◌, ℕ, zero, suc, ◌+◌, ◌<◌, ◌≤◌, Bool, true, false, List, [], ◌∷◌, length, Option, Some, None, bytes_eq, refl, sym, ◌∙◌, ap, inl, inr, arith}
+use Rattle.std.proofs.Common.{◌≡◌, ℕ, zero, suc, ◌+◌, ◌<◌, ◌≤◌, Bool, true, false, List, [], ◌∷◌, length, Option, Some, None, bytes_eq}
+use Rattle.std.proofs.Common.{refl, sym, ◌∙◌, ap, inl, inr, arith}
 use Rattle.std.specs.Prelude.{slice_get, map, is_some, not}
 use Rattle.std.specs.Option.{option_map_or}
 use Rattle.std.specs.List.{list_all, list_any, position, position_or_len}
@@ -12,7 +13,8 @@ use Rattle.live_judge.specs.declared.known.KnownPeriod.{KnownPeriod}
 use Rattle.live_judge.specs.Known.{IsIndex, is_there, known_shown}
 
 -- the first place of an id that is there has it
-at_position : (ids : List (List ℕ)) (id : List ℕ) → position_or_len (bytes_eq id) ids < length ids → slice_get ids (position_or_len (bytes_eq id) ids) ≡ Some id
+at_position : (ids : List (List ℕ)) (id : List ℕ) → position_or_len (bytes_eq id) ids < length ids
+    → slice_get ids (position_or_len (bytes_eq id) ids) ≡ Some id
 at_position [] id less = absurd (omega arith)
 at_position (x ∷ ids) id less = elim (cases_Bool (bytes_eq id x)) [
   | inl same ↦ let one : id ≡ x = (bytes_eq-Decides id x).0 same in rw same (ap Some (sym one))
@@ -34,7 +36,8 @@ there_from (x ∷ ids) (suc k) id at = there_from ids k id at
 
 position_past : (ids : List (List ℕ)) (k : ℕ) (id : List ℕ) → slice_get ids k ≡ Some id → position_or_len (bytes_eq id) ids < length ids
 position_past [] k id at = absurd (cc)
-position_past (x ∷ ids) zero id at = let here : bytes_eq id x ≡ true = (bytes_eq-Decides id x).1 (sym (same_Some x id at)) in rw here (omega arith)
+position_past (x ∷ ids) zero id at = let here : bytes_eq id x ≡ true = (bytes_eq-Decides id x).1 (sym (same_Some x id at)) in
+    rw here (omega arith)
 position_past (x ∷ ids) (suc k) id at = elim (cases_Bool (bytes_eq id x)) [
   | inl same ↦ rw same (omega arith)
   | inr other ↦ rw other (omega (arith, position_past ids k id at))
@@ -45,7 +48,8 @@ module _ (places : List ℕ → Option ℕ) (ids : List (List ℕ)) (index : IsI
   pub found : (k : ℕ) → places id ≡ Some k → is_there ids k id ≡ true → Some k ≡ position (bytes_eq id) ids
   found k at is =
       let less = position_past ids k id (there_by ids k id is) in
-      let first : Some k ≡ Some (position_or_len (bytes_eq id) ids) = sym at ∙ index (position_or_len (bytes_eq id) ids) id (at_position ids id less) in
+      let first : Some k ≡ Some (position_or_len (bytes_eq id) ids) = sym at
+      ∙ index (position_or_len (bytes_eq id) ids) id (at_position ids id less) in
       rw (lt-ltb _ _ less) first
 
   -- and otherwise there is none
@@ -60,7 +64,8 @@ module _ (places : List ℕ → Option ℕ) (ids : List (List ℕ)) (index : IsI
   ]
 
 -- of Periods as they are kept
-pub there_shown : (ks : List KnownPeriod) (k : ℕ) (id : List ℕ) → is_there (ids_of (map known_shown ks)) k id ≡ option_map_or (λ (own : KnownPeriod). bytes_eq own.id id) (slice_get ks k) false
+pub there_shown : (ks : List KnownPeriod) (k : ℕ) (id : List ℕ) → is_there (ids_of (map known_shown ks)) k id
+    ≡ option_map_or (λ (own : KnownPeriod). bytes_eq own.id id) (slice_get ks k) false
 there_shown [] k id = refl
 there_shown (x ∷ ks) zero id = refl
 there_shown (x ∷ ks) (suc k) id = there_shown ks k id
@@ -91,20 +96,25 @@ module _ (known : List (List ℕ)) where
   abbrev pub all_unseen : List Section → Bool
   all_unseen sections = list_all (λ id. not (list_any (bytes_eq id) known)) (map (λ (section : Section). section.id) sections)
 
-  pub seen_first : (rest later : List Section) (section : Section) (found : Option ℕ) → rest ≡ section ∷ later → found ≡ position (bytes_eq section.id) known
+  pub seen_first : (rest later : List Section) (section : Section) (found : Option ℕ) → rest ≡ section ∷ later
+      → found ≡ position (bytes_eq section.id) known
       → is_some found ≡ true → all_unseen rest ≡ false
   seen_first rest later section found split is some =
-      let any : list_any (bytes_eq section.id) known ≡ true = sym (some_position (bytes_eq section.id) known) ∙ ap is_some (sym is) ∙ some in
+      let any : list_any (bytes_eq section.id) known ≡ true = sym (some_position (bytes_eq section.id) known) ∙ ap is_some (sym is)
+      ∙ some in
       ap all_unseen split ∙ (rw any refl)
 
-  pub unseen_first : (rest later : List Section) (section : Section) (found : Option ℕ) → rest ≡ section ∷ later → found ≡ position (bytes_eq section.id) known
+  pub unseen_first : (rest later : List Section) (section : Section) (found : Option ℕ) → rest ≡ section ∷ later
+      → found ≡ position (bytes_eq section.id) known
       → is_some found ≡ false → all_unseen rest ≡ all_unseen later
   unseen_first rest later section found split is other =
-      let any : list_any (bytes_eq section.id) known ≡ false = sym (some_position (bytes_eq section.id) known) ∙ ap is_some (sym is) ∙ other in
+      let any : list_any (bytes_eq section.id) known ≡ false = sym (some_position (bytes_eq section.id) known) ∙ ap is_some (sym is)
+      ∙ other in
       ap all_unseen split ∙ (rw any refl)
 
 -- what stands at a place
-pub there_known : (ks : List Known) (place : ℕ) (id : List ℕ) → is_there (ids_of ks) place id ≡ option_map_or (λ k. bytes_eq k.id id) (slice_get ks place) false
+pub there_known : (ks : List Known) (place : ℕ) (id : List ℕ) → is_there (ids_of ks) place id
+    ≡ option_map_or (λ k. bytes_eq k.id id) (slice_get ks place) false
 there_known [] place id = refl
 there_known (k ∷ ks) zero id = refl
 there_known (k ∷ ks) (suc place) id = there_known ks place id

@@ -42,7 +42,8 @@ module _ (list : ℕ → List Refusal) (n : ℕ) where
 
   pub first_here : (i : ℕ) (fault : RefreshFault) → i < n → IsNoneBefore i → Tells fault (list i) → Tells fault all_told
   first_here i fault within before tells =
-      subst (λ (xs : List Refusal). Tells fault xs) (sym (at_place i within before)) (told_first fault (list i) (flat_map list (from_on (i + 1) n)) tells)
+      subst (λ (xs : List Refusal). Tells fault xs) (sym (at_place i within before))
+      (told_first fault (list i) (flat_map list (from_on (i + 1) n)) tells)
 
   pub none_at_all : (i : ℕ) → i ≡ n → IsNoneBefore i → all_told ≡ []
   none_at_all i end before = before ∙ ap (λ j. flat_map list (from_on j n)) end ∙ ap (flat_map list) (from_on-end n)
@@ -58,7 +59,8 @@ module _ (f : ℕ → LiveTrack → List Refusal) (tracks : List LiveTrack) wher
   IsNoneYet i = each f 0 tracks ≡ each f i (drop i tracks)
 
   pub rest_at : (i : ℕ) (x : LiveTrack) → slice_get tracks i ≡ Some x → drop i tracks ≡ x ∷ drop (i + 1) tracks
-  rest_at i x at = drop_more tracks i x (slice_get_within tracks i x at) ∙ ap (λ y. y ∷ drop (i + 1) tracks) (get_or_from_slice_get tracks i x x at)
+  rest_at i x at = drop_more tracks i x (slice_get_within tracks i x at)
+      ∙ ap (λ y. y ∷ drop (i + 1) tracks) (get_or_from_slice_get tracks i x x at)
 
   pub at_track : (i : ℕ) (x : LiveTrack) → slice_get tracks i ≡ Some x → IsNoneYet i
       → each f 0 tracks ≡ f i x ++ each f (i + 1) (drop (i + 1) tracks)
@@ -72,7 +74,8 @@ module _ (f : ℕ → LiveTrack → List Refusal) (tracks : List LiveTrack) wher
   pub first_next : (i : ℕ) (x : LiveTrack) (fault : RefreshFault) → slice_get tracks i ≡ Some x → IsNoneYet i → Tells fault (f i x)
       → Tells fault (each f 0 tracks)
   first_next i x fault at before tells =
-      subst (λ (xs : List Refusal). Tells fault xs) (sym (at_track i x at before)) (told_first fault (f i x) (each f (i + 1) (drop (i + 1) tracks)) tells)
+      subst (λ (xs : List Refusal). Tells fault xs) (sym (at_track i x at before))
+      (told_first fault (f i x) (each f (i + 1) (drop (i + 1) tracks)) tells)
 
   pub none_left : (i : ℕ) → i ≡ length tracks → IsNoneYet i → each f 0 tracks ≡ []
   unfolding each
@@ -89,7 +92,8 @@ nil_right : (xs ys : List Refusal) → xs ++ ys ≡ [] → ys ≡ []
 nil_right [] ys none = none
 nil_right (x ∷ xs) ys none = absurd (cc)
 
-none_of_each : (f : ℕ → LiveTrack → List Refusal) (t : ℕ) (xs : List LiveTrack) (i : ℕ) (x : LiveTrack) → slice_get xs i ≡ Some x → each f t xs ≡ [] → f (t + i) x ≡ []
+none_of_each : (f : ℕ → LiveTrack → List Refusal) (t : ℕ) (xs : List LiveTrack) (i : ℕ) (x : LiveTrack) → slice_get xs i ≡ Some x
+    → each f t xs ≡ [] → f (t + i) x ≡ []
 unfolding each
 none_of_each f t [] i x at none = absurd (cc)
 none_of_each f t (y ∷ xs) zero x at none =
@@ -99,5 +103,6 @@ none_of_each f t (y ∷ xs) (suc i) x at none =
     let next : t + suc i ≡ t + 1 + i = omega arith in
     ap (λ j. f j x) next ∙ none_of_each f (t + 1) xs i x at (nil_right (f t y) (each f (t + 1) xs) none)
 
-pub none_at : (f : ℕ → LiveTrack → List Refusal) (xs : List LiveTrack) (i : ℕ) (x : LiveTrack) → slice_get xs i ≡ Some x → each f 0 xs ≡ [] → f i x ≡ []
+pub none_at : (f : ℕ → LiveTrack → List Refusal) (xs : List LiveTrack) (i : ℕ) (x : LiveTrack) → slice_get xs i ≡ Some x → each f 0 xs ≡ []
+    → f i x ≡ []
 none_at f xs i x at none = (let same : 0 + i ≡ i = omega arith in ap (λ j. f j x) (sym same)) ∙ none_of_each f 0 xs i x at none

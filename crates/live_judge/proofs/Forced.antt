@@ -1,5 +1,6 @@
 -- What is so of the presentation that is in force from an accepted update on.
-use Rattle.std.proofs.Common.{◌≡◌, ℕ, ◌+◌, ◌<◌, ◌≤◌, ◌||◌, not, Bool, true, false, ℤ, pos, List, [], ◌++◌, drop, length, Option, Some, None, Ok, refl, sym, ◌∙◌, ap, subst, arith, length-append}
+use Rattle.std.proofs.Common.{◌≡◌, ℕ, ◌+◌, ◌<◌, ◌≤◌, ◌||◌, not, Bool, true, false, ℤ, pos, List, [], ◌++◌, drop, length, Option, Some, None}
+use Rattle.std.proofs.Common.{Ok, refl, sym, ◌∙◌, ap, subst, arith, length-append}
 use Rattle.std.specs.Prelude.{IfSome, filter, if◌then◌else◌, int_lt, option_map, slice_get, unwrap_or}
 use Rattle.std.specs.List.{list_any}
 use Rattle.std.specs.Option.{option_map_or}
@@ -15,18 +16,19 @@ use Rattle.live_meaning.specs.Segments.{id_at, place_of}
 use Rattle.live_meaning.specs.Known.{Known, goes_on, ids_of, is_new, known_by, periods_of}
 use Rattle.live_meaning.specs.Histories.{Common, availability_start_of, common_with, force_by}
 use Rattle.live_meaning.specs.States.{State}
-use Rattle.live_meaning.specs.Refusals.{Changed, are_alike, differs_at, ids_in, is_changed, lack_ids, moved_told, mpd_told, older_than, rewritten_told, starts_otherwise, told_if}
+use Rattle.live_meaning.specs.Refusals.{Changed, are_alike, differs_at, ids_in, is_changed, lack_ids, moved_told, mpd_told, older_than}
+use Rattle.live_meaning.specs.Refusals.{rewritten_told, starts_otherwise, told_if}
 use Rattle.live_meaning.proofs.Allowed.{IsAllowed, none_each, told_none}
 use Rattle.live_meaning.proofs.Grown.{get_more}
 use Rattle.live_meaning.proofs.Histories.{mapped}
 use Rattle.live_meaning.proofs.Ids.{AreLast, place_is}
-use Rattle.live_meaning.proofs.InForce.{IsInForce, IsKnownIn, later_in_force}
+use Rattle.live_meaning.proofs.InForce.{IsInForce, IsKnownIn, later_in_force, id_there}
 use Rattle.live_meaning.proofs.Times.{period_timed}
 use Rattle.live_judge.specs.Changed.{AreUnmoved}
 use Rattle.live_judge.specs.Known.{StandsAt}
 use Rattle.live_judge.specs.Sound.{AreTimed, IsSound, StartsAt}
 use Rattle.live_judge.proofs.Listing.{starts_by}
-use Rattle.live_judge.proofs.Places.{id_there, known_there, place_there, same_stand, stands_there}
+use Rattle.live_judge.proofs.Places.{known_there, place_there, same_stand, stands_there}
 
 -- ---- the Periods in force
 

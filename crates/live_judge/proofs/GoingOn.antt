@@ -1,13 +1,10 @@
 -- The places, the numbers and what is kept behind an accepted update.
-use Rattle.std.proofs.Common.{◌≡◌, ℕ, ◌+◌, ◌<◌, ◌≤◌, Bool, true, false, ltb, List, [], ◌∷◌, length, sym, ◌∙◌, subst, arith, length-append, length-drop}
-use Rattle.std.specs.Prelude.{All, filter, if◌then◌else◌, option_map}
+use Rattle.std.proofs.Common.{◌≡◌, ℕ, ◌+◌, ◌<◌, ◌≤◌, ltb, List, [], ◌∷◌, length, sym, ◌∙◌, subst, arith, length-append, length-drop}
+use Rattle.std.specs.Prelude.{All, if◌then◌else◌, option_map}
 use Rattle.std.proofs.Math.Nat.{mul-le-mul_left, one-le-pow}
 use Rattle.std.proofs.lemmas.Bool.{ltb-false}
 use Rattle.std.proofs.lemmas.List.{length-map}
 use Rattle.std.proofs.lemmas.List.Elements.{All-nil, All-cons, All-head, All-tail}
-use Rattle.std.proofs.lemmas.List.FromFn.{length-range_with_len}
-use Rattle.std.proofs.lemmas.List.Sums.{count_by-le-length, length-filter}
-use Rattle.presentation.specs.Counting.{sections_of}
 use Rattle.presentation.specs.Presented.{Presented, looked_at}
 use Rattle.presentation.specs.PresentedLaws.{PresentedAreFew, PresentedAreFollowed}
 use Rattle.presentation.proofs.Ending.{none_behind}
@@ -16,12 +13,13 @@ use Rattle.followed.specs.Durations.{durations}
 use Rattle.followed.proofs.KeptPlaces.{next_is_first}
 use Rattle.live_meaning.specs.Updates.{Refresh, Reset, Tick, Update, is_reset, mpd_of, unit_of}
 use Rattle.live_meaning.specs.Segments.{Kept, segments_of}
-use Rattle.live_meaning.specs.Known.{Known, ids_of, is_new, known_at, known_with, periods_of}
+use Rattle.live_meaning.specs.Known.{ids_of, known_with}
 use Rattle.live_meaning.specs.Removal.{is_available}
 use Rattle.live_meaning.specs.Histories.{Common, common_with, least_length}
 use Rattle.live_meaning.specs.States.{State, Track, kept_and_new, new_told, removed_from, state_with, track_after, tracks_after}
 use Rattle.live_meaning.specs.Refusals.{Window, count_kept, counts_kept, ids_in, over_in_all, over_in_track, told_if}
 use Rattle.live_meaning.proofs.Allowed.{IsAllowed, told_none}
+use Rattle.live_meaning.proofs.Kept.{few_known, resets_most}
 use Rattle.live_judge.specs.Changed.{IsPlaceBy}
 use Rattle.live_judge.specs.Known.{StandsAt}
 use Rattle.live_judge.specs.SoundGoesOn.{IsKept, NumbersFit, KeptGoOn, NumbersGoOn, PeriodsStandOn}
@@ -49,21 +47,6 @@ periods_stand_on s u after former place stands is next =
     (λ p taken is. stands_by s u former place p stands is taken.allowed) is
 
 -- ---- numbers
-
-few_known : (known : List Known) (p : Presented) → length (known_with known p) ≤ length known + length p.sections
-few_known known p =
-    omega (
-      arith,
-      length-append known (filter (is_new known) (periods_of p)),
-      length-filter (is_new known) (periods_of p),
-      count_by-le-length (is_new known) (periods_of p),
-      length-map (sections_of p) (known_at p),
-      length-range_with_len 0 (length p.sections),
-    )
-
-resets_most : (b : Bool) (n : ℕ) → (if b then n + 1 else n) ≤ n + 1
-resets_most true n = omega arith
-resets_most false n = omega arith
 
 module _ (few : PresentedAreFew) (followed : PresentedAreFollowed) where
   pub numbers_go_on : NumbersGoOn

@@ -1,5 +1,6 @@
 -- Kept segments held against new ones from the back.
-use Rattle.std.proofs.Common.{◌≡◌, ◌⊎◌, ℕ, zero, suc, ◌+◌, ◌-◌, ◌<◌, ◌≤◌, ℤ, min, Bool, true, false, ◌&&◌, List, [], ◌∷◌, ◌++◌, length, take, drop, reverse, map, All, Option, None, Some, refl, sym, ◌∙◌, ap, subst, inl, inr, arith, length-drop}
+use Rattle.std.proofs.Common.{◌≡◌, ◌⊎◌, ℕ, zero, suc, ◌+◌, ◌-◌, ◌<◌, ◌≤◌, ℤ, min, Bool, true, false, ◌&&◌, List, [], ◌∷◌, ◌++◌, length}
+use Rattle.std.proofs.Common.{take, drop, reverse, map, All, Option, None, Some, refl, sym, ◌∙◌, ap, subst, inl, inr, arith, length-drop}
 use Rattle.std.specs.Prelude.{filter, if◌then◌else◌, slice_get}
 use Rattle.std.specs.List.{last_or}
 use Rattle.std.specs.Option.{option_map_or}
@@ -38,7 +39,8 @@ first_front (o ∷ olds) (x ∷ news) more less = elim (cases_Bool (is_same_as (
   | inr other ↦ rw other refl
 ]
 
-first_behind : (olds news : List Timing) (x : Timing) → first_other olds (news ++ x ∷ []) ≡ either (first_other olds news) (told_at olds (length news) x)
+first_behind : (olds news : List Timing) (x : Timing) → first_other olds (news ++ x ∷ [])
+    ≡ either (first_other olds news) (told_at olds (length news) x)
 first_behind [] [] x = refl
 first_behind (o ∷ olds) [] x = refl
 first_behind [] (y ∷ news) x = refl
@@ -68,11 +70,16 @@ module _ (f : Time) where
   IsUp [] = Unit {0}
   IsUp (x ∷ xs) = (Passes x → All Passes xs) × IsUp xs
 
-  up_from : (former : Time) (xs : List Timing) → IsTime former → IsRising former (map (λ x. x.end) xs) → IsUp xs × (at_most f former ≡ true → All Passes xs)
+  up_from : (former : Time) (xs : List Timing) → IsTime former → IsRising former (map (λ x. x.end) xs)
+      → IsUp xs × (at_most f former ≡ true → All Passes xs)
   up_from former [] is rising = (tt, λ _. All-nil Passes)
   up_from former (x ∷ xs) is rising =
-      let rest = up_from x.end xs rising.0 rising.2 in
-      ((rest.1, rest.0), λ passes. let here : Passes x = at_most-from f x.end (IsAtMost-trans f former x.end is (at_most-true f former passes) rising.1) in All-cons Passes x xs here (rest.1 here))
+      let rest = up_from x.end xs rising.0 rising.2 in (
+        (rest.1, rest.0),
+        λ passes. let here : Passes x =
+            at_most-from f x.end (IsAtMost-trans f former x.end is (at_most-true f former passes) rising.1) in
+            All-cons Passes x xs here (rest.1 here),
+      )
 
   up_paced : (xs : List Timing) → ArePaced xs → IsUp xs
   up_paced [] paced = tt
@@ -101,18 +108,28 @@ module _ (f : Time) where
 
   -- as many from the back as are kept, and one, decide
   from_back : (olds xs : List Timing) (count : ℕ) → count ≡ min (length olds + 1) (length xs) → IsUp xs
-      → first_other (reverse olds) (reverse (ends_from f (drop (length xs - count) xs))) ≡ first_other (reverse olds) (reverse (ends_from f xs))
+      → first_other (reverse olds) (reverse (ends_from f (drop (length xs - count) xs)))
+      ≡ first_other (reverse olds) (reverse (ends_from f xs))
   from_back olds xs count is up =
       let k = length xs - count in
       let news = ends_from f (drop k xs) in
       let more = ends_from f (take k xs) in
-      let parts : ends_from f xs ≡ more ++ news = ap (ends_from f) (sym (take-append-drop k xs)) ∙ filter-append (λ x. at_most f x.end) (take k xs) (drop k xs) in
+      let parts : ends_from f xs ≡ more ++ news = ap (ends_from f) (sym (take-append-drop k xs))
+      ∙ filter-append (λ x. at_most f x.end) (take k xs) (drop k xs) in
       elim (cases_lt (length olds) (length (drop k xs))) [
         | inl less ↦ elim (split_up k xs up) [
-          | inl none ↦ ap (λ (ys : List Timing). first_other (reverse olds) (reverse ys)) (sym (parts ∙ ap (λ (ys : List Timing). ys ++ news) none))
+          | inl none ↦ ap (λ (ys : List Timing). first_other (reverse olds) (reverse ys))
+              (sym (parts ∙ ap (λ (ys : List Timing). ys ++ news) none))
           | inr all ↦
-              let long : length (reverse olds) < length (reverse news) = omega (arith, less, length-reverse olds, length-reverse news, ap (λ (ys : List Timing). length ys) all) in
-              sym (ap (λ (ys : List Timing). first_other (reverse olds) (reverse ys)) parts ∙ ap (first_other (reverse olds)) (reverse-append more news)
+              let long : length (reverse olds) < length (reverse news) = omega (
+                arith,
+                less,
+                length-reverse olds,
+                length-reverse news,
+                ap (λ (ys : List Timing). length ys) all,
+              ) in
+              sym (ap (λ (ys : List Timing). first_other (reverse olds) (reverse ys)) parts
+              ∙ ap (first_other (reverse olds)) (reverse-append more news)
               ∙ first_front (reverse olds) (reverse news) (reverse more) long)
         ]
         | inr not_less ↦
@@ -130,7 +147,8 @@ module _ (f : Time) where
   either_none None = refl
   either_none (Some pair) = refl
 
-  or_is : (olds : List Timing) (n : ℕ) (x : Timing) (found : Found) → Passes x → or_other olds n f x found ≡ either (told_at (reverse olds) n x) found
+  or_is : (olds : List Timing) (n : ℕ) (x : Timing) (found : Found) → Passes x
+      → or_other olds n f x found ≡ either (told_at (reverse olds) n x) found
   or_is olds n x found passes = elim (cases_Bool (is_same_as (slice_get (reverse olds) n) x)) [
     | inl same ↦ rw (passes, same) refl
     | inr other ↦ rw (passes, other) refl
@@ -147,11 +165,19 @@ module _ (f : Time) where
       elim (cases_Bool (at_most f x.end)) [
         | inl passes ↦
             let all : ends_from f ys ≡ ys = filter_all (λ y. at_most f y.end) ys (up.0 passes) in
-            let long : length (reverse (ends_from f ys)) ≡ n = omega (arith, le, length-reverse (ends_from f ys), ap (λ (zs : List Timing). length zs) all, length-take n xs) in
-            let behind : reverse (ends_from f (x ∷ ys)) ≡ reverse (ends_from f ys) ++ x ∷ [] = rw passes (reverse-append (x ∷ []) (ends_from f ys)) in
+            let long : length (reverse (ends_from f ys)) ≡ n = omega (
+              arith,
+              le,
+              length-reverse (ends_from f ys),
+              ap (λ (zs : List Timing). length zs) all,
+              length-take n xs,
+            ) in
+            let behind : reverse (ends_from f (x ∷ ys)) ≡ reverse (ends_from f ys) ++ x ∷ [] =
+            rw passes (reverse-append (x ∷ []) (ends_from f ys)) in
             rest ∙ ap (either (first_other (reverse olds) (reverse (ends_from f ys)))) (or_is olds n x found passes)
             ∙ sym (either_more (first_other (reverse olds) (reverse (ends_from f ys))) (told_at (reverse olds) n x) found)
-            ∙ ap (λ k. either (either (first_other (reverse olds) (reverse (ends_from f ys))) (told_at (reverse olds) k x)) found) (sym long)
+            ∙ ap (λ k. either (either (first_other (reverse olds) (reverse (ends_from f ys))) (told_at (reverse olds) k x)) found)
+            (sym long)
             ∙ ap (λ (o : Found). either o found) (sym (first_behind (reverse olds) (reverse (ends_from f ys)) x))
             ∙ ap (λ (zs : List Timing). either (first_other (reverse olds) zs) found) (sym behind)
         | inr other ↦
@@ -159,7 +185,8 @@ module _ (f : Time) where
             rest ∙ ap (either (first_other (reverse olds) (reverse (ends_from f ys)))) same ∙ (rw other refl)
       ]
 
-  pub held_last : (olds all : List Timing) (last : Time) (most : ℕ) (ended : Ended) → most ≡ length olds + 1 → IsLastEnded all last most ended
+  pub held_last : (olds all : List Timing) (last : Time) (most : ℕ) (ended : Ended) → most ≡ length olds + 1
+      → IsLastEnded all last most ended
       → held olds f ended.count ended.walk None ≡ first_other (reverse olds) (reverse (ends_from f (ends_by last all)))
   held_last olds all last most ended few is =
       let xs = ends_by last all in
@@ -218,21 +245,27 @@ three false true false is = refl
 three false false true is = refl
 three false false false is = refl
 
-until_before : (until : Option ℤ) (x last : Time) → IsTime last → at_most x last ≡ true → is_until until last ≡ true → is_until until x ≡ true
+until_before : (until : Option ℤ) (x last : Time) → IsTime last → at_most x last ≡ true → is_until until last ≡ true
+    → is_until until x ≡ true
 until_before None x last is le within = refl
-until_before (Some z) x last is le within = at_most-from x (nanoseconds z) (IsAtMost-trans x last (nanoseconds z) is (at_most-true x last le) (at_most-true last (nanoseconds z) within))
+until_before (Some z) x last is le within = at_most-from x (nanoseconds z)
+    (IsAtMost-trans x last (nanoseconds z) is (at_most-true x last le) (at_most-true last (nanoseconds z) within))
 
-module _ (window : Window) (first last : Time) (whole : window.after ≡ None) (begins : before (seconds 0) first ≡ true) (is_last : IsTime last) (within : is_until window.until last ≡ true) where
+module _ (window : Window) (first last : Time) (whole : window.after ≡ None) (begins : before (seconds 0) first ≡ true)
+    (is_last : IsTime last) (within : is_until window.until last ≡ true) where
   is_within : (x : Timing) → IsTime x.end → at_most first x.end ≡ true → at_most x.end last ≡ true → is_listed window x ≡ true
   is_within x is from by =
-      let late : before (seconds 0) x.end ≡ true = before-from (seconds 0) x.end (before_then_at_most (seconds 0) first x.end is (before-true (seconds 0) first begins) (at_most-true first x.end from)) in
+      let late : before (seconds 0) x.end ≡ true = before-from (seconds 0) x.end
+      (before_then_at_most (seconds 0) first x.end is (before-true (seconds 0) first begins) (at_most-true first x.end from)) in
       let all : is_after window.after x.end ≡ true = rw whole refl in
       rw (late, all, until_before window.until x.end last is_last by within) refl
 
-  pub within_are : (xs : List Timing) → All (λ x. IsTime x.end) xs → filter (ends_within first last) xs ≡ ends_from first (ends_by last (listed window xs))
+  pub within_are : (xs : List Timing) → All (λ x. IsTime x.end) xs → filter (ends_within first last) xs
+      ≡ ends_from first (ends_by last (listed window xs))
   within_are xs timed =
       filter_same (ends_within first last) (λ x. (is_listed window x && at_most x.end last) && at_most first x.end) xs
-      (All-weaker (λ (x : Timing). IsTime x.end) (λ x. ends_within first last x ≡ ((is_listed window x && at_most x.end last) && at_most first x.end))
+      (All-weaker (λ (x : Timing). IsTime x.end) (λ x. ends_within first last x
+      ≡ ((is_listed window x && at_most x.end last) && at_most first x.end))
       (λ x is. three (at_most first x.end) (at_most x.end last) (is_listed window x) (is_within x is)) xs timed)
       ∙ sym (ap (ends_from first) (filter_filter (λ x. at_most x.end last) (is_listed window) xs)
       ∙ filter_filter (λ x. at_most first x.end) (λ x. is_listed window x && at_most x.end last) xs)
@@ -241,12 +274,14 @@ last_at : (x : Timing) (xs : List Timing) → last_or (Some x) xs ≡ slice_get 
 last_at x [] = refl
 last_at x (y ∷ xs) = last_at y xs
 
-pub rewritten_is : (olds xs : List Timing) (first last : Timing) → slice_get olds 0 ≡ Some first → slice_get olds (length olds - 1) ≡ Some last
+pub rewritten_is : (olds xs : List Timing) (first last : Timing) → slice_get olds 0 ≡ Some first
+    → slice_get olds (length olds - 1) ≡ Some last
     → rewritten_by olds xs ≡ first_other (reverse olds) (reverse (filter (ends_within first.end last.end) xs))
 rewritten_is [] xs first last at end = absurd (cc)
 rewritten_is (o ∷ olds) xs first last at end =
     let one : o ≡ first = same_Some o first at in
     let place : length (o ∷ olds) - 1 ≡ length olds = omega arith in
     let there : last_or None (o ∷ olds) ≡ Some last = last_at o olds ∙ ap (slice_get (o ∷ olds)) (sym place) ∙ end in
-    ap (λ (r : Option Timing). option_map_or (λ last. first_other (reverse (o ∷ olds)) (reverse (filter (ends_within o.end last.end) xs))) r None) there
+    ap (λ (r : Option Timing). option_map_or (λ last. first_other (reverse (o ∷ olds)) (reverse (filter (ends_within o.end last.end) xs)))
+    r None) there
     ∙ ap (λ (y : Timing). first_other (reverse (o ∷ olds)) (reverse (filter (ends_within y.end last.end) xs))) one

@@ -1,5 +1,6 @@
 -- Ids that are found at their places.
-use Rattle.std.proofs.Common.{◌≡◌, ℕ, zero, suc, ◌+◌, ◌<◌, ◌≤◌, Bool, true, false, not, List, [], ◌∷◌, ◌++◌, length, Option, Some, None, bytes_eq, refl, sym, ◌∙◌, ap, subst, inl, inr, arith, length-append}
+use Rattle.std.proofs.Common.{◌≡◌, ℕ, zero, suc, ◌+◌, ◌<◌, ◌≤◌, Bool, true, false, not, List, [], ◌∷◌, ◌++◌, length, Option, Some, None}
+use Rattle.std.proofs.Common.{bytes_eq, refl, sym, ◌∙◌, ap, subst, inl, inr, arith, length-append}
 use Rattle.std.specs.Prelude.{slice_get}
 use Rattle.std.specs.List.{list_any}
 use Rattle.std.specs.Map.{update}
@@ -88,7 +89,8 @@ fresh (x ∷ xs) ys y once =
     rw turned (fresh xs ys y split.1)
 
 -- one more of the new Periods
-pub numbered_next : (old new : List ℕ → Option ℕ) (known all rest : List Known) (place : ℕ) (k : Known) → IsNumberedSo old known all place (k ∷ rest)
+pub numbered_next : (old new : List ℕ → Option ℕ) (known all rest : List Known) (place : ℕ) (k : Known)
+    → IsNumberedSo old known all place (k ∷ rest)
     → ((x : List ℕ) → new x ≡ update bytes_eq old k.id (Some place) x) → IsNumberedSo new known all (place + 1) rest
 numbered_next old new known all rest place k is updates =
     let ids : ids_of (known ++ all) ≡ ids_of (known ++ is.done) ++ k.id ∷ ids_of rest =
@@ -98,7 +100,8 @@ numbered_next old new known all rest place k is updates =
     fresh (ids_of (known ++ is.done)) (ids_of rest) k.id (subst (λ (xs : List (List ℕ)). are_once xs ≡ true) ids is.once) in
     let long : place ≡ length (ids_of (known ++ is.done)) = is.next ∙ sym (length-map (known ++ is.done) (λ (j : Known). j.id)) in
     let index : IsIndex new (ids_of (known ++ is.done) ++ k.id ∷ []) =
-    index_more old new (ids_of (known ++ is.done)) k.id is.index absent (λ x. updates x ∙ ap (λ n. update bytes_eq old k.id (Some n) x) long) in
+    index_more old new (ids_of (known ++ is.done)) k.id is.index absent (λ x. updates x
+    ∙ ap (λ n. update bytes_eq old k.id (Some n) x) long) in
     let grown : ids_of (known ++ (is.done ++ k ∷ [])) ≡ ids_of (known ++ is.done) ++ k.id ∷ [] =
     ap ids_of (sym (append_assoc known is.done (k ∷ []))) ∙ map-append (λ (j : Known). j.id) (known ++ is.done) (k ∷ []) in
     record {
@@ -115,7 +118,8 @@ pub numbered_known : (places : List ℕ → Option ℕ) (known all rest : List K
 numbered_known places known all rest place is =
     index_front places (ids_of known) (ids_of is.done) (subst (IsIndex places) (map-append (λ (j : Known). j.id) known is.done) is.index)
 
-pub numbered_rest : (places : List ℕ → Option ℕ) (known all old rest : List Known) (place : ℕ) (k : Known) → IsNumberedSo places known all place old
+pub numbered_rest : (places : List ℕ → Option ℕ) (known all old rest : List Known) (place : ℕ) (k : Known)
+    → IsNumberedSo places known all place old
     → old ≡ k ∷ rest → IsNumberedSo places known all place (k ∷ rest)
 numbered_rest places known all old rest place k is same = subst (λ (ks : List Known). IsNumberedSo places known all place ks) same is
 
@@ -123,7 +127,8 @@ append_none : (xs : List Known) → xs ++ [] ≡ xs
 append_none [] = refl
 append_none (x ∷ xs) = ap (λ (ys : List Known). x ∷ ys) (append_none xs)
 
-pub numbered_first : (places : List ℕ → Option ℕ) (known all : List Known) (place : ℕ) → IsIndex places (ids_of known) → are_once (ids_of (known ++ all)) ≡ true
+pub numbered_first : (places : List ℕ → Option ℕ) (known all : List Known) (place : ℕ) → IsIndex places (ids_of known)
+    → are_once (ids_of (known ++ all)) ≡ true
     → place ≡ length known → IsNumberedSo places known all place all
 numbered_first places known all place index once next = record {
   done = [];
@@ -133,7 +138,8 @@ numbered_first places known all place index once next = record {
   once = once;
 }
 
-pub numbered_at_end : (places : List ℕ → Option ℕ) (known all rest : List Known) (place : ℕ) → IsNumberedSo places known all place rest → rest ≡ []
+pub numbered_at_end : (places : List ℕ → Option ℕ) (known all rest : List Known) (place : ℕ) → IsNumberedSo places known all place rest
+    → rest ≡ []
     → IsIndex places (ids_of (known ++ all))
 numbered_at_end places known all rest place is end =
     let whole : all ≡ is.done = is.split ∙ ap (λ (ks : List Known). is.done ++ ks) end ∙ append_none is.done in

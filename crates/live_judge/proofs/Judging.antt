@@ -44,27 +44,32 @@ module _ (s : State) (u : Update) (p : Presented) where
       ∙ ap (λ (xs : List Refusal). xs ++ timed) (sym (append_assoc far (listed_told s.common (mpd_of u) p) kept))
 
   pub listed_first : (fault : RefreshFault) → Tells fault listed → Tells fault (told_before s u p)
-  listed_first fault tells = subst (λ (xs : List Refusal). Tells fault xs) (sym in_parts) (told_first fault (listed ++ kept) timed (told_first fault listed kept tells))
+  listed_first fault tells = subst (λ (xs : List Refusal). Tells fault xs) (sym in_parts)
+      (told_first fault (listed ++ kept) timed (told_first fault listed kept tells))
 
   pub kept_first : (fault : RefreshFault) → listed ≡ [] → Tells fault kept → Tells fault (told_before s u p)
   kept_first fault none tells =
-      subst (λ (xs : List Refusal). Tells fault xs) (sym in_parts) (told_first fault (listed ++ kept) timed (told_behind fault listed kept none tells))
+      subst (λ (xs : List Refusal). Tells fault xs) (sym in_parts)
+      (told_first fault (listed ++ kept) timed (told_behind fault listed kept none tells))
 
   pub timed_first : (fault : RefreshFault) → listed ≡ [] → kept ≡ [] → Tells fault timed → Tells fault (told_before s u p)
   timed_first fault none none_kept tells =
-      subst (λ (xs : List Refusal). Tells fault xs) (sym in_parts) (told_behind fault (listed ++ kept) timed (none_told listed kept none none_kept) tells)
+      subst (λ (xs : List Refusal). Tells fault xs) (sym in_parts)
+      (told_behind fault (listed ++ kept) timed (none_told listed kept none none_kept) tells)
 
   pub none_before : listed ≡ [] → kept ≡ [] → timed ≡ [] → told_before s u p ≡ []
   none_before none none_kept none_timed = in_parts ∙ none_told (listed ++ kept) timed (none_told listed kept none none_kept) none_timed
 
 -- known Periods begin where they did
-pub unmoved_there : (o : Option Values) (c : Common) (former : ℕ) (p : Presented) (place : ℕ) → IsPlaceBy o c former p place → is_some o ≡ true → AreUnmoved c.known p place
+pub unmoved_there : (o : Option Values) (c : Common) (former : ℕ) (p : Presented) (place : ℕ) → IsPlaceBy o c former p place
+    → is_some o ≡ true → AreUnmoved c.known p place
 unmoved_there None c former p place is some = absurd (cc)
 unmoved_there (Some mpd) c former p place is some = is.unmoved
 
 -- what is judged is what it should be
 pub next_is : PresentedAreFew → PresentedAreFollowed → EndsAreCounted → (n : Next) (done : Unit {0}) → IsLive n.standing.now n.tracks.now
-    → is_finished (in_force n.standing.now) ≡ false → int_lt n.now (n.standing.now).instant ≡ false → Comes n.standing.now n.coming n.force.now n.now → Ok done ≡ unless_any (range_faults (p_of n)) tt
+    → is_finished (in_force n.standing.now) ≡ false → int_lt n.now (n.standing.now).instant ≡ false
+    → Comes n.standing.now n.coming n.force.now n.now → Ok done ≡ unless_any (range_faults (p_of n)) tt
     → IsPlaceBy (mpd_of (update_of n.coming (pos 0))) (common_shown n.standing.now) (n.standing.now).place n.force.now n.place → IsNext n
 next_is few followed ends n done live unended forward comes far place =
     let is = listed_there few followed n.standing.now n.tracks.now live n.coming n.force.now n.now n.place comes place in

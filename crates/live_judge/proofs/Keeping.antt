@@ -36,7 +36,8 @@ kept_times (i ∷ items) [] same = absurd (omega (arith, same))
 kept_times (i ∷ items) (f ∷ facts) same = ap (λ (xs : List Timing). timing_of f.span ∷ xs) (kept_times items facts (omega (arith, same)))
 
 -- the last one of both
-last_of_both : (items : List MediaItem) (facts : List Fact) (item : MediaItem) (fact : Fact) → length items ≡ length facts → last_item items ≡ Some item → last_item facts ≡ Some fact
+last_of_both : (items : List MediaItem) (facts : List Fact) (item : MediaItem) (fact : Fact) → length items ≡ length facts
+    → last_item items ≡ Some item → last_item facts ≡ Some fact
     → last_kept (kepts_of items facts) ≡ Some (kept_of item fact)
 last_of_both items facts item fact same at_item at_fact =
     let long : length (kepts_of items facts) ≡ length items = length-kepts items facts same ∙ sym same in
@@ -49,4 +50,5 @@ module _ (items : List MediaItem) (facts : List Fact) (item : MediaItem) (fact :
   last_there = ap (option_map (last_from begin)) (last_of_both items facts item fact same at_item at_fact)
 
   pub place_there : option_map_or (λ k. k.segment.value.place) (last_kept (kepts_of items facts)) 0 ≡ fact.place
-  place_there = ap (λ (o : Option Kept). option_map_or (λ k. k.segment.value.place) o 0) (last_of_both items facts item fact same at_item at_fact)
+  place_there = ap (λ (o : Option Kept). option_map_or (λ k. k.segment.value.place) o 0)
+      (last_of_both items facts item fact same at_item at_fact)

@@ -1,23 +1,17 @@
 -- What is removed with the new segments, and how many are kept.
-use Rattle.std.proofs.Common.{◌≡◌, ℕ, ◌+◌, ◌-◌, ◌^◌, ◌<◌, true, List, [], length, sum, Option, Some, None, sym, ◌∙◌, ap, arith, length-append}
-use Rattle.std.specs.Prelude.{All, get_or, slice_get}
-use Rattle.std.specs.Option.{option_map_or}
-use Rattle.std.proofs.lemmas.Bool.{and_parts}
-use Rattle.std.proofs.lemmas.List.Elements.{All-nil, filter_passes}
-use Rattle.timeline.specs.declared.window.Window.{Window}
-use Rattle.timeline.specs.Expansions.{Timing}
-use Rattle.timeline.specs.Listed.{expansion, is_listed}
-use Rattle.presentation.specs.declared.parts.Content.{Content}
-use Rattle.presentation.specs.Presented.{Following, Presented, content_at, listed_at, listed_in, start_of, whole_window, window_at, window_of}
+use Rattle.std.proofs.Common.{◌≡◌, ℕ, ◌+◌, ◌-◌, ◌^◌, ◌<◌, true, List, length, sum, Some, sym, ◌∙◌, ap, arith, length-append}
+use Rattle.std.specs.Prelude.{slice_get}
+use Rattle.presentation.specs.Presented.{Following}
 use Rattle.presentation.proofs.Grids.{All-at}
 use Rattle.live_meaning.specs.Updates.{unit_of}
-use Rattle.live_meaning.specs.Segments.{Numbering, Segment, listed_of, segments_of}
+use Rattle.live_meaning.specs.Segments.{Segment, listed_of, segments_of}
 use Rattle.live_meaning.specs.Histories.{least_length, numbering_of}
 use Rattle.live_meaning.specs.Removal.{is_available, removed_of}
 use Rattle.live_meaning.specs.Refusals.{count_kept}
 use Rattle.live_meaning.specs.States.{kept_and_new, new_durations, new_of, new_told, removed_from}
-use Rattle.live_meaning.proofs.Orders.{behind_have, listed_have}
+use Rattle.live_meaning.proofs.Orders.{behind_have}
 use Rattle.live_meaning.proofs.Tracks.{length-told, told-segments}
+use Rattle.live_meaning.proofs.Kept.{listed_available}
 use Rattle.live_judge.specs.declared.track_next.TrackNext.{TrackNext}
 use Rattle.live_judge.specs.Coming.{IsTrackNext, c_of, p_of, t_of}
 use Rattle.live_judge.specs.Removal.{kept_in}
@@ -28,30 +22,21 @@ use Rattle.live_judge.proofs.Tracks.{paired_there}
 
 -- ---- what is new is available
 
-listed_pass : (window : Window) (o : Option Content) → All (λ x. is_listed window x ≡ true) (option_map_or (λ content. listed_in window content.runs) o [])
-listed_pass window None = All-nil (λ x. is_listed window x ≡ true)
-listed_pass window (Some content) = filter_passes (is_listed window) (expansion content.runs window)
-
-listed_available : (n : Numbering) (p : Presented) (t : ℕ) (f : Following) → p.following ≡ Some f → All (λ x. is_available f x ≡ true) (listed_of n p t)
-listed_available n p t f is = listed_have (λ x. is_available f x ≡ true) n p t (λ s content less at. λ j d within.
-    let window : window_of p s ≡ window_at f (start_of p s) = ap (λ o. option_map_or (λ f. window_at f (start_of p s)) o whole_window) is in
-    let x : Timing = get_or (listed_at p s t) j d in
-    let pass : is_listed (window_at f (start_of p s)) x ≡ true =
-    ap (λ w. is_listed w x) (sym window) ∙ listed_pass (window_of p s) (content_at p s t) j d within in
-    (and_parts _ _ (and_parts _ _ pass).0).1)
-
-new_available : (l : TrackNext) (f : Following) (y : Segment) → (p_of l.next.now).following ≡ Some f → slice_get (segments_of (new_told (c_of l) l.index (t_of l))) 0 ≡ Some y
+new_available : (l : TrackNext) (f : Following) (y : Segment) → (p_of l.next.now).following ≡ Some f
+    → slice_get (segments_of (new_told (c_of l) l.index (t_of l))) 0 ≡ Some y
     → is_available f y ≡ true
 new_available l f y is first =
     All-at (λ x. is_available f x ≡ true) (new_of (c_of l) l.index (t_of l)) 0 y
     (behind_have (λ x. is_available f x ≡ true) (t_of l).last (t_of l).place (listed_of (numbering_of (c_of l)) (p_of l.next.now) l.index)
     (listed_available (numbering_of (c_of l)) (p_of l.next.now) l.index f is))
-    (ap (λ (xs : List Segment). slice_get xs 0) (sym (told-segments (unit_of (c_of l).terms) (t_of l).last (new_of (c_of l) l.index (t_of l)))) ∙ first)
+    (ap (λ (xs : List Segment). slice_get xs 0)
+    (sym (told-segments (unit_of (c_of l).terms) (t_of l).last (new_of (c_of l) l.index (t_of l)))) ∙ first)
 
 -- ---- what is removed
 
 -- what is left to last, where the new ones' sum stops at the last value of a counter
-pub least_left : (units sums least whole total : ℕ) → whole ≡ units → units < 2 ^ 128 → total ≡ capped sums → least ≡ whole - total → least ≡ units - sums
+pub least_left : (units sums least whole total : ℕ) → whole ≡ units → units < 2 ^ 128 → total ≡ capped sums → least ≡ whole - total
+    → least ≡ units - sums
 least_left units sums least whole total same fits is left = omega (arith, same, fits, is, left)
 
 pub removed_there : (l : TrackNext) (least removed : ℕ) → least ≡ least_length (c_of l) - sum (new_durations (c_of l) l.index (t_of l))
@@ -59,7 +44,8 @@ pub removed_there : (l : TrackNext) (least removed : ℕ) → least ≡ least_le
     → removed ≡ removed_from (c_of l) (kept_and_new (c_of l) l.index (t_of l))
 removed_there l least removed same is =
     is ∙ ap (λ n. removed_of (p_of l.next.now).following n (kept_in l.track.now)) same
-    ∙ sym (removed_by (p_of l.next.now).following (least_length (c_of l)) (kept_in l.track.now) (new_told (c_of l) l.index (t_of l)) (new_available l))
+    ∙ sym (removed_by (p_of l.next.now).following (least_length (c_of l)) (kept_in l.track.now) (new_told (c_of l) l.index (t_of l))
+    (new_available l))
 
 -- ---- how many are kept
 

@@ -1,5 +1,6 @@
 -- An update whose MPD is judged.
-use Rattle.std.proofs.Common.{◌≡◌, ℕ, suc, ◌≤◌, ◌||◌, ◌&&◌, Bool, true, false, ℤ, pos, List, [], ◌∷◌, ◌++◌, length, map, Option, Some, None, Ok, Err, Result, refl, sym, ◌∙◌, ap, subst, arith}
+use Rattle.std.proofs.Common.{◌≡◌, ℕ, suc, ◌≤◌, ◌||◌, ◌&&◌, Bool, true, false, ℤ, pos, List, [], ◌∷◌, ◌++◌, length, map, Option, Some, None}
+use Rattle.std.proofs.Common.{Ok, Err, Result, refl, sym, ◌∙◌, ap, subst, arith}
 use Rattle.std.specs.Prelude.{IfSome, IsSome, flat_map, int_lt, option_map, unwrap_or, if◌then◌else◌}
 use Rattle.std.specs.Option.{option_map_or}
 use Rattle.std.proofs.lemmas.Bool.{and_parts}
@@ -56,9 +57,11 @@ range_told p t s (Ok n) = tt
 range_told p t s (Err fault) = (refl, tt)
 
 ranges_told : (p : Presented) → AreTold (range_faults p)
-ranges_told p = all_told (range_faults_of p) (λ t. all_told (range_at p t) (λ s. range_told p t s (count_at p t s)) (sections_of p)) (tracks_of p)
+ranges_told p = all_told (range_faults_of p) (λ t. all_told (range_at p t) (λ s. range_told p t s (count_at p t s)) (sections_of p))
+    (tracks_of p)
 
-first_far : (faults : List PresentationFault) (fault : PresentationFault) (later : List Refusal) → AreTold faults → unless_any {X = Unit {0}} faults tt ≡ Err fault
+first_far : (faults : List PresentationFault) (fault : PresentationFault) (later : List Refusal) → AreTold faults
+    → unless_any {X = Unit {0}} faults tt ≡ Err fault
     → Tells (of_presentation fault) (map Presentation faults ++ later)
 first_far [] fault later all is = absurd (cc)
 first_far (f ∷ faults) fault later all is =
@@ -66,7 +69,8 @@ first_far (f ∷ faults) fault later all is =
     let here : told (of_presentation fault) ≡ Some (Presentation fault) = subst IsTold same all.0 in
     (ap (λ g. Some (Presentation g)) same ∙ sym here, subst IsSome (sym here) refl)
 
-pub far_told : (p : Presented) (fault : PresentationFault) (later : List Refusal) → unless_any {X = Unit {0}} (range_faults p) tt ≡ Err fault
+pub far_told : (p : Presented) (fault : PresentationFault) (later : List Refusal)
+    → unless_any {X = Unit {0}} (range_faults p) tt ≡ Err fault
     → Tells (of_presentation fault) (map Presentation (range_faults p) ++ later)
 far_told p fault later is = first_far (range_faults p) fault later (ranges_told p) is
 
@@ -75,8 +79,10 @@ far_told p fault later is = first_far (range_faults p) fault later (ranges_told 
 same_start : (start own : ℤ) → (int_lt start own || int_lt own start) ≡ false → start ≡ own
 same_start start own is = grind (arith, ints, is)
 
-pub starts_by : (o : Option ℤ) (live : Bool) (depth : Option ℕ) (at now own : ℤ) → option_map_or (λ start. int_lt start own || int_lt own start) o live ≡ false
-    → IfSome (option_map (at_instant now) (if live then Some (record { instant = at; availability_start = unwrap_or o (pos 0); depth = depth }) else None))
+pub starts_by : (o : Option ℤ) (live : Bool) (depth : Option ℕ) (at now own : ℤ)
+    → option_map_or (λ start. int_lt start own || int_lt own start) o live ≡ false
+    → IfSome (option_map (at_instant now) (if live
+    then Some (record { instant = at; availability_start = unwrap_or o (pos 0); depth = depth }) else None))
     (λ f. f.availability_start ≡ own)
 starts_by o false depth at now own is = tt
 starts_by None true depth at now own is = absurd (cc)
@@ -119,14 +125,16 @@ module _ (few : PresentedAreFew) (followed : PresentedAreFollowed) (s : Standing
           within = omega (arith, at.1, first_within known (ids_in force), length-map s.known (λ (k : Known). k.id));
           stands = new_stand s.known force place live.stands.once is.among;
           follows =
-              subst (λ (o : Option Following). IfSome (option_map (at_instant now) o) (λ f. f.availability_start ≡ availability_start_of s.opened)) (sym (followed mpd s.base (Some now) force made))
+              subst (λ (o : Option Following). IfSome (option_map (at_instant now) o) (λ f. f.availability_start
+              ≡ availability_start_of s.opened)) (sym (followed mpd s.base (Some now) force made))
               (starts_by mpd.facts.availability_start mpd.facts.live mpd.facts.depth now now (availability_start_of s.opened) is.starts);
         }
 
   abbrev standing : Presented
   standing = unwrap_or s.newest s.opened
 
-  same_follows : (o : Option Following) (now : ℤ) → IfSome (option_map (at_instant s.instant) o) (λ f. f.availability_start ≡ availability_start_of s.opened)
+  same_follows : (o : Option Following) (now : ℤ)
+      → IfSome (option_map (at_instant s.instant) o) (λ f. f.availability_start ≡ availability_start_of s.opened)
       → IfSome (option_map (at_instant now) o) (λ f. f.availability_start ≡ availability_start_of s.opened)
   same_follows None now is = tt
   same_follows (Some f) now is = is
@@ -145,7 +153,8 @@ module _ (few : PresentedAreFew) (followed : PresentedAreFollowed) (s : Standing
   listed (comes.Refresh mpd) force now place made is = new_listed (segments_mpd mpd.now) force now place made is
   listed (comes.Reset mpd) force now place made is = new_listed (segments_mpd mpd.now) force now place made is
   listed comes.Tick force now place same is =
-      subst (λ (p : Presented). IsListed s tracks (looked_at now p) place) (sym same) (subst (IsListed s tracks (looked_at now standing)) (sym is) (same_listed now))
+      subst (λ (p : Presented). IsListed s tracks (looked_at now p) place) (sym same)
+      (subst (IsListed s tracks (looked_at now standing)) (sym is) (same_listed now))
 
 pub mpd_at : (coming : Coming) (now : ℤ) → mpd_of (update_of coming now) ≡ mpd_of (update_of coming (pos 0))
 mpd_at (comes.Refresh mpd) now = refl

@@ -3,10 +3,11 @@ use Rattle.std.proofs.Common.{◌≡◌, ℕ, ◌+◌, List, [], ◌∷◌, ◌+
 use Rattle.std.specs.Prelude.{filter, flat_map, slice_get}
 use Rattle.std.proofs.lemmas.List.{map-append}
 use Rattle.std.proofs.lemmas.List.Elements.{filter-append}
+use Rattle.bridge_io.specs.Firsts.{first_of}
 use Rattle.presentation.specs.Counting.{sections_of}
 use Rattle.live_meaning.specs.Updates.{unit_of}
 use Rattle.live_meaning.specs.Histories.{Common}
-use Rattle.live_meaning.specs.Refusals.{LongSegment, Refusal, first_of, long_told}
+use Rattle.live_meaning.specs.Refusals.{LongSegment, Refusal, long_told}
 use Rattle.live_meaning.specs.States.{new_durations}
 use Rattle.live_judge.specs.declared.coming.Next.{Next}
 use Rattle.live_judge.specs.declared.times.NewRun.{NewRun}
@@ -20,7 +21,8 @@ use Rattle.live_judge.specs.Times.{IsNextRun, IsRun, left_of}
 use Rattle.live_judge.proofs.Firsts.{each}
 use Rattle.live_judge.proofs.Totals.{durations_there, durs}
 
-longs_append : (unit target : ℕ) (ds es : List ℕ) → longs_told unit target (ds ++ es) ≡ longs_told unit target ds ++ longs_told unit target es
+longs_append : (unit target : ℕ) (ds es : List ℕ) → longs_told unit target (ds ++ es) ≡ longs_told unit target ds
+    ++ longs_told unit target es
 longs_append unit target ds es =
     ap (map (LongSegment target)) (filter-append (is_long unit target) ds es)
     ∙ map-append (LongSegment target) (filter (is_long unit target) ds) (filter (is_long unit target) es)
@@ -36,7 +38,8 @@ none_first : (target : ℕ) (ds : List ℕ) → slice_get ds 0 ≡ None → map 
 none_first target [] none = refl
 none_first target (d ∷ ds) none = absurd (cc)
 
-first_told : (target d : ℕ) (ds : List ℕ) (later : List Refusal) → slice_get ds 0 ≡ Some d → first_of (map (LongSegment target) ds ++ later) ≡ Some (LongSegment target d)
+first_told : (target d : ℕ) (ds : List ℕ) (later : List Refusal) → slice_get ds 0 ≡ Some d
+    → first_of (map (LongSegment target) ds ++ later) ≡ Some (LongSegment target d)
 first_told target d [] later at = absurd (cc)
 first_told target d (e ∷ ds) later at = let same : e ≡ d = cc in ap (λ n. Some (LongSegment target n)) same
 
@@ -57,7 +60,8 @@ module _ (unit own target : ℕ) (same : unit ≡ own) (old new : NewTimes) (run
   pub first_in_run : (printed : ℕ) → ((ds : List ℕ) → IsRun ds run → slice_get (filter (is_long unit target) ds) 0 ≡ Some printed)
       → first_of (longs_told own target all) ≡ Some (LongSegment target printed)
   first_in_run printed first =
-      ap first_of split ∙ first_told target printed (filter (is_long own target) is.ds) (longs_told own target (left_of new)) (in_own (Some printed) (first is.ds is.tells))
+      ap first_of split ∙ first_told target printed (filter (is_long own target) is.ds) (longs_told own target (left_of new))
+      (in_own (Some printed) (first is.ds is.tells))
 
 -- ---- section by section
 
@@ -65,7 +69,8 @@ abbrev pub long_in : TrackNext → ℕ → List Refusal
 long_in l s = longs_told (unit_of (c_of l).terms) (c_of l).target (durs l s)
 
 pub long_there : (l : TrackNext) → IsTrackNext l
-    → longs_told (unit_of (c_of l).terms) (c_of l).target (new_durations (c_of l) l.index (t_of l)) ≡ flat_map (long_in l) (sections_of (p_of l.next.now))
+    → longs_told (unit_of (c_of l).terms) (c_of l).target (new_durations (c_of l) l.index (t_of l))
+    ≡ flat_map (long_in l) (sections_of (p_of l.next.now))
 long_there l is =
     ap (longs_told (unit_of (c_of l).terms) (c_of l).target) (durations_there l is)
     ∙ longs_flat (unit_of (c_of l).terms) (c_of l).target (durs l) (sections_of (p_of l.next.now))

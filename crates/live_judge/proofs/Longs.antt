@@ -1,5 +1,6 @@
 -- Which durations are longer than a target duration.
-use Rattle.std.proofs.Common.{◌≡◌, ℕ, ◌+◌, ◌*◌, ◌/◌, ◌%◌, ◌<◌, ◌≤◌, Bool, true, false, leb, nat_lt, List, [], ◌∷◌, Some, refl, sym, ◌∙◌, ap, subst, inl, inr, arith}
+use Rattle.std.proofs.Common.{◌≡◌, ℕ, ◌+◌, ◌*◌, ◌/◌, ◌%◌, ◌<◌, ◌≤◌, Bool, true, false, leb, nat_lt, List, [], ◌∷◌, Some, refl, sym, ◌∙◌, ap}
+use Rattle.std.proofs.Common.{subst, inl, inr, arith}
 use Rattle.std.specs.Prelude.{All, filter, slice_get, None, nat_le, if◌then◌else◌}
 use Rattle.std.proofs.Math.Nat.{mul-le-mul_left}
 use Rattle.std.proofs.lemmas.Bool.{cases_Bool, cases_lt, leb-true, leb-false}
@@ -30,7 +31,8 @@ by_parts unit target q r below low = elim (cases_lt target q) [
       let more : unit * q ≤ unit * target = mul-le-mul_left unit not_less in
       elim (cases_Bool (leb unit (2 * r))) [
         | inl is ↦ elim (cases_lt q target) [
-          | inl above ↦ let far : unit * (q + 1) ≤ unit * target = mul-le-mul_left unit (omega arith) in rw is (grind (arith, nat_tests, far))
+          | inl above ↦ let far : unit * (q + 1) ≤ unit * target = mul-le-mul_left unit (omega arith) in
+              rw is (grind (arith, nat_tests, far))
           | inr same ↦ let one : q ≡ target = omega arith in let half = leb-true _ _ is in rw (is, one) (grind (arith, nat_tests, half))
         ]
         | inr other ↦ let half = leb-false _ _ other in rw other (grind (arith, nat_tests, more, half))
@@ -55,9 +57,11 @@ falls unit target d more low le is = elim (cases_Bool (is_long unit target d)) [
 ]
 
 none_long : (unit target : ℕ) → 1 ≤ unit → is_long unit target 0 ≡ false
-none_long unit target low = sym (long_is unit target 0 low) ∙ (let some : 1 * unit ≤ (2 * target + 1) * unit = omega arith in grind (arith, nat_tests, some))
+none_long unit target low = sym (long_is unit target 0 low) ∙ (let some : 1 * unit ≤ (2 * target + 1) * unit = omega arith in
+    grind (arith, nat_tests, some))
 
-pub find_longest : (test : ℕ → Bool) (longest : ℕ) → test 0 ≡ false → test longest ≡ true → ((d : ℕ) → d < longest → test d ≡ false) → (ds : List ℕ)
+pub find_longest : (test : ℕ → Bool) (longest : ℕ) → test 0 ≡ false → test longest ≡ true → ((d : ℕ) → d < longest → test d ≡ false)
+    → (ds : List ℕ)
     → greatest ds ≡ longest → slice_get (filter test ds) 0 ≡ Some longest
 find_longest test longest none is below [] same = absurd (let never : test 0 ≡ true = ap test same ∙ is in cc)
 find_longest test longest none is below (d ∷ ds) same = elim (cases_lt d longest) [
@@ -68,7 +72,8 @@ find_longest test longest none is below (d ∷ ds) same = elim (cases_lt d longe
       rw here (ap Some one)
 ]
 
-pub find_none : (test : ℕ → Bool) (longest : ℕ) → ((d : ℕ) → d ≤ longest → test d ≡ false) → (ds : List ℕ) → greatest ds ≤ longest → filter test ds ≡ []
+pub find_none : (test : ℕ → Bool) (longest : ℕ) → ((d : ℕ) → d ≤ longest → test d ≡ false) → (ds : List ℕ) → greatest ds ≤ longest
+    → filter test ds ≡ []
 find_none test longest below [] le = refl
 find_none test longest below (d ∷ ds) le = rw (below d (omega arith)) (find_none test longest below ds (omega arith))
 
@@ -76,18 +81,23 @@ module _ (unit target : ℕ) (low : 1 ≤ unit) (ds : List ℕ) (run : NewRun) (
   longest_is : run.others.longest ≡ greatest is.others
   longest_is = ap (λ e. e.longest) is.summed
 
-  behind_first : is_long unit target run.first ≡ false → slice_get (filter (is_long unit target) ds) 0 ≡ slice_get (filter (is_long unit target) is.others) 0
+  behind_first : is_long unit target run.first ≡ false → slice_get (filter (is_long unit target) ds) 0
+      ≡ slice_get (filter (is_long unit target) is.others) 0
   behind_first first = ap (λ (xs : List ℕ). slice_get (filter (is_long unit target) xs) 0) is.is ∙ (rw first refl)
 
-  pub no_long : is_long unit target run.first ≡ false → is_long unit target run.others.longest ≡ false → slice_get (filter (is_long unit target) ds) 0 ≡ None
+  pub no_long : is_long unit target run.first ≡ false → is_long unit target run.others.longest ≡ false
+      → slice_get (filter (is_long unit target) ds) 0 ≡ None
   no_long first longest =
       behind_first first
-      ∙ ap (λ (xs : List ℕ). slice_get xs 0) (find_none (is_long unit target) run.others.longest (λ d le. falls unit target d run.others.longest low le longest) is.others (omega (arith, longest_is)))
+      ∙ ap (λ (xs : List ℕ). slice_get xs 0) (find_none (is_long unit target) run.others.longest
+      (λ d le. falls unit target d run.others.longest low le longest) is.others (omega (arith, longest_is)))
 
-  by_second : (os : List ℕ) → is.others ≡ os → is_long unit target run.first ≡ false → is_long unit target run.others.longest ≡ true → is_long unit target run.second ≡ true
+  by_second : (os : List ℕ) → is.others ≡ os → is_long unit target run.first ≡ false → is_long unit target run.others.longest ≡ true
+      → is_long unit target run.second ≡ true
       → slice_get (filter (is_long unit target) os) 0 ≡ Some run.second
   by_second [] none first longest second =
-      absurd (let zero_long : is_long unit target 0 ≡ true = ap (is_long unit target) (sym (longest_is ∙ ap greatest none)) ∙ longest in let never = none_long unit target low in cc)
+      absurd (let zero_long : is_long unit target 0 ≡ true = ap (is_long unit target) (sym (longest_is ∙ ap greatest none)) ∙ longest in
+      let never = none_long unit target low in cc)
   by_second (o ∷ os) some first longest second = elim is.second [
     | inl none ↦ absurd (let never : o ∷ os ≡ [] = sym some ∙ none in cc)
     | inr at ↦
@@ -97,25 +107,29 @@ module _ (unit target : ℕ) (low : 1 ≤ unit) (ds : List ℕ) (run : NewRun) (
         rw here same
   ]
 
-  pub second_long : is_long unit target run.first ≡ false → is_long unit target run.others.longest ≡ true → is_long unit target run.second ≡ true
+  pub second_long : is_long unit target run.first ≡ false → is_long unit target run.others.longest ≡ true
+      → is_long unit target run.second ≡ true
       → slice_get (filter (is_long unit target) ds) 0 ≡ Some run.second
   second_long first longest second = behind_first first ∙ by_second is.others refl first longest second
 
   by_longest : (os : List ℕ) → is.others ≡ os → is_long unit target run.others.longest ≡ true → is_long unit target run.second ≡ false
       → slice_get (filter (is_long unit target) is.others) 0 ≡ Some run.others.longest
   by_longest [] none longest second =
-      absurd (let zero_long : is_long unit target 0 ≡ true = ap (is_long unit target) (sym (longest_is ∙ ap greatest none)) ∙ longest in let never = none_long unit target low in cc)
+      absurd (let zero_long : is_long unit target 0 ≡ true = ap (is_long unit target) (sym (longest_is ∙ ap greatest none)) ∙ longest in
+      let never = none_long unit target low in cc)
   by_longest (o ∷ os) some longest second = elim is.second [
     | inl none ↦ absurd (let never : o ∷ os ≡ [] = sym some ∙ none in cc)
     | inr at ↦
         let same : Some o ≡ Some run.second = ap (λ (xs : List ℕ). slice_get xs 0) (sym some) ∙ at in
         let one : o ≡ run.second = cc in
-        let near : run.others.longest ≤ o + 1 = All-head (λ (d : ℕ). run.others.longest ≤ d + 1) o os (subst (λ (xs : List ℕ). All (λ (d : ℕ). run.others.longest ≤ d + 1) xs) some is.even) in
+        let near : run.others.longest ≤ o + 1 = All-head (λ (d : ℕ). run.others.longest ≤ d + 1) o os
+        (subst (λ (xs : List ℕ). All (λ (d : ℕ). run.others.longest ≤ d + 1) xs) some is.even) in
         let other : is_long unit target o ≡ false = ap (is_long unit target) one ∙ second in
         find_longest (is_long unit target) run.others.longest (none_long unit target low) longest
         (λ d less. falls unit target d o low (omega (arith, less, near)) other) is.others (sym longest_is)
   ]
 
-  pub longest_long : is_long unit target run.first ≡ false → is_long unit target run.others.longest ≡ true → is_long unit target run.second ≡ false
+  pub longest_long : is_long unit target run.first ≡ false → is_long unit target run.others.longest ≡ true
+      → is_long unit target run.second ≡ false
       → slice_get (filter (is_long unit target) ds) 0 ≡ Some run.others.longest
   longest_long first longest second = behind_first first ∙ by_longest is.others refl longest second

@@ -1,5 +1,6 @@
 -- What is new, section by section.
-use Rattle.std.proofs.Common.{◌≡◌, ℕ, zero, suc, ◌+◌, ◌<◌, ◌≤◌, ◌==◌, nat_lt, Bool, true, false, List, [], ◌∷◌, ◌++◌, length, map, Option, Some, None, refl, sym, ◌∙◌, ap, subst, inl, inr, ◌⊎◌, arith}
+use Rattle.std.proofs.Common.{◌≡◌, ℕ, zero, suc, ◌+◌, ◌<◌, ◌≤◌, ◌==◌, nat_lt, Bool, true, false, List, [], ◌∷◌, ◌++◌, length, map, Option}
+use Rattle.std.proofs.Common.{Some, None, refl, sym, ◌∙◌, ap, subst, inl, inr, ◌⊎◌, arith}
 use Rattle.std.specs.Prelude.{All, filter, flat_map}
 use Rattle.std.specs.List.{range_with_len}
 use Rattle.std.specs.Option.{option_map_or}
@@ -22,7 +23,8 @@ use Rattle.live_judge.specs.New.{durations_in, new_in, new_timings}
 
 module _ (n : Numbering) (place start : ℕ) (content : Content) (test : ℕ → Timing → Bool) where
   filter_made : (xs : List Timing)
-      → filter (λ (x : Segment). test x.value.place (record { start = x.start; end = x.end; number = x.value.number })) (map (segment_with n place start content) xs)
+      → filter (λ (x : Segment). test x.value.place (record { start = x.start; end = x.end; number = x.value.number }))
+      (map (segment_with n place start content) xs)
       ≡ map (segment_with n place start content) (filter (λ x. test place x) xs)
   filter_made [] = refl
   filter_made (x ∷ xs) = elim (cases_Bool (test place x)) [
@@ -35,14 +37,16 @@ later_in : (last : Option Last) (last_place place : ℕ) → Timing → Bool
 later_in last last_place place x = option_map_or (λ l. is_later l last_place place x.end) last true
 
 behind_is : (last : Option Last) (last_place : ℕ) (n : Numbering) (place start : ℕ) (content : Content) (xs : List Timing)
-    → behind last last_place (map (segment_with n place start content) xs) ≡ map (segment_with n place start content) (filter (later_in last last_place place) xs)
+    → behind last last_place (map (segment_with n place start content) xs) ≡ map (segment_with n place start content)
+    (filter (later_in last last_place place) xs)
 unfolding later_in
 behind_is None last_place n place start content [] = refl
 behind_is None last_place n place start content (x ∷ xs) =
     ap (λ (ys : List Segment). segment_with n place start content x ∷ ys) (behind_is None last_place n place start content xs)
 behind_is (Some l) last_place n place start content xs = filter_made n place start content (λ k x. is_later l last_place k x.end) xs
 
-behind_append : (last : Option Last) (place : ℕ) (xs ys : List Segment) → behind last place (xs ++ ys) ≡ behind last place xs ++ behind last place ys
+behind_append : (last : Option Last) (place : ℕ) (xs ys : List Segment) → behind last place (xs ++ ys)
+    ≡ behind last place xs ++ behind last place ys
 behind_append None place xs ys = refl
 behind_append (Some l) place xs ys = filter-append (λ (x : Segment). is_later l place x.value.place x.end) xs ys
 
@@ -52,8 +56,11 @@ behind_none (Some l) place = refl
 
 module _ (c : Common) (place : ℕ) (of : Track) (t : ℕ) where
   in_content : (s : ℕ) → place_of (numbering_of c).ids (id_at c.force s) ≡ place + s → (o : Option Content)
-      → behind of.last of.place (option_map_or (λ content. map (segment_with (numbering_of c) (place_of (numbering_of c).ids (id_at c.force s)) (start_of c.force s) content) (listed_at c.force s t)) o [])
-      ≡ option_map_or (λ content. map (segment_with (numbering_of c) (place + s) (start_of c.force s) content) (new_timings c.force place of t s)) o []
+      → behind of.last of.place (option_map_or
+      (λ content. map (segment_with (numbering_of c) (place_of (numbering_of c).ids (id_at c.force s)) (start_of c.force s) content)
+      (listed_at c.force s t)) o [])
+      ≡ option_map_or (λ content. map (segment_with (numbering_of c) (place + s) (start_of c.force s) content)
+      (new_timings c.force place of t s)) o []
   unfolding later_in
   in_content s at None = behind_none of.last of.place
   in_content s at (Some content) =
@@ -61,12 +68,16 @@ module _ (c : Common) (place : ℕ) (of : Track) (t : ℕ) where
       ∙ behind_is of.last of.place (numbering_of c) (place + s) (start_of c.force s) content (listed_at c.force s t)
 
   in_sections : (a n : ℕ) → ((s : ℕ) → s < a + n → place_of (numbering_of c).ids (id_at c.force s) ≡ place + s)
-      → behind of.last of.place (flat_map (listed_in_period (numbering_of c) c.force t) (range_with_len a n)) ≡ flat_map (new_in (numbering_of c) c.force place of t) (range_with_len a n)
+      → behind of.last of.place (flat_map (listed_in_period (numbering_of c) c.force t) (range_with_len a n))
+      ≡ flat_map (new_in (numbering_of c) c.force place of t) (range_with_len a n)
   in_sections a zero at = behind_none of.last of.place
   in_sections a (suc n) at =
-      behind_append of.last of.place (listed_in_period (numbering_of c) c.force t a) (flat_map (listed_in_period (numbering_of c) c.force t) (range_with_len (a + 1) n))
-      ∙ ap (λ (xs : List Segment). xs ++ behind of.last of.place (flat_map (listed_in_period (numbering_of c) c.force t) (range_with_len (a + 1) n))) (in_content a (at a (omega arith)) (content_at c.force a t))
-      ∙ ap (λ (ys : List Segment). new_in (numbering_of c) c.force place of t a ++ ys) (in_sections (a + 1) n (λ s less. at s (omega (arith, less))))
+      behind_append of.last of.place (listed_in_period (numbering_of c) c.force t a)
+      (flat_map (listed_in_period (numbering_of c) c.force t) (range_with_len (a + 1) n))
+      ∙ ap (λ (xs : List Segment). xs ++ behind of.last of.place (flat_map (listed_in_period (numbering_of c) c.force t)
+      (range_with_len (a + 1) n))) (in_content a (at a (omega arith)) (content_at c.force a t))
+      ∙ ap (λ (ys : List Segment). new_in (numbering_of c) c.force place of t a ++ ys)
+      (in_sections (a + 1) n (λ s less. at s (omega (arith, less))))
 
   -- where the Periods in force have the places from one on
   pub new_is : ((s : ℕ) → s < length c.force.sections → place_of (numbering_of c).ids (id_at c.force s) ≡ place + s)
@@ -75,9 +86,11 @@ module _ (c : Common) (place : ℕ) (of : Track) (t : ℕ) where
 
 -- ---- printed durations
 
-goes_on : (u : ℕ) (last : Option Last) (all more : List Segment) → told_behind u last (all ++ more) ≡ told_behind u last all ++ told_behind u (last_behind last all) more
+goes_on : (u : ℕ) (last : Option Last) (all more : List Segment) → told_behind u last (all ++ more)
+    ≡ told_behind u last all ++ told_behind u (last_behind last all) more
 goes_on u last [] more = refl
-goes_on u last (x ∷ all) more = ap (λ (ts : List Kept). record { segment = x; duration = duration_behind u last x } ∷ ts) (goes_on u (Some (last_with last x)) all more)
+goes_on u last (x ∷ all) more = ap (λ (ts : List Kept). record { segment = x; duration = duration_behind u last x } ∷ ts)
+    (goes_on u (Some (last_with last x)) all more)
 
 -- the last one's section, behind some of one section
 section_behind : (l : Last) (number : ℕ) (xs : List Segment) → All (λ (x : Segment). x.section ≡ number) xs → l.section ≤ number
@@ -88,7 +101,8 @@ section_behind l number (x ∷ xs) all le =
     (omega (arith, last_section (Some l) x, All-head (λ (y : Segment). y.section ≡ number) x xs all))
 
 -- in a section that begins anew it is the same behind each earlier one
-anew : (u : ℕ) (l m : Last) (number : ℕ) (xs : List Segment) → All (λ (x : Segment). x.section ≡ number) xs → l.section < number → m.section < number
+anew : (u : ℕ) (l m : Last) (number : ℕ) (xs : List Segment) → All (λ (x : Segment). x.section ≡ number) xs → l.section < number
+    → m.section < number
     → durations (told_behind u (Some l) xs) ≡ durations (told_behind u (Some m) xs)
 anew u l m number [] all less later = refl
 anew u l m number (x ∷ xs) all less later =
@@ -100,7 +114,8 @@ anew u l m number (x ∷ xs) all less later =
 module _ (u : ℕ) (number : ℕ → ℕ) (list : ℕ → List Segment) (rises : (s r : ℕ) → s < r → number s < number r)
     (own : (s : ℕ) → All (λ (x : Segment). x.section ≡ number s) (list s)) where
   later_sections : (a n : ℕ) (l m : Last) → ((s : ℕ) → a ≤ s → l.section < number s) → ((s : ℕ) → a ≤ s → m.section < number s)
-      → durations (told_behind u (Some l) (flat_map list (range_with_len a n))) ≡ flat_map (λ s. durations (told_behind u (Some m) (list s))) (range_with_len a n)
+      → durations (told_behind u (Some l) (flat_map list (range_with_len a n)))
+      ≡ flat_map (λ s. durations (told_behind u (Some m) (list s))) (range_with_len a n)
   later_sections a zero l m below under = refl
   later_sections a (suc n) l m below under =
       let first = list a in
@@ -108,19 +123,23 @@ module _ (u : ℕ) (number : ℕ → ℕ) (list : ℕ → List Segment) (rises :
       let next = section_behind l (number a) first (own a) (omega (arith, below a (omega arith))) in
       ap (λ (ts : List Kept). durations ts) (goes_on u (Some l) first rest)
       ∙ map-append (λ (t : Kept). t.duration) (told_behind u (Some l) first) (told_behind u (last_behind (Some l) first) rest)
-      ∙ ap (λ (ds : List ℕ). ds ++ durations (told_behind u (last_behind (Some l) first) rest)) (anew u l m (number a) first (own a) (below a (omega arith)) (under a (omega arith)))
+      ∙ ap (λ (ds : List ℕ). ds ++ durations (told_behind u (last_behind (Some l) first) rest))
+      (anew u l m (number a) first (own a) (below a (omega arith)) (under a (omega arith)))
       ∙ ap (λ (o : Option Last). durations (told_behind u (Some m) first) ++ durations (told_behind u o rest)) next.1
       ∙ ap (λ (ds : List ℕ). durations (told_behind u (Some m) first) ++ ds)
-      (later_sections (a + 1) n next.0 m (λ s le. omega (arith, next.2, rises a s (omega (arith, le)))) (λ s le. under s (omega (arith, le))))
+      (later_sections (a + 1) n next.0 m (λ s le. omega (arith, next.2, rises a s (omega (arith, le))))
+      (λ s le. under s (omega (arith, le))))
 
   pub by_sections : (a n : ℕ) (l : Last) → ((s : ℕ) → a ≤ s → (list s ≡ []) ⊎ (l.section ≤ number s))
-      → durations (told_behind u (Some l) (flat_map list (range_with_len a n))) ≡ flat_map (λ s. durations (told_behind u (Some l) (list s))) (range_with_len a n)
+      → durations (told_behind u (Some l) (flat_map list (range_with_len a n)))
+      ≡ flat_map (λ s. durations (told_behind u (Some l) (list s))) (range_with_len a n)
   by_sections a zero l low = refl
   by_sections a (suc n) l low = elim (low a (omega arith)) [
     | inl none ↦
         ap (λ (xs : List Segment). durations (told_behind u (Some l) (xs ++ flat_map list (range_with_len (a + 1) n)))) none
         ∙ by_sections (a + 1) n l (λ s le. low s (omega (arith, le)))
-        ∙ ap (λ (xs : List Segment). durations (told_behind u (Some l) xs) ++ flat_map (λ s. durations (told_behind u (Some l) (list s))) (range_with_len (a + 1) n)) (sym none)
+        ∙ ap (λ (xs : List Segment). durations (told_behind u (Some l) xs) ++ flat_map (λ s. durations (told_behind u (Some l) (list s)))
+        (range_with_len (a + 1) n)) (sym none)
     | inr le ↦
         let first = list a in
         let rest = flat_map list (range_with_len (a + 1) n) in
@@ -129,42 +148,51 @@ module _ (u : ℕ) (number : ℕ → ℕ) (list : ℕ → List Segment) (rises :
         ∙ map-append (λ (t : Kept). t.duration) (told_behind u (Some l) first) (told_behind u (last_behind (Some l) first) rest)
         ∙ ap (λ (o : Option Last). durations (told_behind u (Some l) first) ++ durations (told_behind u o rest)) next.1
         ∙ ap (λ (ds : List ℕ). durations (told_behind u (Some l) first) ++ ds)
-        (later_sections (a + 1) n next.0 l (λ s more. omega (arith, next.2, rises a s (omega (arith, more)))) (λ s more. omega (arith, le, rises a s (omega (arith, more)))))
+        (later_sections (a + 1) n next.0 l (λ s more. omega (arith, next.2, rises a s (omega (arith, more))))
+        (λ s more. omega (arith, le, rises a s (omega (arith, more)))))
   ]
 
 -- ---- those of a track
 
-made_own : (n : Numbering) (place start : ℕ) (content : Content) (xs : List Timing) → All (λ (x : Segment). x.section ≡ place + n.resets) (map (segment_with n place start content) xs)
+made_own : (n : Numbering) (place start : ℕ) (content : Content) (xs : List Timing)
+    → All (λ (x : Segment). x.section ≡ place + n.resets) (map (segment_with n place start content) xs)
 made_own n place start content [] = All-nil (λ (x : Segment). x.section ≡ place + n.resets)
 made_own n place start content (x ∷ xs) =
-    All-cons (λ (y : Segment). y.section ≡ place + n.resets) (segment_with n place start content x) (map (segment_with n place start content) xs) refl (made_own n place start content xs)
+    All-cons (λ (y : Segment). y.section ≡ place + n.resets) (segment_with n place start content x)
+    (map (segment_with n place start content) xs) refl (made_own n place start content xs)
 
-pub new_own : (n : Numbering) (p : Presented) (place : ℕ) (of : Track) (t s : ℕ) → All (λ (x : Segment). x.section ≡ place + s + n.resets) (new_in n p place of t s)
+pub new_own : (n : Numbering) (p : Presented) (place : ℕ) (of : Track) (t s : ℕ)
+    → All (λ (x : Segment). x.section ≡ place + s + n.resets) (new_in n p place of t s)
 new_own n p place of t s =
-    elim (content_at p s t) as (λ o. All (λ (x : Segment). x.section ≡ place + s + n.resets) (option_map_or (λ content. map (segment_with n (place + s) (start_of p s) content) (new_timings p place of t s)) o [])) [
+    elim (content_at p s t) as (λ o. All (λ (x : Segment). x.section ≡ place + s + n.resets)
+    (option_map_or (λ content. map (segment_with n (place + s) (start_of p s) content) (new_timings p place of t s)) o [])) [
       | None ↦ All-nil (λ (x : Segment). x.section ≡ place + s + n.resets)
       | Some content ↦ made_own n (place + s) (start_of p s) content (new_timings p place of t s)
     ]
 
-none_pass : (l : Last) (last_place place : ℕ) → place < last_place → (xs : List Timing) → filter (λ x. is_later l last_place place x.end) xs ≡ []
+none_pass : (l : Last) (last_place place : ℕ) → place < last_place → (xs : List Timing)
+    → filter (λ x. is_later l last_place place x.end) xs ≡ []
 none_pass l last_place place less [] = refl
 none_pass l last_place place less (x ∷ xs) =
     let not_less : nat_lt last_place place ≡ false = grind arith in
     let other : (last_place == place) ≡ false = grind arith in
     rw (not_less, other) (none_pass l last_place place less xs)
 
-made_none : (n : Numbering) (place start : ℕ) (o : Option Content) (xs : List Timing) → xs ≡ [] → option_map_or (λ content. map (segment_with n place start content) xs) o [] ≡ []
+made_none : (n : Numbering) (place start : ℕ) (o : Option Content) (xs : List Timing) → xs ≡ []
+    → option_map_or (λ content. map (segment_with n place start content) xs) o [] ≡ []
 made_none n place start None xs none = refl
 made_none n place start (Some content) xs none = ap (map (segment_with n place start content)) none
 
 -- in an earlier Period than the last one's nothing is new
-pub none_earlier : (p : Presented) (place : ℕ) (of : Track) (t s : ℕ) (l : Last) → of.last ≡ Some l → place + s < of.place → new_timings p place of t s ≡ []
+pub none_earlier : (p : Presented) (place : ℕ) (of : Track) (t s : ℕ) (l : Last) → of.last ≡ Some l → place + s < of.place
+    → new_timings p place of t s ≡ []
 none_earlier p place of t s l last less = rw last (none_pass l of.place (place + s) less (listed_at p s t))
 
 low_at : (c : Common) (place : ℕ) (of : Track) (t : ℕ) (l : Last) → of.last ≡ Some l → l.section ≤ of.place + c.resets → (s : ℕ)
     → (new_in (numbering_of c) c.force place of t s ≡ []) ⊎ (l.section ≤ place + s + c.resets)
 low_at c place of t l last le s = elim (cases_lt (place + s) of.place) [
-  | inl less ↦ inl (made_none (numbering_of c) (place + s) (start_of c.force s) (content_at c.force s t) (new_timings c.force place of t s) (none_earlier c.force place of t s l last less))
+  | inl less ↦ inl (made_none (numbering_of c) (place + s) (start_of c.force s) (content_at c.force s t) (new_timings c.force place of t s)
+      (none_earlier c.force place of t s l last less))
   | inr not_less ↦ inr (omega arith)
 ]
 
@@ -177,5 +205,7 @@ durations_are c place of t l at last le =
     let list : ℕ → List Segment = new_in (numbering_of c) c.force place of t in
     let low : (s : ℕ) → 0 ≤ s → (list s ≡ []) ⊎ (l.section ≤ place + s + c.resets) = λ s _. low_at c place of t l last le s in
     ap (λ (xs : List Segment). durations (told_behind u of.last xs)) (new_is c place of t at)
-    ∙ subst (λ (o : Option Last). durations (told_behind u o (flat_map list (sections_of c.force))) ≡ flat_map (λ s. durations (told_behind u o (list s))) (sections_of c.force)) (sym last)
-    (by_sections u (λ s. place + s + c.resets) list (λ s r less. omega (arith, less)) (new_own (numbering_of c) c.force place of t) 0 (length c.force.sections) l low)
+    ∙ subst (λ (o : Option Last). durations (told_behind u o (flat_map list (sections_of c.force)))
+    ≡ flat_map (λ s. durations (told_behind u o (list s))) (sections_of c.force)) (sym last)
+    (by_sections u (λ s. place + s + c.resets) list (λ s r less. omega (arith, less)) (new_own (numbering_of c) c.force place of t) 0
+    (length c.force.sections) l low)

@@ -1,5 +1,6 @@
 -- The printed durations of what is new in a section.
-use Rattle.std.proofs.Common.{◌≡◌, ℕ, zero, suc, ◌+◌, ◌-◌, ◌<◌, ◌≤◌, ◌==◌, ◌&&◌, cond, Bool, true, false, List, [], ◌∷◌, length, map, Option, Some, None, refl, sym, ◌∙◌, ap, subst, inl, inr, arith}
+use Rattle.std.proofs.Common.{◌≡◌, ℕ, zero, suc, ◌+◌, ◌-◌, ◌<◌, ◌≤◌, ◌==◌, ◌&&◌, cond, Bool, true, false, List, [], ◌∷◌, length, map}
+use Rattle.std.proofs.Common.{Option, Some, None, refl, sym, ◌∙◌, ap, subst, inl, inr, arith}
 use Rattle.std.specs.Prelude.{All, IfSome, filter, flat_map, option_map, slice_get}
 use Rattle.std.specs.Option.{option_map_or}
 use Rattle.std.proofs.lemmas.Bool.{cases_Bool, cases_lt}
@@ -44,37 +45,47 @@ use Rattle.live_judge.proofs.Tracks.{none_before}
 
 module _ (u : ℕ) (n : Numbering) (place start : ℕ) where
   going_on : (content : Content) (l : Last) → (l.section == place + n.resets) ≡ true → (xs : List Timing)
-      → durations (told_behind u (Some l) (map (segment_with n place start content) xs)) ≡ durations_behind (rounding_behind l.first u l.end) xs
+      → durations (told_behind u (Some l) (map (segment_with n place start content) xs))
+      ≡ durations_behind (rounding_behind l.first u l.end) xs
   going_on content l same [] = refl
   going_on content l same (x ∷ xs) =
-      rw same (ap (λ (ds : List ℕ). (floor_in u (difference x.end l.first) - floor_in u (difference l.end l.first)) ∷ ds) (going_on content (record l { end = x.end }) same xs))
+      rw same (ap (λ (ds : List ℕ). (floor_in u (difference x.end l.first) - floor_in u (difference l.end l.first)) ∷ ds)
+      (going_on content (record l { end = x.end }) same xs))
 
   begun_anew : (content : Content) (l : Last) → (l.section == place + n.resets) ≡ false → (x : Timing) (xs : List Timing)
-      → durations (told_behind u (Some l) (map (segment_with n place start content) (x ∷ xs))) ≡ durations_behind (rounding_behind x.start u x.start) (x ∷ xs)
+      → durations (told_behind u (Some l) (map (segment_with n place start content) (x ∷ xs)))
+      ≡ durations_behind (rounding_behind x.start u x.start) (x ∷ xs)
   begun_anew content l other x xs =
       let none : floor_in u (difference x.start x.start) ≡ 0 = floor_in-difference_self u x.start in
-      let one : floor_in u (difference x.end x.start) ≡ floor_in u (difference x.end x.start) - floor_in u (difference x.start x.start) = omega (arith, none) in
+      let one : floor_in u (difference x.end x.start) ≡ floor_in u (difference x.end x.start) - floor_in u (difference x.start x.start) =
+      omega (arith, none) in
       let rest = going_on content (record { section = place + n.resets; first = x.start; end = x.end }) (is_self (place + n.resets)) xs in
       rw other (ap (λ (ds : List ℕ). floor_in u (difference x.end x.start) ∷ ds) rest
       ∙ ap (λ d. d ∷ durations_behind (rounding_behind x.start u x.end) xs) one)
 
   of_same : (l : Last) → (l.section == place + n.resets) ≡ true → (o : Option Content) (xs : List Timing) → (o ≡ None → xs ≡ [])
-      → durations (told_behind u (Some l) (option_map_or (λ content. map (segment_with n place start content) xs) o [])) ≡ durations_behind (rounding_behind l.first u l.end) xs
+      → durations (told_behind u (Some l) (option_map_or (λ content. map (segment_with n place start content) xs) o []))
+      ≡ durations_behind (rounding_behind l.first u l.end) xs
   of_same l same None xs none = ap (λ (ys : List Timing). durations_behind (rounding_behind l.first u l.end) ys) (sym (none refl))
   of_same l same (Some content) xs none = going_on content l same xs
 
-  of_another : (l : Last) → (l.section == place + n.resets) ≡ false → (o : Option Content) (xs : List Timing) → (o ≡ None → xs ≡ []) → (x : Timing) → slice_get xs 0 ≡ Some x
-      → durations (told_behind u (Some l) (option_map_or (λ content. map (segment_with n place start content) xs) o [])) ≡ durations_behind (rounding_behind x.start u x.start) xs
+  of_another : (l : Last) → (l.section == place + n.resets) ≡ false → (o : Option Content) (xs : List Timing) → (o ≡ None → xs ≡ [])
+      → (x : Timing) → slice_get xs 0 ≡ Some x
+      → durations (told_behind u (Some l) (option_map_or (λ content. map (segment_with n place start content) xs) o []))
+      ≡ durations_behind (rounding_behind x.start u x.start) xs
   of_another l other None xs none x at = absurd (let empty = subst (λ (ys : List Timing). slice_get ys 0 ≡ Some x) (none refl) at in cc)
   of_another l other (Some content) [] none x at = absurd (cc)
   of_another l other (Some content) (y ∷ xs) none x at =
-      begun_anew content l other y xs ∙ ap (λ (t : Timing). durations_behind (rounding_behind t.start u t.start) (y ∷ xs)) (same_Some y x at)
+      begun_anew content l other y xs ∙ ap (λ (t : Timing). durations_behind (rounding_behind t.start u t.start) (y ∷ xs))
+      (same_Some y x at)
 
 -- segments may be given to a rounder that begins where the first one does
-pub paced_anew : (unit : ℕ) (x : Timing) (walk : List Timing) → slice_get walk 0 ≡ Some x → ArePaced walk → ArePacedBehind walk (rounding_behind x.start unit x.start)
+pub paced_anew : (unit : ℕ) (x : Timing) (walk : List Timing) → slice_get walk 0 ≡ Some x → ArePaced walk
+    → ArePacedBehind walk (rounding_behind x.start unit x.start)
 paced_anew unit x [] at paced = absurd (cc)
 paced_anew unit x (y ∷ ys) at paced =
-    subst (λ (t : Timing). ArePacedBehind (y ∷ ys) (rounding_behind t.start unit t.start)) (same_Some y x at) (record { rising = paced.0; near = paced.1 })
+    subst (λ (t : Timing). ArePacedBehind (y ∷ ys) (rounding_behind t.start unit t.start)) (same_Some y x at)
+    (record { rising = paced.0; near = paced.1 })
 
 told_none : (b : Bool) (refusal : Refusal) → told_if b refusal ≡ [] → b ≡ false
 told_none true refusal none = absurd (cc)
@@ -87,7 +98,8 @@ differs n number section same not_same = elim (cases_Bool (section == number)) [
 ]
 
 pub sound_there : (l : TrackNext) → IsTrackNext l → IsSoundTrack (common_shown (l.next.now).standing.now) (t_of l)
-sound_there l is = All-at (IsSoundTrack (common_shown (l.next.now).standing.now)) (map track_shown (l.next.now).tracks.now) l.index (t_of l) is.next.live.sound.tracks
+sound_there l is = All-at (IsSoundTrack (common_shown (l.next.now).standing.now)) (map track_shown (l.next.now).tracks.now) l.index
+    (t_of l) is.next.live.sound.tracks
     (slice_get-map track_shown (l.next.now).tracks.now l.index ∙ ap (option_map track_shown) is.there)
 
 -- ---- behind the last segment
@@ -107,27 +119,34 @@ module _ (l : TrackNext) (is : IsTrackNext l) (s : ℕ) (within : s < length (p_
   begun = subst (λ (o : Option Last). IfSome o (λ last. IsAtMost last.first last.end)) last sound.begun
 
   low : k.section ≤ k.place + resets
-  low = let there = subst (λ (o : Option Last). IfSome o (λ last. last.section ≤ (t_of l).place + resets)) last sound.section in omega (arith, there, at)
+  low = let there = subst (λ (o : Option Last). IfSome o (λ last. last.section ≤ (t_of l).place + resets)) last sound.section in
+      omega (arith, there, at)
 
-  as_last : durations_in (c_of l) (l.next.now).place (t_of l) l.index s ≡ durations (told_behind (unit_of (c_of l).terms) (Some (last_of k)) (news_in l s))
+  as_last : durations_in (c_of l) (l.next.now).place (t_of l) l.index s
+      ≡ durations (told_behind (unit_of (c_of l).terms) (Some (last_of k)) (news_in l s))
   as_last = ap (λ (o : Option Last). durations (told_behind (unit_of (c_of l).terms) o (news_in l s))) last
 
   pub durations_same : (unit n : ℕ) → unit ≡ unit_of (c_of l).terms → n ≡ number → n ≡ k.section
-      → durations_behind (rounding_behind (time_of k.begin) unit (time_of k.end)) (times_in l s) ≡ durations_in (c_of l) (l.next.now).place (t_of l) l.index s
+      → durations_behind (rounding_behind (time_of k.begin) unit (time_of k.end)) (times_in l s)
+      ≡ durations_in (c_of l) (l.next.now).place (t_of l) l.index s
   durations_same unit n same is_number here =
       let one : k.section ≡ number = sym here ∙ is_number in
       ap (λ v. durations_behind (rounding_behind (time_of k.begin) v (time_of k.end)) (times_in l s)) same
-      ∙ sym (as_last ∙ of_same (unit_of (c_of l).terms) (numbering_of (c_of l)) ((l.next.now).place + s) (start_of (p_of l.next.now) s) (last_of k)
+      ∙ sym (as_last ∙ of_same (unit_of (c_of l).terms) (numbering_of (c_of l)) ((l.next.now).place + s) (start_of (p_of l.next.now) s)
+      (last_of k)
       (ap (λ m. m == number) one ∙ is_self number) (content_at (p_of l.next.now) s l.index) (times_in l s) (λ none. (rw none refl)))
 
-  pub durations_anew : (unit n : ℕ) (x : Timing) → unit ≡ unit_of (c_of l).terms → n ≡ number → (n ≡ k.section → ⊥) → slice_get (times_in l s) 0 ≡ Some x
+  pub durations_anew : (unit n : ℕ) (x : Timing) → unit ≡ unit_of (c_of l).terms → n ≡ number → (n ≡ k.section → ⊥)
+      → slice_get (times_in l s) 0 ≡ Some x
       → durations_behind (rounding_behind x.start unit x.start) (times_in l s) ≡ durations_in (c_of l) (l.next.now).place (t_of l) l.index s
   durations_anew unit n x same is_number other first =
       ap (λ v. durations_behind (rounding_behind x.start v x.start) (times_in l s)) same
-      ∙ sym (as_last ∙ of_another (unit_of (c_of l).terms) (numbering_of (c_of l)) ((l.next.now).place + s) (start_of (p_of l.next.now) s) (last_of k)
+      ∙ sym (as_last ∙ of_another (unit_of (c_of l).terms) (numbering_of (c_of l)) ((l.next.now).place + s) (start_of (p_of l.next.now) s)
+      (last_of k)
       (differs n number k.section is_number other) (content_at (p_of l.next.now) s l.index) (times_in l s) (λ none. (rw none refl)) x first)
 
-  module _ (x : Timing) (first : slice_get (times_in l s) 0 ≡ Some x) (limits : IsWithinLimits x) (n : ℕ) (is_number : n ≡ number) (here : n ≡ k.section) where
+  module _ (x : Timing) (first : slice_get (times_in l s) 0 ≡ Some x) (limits : IsWithinLimits x) (n : ℕ) (is_number : n ≡ number)
+      (here : n ≡ k.section) where
     not_before : k.place ≤ (l.next.now).place + s
     not_before = elim (cases_lt ((l.next.now).place + s) k.place) [
       | inl less ↦ absurd (let never = subst (λ (xs : List Timing). slice_get xs 0 ≡ Some x) (none_before l s k last at less) first in cc)
@@ -155,7 +174,8 @@ module _ (l : TrackNext) (is : IsTrackNext l) (s : ℕ) (within : s < length (p_
     none_until zero le = ap (flat_map (news_in l)) (sym (from_on-start (length (p_of l.next.now).sections)))
     none_until (suc i) le =
         let next : i + 1 ≡ suc i = omega arith in
-        subst (IsNoneNew l) next (none_more l i (omega (arith, le, within)) (none_before l i k last at (omega (arith, le, there))) (none_until i (omega (arith, le))))
+        subst (IsNoneNew l) next (none_more l i (omega (arith, le, within)) (none_before l i k last at (omega (arith, le, there)))
+        (none_until i (omega (arith, le))))
 
     first_is : IsFirstNew n x (new_of (c_of l) l.index (t_of l))
     first_is = first_new_is l s n x is within (none_until s (omega arith)) first limits is_number
@@ -179,15 +199,19 @@ module _ (l : TrackNext) (is : IsTrackNext l) (s : ℕ) (within : s < length (p_
 
     later : times_in l s ≡ later_than (time_of k.end) (listed_at (p_of l.next.now) s l.index)
     later =
-        ap (λ (o : Option Last). filter (λ y. option_map_or (λ last. is_later last (t_of l).place ((l.next.now).place + s) y.end) o true) (listed_at (p_of l.next.now) s l.index)) last
+        ap (λ (o : Option Last). filter (λ y. option_map_or (λ last. is_later last (t_of l).place ((l.next.now).place + s) y.end) o true)
+        (listed_at (p_of l.next.now) s l.index)) last
         ∙ filter_agree (λ y. is_later (last_of k) (t_of l).place ((l.next.now).place + s) y.end) (λ y. before (time_of k.end) y.end)
-        (λ y. here_by_end (last_of k) ((l.next.now).place + s) (t_of l).place (there ∙ sym at) y.end) (listed_at (p_of l.next.now) s l.index)
+        (λ y. here_by_end (last_of k) ((l.next.now).place + s) (t_of l).place (there ∙ sym at) y.end)
+        (listed_at (p_of l.next.now) s l.index)
 
     follows : IsJoined l.next.now → FollowsNear (time_of k.end) (times_in l s)
-    follows joined = subst (λ (o : Option Timing). IfSome o (λ y. is_apart (Some (time_of k.end)) (extent_of y) ≡ false)) (sym first) (near joined)
+    follows joined = subst (λ (o : Option Timing). IfSome o (λ y. is_apart (Some (time_of k.end)) (extent_of y) ≡ false)) (sym first)
+        (near joined)
 
     pub paced_same : IsJoined l.next.now → (unit : ℕ) (walk : List Timing) → walk ≡ times_in l s → ArePaced walk → All IsWithinLimits walk
         → ArePacedBehind walk (rounding_behind (time_of k.begin) unit (time_of k.end))
     paced_same joined unit walk same paced all =
-        paced_there (Some own) unit (listed_at (p_of l.next.now) s l.index) walk (rounding_behind (time_of k.begin) unit (time_of k.end)) (same ∙ later) refl paced all
+        paced_there (Some own) unit (listed_at (p_of l.next.now) s l.index) walk (rounding_behind (time_of k.begin) unit (time_of k.end))
+        (same ∙ later) refl paced all
         (record { begun = begun; near = subst (FollowsNear (time_of k.end)) later (follows joined) })

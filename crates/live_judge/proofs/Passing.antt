@@ -1,5 +1,6 @@
 -- Segments that end by a time are the first ones of those that are listed.
-use Rattle.std.proofs.Common.{◌≡◌, ℕ, zero, suc, ◌+◌, ◌-◌, ◌<◌, ◌≤◌, ◌^◌, min, Bool, true, false, not, List, [], ◌∷◌, ◌++◌, length, take, drop, refl, sym, ◌∙◌, ap, inl, inr, arith, length-append, length-drop}
+use Rattle.std.proofs.Common.{◌≡◌, ℕ, zero, suc, ◌+◌, ◌-◌, ◌<◌, ◌≤◌, ◌^◌, min, Bool, true, false, not, List, [], ◌∷◌, ◌++◌, length, take}
+use Rattle.std.proofs.Common.{drop, refl, sym, ◌∙◌, ap, inl, inr, arith, length-append, length-drop}
 use Rattle.std.specs.Prelude.{All, filter}
 use Rattle.std.proofs.lemmas.Bool.{cases_Bool, cases_lt}
 use Rattle.std.proofs.lemmas.List.{append-nil, drop-append-le, drop-drop, take-append-drop}
@@ -41,7 +42,8 @@ back_adds window xs place count = elim (cases_lt place count) [
 all_by : (last : Time) (xs : List Timing) → All (λ x. at_most x.end last ≡ true) xs → ends_by last xs ≡ xs
 all_by last [] all = refl
 all_by last (x ∷ xs) all =
-    rw (All-head (λ x. at_most x.end last ≡ true) x xs all) (ap (λ (ys : List Timing). x ∷ ys) (all_by last xs (All-tail (λ x. at_most x.end last ≡ true) x xs all)))
+    rw (All-head (λ x. at_most x.end last ≡ true) x xs all)
+    (ap (λ (ys : List Timing). x ∷ ys) (all_by last xs (All-tail (λ x. at_most x.end last ≡ true) x xs all)))
 
 not_true : (b : Bool) → not b ≡ true → b ≡ false
 not_true true is = absurd (cc)
@@ -58,7 +60,8 @@ module _ (window : Window) (xs : List Timing) where
   split_at place = ap (listed window) (sym (take-append-drop place xs)) ∙ filter-append (is_listed window) (take place xs) (drop place xs)
 
   pub lengths : (place : ℕ) → length (listed window xs) ≡ length (listed window (take place xs)) + length (listed window (drop place xs))
-  lengths place = ap (λ (ys : List Timing). length ys) (split_at place) ∙ length-append (listed window (take place xs)) (listed window (drop place xs))
+  lengths place = ap (λ (ys : List Timing). length ys) (split_at place)
+      ∙ length-append (listed window (take place xs)) (listed window (drop place xs))
 
   -- where none is listed before a place, all are from there on
   pub all_from : (place : ℕ) → listed window (take place xs) ≡ [] → listed window xs ≡ listed window (drop place xs)
@@ -69,8 +72,12 @@ module _ (window : Window) (xs : List Timing) where
     ended_are =
         ap (ends_by last) (split_at place)
         ∙ filter-append (λ x. at_most x.end last) (listed window (take place xs)) (listed window (drop place xs))
-        ∙ ap (λ (ys : List Timing). ys ++ ends_by last (listed window (drop place xs))) (all_by last (listed window (take place xs)) (All-filter (is_listed window) (λ x. at_most x.end last ≡ true) (take place xs) is.none_before))
-        ∙ ap (λ (ys : List Timing). listed window (take place xs) ++ ys) (none_by last (listed window (drop place xs)) (All-filter (is_listed window) (λ x. before last x.end ≡ true) (drop place xs) is.all_behind))
+        ∙ ap (λ (ys : List Timing). ys ++ ends_by last (listed window (drop place xs)))
+        (all_by last (listed window (take place xs)) (All-filter (is_listed window) (λ x. at_most x.end last ≡ true)
+        (take place xs) is.none_before))
+        ∙ ap (λ (ys : List Timing). listed window (take place xs) ++ ys)
+        (none_by last (listed window (drop place xs)) (All-filter (is_listed window) (λ x. before last x.end ≡ true)
+        (drop place xs) is.all_behind))
         ∙ append-nil (listed window (take place xs))
 
 take_front : (xs ys : List Timing) (n : ℕ) → n ≡ length xs → take n (xs ++ ys) ≡ xs
@@ -100,7 +107,13 @@ module _ (window : Window) (xs : List Timing) (last : Time) (behind cursor most 
 
   pub count_is : length all < 2 ^ 64 → length walk ≡ min (length all) (min (2 ^ 64 - 1) (length later + most))
       → length walk - length later ≡ min most (length (ends_by last all))
-  count_is small wanted = omega (arith, lengths window xs behind, small, wanted, ap (λ (ys : List Timing). length ys) (ended_are window xs last behind after))
+  count_is small wanted = omega (
+    arith,
+    lengths window xs behind,
+    small,
+    wanted,
+    ap (λ (ys : List Timing). length ys) (ended_are window xs last behind after),
+  )
 
   walk_is : walk ≡ drop (length all - length walk) all
   walk_is =
@@ -115,7 +128,14 @@ module _ (window : Window) (xs : List Timing) (last : Time) (behind cursor most 
       let count = length walk - length later in
       let gone : length all - length walk ≡ length ended - count = omega (arith, lengths window xs behind, le, within) in
       let rest : walk ≡ drop (length ended - count) ended ++ later =
-      walk_is ∙ ap (λ n. drop n all) gone ∙ ap (drop (length ended - count)) (split_at window xs behind) ∙ drop-append-le (length ended - count) ended later (omega arith) in
-      let long : count ≡ length (drop (length ended - count) ended) = omega (arith, length-drop (length ended - count) ended, lengths window xs behind, le, within) in
+      walk_is ∙ ap (λ n. drop n all) gone ∙ ap (drop (length ended - count)) (split_at window xs behind)
+      ∙ drop-append-le (length ended - count) ended later (omega arith) in
+      let long : count ≡ length (drop (length ended - count) ended) = omega (
+        arith,
+        length-drop (length ended - count) ended,
+        lengths window xs behind,
+        le,
+        within,
+      ) in
       ap (take count) rest ∙ take_front (drop (length ended - count) ended) later count long
       ∙ ap (λ (ys : List Timing). drop (length ys - count) ys) (sym (ended_are window xs last behind after))

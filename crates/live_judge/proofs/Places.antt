@@ -1,22 +1,22 @@
 -- The places of Periods' ids among the known ones.
-use Rattle.std.proofs.Common.{◌≡◌, ℕ, zero, suc, ◌+◌, ◌-◌, ◌<◌, ◌≤◌, min, Bool, true, false, ◌&&◌, not, List, [], ◌∷◌, ◌++◌, length, drop, take, map, Some, None, bytes_eq, refl, sym, ◌∙◌, ap, subst, inl, inr, arith, length-append, length-drop}
+use Rattle.std.proofs.Common.{◌≡◌, ℕ, zero, suc, ◌+◌, ◌-◌, ◌<◌, ◌≤◌, min, Bool, true, false, ◌&&◌, not, List, [], ◌∷◌, ◌++◌, length, drop}
+use Rattle.std.proofs.Common.{take, map, Some, None, bytes_eq, refl, sym, ◌∙◌, ap, subst, inl, inr, arith, length-append, length-drop}
 use Rattle.std.specs.Prelude.{filter, is_none, slice_get}
-use Rattle.std.specs.Option.{option_map_or}
 use Rattle.std.specs.List.{list_all, list_any, position_or_len, range_with_len, starts_with}
 use Rattle.std.proofs.lemmas.Bool.{cases_Bool, cases_lt, lt-ltb, le-ltb}
-use Rattle.std.proofs.lemmas.List.{append-nil, append_assoc, drop-map, drop_all, drop_at, length-map, map-append, take-append-drop}
+use Rattle.std.proofs.lemmas.List.{append-nil, drop-map, drop_all, drop_at, length-map, take-append-drop}
 use Rattle.std.proofs.lemmas.List.Folds.{list_any-append}
 use Rattle.std.proofs.lemmas.List.Sums.{prefix_len-le-length}
 use Rattle.std.proofs.lemmas.Option.{same_Some, slice_get_past}
 use Rattle.std.proofs.lemmas.Slice.Eq.{bytes_eq-Decides, starts_is}
 use Rattle.mpd_rules.specs.Laws.{are_once}
 use Rattle.presentation.specs.declared.track.Section.{Section}
-use Rattle.presentation.specs.Counting.{sections_of}
 use Rattle.presentation.specs.Presented.{Presented}
-use Rattle.live_meaning.specs.Segments.{id_at, place_of}
-use Rattle.live_meaning.specs.Known.{Known, goes_on, goes_on_from, ids_of, is_new, known_at, known_by, known_with, periods_of}
+use Rattle.live_meaning.specs.Segments.{place_of}
+use Rattle.live_meaning.specs.Known.{Known, goes_on, goes_on_from, ids_of, is_new, known_by, known_with}
 use Rattle.live_meaning.specs.Refusals.{ids_in}
-use Rattle.live_meaning.proofs.Ids.{AreLast, get_behind, last_again, last_with_new, new_ids, new_in, placed_at, placed_in}
+use Rattle.live_meaning.proofs.Ids.{AreLast, last_again, last_with_new, new_ids, new_in, placed_at, placed_in}
+use Rattle.live_meaning.proofs.InForce.{known_grown}
 use Rattle.live_judge.specs.Known.{StandsAt}
 use Rattle.live_judge.specs.Changed.{first_place, place_among, place_if}
 
@@ -33,7 +33,8 @@ position_left p (x ∷ xs) ys there = elim (cases_Bool (p x)) [
   | inr other ↦ let rest : list_any p xs ≡ true = rw other at there in rw (other, position_left p xs ys rest) refl
 ]
 
-pub position_right : (p : List ℕ → Bool) (xs ys : List (List ℕ)) → list_any p xs ≡ false → position_or_len p (xs ++ ys) ≡ length xs + position_or_len p ys
+pub position_right : (p : List ℕ → Bool) (xs ys : List (List ℕ)) → list_any p xs ≡ false
+    → position_or_len p (xs ++ ys) ≡ length xs + position_or_len p ys
 position_right p [] ys none = omega arith
 position_right p (x ∷ xs) ys none = elim (cases_Bool (p x)) [
   | inl is ↦ let never : true ≡ false = rw is at none in absurd (cc)
@@ -111,14 +112,18 @@ not_true false is = refl
 -- the same rest gives the same answer
 same_rest : (known ids : List (List ℕ)) (j k : ℕ) → drop j known ≡ drop k known → goes_on_from known ids j ≡ goes_on_from known ids k
 same_rest known ids j k same =
-    ap (λ (rest : List (List ℕ)). starts_with bytes_eq ids rest && list_all (λ id. not (list_any (bytes_eq id) known)) (drop (length rest) ids)) same
+    ap (λ (rest : List (List ℕ)). starts_with bytes_eq ids rest && list_all (λ id. not (list_any (bytes_eq id) known))
+    (drop (length rest) ids)) same
 
-first_behind : (known ids : List (List ℕ)) → list_all (λ id. not (list_any (bytes_eq id) known)) ids ≡ true → first_place known ids ≡ length known
+first_behind : (known ids : List (List ℕ)) → list_all (λ id. not (list_any (bytes_eq id) known)) ids ≡ true
+    → first_place known ids ≡ length known
 first_behind known [] absent = refl
 first_behind known (id ∷ ids) absent =
-    place_is known id ∙ position_none (bytes_eq id) known (not_true (list_any (bytes_eq id) known) (both (not (list_any (bytes_eq id) known)) (list_all (λ x. not (list_any (bytes_eq x) known)) ids) absent).0)
+    place_is known id ∙ position_none (bytes_eq id) known (not_true (list_any (bytes_eq id) known)
+    (both (not (list_any (bytes_eq id) known)) (list_all (λ x. not (list_any (bytes_eq x) known)) ids) absent).0)
 
-at_first : (known ids : List (List ℕ)) (k : ℕ) (rest : List (List ℕ)) → are_once known ≡ true → drop k known ≡ rest → goes_on_from known ids k ≡ true
+at_first : (known ids : List (List ℕ)) (k : ℕ) (rest : List (List ℕ)) → are_once known ≡ true → drop k known ≡ rest
+    → goes_on_from known ids k ≡ true
     → goes_on_from known ids (first_place known ids) ≡ true
 at_first known ids k [] once end is =
     let fresh : list_all (λ id. not (list_any (bytes_eq id) known)) ids ≡ true =
@@ -127,10 +132,12 @@ at_first known ids k [] once end is =
     let none : drop (first_place known ids) known ≡ [] = ap (λ n. drop n known) place ∙ drop_all (length known) known (omega arith) in
     same_rest known ids (first_place known ids) k (none ∙ sym end) ∙ is
 at_first known [] k (y ∷ ys) once at is =
-    absurd (let starts = (both (starts_with bytes_eq [] (y ∷ ys)) (list_all (λ id. not (list_any (bytes_eq id) known)) (drop (length (y ∷ ys)) [])) (rw at at is)).0 in cc)
+    absurd (let starts = (both (starts_with bytes_eq [] (y ∷ ys))
+    (list_all (λ id. not (list_any (bytes_eq id) known)) (drop (length (y ∷ ys)) [])) (rw at at is)).0 in cc)
 at_first known (x ∷ ids) k (y ∷ ys) once at is =
     let starts : starts_with bytes_eq (x ∷ ids) (y ∷ ys) ≡ true =
-    (both (starts_with bytes_eq (x ∷ ids) (y ∷ ys)) (list_all (λ id. not (list_any (bytes_eq id) known)) (drop (length (y ∷ ys)) (x ∷ ids))) (rw at at is)).0 in
+    (both (starts_with bytes_eq (x ∷ ids) (y ∷ ys)) (list_all (λ id. not (list_any (bytes_eq id) known))
+    (drop (length (y ∷ ys)) (x ∷ ids))) (rw at at is)).0 in
     let whole = (starts_is bytes_eq-Decides (x ∷ ids) (y ∷ ys) (starts_with bytes_eq (x ∷ ids) (y ∷ ys)) refl).0 starts in
     let same : x ≡ y = cc in
     let place : place_of known x ≡ k = placed_at known k x once (get_at_drop known k y ys at ∙ ap Some (sym same)) in
@@ -143,17 +150,20 @@ goes_on_first known ids once = elim (cases_Bool (goes_on known ids)) [
       let from = from_place known ids (range_with_len 0 (length known) ++ length known ∷ []) is in
       is ∙ sym (at_first known ids from.0 (drop from.0 known) once refl from.1)
   | inr other ↦ elim (cases_Bool (goes_on_from known ids (first_place known ids))) [
-    | inl here ↦ absurd (let there = among_places (goes_on_from known ids) (length known) (first_place known ids) (first_within known ids) here in cc)
+    | inl here ↦ absurd (let there = among_places (goes_on_from known ids) (length known) (first_place known ids)
+        (first_within known ids) here in cc)
     | inr not_here ↦ other ∙ sym not_here
   ]
 ]
 
-pub goes_by : (known : List (List ℕ)) (sections : List Section) (place n : ℕ) (fresh : Bool) → starts_with bytes_eq (map (λ section. section.id) sections) (drop place known) ≡ true
+pub goes_by : (known : List (List ℕ)) (sections : List Section) (place n : ℕ) (fresh : Bool)
+    → starts_with bytes_eq (map (λ section. section.id) sections) (drop place known) ≡ true
     → n ≡ length known - place → fresh ≡ list_all (λ id. not (list_any (bytes_eq id) known)) (map (λ section. section.id) (drop n sections))
     → fresh ≡ goes_on_from known (map (λ section. section.id) sections) place
 goes_by known sections place n fresh starts count is =
     let same : n ≡ length (drop place known) = count ∙ sym (length-drop place known) in
-    let all : Bool = list_all (λ id. not (list_any (bytes_eq id) known)) (drop (length (drop place known)) (map (λ section. section.id) sections)) in
+    let all : Bool = list_all (λ id. not (list_any (bytes_eq id) known))
+    (drop (length (drop place known)) (map (λ section. section.id) sections)) in
     is ∙ ap (list_all (λ id. not (list_any (bytes_eq id) known))) (sym (drop-map (λ (section : Section). section.id) n sections))
     ∙ ap (λ k. list_all (λ id. not (list_any (bytes_eq id) known)) (drop k (map (λ section. section.id) sections))) same
     ∙ sym (ap (λ b. b && all) starts)
@@ -161,7 +171,8 @@ goes_by known sections place n fresh starts count is =
 pub among_not_once : (known ids : List (List ℕ)) → are_once ids ≡ false → None ≡ place_among known ids
 among_not_once known ids twice = sym (ap (λ b. place_if (b && goes_on known ids) (first_place known ids)) twice)
 
-by_first : (known ids : List (List ℕ)) (place : ℕ) (goes : Bool) → are_once known ≡ true → place ≡ first_place known ids → goes ≡ goes_on_from known ids place
+by_first : (known ids : List (List ℕ)) (place : ℕ) (goes : Bool) → are_once known ≡ true → place ≡ first_place known ids
+    → goes ≡ goes_on_from known ids place
     → goes_on known ids ≡ goes
 by_first known ids place goes once first is = goes_on_first known ids once ∙ ap (goes_on_from known ids) (sym first) ∙ sym is
 
@@ -169,13 +180,15 @@ and_false : (a : Bool) → (a && false) ≡ false
 and_false true = refl
 and_false false = refl
 
-pub among_none : (known ids : List (List ℕ)) (place : ℕ) (goes : Bool) → are_once known ≡ true → place ≡ first_place known ids → goes ≡ goes_on_from known ids place
+pub among_none : (known ids : List (List ℕ)) (place : ℕ) (goes : Bool) → are_once known ≡ true → place ≡ first_place known ids
+    → goes ≡ goes_on_from known ids place
     → goes ≡ false → None ≡ place_among known ids
 among_none known ids place goes once first is other =
     sym (ap (λ b. place_if (are_once ids && b) (first_place known ids)) (by_first known ids place goes once first is ∙ other)
     ∙ ap (λ b. place_if b (first_place known ids)) (and_false (are_once ids)))
 
-pub among_some : (known ids : List (List ℕ)) (place : ℕ) (goes : Bool) → are_once known ≡ true → are_once ids ≡ true → place ≡ first_place known ids
+pub among_some : (known ids : List (List ℕ)) (place : ℕ) (goes : Bool) → are_once known ≡ true → are_once ids ≡ true
+    → place ≡ first_place known ids
     → goes ≡ goes_on_from known ids place → goes ≡ true → Some place ≡ place_among known ids
 among_some known ids place goes once own first is holds =
     sym (ap (λ b. place_if (b && goes_on known ids) (first_place known ids)) own
@@ -183,36 +196,6 @@ among_some known ids place goes once own first is holds =
     ∙ ap Some (sym first))
 
 -- ---- the Periods that an MPD leaves known
-
-abbrev names : List Section → (first count : ℕ) → List (List ℕ)
-names xs first count = map (λ s. option_map_or (λ section. section.id) (slice_get xs s) []) (range_with_len first count)
-
-names_are : (front xs : List Section) → names (front ++ xs) (length front) (length xs) ≡ map (λ section. section.id) xs
-names_are front [] = refl
-names_are front (x ∷ xs) =
-    let here : slice_get (front ++ x ∷ xs) (length front) ≡ Some x =
-    ap (slice_get (front ++ x ∷ xs)) (omega arith) ∙ get_behind front (x ∷ xs) 0 in
-    let more : length (front ++ x ∷ []) ≡ length front + 1 = omega (arith, length-append front (x ∷ [])) in
-    let rest : names (front ++ x ∷ xs) (length front + 1) (length xs) ≡ map (λ section. section.id) xs =
-    ap (λ (ys : List Section). names ys (length front + 1) (length xs)) (sym (append_assoc front (x ∷ []) xs))
-    ∙ ap (λ n. names ((front ++ x ∷ []) ++ xs) n (length xs)) (sym more)
-    ∙ names_are (front ++ x ∷ []) xs in
-    rw here (ap (λ (ids : List (List ℕ)). x.id ∷ ids) rest)
-
-known_ids : (p : Presented) (ss : List ℕ) → ids_of (map (known_at p) ss) ≡ map (id_at p) ss
-known_ids p [] = refl
-known_ids p (s ∷ ss) = ap (λ (ids : List (List ℕ)). id_at p s ∷ ids) (known_ids p ss)
-
-pub ids_grown : (known : List Known) (p : Presented) → ids_of (known_with known p) ≡ ids_of known ++ new_in (ids_of known) (ids_in p)
-ids_grown known p =
-    map-append (λ (k : Known). k.id) known (filter (is_new known) (periods_of p))
-    ∙ ap (λ (ids : List (List ℕ)). ids_of known ++ ids) (new_ids known (periods_of p) ∙ ap (new_in (ids_of known)) (known_ids p (sections_of p) ∙ names_are [] p.sections))
-
-pub id_there : (xs : List Section) (s : ℕ) → s < length xs
-    → slice_get (map (λ section. section.id) xs) s ≡ Some (option_map_or (λ section. section.id) (slice_get xs s) [])
-id_there [] s less = absurd (omega arith)
-id_there (x ∷ xs) zero less = refl
-id_there (x ∷ xs) (suc s) less = id_there xs s (omega arith)
 
 -- the place of the first one
 made : List (List ℕ) → List Known
@@ -228,7 +211,8 @@ new_of_none known = sym (new_ids known [])
 
 is_unknown : (known : List Known) (k : Known) → list_any (bytes_eq k.id) (ids_of known) ≡ false → is_new known k ≡ true
 is_unknown known k none =
-    let at : position_or_len (bytes_eq k.id) (ids_of known) ≡ length known = position_none (bytes_eq k.id) (ids_of known) none ∙ length-map known (λ (j : Known). j.id) in
+    let at : position_or_len (bytes_eq k.id) (ids_of known) ≡ length known = position_none (bytes_eq k.id) (ids_of known) none
+    ∙ length-map known (λ (j : Known). j.id) in
     ap is_none (known_there known k.id ∙ ap (slice_get known) at ∙ slice_get_past known (length known) (omega arith))
 
 -- the first one that is new
@@ -238,17 +222,30 @@ unfolding made
 new_head known x xs none =
     let k : Known = record { id = x; start = 0; attributes = [] } in
     let new : is_new known k ≡ true = is_unknown known k none in
-    let first : filter (is_new known) (made (x ∷ xs)) ≡ k ∷ filter (is_new known) (made xs) = rw new refl in
-    (ids_of (filter (is_new known) (made xs)), ap (new_in (ids_of known)) (sym (made_ids (x ∷ xs))) ∙ sym (new_ids known (made (x ∷ xs))) ∙ ap ids_of first)
+    let first : filter (is_new known) (made (x ∷ xs)) ≡ k ∷ filter (is_new known) (made xs) = rw new refl in (
+      ids_of (filter (is_new known) (made xs)),
+      ap (new_in (ids_of known)) (sym (made_ids (x ∷ xs))) ∙ sym (new_ids known (made (x ∷ xs)))
+          ∙ ap ids_of first,
+    )
 
-front_is : (ks : List Known) (ids : List (List ℕ)) (last : AreLast (ids_of ks ++ new_in (ids_of ks) ids) ids) → length last.front ≡ first_place (ids_of ks) ids
+front_is : (ks : List Known) (ids : List (List ℕ)) (last : AreLast (ids_of ks ++ new_in (ids_of ks) ids) ids)
+    → length last.front ≡ first_place (ids_of ks) ids
 front_is ks [] last =
-    let same : length (ids_of ks ++ new_in (ids_of ks) []) ≡ length (last.front ++ []) = ap (λ (xs : List (List ℕ)). length xs) last.split in
-    omega (arith, same, length-append (ids_of ks) (new_in (ids_of ks) []), ap (λ (xs : List (List ℕ)). length xs) (new_of_none ks), length-append last.front [])
+    let same : length (ids_of ks ++ new_in (ids_of ks) []) ≡ length (last.front ++ []) =
+    ap (λ (xs : List (List ℕ)). length xs) last.split in
+    omega (
+      arith,
+      same,
+      length-append (ids_of ks) (new_in (ids_of ks) []),
+      ap (λ (xs : List (List ℕ)). length xs) (new_of_none ks),
+      length-append last.front [],
+    )
 front_is ks (x ∷ xs) last =
     let known = ids_of ks in
-    let at : place_of (known ++ new_in known (x ∷ xs)) x ≡ length last.front + 0 = placed_in (known ++ new_in known (x ∷ xs)) (x ∷ xs) last 0 x refl in
-    let first : position_or_len (bytes_eq x) (known ++ new_in known (x ∷ xs)) ≡ position_or_len (bytes_eq x) known = elim (cases_Bool (list_any (bytes_eq x) known)) [
+    let at : place_of (known ++ new_in known (x ∷ xs)) x ≡ length last.front + 0 =
+    placed_in (known ++ new_in known (x ∷ xs)) (x ∷ xs) last 0 x refl in
+    let first : position_or_len (bytes_eq x) (known ++ new_in known (x ∷ xs)) ≡ position_or_len (bytes_eq x) known =
+    elim (cases_Bool (list_any (bytes_eq x) known)) [
       | inl is ↦ position_left (bytes_eq x) known (new_in known (x ∷ xs)) is
       | inr none ↦
           let own : bytes_eq x x ≡ true = (bytes_eq-Decides x x).1 refl in
@@ -258,7 +255,8 @@ front_is ks (x ∷ xs) last =
     ] in
     omega (arith, at, first, place_is (known ++ new_in known (x ∷ xs)) x, place_is known x)
 
-stands_by : (known ids new : List (List ℕ)) (place : ℕ) → new ≡ known ++ new_in known ids → (last : AreLast (known ++ new_in known ids) ids) → length last.front ≡ place
+stands_by : (known ids new : List (List ℕ)) (place : ℕ) → new ≡ known ++ new_in known ids
+    → (last : AreLast (known ++ new_in known ids) ids) → length last.front ≡ place
     → StandsAt new ids place
 stands_by known ids new place grown last front = subst (λ (xs : List (List ℕ)). StandsAt xs ids place) (sym grown) (record {
   once = last.once;
@@ -271,13 +269,15 @@ unless true n place is = (refl, same_Some n place is)
 unless false n place is = absurd (cc)
 
 -- the Periods of an MPD that goes on stand behind the others
-pub new_stand : (known : List Known) (p : Presented) (place : ℕ) → are_once (ids_of known) ≡ true → place_among (ids_of known) (ids_in p) ≡ Some place
+pub new_stand : (known : List Known) (p : Presented) (place : ℕ) → are_once (ids_of known) ≡ true
+    → place_among (ids_of known) (ids_in p) ≡ Some place
     → StandsAt (ids_of (known_with known p)) (ids_in p) place
 new_stand known p place once among =
     let is = unless (are_once (ids_in p) && goes_on (ids_of known) (ids_in p)) (first_place (ids_of known) (ids_in p)) place among in
     let split = both (are_once (ids_in p)) (goes_on (ids_of known) (ids_in p)) is.0 in
     let last = last_with_new (ids_of known) (ids_in p) once split.0 split.1 in
-    stands_by (ids_of known) (ids_in p) (ids_of (known_with known p)) place (ids_grown known p) last (front_is known (ids_in p) last ∙ is.1)
+    stands_by (ids_of known) (ids_in p) (ids_of (known_with known p)) place (known_grown known p) last (front_is known (ids_in p) last
+    ∙ is.1)
 
 -- ---- by places
 
@@ -311,7 +311,8 @@ same_stand known p place is =
       once = is.once;
     } in
     let again = last_again (ids_of known) (ids_in p) last in
-    stands_by (ids_of known) (ids_in p) (ids_of (known_with known p)) place (ids_grown known p) again (front_is known (ids_in p) again ∙ first_at (ids_of known) (ids_in p) place is)
+    stands_by (ids_of known) (ids_in p) (ids_of (known_with known p)) place (known_grown known p) again (front_is known (ids_in p) again
+    ∙ first_at (ids_of known) (ids_in p) place is)
 
 get_left : (xs ys : List (List ℕ)) (k : ℕ) → k < length xs → slice_get (xs ++ ys) k ≡ slice_get xs k
 get_left [] ys k below = absurd (omega arith)
@@ -326,13 +327,21 @@ found_in p (x ∷ xs) some = elim (cases_Bool (p x)) [
 ]
 
 -- among those that were known before it stands at the same place, or behind them all
-pub place_before : (known more ids : List (List ℕ)) (place s : ℕ) (id : List ℕ) → StandsAt (known ++ more) ids place → slice_get ids s ≡ Some id
+pub place_before : (known more ids : List (List ℕ)) (place s : ℕ) (id : List ℕ) → StandsAt (known ++ more) ids place
+    → slice_get ids s ≡ Some id
     → place_of known id ≡ min (place + s) (length known)
 place_before known more ids place s id is at =
-    let there : position_or_len (bytes_eq id) (known ++ more) ≡ place + s = sym (place_is (known ++ more) id) ∙ place_there (known ++ more) ids place s id is at in
+    let there : position_or_len (bytes_eq id) (known ++ more) ≡ place + s = sym (place_is (known ++ more) id)
+    ∙ place_there (known ++ more) ids place s id is at in
     elim (cases_Bool (list_any (bytes_eq id) known)) [
       | inl some ↦ omega (arith, place_is known id, position_left (bytes_eq id) known more some, there, found_in (bytes_eq id) known some)
-      | inr none ↦ omega (arith, place_is known id, position_right (bytes_eq id) known more none, there, position_none (bytes_eq id) known none)
+      | inr none ↦ omega (
+        arith,
+        place_is known id,
+        position_right (bytes_eq id) known more none,
+        there,
+        position_none (bytes_eq id) known none,
+      )
     ]
 
 get_min : {X : Type 0} (xs : List X) (k : ℕ) → slice_get xs (min k (length xs)) ≡ slice_get xs k
@@ -347,5 +356,6 @@ pub known_before : (known : List Known) (more ids : List (List ℕ)) (place s : 
     → slice_get ids s ≡ Some id → known_by known id ≡ slice_get known (place + s)
 known_before known more ids place s id is at =
     let there : position_or_len (bytes_eq id) (ids_of known) ≡ min (place + s) (length known) =
-    sym (place_is (ids_of known) id) ∙ place_before (ids_of known) more ids place s id is at ∙ ap (min (place + s)) (length-map known (λ (k : Known). k.id)) in
+    sym (place_is (ids_of known) id) ∙ place_before (ids_of known) more ids place s id is at
+    ∙ ap (min (place + s)) (length-map known (λ (k : Known). k.id)) in
     known_there known id ∙ ap (slice_get known) there ∙ get_min known (place + s)

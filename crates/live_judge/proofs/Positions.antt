@@ -15,9 +15,11 @@ position_here {X} test xs i x at is before =
     omega (arith, here, before)
 
 pub position_later : {X : Type 0} (test : X → Bool) (xs : List X) (i : ℕ) (x : X) → slice_get xs i ≡ Some x → test x ≡ false
-    → i + position_or_len test (drop i xs) ≡ position_or_len test xs → (i + 1) + position_or_len test (drop (i + 1) xs) ≡ position_or_len test xs
+    → i + position_or_len test (drop i xs) ≡ position_or_len test xs → (i + 1) + position_or_len test (drop (i + 1) xs)
+    ≡ position_or_len test xs
 position_later {X} test xs i x at other before =
-    let here : position_or_len test (drop i xs) ≡ 1 + position_or_len test (drop (i + 1) xs) = ap (position_or_len test) (rest_at xs i x at) ∙ (rw other refl) in
+    let here : position_or_len test (drop i xs) ≡ 1 + position_or_len test (drop (i + 1) xs) =
+    ap (position_or_len test) (rest_at xs i x at) ∙ (rw other refl) in
     omega (arith, here, before)
 
 pub position_at_end : {X : Type 0} (test : X → Bool) (xs : List X) (i : ℕ) → i ≡ length xs

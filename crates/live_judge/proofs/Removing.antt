@@ -1,5 +1,6 @@
 -- What is removed is found from what is kept, and how long the new segments last.
-use Rattle.std.proofs.Common.{◌≡◌, ℕ, ◌+◌, ◌-◌, ◌≤◌, min, max, Bool, true, false, not, List, [], ◌∷◌, ◌++◌, length, sum, Option, Some, None, refl, ◌∙◌, ap, inl, inr, arith}
+use Rattle.std.proofs.Common.{◌≡◌, ℕ, ◌+◌, ◌-◌, ◌≤◌, min, max, Bool, true, false, not, List, [], ◌∷◌, ◌++◌, length, sum, Option, Some, None}
+use Rattle.std.proofs.Common.{refl, ◌∙◌, ap, inl, inr, arith}
 use Rattle.std.specs.Prelude.{cond, is_none, slice_get}
 use Rattle.std.specs.Option.{option_map_or}
 use Rattle.std.specs.List.{position_or_len}
@@ -53,7 +54,11 @@ first_kept : (test : Segment → Bool) (xs ys : List Segment) → ((y : Segment)
     → position_or_len test (xs ++ ys) ≡ position_or_len test xs
 first_kept test [] [] first = refl
 first_kept test [] (y ∷ ys) first = rw (first y refl) refl
-first_kept test (x ∷ xs) ys first = elim (cases_Bool (test x)) [ inl is ↦ rw is refl | inr other ↦ rw other (ap (λ n. 1 + n) (first_kept test xs ys first)) ]
+first_kept test (x ∷ xs) ys first = elim (cases_Bool (test x)) [
+  | inl is ↦ rw is refl
+  | inr other ↦
+      rw other (ap (λ n. 1 + n) (first_kept test xs ys first))
+]
 
 within_kept : (g : Following) (kept : List Kept) → position_or_len (is_available g) (segments_of kept) ≤ length (durations kept)
 within_kept g kept = omega (
@@ -64,7 +69,8 @@ within_kept g kept = omega (
 )
 
 -- where the first new one is available
-pub removed_by : (f : Option Following) (units : ℕ) (kept new : List Kept) → ((g : Following) (y : Segment) → f ≡ Some g → slice_get (segments_of new) 0 ≡ Some y → is_available g y ≡ true)
+pub removed_by : (f : Option Following) (units : ℕ) (kept new : List Kept)
+    → ((g : Following) (y : Segment) → f ≡ Some g → slice_get (segments_of new) 0 ≡ Some y → is_available g y ≡ true)
     → removed_of f units (kept ++ new) ≡ removed_of f (units - sum (durations new)) kept
 removed_by None units kept new first = refl
 removed_by (Some g) units kept new first =
@@ -73,7 +79,8 @@ removed_by (Some g) units kept new first =
     let place = position_or_len (is_available g) (segments_of kept) in
     let fits : place ≤ length (durations kept) = within_kept g kept in
     let one : position_or_len (is_available g) (segments_of (kept ++ new)) ≡ place =
-    ap (position_or_len (is_available g)) segments ∙ first_kept (is_available g) (segments_of kept) (segments_of new) (λ y at. first g y refl at) in
+    ap (position_or_len (is_available g)) segments ∙ first_kept (is_available g) (segments_of kept) (segments_of new)
+    (λ y at. first g y refl at) in
     let both = last_in_front units (durations kept) (durations new) place fits in
     ap (λ n. max 0 (min (0 + n) (last_place units (durations (kept ++ new))))) one
     ∙ ap (λ (ds : List ℕ). max 0 (min (0 + place) (last_place units ds))) lengths
@@ -81,25 +88,31 @@ removed_by (Some g) units kept new first =
 
 -- ---- what is kept of a track
 
-same_place : (f : Following) (p : Presented) (items : List MediaItem) (facts : List Fact) → p.following ≡ Some f → length items ≡ length facts
+same_place : (f : Following) (p : Presented) (items : List MediaItem) (facts : List Fact) → p.following ≡ Some f
+    → length items ≡ length facts
     → position_or_len (is_still_available p) facts ≡ position_or_len (is_available f) (segments_of (kepts_of items facts))
 same_place f p [] [] is same = refl
 same_place f p [] (fact ∷ facts) is same = absurd (omega (arith, same))
 same_place f p (item ∷ items) [] is same = absurd (omega (arith, same))
 same_place f p (item ∷ items) (fact ∷ facts) is same =
-    let window : window_from p fact.period_start ≡ window_at f fact.period_start = ap (λ (o : Option Following). option_map_or (λ g. window_at g fact.period_start) o whole_window) is in
-    let test : is_still_available p fact ≡ is_available f (kept_of item fact).segment = ap (λ w. is_after w.after (time_of fact.span.end)) window in
+    let window : window_from p fact.period_start ≡ window_at f fact.period_start =
+    ap (λ (o : Option Following). option_map_or (λ g. window_at g fact.period_start) o whole_window) is in
+    let test : is_still_available p fact ≡ is_available f (kept_of item fact).segment =
+    ap (λ w. is_after w.after (time_of fact.span.end)) window in
     ap (λ b. cond (not b) (1 + position_or_len (is_still_available p) facts) 0) test
     ∙ ap (λ n. cond (not (is_available f (kept_of item fact).segment)) (1 + n) 0) (same_place f p items facts is (omega (arith, same)))
 
-by_following : (o : Option Following) (p : Presented) (track : LiveTrack) (least available place : ℕ) → p.following ≡ o → is_none o ≡ false → length track.items.items ≡ length track.facts.items
+by_following : (o : Option Following) (p : Presented) (track : LiveTrack) (least available place : ℕ) → p.following ≡ o → is_none o ≡ false
+    → length track.items.items ≡ length track.facts.items
     → available ≡ position_or_len (is_still_available p) track.facts.items → place ≡ last_place least (durations (kept_in track))
     → min available place ≡ removed_of o least (kept_in track)
 by_following None p track least available place is followed paired first last = absurd (cc)
 by_following (Some f) p track least available place is followed paired first last =
     omega (arith, first, last, same_place f p track.items.items track.facts.items is paired)
 
-pub removed_is : (p : Presented) (track : LiveTrack) (least available place : ℕ) → is_finished p ≡ false → length track.items.items ≡ length track.facts.items
+pub removed_is : (p : Presented) (track : LiveTrack) (least available place : ℕ) → is_finished p ≡ false
+    → length track.items.items ≡ length track.facts.items
     → available ≡ position_or_len (is_still_available p) track.facts.items → place ≡ last_place least (durations (kept_in track))
     → min available place ≡ removed_of p.following least (kept_in track)
-removed_is p track least available place followed paired first last = by_following p.following p track least available place refl followed paired first last
+removed_is p track least available place followed paired first last =
+    by_following p.following p track least available place refl followed paired first last

@@ -1,5 +1,6 @@
 -- What a track keeps of a Period, and what an update's presentation has there.
-use Rattle.std.proofs.Common.{◌≡◌, ◌≤◌, ℕ, ◌+◌, ◌<◌, ◌==◌, ℤ, pos, ◌-ℤ◌, ◌++◌, min, true, false, List, [], ◌∷◌, length, map, IfSome, Option, None, Some, refl, sym, ◌∙◌, ap, subst, inl, inr, arith}
+use Rattle.std.proofs.Common.{◌≡◌, ◌≤◌, ℕ, ◌+◌, ◌<◌, ◌==◌, ℤ, pos, ◌-ℤ◌, ◌++◌, min, true, false, List, [], ◌∷◌, length, map, IfSome, Option}
+use Rattle.std.proofs.Common.{None, Some, refl, sym, ◌∙◌, ap, subst, inl, inr, arith}
 use Rattle.std.specs.Prelude.{flat_map, int_lt, option_map, option_to_list, slice_get}
 use Rattle.std.specs.List.{last_or}
 use Rattle.std.specs.Option.{option_map_or}
@@ -20,9 +21,11 @@ use Rattle.presentation.specs.Presented.{Following, Presented, at_instant, conte
 use Rattle.presentation.proofs.Grids.{All-at}
 use Rattle.live_meaning.specs.Segments.{Segment, id_at, place_of, times_of}
 use Rattle.live_meaning.specs.Known.{Known, ids_of}
-use Rattle.live_meaning.specs.Refusals.{Refusal, Rewritten, expansion_at, ids_in, latest_in, latest_of, rewritten_by, rewritten_in, rewritten_told}
+use Rattle.live_meaning.specs.Refusals.{Refusal, Rewritten, expansion_at, ids_in, latest_in, latest_of, rewritten_by, rewritten_in}
+use Rattle.live_meaning.specs.Refusals.{rewritten_told}
 use Rattle.live_meaning.specs.Histories.{Common, availability_start_of}
 use Rattle.live_meaning.proofs.Ids.{new_in}
+use Rattle.live_meaning.proofs.InForce.{id_there, known_grown}
 use Rattle.live_judge.specs.declared.block.Block.{Block}
 use Rattle.live_judge.specs.declared.coming.Next.{Next}
 use Rattle.live_judge.specs.declared.rewritten.Pair.{Pair}
@@ -39,7 +42,7 @@ use Rattle.live_judge.specs.Sound.{IsSegmentOf, IsSoundTrack}
 use Rattle.live_judge.proofs.Blocks.{filter_none, not_eq}
 use Rattle.live_judge.proofs.Contents.{content_there}
 use Rattle.live_judge.proofs.Firsts.{each}
-use Rattle.live_judge.proofs.Places.{id_there, ids_grown, place_before}
+use Rattle.live_judge.proofs.Places.{place_before}
 
 start_is : (o : Option Known) (a b : ℕ) → option_map (λ (k : Known). k.start) o ≡ Some a → IfSome o (λ (k : Known). k.start ≡ b) → a ≡ b
 start_is None a b is same = absurd (cc)
@@ -55,7 +58,8 @@ later_ended now instant own start end forward ended =
     IsAtMost-trans end (nanoseconds a) (nanoseconds z) (omega arith) ended later
 
 until_reaches : (o : Option Following) (now instant start_at : ℤ) (start : ℕ) (end : Time) → int_lt now instant ≡ false
-    → IfSome (option_map (at_instant now) o) (λ f. f.availability_start ≡ start_at) → IsAtMost end (nanoseconds ((instant -ℤ start_at) -ℤ pos start))
+    → IfSome (option_map (at_instant now) o) (λ f. f.availability_start ≡ start_at)
+    → IsAtMost end (nanoseconds ((instant -ℤ start_at) -ℤ pos start))
     → is_until (option_map_or (λ f. window_at f start) (option_map (at_instant now) o) whole_window).until end ≡ true
 until_reaches None now instant start_at start end forward follows ended = refl
 until_reaches (Some g) now instant start_at start end forward follows ended =
@@ -68,16 +72,19 @@ module _ (l : TrackNext) (is : IsTrackNext l) where
 
   pub sound_there : IsSoundTrack (common_shown (l.next.now).standing.now) (t_of l)
   sound_there =
-      All-at (IsSoundTrack (common_shown (l.next.now).standing.now)) (map track_shown (l.next.now).tracks.now) l.index (t_of l) is.next.live.sound.tracks
+      All-at (IsSoundTrack (common_shown (l.next.now).standing.now)) (map track_shown (l.next.now).tracks.now) l.index
+      (t_of l) is.next.live.sound.tracks
       (slice_get-map track_shown (l.next.now).tracks.now l.index ∙ ap (option_map track_shown) is.there)
 
-  pub segment_there : (i : ℕ) (x : Segment) → slice_get (segments_in l.track.now) i ≡ Some x → IsSegmentOf (common_shown (l.next.now).standing.now) x
+  pub segment_there : (i : ℕ) (x : Segment) → slice_get (segments_in l.track.now) i ≡ Some x
+      → IsSegmentOf (common_shown (l.next.now).standing.now) x
   segment_there i x at = All-at (IsSegmentOf (common_shown (l.next.now).standing.now)) (segments_in l.track.now) i x sound_there.segments at
 
   place_known : (i : ℕ) (x : Segment) → slice_get (segments_in l.track.now) i ≡ Some x → x.value.place < length known
   place_known i x at = known_within (slice_get known x.value.place) refl (segment_there i x at).starts
     where
-      known_within : (o : Option Known) → slice_get known x.value.place ≡ o → option_map (λ (k : Known). k.start) o ≡ Some x.value.period_start → x.value.place < length known
+      known_within : (o : Option Known) → slice_get known x.value.place ≡ o → option_map (λ (k : Known). k.start) o
+          ≡ Some x.value.period_start → x.value.place < length known
       known_within None there starts = absurd (cc)
       known_within (Some k) there starts = slice_get_within known x.value.place k there
 
@@ -96,34 +103,45 @@ module _ (l : TrackNext) (is : IsTrackNext l) where
   module _ (s : ℕ) (within : s < length (p_of l.next.now).sections) where
     place_is : place_of (ids_of known) (id_at (p_of l.next.now) s) ≡ min ((l.next.now).place + s) (length known)
     place_is =
-        let stands : StandsAt (ids_of known ++ new_in (ids_of known) (ids_in (p_of l.next.now))) (ids_in (p_of l.next.now)) (l.next.now).place =
-        subst (λ (ids : List (List ℕ)). StandsAt ids (ids_in (p_of l.next.now)) (l.next.now).place) (ids_grown known (p_of l.next.now)) is.next.stands in
-        place_before (ids_of known) (new_in (ids_of known) (ids_in (p_of l.next.now))) (ids_in (p_of l.next.now)) (l.next.now).place s (id_at (p_of l.next.now) s) stands
+        let stands : StandsAt (ids_of known ++ new_in (ids_of known) (ids_in (p_of l.next.now))) (ids_in (p_of l.next.now))
+        (l.next.now).place =
+        subst (λ (ids : List (List ℕ)). StandsAt ids (ids_in (p_of l.next.now)) (l.next.now).place)
+        (known_grown known (p_of l.next.now)) is.next.stands in
+        place_before (ids_of known) (new_in (ids_of known) (ids_in (p_of l.next.now))) (ids_in (p_of l.next.now)) (l.next.now).place s
+        (id_at (p_of l.next.now) s) stands
         (id_there (p_of l.next.now).sections s within)
         ∙ ap (min ((l.next.now).place + s)) (length-map known (λ (k : Known). k.id))
 
     -- what is told of a section, where its block is held against it
     pub told_in : (block : Block) (found : Option Pair) → IsBlock ((l.next.now).place + s) l.track.now block
         → option_map pair_of found ≡ rewritten_by (times_of (in_block block l.track.now)) (expansion_at (p_of l.next.now) l.index s)
-        → rewritten_in (common_shown (l.next.now).standing.now) (p_of l.next.now) l.index (t_of l) s ≡ map (λ pair. Rewritten l.index pair.0 pair.1) (option_to_list (option_map pair_of found))
+        → rewritten_in (common_shown (l.next.now).standing.now) (p_of l.next.now) l.index (t_of l) s
+        ≡ map (λ pair. Rewritten l.index pair.0 pair.1) (option_to_list (option_map pair_of found))
     told_in block found one same =
         let latest : latest_in (place_of (ids_of known) (id_at (p_of l.next.now) s)) (kept_in l.track.now) ≡ in_block block l.track.now =
         ap (λ n. latest_in n (kept_in l.track.now)) place_is ∙ latest_same ((l.next.now).place + s) ∙ one.are in
-        ap (λ (xs : List Segment). map (λ pair. Rewritten l.index pair.0 pair.1) (option_to_list (rewritten_by (times_of xs) (expansion_at (p_of l.next.now) l.index s)))) latest
+        ap (λ (xs : List Segment). map (λ pair. Rewritten l.index pair.0 pair.1)
+        (option_to_list (rewritten_by (times_of xs) (expansion_at (p_of l.next.now) l.index s)))) latest
         ∙ ap (λ (o : Option (Option Timing × Timing)). map (λ pair. Rewritten l.index pair.0 pair.1) (option_to_list o)) (sym same)
 
     -- what is kept of a Period has ended by then
-    pub until_there : AreUnmoved (l.next.now).standing.now.known (p_of l.next.now) (l.next.now).place → (i : ℕ) (x : Segment) → slice_get (segments_in l.track.now) i ≡ Some x
+    pub until_there : AreUnmoved (l.next.now).standing.now.known (p_of l.next.now) (l.next.now).place → (i : ℕ) (x : Segment)
+        → slice_get (segments_in l.track.now) i ≡ Some x
         → x.value.place ≡ (l.next.now).place + s → is_until (window_of (p_of l.next.now) s).until x.end ≡ true
     until_there unmoved i x at there =
         let one = segment_there i x at in
         let start : x.value.period_start ≡ start_of (p_of l.next.now) s =
-        start_is (slice_get known ((l.next.now).place + s)) x.value.period_start (start_of (p_of l.next.now) s) (ap (λ n. option_map (λ (k : Known). k.start) (slice_get known n)) (sym there) ∙ one.starts) (unmoved s within) in
-        until_reaches (l.next.now).force.now.following (l.next.now).now ((l.next.now).standing.now).instant _ (start_of (p_of l.next.now) s) x.end is.next.forward is.next.follows
-        (subst (λ n. IsAtMost x.end (nanoseconds ((((l.next.now).standing.now).instant -ℤ availability_start_of ((l.next.now).standing.now).opened) -ℤ pos n))) start (one.ended is.next.unended))
+        start_is (slice_get known ((l.next.now).place + s)) x.value.period_start (start_of (p_of l.next.now) s)
+        (ap (λ n. option_map (λ (k : Known). k.start) (slice_get known n)) (sym there) ∙ one.starts) (unmoved s within) in
+        until_reaches (l.next.now).force.now.following (l.next.now).now ((l.next.now).standing.now).instant _
+        (start_of (p_of l.next.now) s) x.end is.next.forward is.next.follows
+        (subst (λ n. IsAtMost x.end (nanoseconds
+        ((((l.next.now).standing.now).instant -ℤ availability_start_of ((l.next.now).standing.now).opened) -ℤ pos n))) start
+        (one.ended is.next.unended))
 
     -- what the presentation has there
-    pub expansion_is : (r : SegmentTimeline) (w : Window) → UntilTells → option_map (λ (content : Content). content.runs) (content_at (p_of l.next.now) s l.index) ≡ Some r
+    pub expansion_is : (r : SegmentTimeline) (w : Window) → UntilTells
+        → option_map (λ (content : Content). content.runs) (content_at (p_of l.next.now) s l.index) ≡ Some r
         → w.until ≡ (window_of (p_of l.next.now) s).until → expansion_at (p_of l.next.now) l.index s ≡ expansion r w
     expansion_is r w tells has until =
         let at = content_there (content_at (p_of l.next.now) s l.index) r has in
@@ -136,13 +154,15 @@ module _ (l : TrackNext) (is : IsTrackNext l) where
 abbrev pub rewritten_at : Common → Presented → ℕ → LiveTrack → List Refusal
 rewritten_at c p t x = flat_map (rewritten_in c p t (track_shown x)) (sections_of p)
 
-pub rewritten_each : (c : Common) (p : Presented) (t : ℕ) (ts : List LiveTrack) → rewritten_told c p t (map track_shown ts) ≡ each (rewritten_at c p) t ts
+pub rewritten_each : (c : Common) (p : Presented) (t : ℕ) (ts : List LiveTrack)
+    → rewritten_told c p t (map track_shown ts) ≡ each (rewritten_at c p) t ts
 unfolding each
 rewritten_each c p t [] = refl
 rewritten_each c p t (x ∷ ts) = ap (λ (xs : List Refusal). rewritten_at c p t x ++ xs) (rewritten_each c p (t + 1) ts)
 
 pub rewritten_for : (l : TrackNext) (n : Next) (i : ℕ) → l.next.now ≡ n → l.index ≡ i
-    → flat_map (rewritten_in (common_shown (l.next.now).standing.now) (p_of l.next.now) l.index (t_of l)) (sections_of (p_of l.next.now)) ≡ rewritten_at (common_shown n.standing.now) (p_of n) i l.track.now
+    → flat_map (rewritten_in (common_shown (l.next.now).standing.now) (p_of l.next.now) l.index (t_of l)) (sections_of (p_of l.next.now))
+    ≡ rewritten_at (common_shown n.standing.now) (p_of n) i l.track.now
 rewritten_for l n i next index =
     ap (λ (m : Next). rewritten_at (common_shown m.standing.now) (p_of m) l.index l.track.now) next
     ∙ ap (λ j. rewritten_at (common_shown n.standing.now) (p_of n) j l.track.now) index

@@ -1,5 +1,6 @@
 -- The printed durations of segments that are equally long.
-use Rattle.std.proofs.Common.{◌≡◌, ℕ, zero, suc, ◌+◌, ◌-◌, ◌*◌, ◌<◌, List, [], ◌∷◌, ◌++◌, length, map, pos, ◌+ℤ◌, ◌<ℤ◌, ◌^◌, Some, refl, sym, ◌∙◌, ap, subst, inl, inr, ◌⊎◌, arith}
+use Rattle.std.proofs.Common.{◌≡◌, ℕ, zero, suc, ◌+◌, ◌-◌, ◌*◌, ◌<◌, List, [], ◌∷◌, ◌++◌, length, map, pos, ◌+ℤ◌, ◌<ℤ◌, ◌^◌, Some, refl}
+use Rattle.std.proofs.Common.{sym, ◌∙◌, ap, subst, inl, inr, ◌⊎◌, arith}
 use Rattle.std.specs.Prelude.{slice_get}
 use Rattle.std.proofs.lemmas.Int.{ints}
 use Rattle.std.proofs.lemmas.List.{length-map, map-append}
@@ -24,44 +25,54 @@ use Rattle.live_judge.specs.Times.{IsPacedBy}
 pub second_at_most : (time : Time) (step : ℕ) → IsAtMost time (ticks_after time step)
 second_at_most time step = IsAtMost-ticks_after step time
 
-pub second_follows : (old : Rounding) (first time end : Time) (unit step : ℕ) → old ≡ rounding_behind first unit time → end ≡ ticks_after time step
+pub second_follows : (old : Rounding) (first time end : Time) (unit step : ℕ) → old ≡ rounding_behind first unit time
+    → end ≡ ticks_after time step
     → IsAtMost old.former end
 second_follows old first time end unit step begun same =
-    subst (λ (t : Time). IsAtMost old.former t) (sym same) (subst (λ (r : Rounding). IsAtMost r.former (ticks_after time step)) (sym begun) (second_at_most time step))
+    subst (λ (t : Time). IsAtMost old.former t) (sym same) (subst (λ (r : Rounding). IsAtMost r.former (ticks_after time step)) (sym begun)
+    (second_at_most time step))
 
-pub second_close : (old : Rounding) (first time end : Time) (unit step : ℕ) → old ≡ rounding_behind first unit time → end ≡ ticks_after time step
+pub second_close : (old : Rounding) (first time end : Time) (unit step : ℕ) → old ≡ rounding_behind first unit time
+    → end ≡ ticks_after time step
     → IsAtMost (difference (ticks_after time step) time) (seconds 2000000) → IsAtMost (difference end old.former) (seconds 2000000)
 second_close old first time end unit step begun same near =
     subst (λ (t : Time). IsAtMost (difference t old.former) (seconds 2000000)) (sym same)
     (subst (λ (r : Rounding). IsAtMost (difference (ticks_after time step) r.former) (seconds 2000000)) (sym begun) near)
 
-pub second_is : (first : Time) (unit : ℕ) (spans : SpanRun) (old new : Rounding) (end : Time) (printed : ℕ) → old ≡ rounding_behind first unit (time_of spans.first.end)
+pub second_is : (first : Time) (unit : ℕ) (spans : SpanRun) (old new : Rounding) (end : Time) (printed : ℕ)
+    → old ≡ rounding_behind first unit (time_of spans.first.end)
     → end ≡ second_end spans → total old + printed ≡ total new → new ≡ record old { former = end }
     → IsSecond first unit spans printed
 second_is first unit spans old new end printed begun same sum kept =
     let old_is : total old ≡ total (rounding_behind first unit (time_of spans.first.end)) = ap total begun in
     let new_is : total new ≡ total (rounding_behind first unit (second_end spans)) =
-    ap total kept ∙ ap (λ (r : Rounding). total (record r { former = end })) begun ∙ ap (λ (t : Time). total (rounding_behind first unit t)) same in
+    ap total kept ∙ ap (λ (r : Rounding). total (record r { former = end })) begun
+    ∙ ap (λ (t : Time). total (rounding_behind first unit t)) same in
     omega (arith, old_is, new_is, sum)
 
-by_count : (spans : SpanRun) (others : ℕ) → 0 < others → AreNear (time_of spans.first.end) (ends_after (time_of spans.first.end) spans.step others)
+by_count : (spans : SpanRun) (others : ℕ) → 0 < others
+    → AreNear (time_of spans.first.end) (ends_after (time_of spans.first.end) spans.step others)
     → ((spans.first.end.n +ℤ pos (others * spans.step)) <ℤ pos (2 ^ 64)) → IsSecondNear spans
 unfolding ends_after
 by_count spans zero some near room = absurd (omega arith)
 by_count spans (suc others) some near room = record { near = near.0; room = omega (arith, ints, room) }
 
-pub second_near : (spans : SpanRun) → 1 < spans.count → AreNear (time_of spans.first.end) (ends_after (time_of spans.first.end) spans.step (spans.count - 1))
+pub second_near : (spans : SpanRun) → 1 < spans.count
+    → AreNear (time_of spans.first.end) (ends_after (time_of spans.first.end) spans.step (spans.count - 1))
     → ((spans.first.end.n +ℤ pos ((spans.count - 1) * spans.step)) <ℤ pos (2 ^ 64)) → IsSecondNear spans
 second_near spans some near room = by_count spans (spans.count - 1) (omega arith) near room
 
 -- ---- all of them
 
-durations_left : (u : ℕ) (first : Time) (n : ℕ) (xs : List Timing) → map (λ (x : PrintedTiming). x.duration) (with_durations xs (differences n (map (λ x. floor_in u (difference x.end first)) xs)))
+durations_left : (u : ℕ) (first : Time) (n : ℕ) (xs : List Timing)
+    → map (λ (x : PrintedTiming). x.duration) (with_durations xs (differences n (map (λ x. floor_in u (difference x.end first)) xs)))
     ≡ differences n (map (λ x. floor_in u (difference x.end first)) xs)
 durations_left u first n [] = refl
-durations_left u first n (x ∷ xs) = ap (λ (ds : List ℕ). (floor_in u (difference x.end first) - n) ∷ ds) (durations_left u first (floor_in u (difference x.end first)) xs)
+durations_left u first n (x ∷ xs) = ap (λ (ds : List ℕ). (floor_in u (difference x.end first) - n) ∷ ds)
+    (durations_left u first (floor_in u (difference x.end first)) xs)
 
-durations_with : (xs : List Timing) (ds : List ℕ) → length xs ≡ length ds → map (λ (x : PrintedTiming). x.duration) (with_durations xs ds) ≡ ds
+durations_with : (xs : List Timing) (ds : List ℕ) → length xs ≡ length ds → map (λ (x : PrintedTiming). x.duration) (with_durations xs ds)
+    ≡ ds
 durations_with [] [] same = refl
 durations_with [] (d ∷ ds) same = absurd (omega (arith, same))
 durations_with (x ∷ xs) [] same = absurd (omega (arith, same))
@@ -78,24 +89,35 @@ module _ (r : Rounding) (old new : List Timing) (run : SpanRun) (is : PassesRun 
   as_long : (first : ℕ) → length (timings_of run) ≡ length (first ∷ equal)
   unfolding equal
   as_long first =
-      let ends : length (map (λ (x : Timing). x.end) (timings_of run)) ≡ length (time_of run.first.end ∷ ends_after (time_of run.first.end) run.step (run.count - 1)) =
+      let ends : length (map (λ (x : Timing). x.end) (timings_of run))
+      ≡ length (time_of run.first.end ∷ ends_after (time_of run.first.end) run.step (run.count - 1)) =
       ap (λ (ts : List Time). length ts) is.ends in
-      let others = length-differences (total (past_first r old new run is)) (map (λ end. floor_in r.unit (difference end r.first)) (ends_after (time_of run.first.end) run.step (run.count - 1))) in
-      omega (arith, ends, others, length-map (timings_of run) (λ (x : Timing). x.end), length-map (ends_after (time_of run.first.end) run.step (run.count - 1)) (λ end. floor_in r.unit (difference end r.first)))
+      let others = length-differences (total (past_first r old new run is))
+      (map (λ end. floor_in r.unit (difference end r.first)) (ends_after (time_of run.first.end) run.step (run.count - 1))) in
+      omega (
+        arith,
+        ends,
+        others,
+        length-map (timings_of run) (λ (x : Timing). x.end),
+        length-map (ends_after (time_of run.first.end) run.step (run.count - 1)) (λ end. floor_in r.unit (difference end r.first)),
+      )
 
   pub run_split : (first : ℕ) → total r + first ≡ total (past_first r old new run is)
-      → durations_behind r old ≡ (first ∷ equal_durations (past_first r old new run is) run.step (run.count - 1)) ++ durations_behind (past_all r old new run is) new
+      → durations_behind r old ≡ (first ∷ equal_durations (past_first r old new run is) run.step (run.count - 1))
+      ++ durations_behind (past_all r old new run is) new
   unfolding equal
   run_split first called =
       let dur : PrintedTiming → ℕ = λ x. x.duration in
       sym (durations_left r.unit r.first (total r) old)
       ∙ ap (map dur) (printed_run r old new run is first called)
       ∙ map-append dur (with_durations (timings_of run) (first ∷ equal)) (printed_left new (past_all r old new run is))
-      ∙ ap (λ (ds : List ℕ). ds ++ map dur (printed_left new (past_all r old new run is))) (durations_with (timings_of run) (first ∷ equal) (as_long first))
+      ∙ ap (λ (ds : List ℕ). ds ++ map dur (printed_left new (past_all r old new run is)))
+      (durations_with (timings_of run) (first ∷ equal) (as_long first))
       ∙ ap (λ (ds : List ℕ). (first ∷ equal) ++ ds) (durations_left r.unit r.first (total (past_all r old new run is)) new)
 
   by_others : (others : ℕ) → run.count - 1 ≡ others → (second : ℕ) → (0 < others → IsSecond r.first r.unit run second)
-      → (equal_durations (past_first r old new run is) run.step others ≡ []) ⊎ (slice_get (equal_durations (past_first r old new run is) run.step others) 0 ≡ Some second)
+      → (equal_durations (past_first r old new run is) run.step others ≡ [])
+      ⊎ (slice_get (equal_durations (past_first r old new run is) run.step others) 0 ≡ Some second)
   unfolding ends_after
   by_others zero same second told = inl refl
   by_others (suc others) same second told =
@@ -104,21 +126,25 @@ module _ (r : Rounding) (old new : List Timing) (run : SpanRun) (is : PassesRun 
       inr (ap Some one)
 
   pub second_there : (second : ℕ) → (1 < run.count → IsSecond r.first r.unit run second)
-      → (equal_durations (past_first r old new run is) run.step (run.count - 1) ≡ []) ⊎ (slice_get (equal_durations (past_first r old new run is) run.step (run.count - 1)) 0 ≡ Some second)
+      → (equal_durations (past_first r old new run is) run.step (run.count - 1) ≡ [])
+      ⊎ (slice_get (equal_durations (past_first r old new run is) run.step (run.count - 1)) 0 ≡ Some second)
   second_there second told = by_others (run.count - 1) refl second (λ some. told (omega (arith, some)))
 
 -- ---- a run that is passed
 
-second_by : (first first' : Time) (unit unit' : ℕ) (spans : SpanRun) (printed : ℕ) → first ≡ first' → unit ≡ unit' → IsSecond first' unit' spans printed
+second_by : (first first' : Time) (unit unit' : ℕ) (spans : SpanRun) (printed : ℕ) → first ≡ first' → unit ≡ unit'
+    → IsSecond first' unit' spans printed
     → IsSecond first unit spans printed
 second_by first first' unit unit' spans printed same one is = rw (same, one) is
 
-module _ (first : Time) (unit : ℕ) (r : Rounding) (old new : List Timing) (run : SpanRun) (is : PassesRun old run new) (paced : IsPacedBy old r first unit) where
+module _ (first : Time) (unit : ℕ) (r : Rounding) (old new : List Timing) (run : SpanRun) (is : PassesRun old run new)
+    (paced : IsPacedBy old r first unit) where
   ends_rise : IsAtMost r.former (time_of run.first.end)
   ends_rise =
       let ends : ends_of old ≡ time_of run.first.end ∷ (ends_after (time_of run.first.end) run.step (run.count - 1) ++ ends_of new) =
       ap ends_of is.next ∙ map-append (λ (x : Timing). x.end) (timings_of run) new ∙ ap (λ (ts : List Time). ts ++ ends_of new) is.ends in
-      let rising : IsRising r.former (time_of run.first.end ∷ (ends_after (time_of run.first.end) run.step (run.count - 1) ++ ends_of new)) =
+      let rising : IsRising r.former (time_of run.first.end ∷ (ends_after (time_of run.first.end) run.step (run.count - 1)
+      ++ ends_of new)) =
       subst (IsRising r.former) ends paced.paced.rising in
       rising.1
 
@@ -130,8 +156,10 @@ module _ (first : Time) (unit : ℕ) (r : Rounding) (old new : List Timing) (run
   second_fits more = second_near run more (others_near r old new run is paced.paced) is.room
 
   pub told_second : (second : ℕ) → (1 < run.count → IsSecond first unit run second)
-      → (equal_durations (past_first r old new run is) run.step (run.count - 1) ≡ []) ⊎ (slice_get (equal_durations (past_first r old new run is) run.step (run.count - 1)) 0 ≡ Some second)
-  told_second second told = second_there r old new run is second (λ more. second_by r.first first r.unit unit run second paced.first_is paced.unit_is (told more))
+      → (equal_durations (past_first r old new run is) run.step (run.count - 1) ≡ [])
+      ⊎ (slice_get (equal_durations (past_first r old new run is) run.step (run.count - 1)) 0 ≡ Some second)
+  told_second second told = second_there r old new run is second
+      (λ more. second_by r.first first r.unit unit run second paced.first_is paced.unit_is (told more))
 
   pub paced_next : IsPacedBy new (past_all r old new run is) first unit
   paced_next = record {
@@ -139,7 +167,8 @@ module _ (first : Time) (unit : ℕ) (r : Rounding) (old new : List Timing) (run
     unit_is = paced.unit_is;
     former = run.first.end.positive;
     begun =
-        IsAtMost-trans r.first (time_of run.first.end) (ticks_after (time_of run.first.end) ((run.count - 1) * run.step)) run.first.end.positive
+        IsAtMost-trans r.first (time_of run.first.end) (ticks_after (time_of run.first.end)
+        ((run.count - 1) * run.step)) run.first.end.positive
         (IsAtMost-trans r.first r.former (time_of run.first.end) paced.former paced.begun ends_rise)
         (IsAtMost-ticks_after ((run.count - 1) * run.step) (time_of run.first.end));
     paced = paced_run r old new run is paced.paced;

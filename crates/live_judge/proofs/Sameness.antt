@@ -1,5 +1,6 @@
 -- The attributes of the tracks in a section, one by one.
-use Rattle.std.proofs.Common.{◌≡◌, ℕ, ◌+◌, ◌<◌, ◌&&◌, ◌||◌, ◌==◌, Bool, true, false, List, [], ◌∷◌, ◌++◌, length, map, Option, Some, None, sym, ◌∙◌, ap, inl, inr, arith}
+use Rattle.std.proofs.Common.{◌≡◌, ℕ, ◌+◌, ◌<◌, ◌&&◌, ◌||◌, ◌==◌, Bool, true, false, List, [], ◌∷◌, ◌++◌, length, map, Option, Some, None}
+use Rattle.std.proofs.Common.{sym, ◌∙◌, ap, inl, inr, arith}
 use Rattle.std.specs.Prelude.{flat_map, option_map, option_to_list}
 use Rattle.std.specs.List.{list_any, range_with_len}
 use Rattle.std.proofs.lemmas.Bool.{cases_Bool}
@@ -21,7 +22,8 @@ abbrev pub one_of : Presented → (section : ℕ) → (track : ℕ) → List Att
 one_of p s t = option_to_list (option_map attributes_of (content_at p s t))
 
 -- what a content's parts tell
-pub told_by : (o : Option Content) (runs : SegmentTimeline) (initialization : Part) (offset : Time) → option_map (λ (c : Content). c.runs) o ≡ Some runs
+pub told_by : (o : Option Content) (runs : SegmentTimeline) (initialization : Part) (offset : Time)
+    → option_map (λ (c : Content). c.runs) o ≡ Some runs
     → option_map (λ (c : Content). c.initialization) o ≡ Some initialization → offset ≡ offset_of runs
     → option_to_list (option_map attributes_of o) ≡ attributes_by offset initialization ∷ []
 told_by None runs initialization offset has_runs has_part is = absurd (cc)
@@ -33,8 +35,10 @@ told_by (Some content) runs initialization offset has_runs has_part is =
     ∙ ap (λ (x : Time). attributes_by x initialization ∷ []) (sym is)
 
 module _ (p : Presented) (s n : ℕ) where
-  pub here : (t : ℕ) (a : Attributes) → t < n → one_of p s t ≡ a ∷ [] → flat_map (one_of p s) (from_on t n) ≡ a ∷ flat_map (one_of p s) (from_on (t + 1) n)
-  here t a within is = ap (flat_map (one_of p s)) (from_on-first t n within) ∙ ap (λ (xs : List Attributes). xs ++ flat_map (one_of p s) (from_on (t + 1) n)) is
+  pub here : (t : ℕ) (a : Attributes) → t < n → one_of p s t ≡ a ∷ [] → flat_map (one_of p s) (from_on t n)
+      ≡ a ∷ flat_map (one_of p s) (from_on (t + 1) n)
+  here t a within is = ap (flat_map (one_of p s)) (from_on-first t n within)
+      ∙ ap (λ (xs : List Attributes). xs ++ flat_map (one_of p s) (from_on (t + 1) n)) is
 
   pub at_end : (t : ℕ) → t ≡ n → flat_map (one_of p s) (from_on t n) ≡ []
   at_end t end = ap (λ i. flat_map (one_of p s) (from_on i n)) end ∙ ap (flat_map (one_of p s)) (from_on-end n)
@@ -42,7 +46,8 @@ module _ (p : Presented) (s n : ℕ) where
   pub at_start : flat_map (one_of p s) (from_on 0 n) ≡ flat_map (one_of p s) (range_with_len 0 n)
   at_start = ap (flat_map (one_of p s)) (from_on-start n)
 
-pub same_more : (a b : Attributes) (more others : List Attributes) → same_attributes a b ≡ true → all_same (a ∷ more) (b ∷ others) ≡ all_same more others
+pub same_more : (a b : Attributes) (more others : List Attributes) → same_attributes a b ≡ true
+    → all_same (a ∷ more) (b ∷ others) ≡ all_same more others
 same_more a b more others is = ap (λ c. c && all_same more others) is
 
 pub same_less : (a b : Attributes) (more others : List Attributes) → same_attributes a b ≡ false → all_same (a ∷ more) (b ∷ others) ≡ false
@@ -51,21 +56,25 @@ same_less a b more others other = ap (λ c. c && all_same more others) other
 -- ---- as they are kept
 
 module _ (p : Presented) (s n t : ℕ) (within : t < n) where
-  pub same_step : (rest later : List KeptAttributes) (first : KeptAttributes) (a : Attributes) → rest ≡ first ∷ later → one_of p s t ≡ a ∷ [] → same_attributes (attributes_shown first) a ≡ true
-      → all_same (map attributes_shown rest) (flat_map (one_of p s) (from_on t n)) ≡ all_same (map attributes_shown later) (flat_map (one_of p s) (from_on (t + 1) n))
+  pub same_step : (rest later : List KeptAttributes) (first : KeptAttributes) (a : Attributes) → rest ≡ first ∷ later
+      → one_of p s t ≡ a ∷ [] → same_attributes (attributes_shown first) a ≡ true
+      → all_same (map attributes_shown rest) (flat_map (one_of p s) (from_on t n))
+      ≡ all_same (map attributes_shown later) (flat_map (one_of p s) (from_on (t + 1) n))
   same_step rest later first a split told is =
       ap (λ (xs : List KeptAttributes). all_same (map attributes_shown xs) (flat_map (one_of p s) (from_on t n))) split
       ∙ ap (all_same (map attributes_shown (first ∷ later))) (here p s n t a within told)
       ∙ same_more (attributes_shown first) a (map attributes_shown later) (flat_map (one_of p s) (from_on (t + 1) n)) is
 
-  pub same_stop : (rest later : List KeptAttributes) (first : KeptAttributes) (a : Attributes) → rest ≡ first ∷ later → one_of p s t ≡ a ∷ [] → same_attributes (attributes_shown first) a ≡ false
+  pub same_stop : (rest later : List KeptAttributes) (first : KeptAttributes) (a : Attributes) → rest ≡ first ∷ later
+      → one_of p s t ≡ a ∷ [] → same_attributes (attributes_shown first) a ≡ false
       → all_same (map attributes_shown rest) (flat_map (one_of p s) (from_on t n)) ≡ false
   same_stop rest later first a split told other =
       ap (λ (xs : List KeptAttributes). all_same (map attributes_shown xs) (flat_map (one_of p s) (from_on t n))) split
       ∙ ap (all_same (map attributes_shown (first ∷ later))) (here p s n t a within told)
       ∙ same_less (attributes_shown first) a (map attributes_shown later) (flat_map (one_of p s) (from_on (t + 1) n)) other
 
-  pub told_step : (all : List KeptAttributes) (kept : KeptAttributes) (whole : List Attributes) → option_map attributes_of (content_at p s t) ≡ Some (attributes_shown kept)
+  pub told_step : (all : List KeptAttributes) (kept : KeptAttributes) (whole : List Attributes)
+      → option_map attributes_of (content_at p s t) ≡ Some (attributes_shown kept)
       → map attributes_shown all ++ flat_map (one_of p s) (from_on t n) ≡ whole
       → map attributes_shown (all ++ kept ∷ []) ++ flat_map (one_of p s) (from_on (t + 1) n) ≡ whole
   told_step all kept whole is before =
@@ -75,7 +84,8 @@ module _ (p : Presented) (s n t : ℕ) (within : t < n) where
       ∙ ap (λ (xs : List Attributes). map attributes_shown all ++ xs) (sym (here p s n t (attributes_shown kept) within told))
       ∙ before
 
-pub same_at_end : (rest : List KeptAttributes) (more : List Attributes) → more ≡ [] → (length rest == 0) ≡ all_same (map attributes_shown rest) more
+pub same_at_end : (rest : List KeptAttributes) (more : List Attributes) → more ≡ []
+    → (length rest == 0) ≡ all_same (map attributes_shown rest) more
 same_at_end [] more none = ap (all_same []) (sym none)
 same_at_end (first ∷ later) more none =
     let some : (length (first ∷ later) == 0) ≡ false = elim (cases_Bool (length (first ∷ later) == 0)) [

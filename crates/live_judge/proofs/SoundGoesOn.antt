@@ -1,8 +1,10 @@
 -- A state with an accepted update more is sound.
-use Rattle.std.proofs.Common.{◌≡◌, ℕ, ◌+◌, ◌≤◌, Bool, true, false, List, [], ◌∷◌, ◌++◌, drop, length, Option, Some, None, Result, Ok, Err, refl, sym, ◌∙◌, ap, subst, suc, arith}
+use Rattle.std.proofs.Common.{◌≡◌, ℕ, ◌+◌, ◌≤◌, Bool, true, false, List, [], ◌∷◌, ◌++◌, drop, length, Option, Some, None, Result, Ok, Err}
+use Rattle.std.proofs.Common.{refl, sym, ◌∙◌, ap, subst, suc, arith}
 use Rattle.std.specs.Prelude.{All, if◌then◌else◌, int_lt, option_map, slice_get}
 use Rattle.std.proofs.lemmas.List.{drop-map, map-append}
 use Rattle.std.proofs.lemmas.List.Elements.{All-nil, All-cons, All-append, All-drop, All-head, All-tail, All-weaker}
+use Rattle.bridge_io.specs.Firsts.{first_of}
 use Rattle.presentation.specs.declared.fault.PresentationFault.{PresentationFault}
 use Rattle.presentation.specs.Presented.{Presented}
 use Rattle.presentation.specs.PresentedLaws.{PresentedAreFew, PresentedAreFollowed}
@@ -12,7 +14,7 @@ use Rattle.live_meaning.specs.Segments.{Kept, Segment, listed_of, place_behind, 
 use Rattle.live_meaning.specs.Known.{Known}
 use Rattle.live_meaning.specs.Histories.{Common, availability_start_of, common_with, force_by, numbering_of}
 use Rattle.live_meaning.specs.States.{State, Track, kept_and_new, new_of, new_told, removed_from, state_with, track_after, tracks_after}
-use Rattle.live_meaning.specs.Refusals.{ClockBack, Refusal, clock_told, ended_told, first_of, next_of, next_with, refusal_of, told_by}
+use Rattle.live_meaning.specs.Refusals.{ClockBack, Refusal, clock_told, ended_told, next_of, next_with, refusal_of, told_by}
 use Rattle.live_meaning.proofs.Allowed.{IsAllowed, allowed, none_each, told_none}
 use Rattle.live_meaning.proofs.Grown.{get_more}
 use Rattle.live_meaning.proofs.Histories.{mapped}

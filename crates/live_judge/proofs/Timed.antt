@@ -1,10 +1,10 @@
 -- The segments of an MPD's presentation end at times.
-use Rattle.std.proofs.Common.{◌≡◌, ℕ, zero, suc, ◌+◌, ◌*◌, Bool, true, false, List, [], ◌∷◌, length, All, Option, None, Some, unwrap_or, ℤ, Ok, refl, sym, ap, subst}
+use Rattle.std.proofs.Common.{◌≡◌, ℕ, ◌+◌, ◌*◌, Bool, true, false, List, [], length, All, Option, None, Some, unwrap_or, ℤ, Ok, refl, sym}
+use Rattle.std.proofs.Common.{ap, subst}
 use Rattle.std.specs.Prelude.{is_none, is_some, option_map}
 use Rattle.std.specs.Option.{option_map_or}
-use Rattle.std.specs.List.{AllByRecursion}
 use Rattle.std.proofs.lemmas.List.Elements.{All-from_recursion, All-nil}
-use Rattle.exact_time.specs.Time.{IsTime, Time}
+use Rattle.exact_time.specs.Time.{IsTime}
 use Rattle.mpd_levels.specs.declared.tables.SView.{SView}
 use Rattle.mpd_levels.specs.Segments.{Segments}
 use Rattle.mpd_rules.specs.Typed.{TypedMpd}
@@ -12,11 +12,9 @@ use Rattle.mpd_rules.specs.Views.{segments_mpd}
 use Rattle.timeline.specs.declared.entry.End.{End}
 use Rattle.timeline.specs.declared.names.Names.{Names}
 use Rattle.timeline.specs.declared.window.Window.{Window}
-use Rattle.timeline.specs.Expansions.{Closed, Endless, Extent, Member, SegmentTimeline, Short, Timing, ended_by, extents, numbered, repeat_of, repeated}
-use Rattle.timeline.specs.Listed.{expansion, instant_of}
-use Rattle.timeline.specs.Steady.{AreLasting, LastsTicks}
-use Rattle.timeline.proofs.KeptLemmas.{all_append}
-use Rattle.timeline.proofs.Rises.{LastsTicks-repeat}
+use Rattle.timeline.specs.Expansions.{SegmentTimeline, Timing}
+use Rattle.timeline.specs.Listed.{expansion}
+use Rattle.timeline.specs.Steady.{AreLasting}
 use Rattle.presentation.specs.declared.parts.Content.{Content}
 use Rattle.presentation.specs.Presented.{Presented, content_at, looked_at, window_of}
 use Rattle.presentation.specs.Scales.{scale_of}
@@ -24,33 +22,13 @@ use Rattle.presentation.specs.Told.{entries_of, presented_of, timeline_by}
 use Rattle.presentation.proofs.Ending.{all_have}
 use Rattle.presentation.proofs.FromMpd.{is_told}
 use Rattle.presentation.proofs.Grids.{All-at}
-use Rattle.presentation.proofs.Pace.{duration_sound, entries_sound}
+use Rattle.presentation.proofs.Pace.{duration_sound, entries_sound, expansion_has}
 use Rattle.live_meaning.specs.Updates.{mpd_of}
 use Rattle.live_judge.specs.declared.coming.Coming.{Coming}
 use Rattle.live_judge.specs.declared.coming.Coming.TheVariants as comes
 use Rattle.live_judge.specs.declared.standing.Standing.{Standing}
 use Rattle.live_judge.specs.Coming.{Comes, update_of}
 use Rattle.live_judge.specs.Rewriting.{EndAtTimes}
-
-abbrev Ends : Extent → Type 0
-Ends x = IsTime x.end
-
-repeated_end : (count : ℕ) (x : Extent) → LastsTicks x → AllByRecursion Ends (repeated count x)
-unfolding repeated
-repeated_end zero x is = tt
-repeated_end (suc count) x is = (is.end_is, repeated_end count (repeat_of x) (LastsTicks-repeat x is))
-
-extents_end : (instant : Time) (members : List Member) → AreLasting members → AllByRecursion Ends (extents instant members)
-extents_end instant [] lasting = tt
-extents_end instant (Closed x ∷ later) lasting = (lasting.0.end_is, extents_end instant later lasting.1)
-extents_end instant (Short x ∷ later) lasting = extents_end instant later lasting
-extents_end instant (Endless x ∷ later) lasting =
-    all_append Ends (repeated (ended_by instant x) x) (extents instant later) (repeated_end (ended_by instant x) x lasting.0)
-    (extents_end instant later (subst AreLasting (sym lasting.1) tt))
-
-numbered_end : (n : ℕ) (xs : List Extent) → AllByRecursion Ends xs → AllByRecursion (λ (x : Timing). IsTime x.end) (numbered n xs)
-numbered_end n [] all = tt
-numbered_end n (x ∷ xs) all = (all.0, numbered_end (n + 1) xs all.1)
 
 timed_lasting : (live : Bool) (timeline : Option (List SView)) (s : Segments) (end : End) (names : Names) (runs : SegmentTimeline)
     → timeline_by timeline s live end names ≡ Ok runs → AreLasting runs.members
@@ -69,15 +47,18 @@ at_times : (w : Window) (o : Option Content) → ((content : Content) → o ≡ 
 at_times w None last = All-nil (λ (x : Timing). IsTime x.end)
 at_times w (Some content) last =
     All-from_recursion (λ (x : Timing). IsTime x.end) (expansion content.runs w)
-    (numbered_end content.runs.first_number (extents (instant_of w) content.runs.members) (extents_end (instant_of w) content.runs.members (last content refl)))
+    (expansion_has (λ start end. IsTime end) (λ x lasts. lasts.end_is) content.runs w (last content refl))
 
-made_timed : (mpd : TypedMpd (Option Segments)) (url : List ℕ) (now : ℤ) (p : Presented) → presented_of mpd url (Some now) ≡ Ok p → EndAtTimes (looked_at now p)
+made_timed : (mpd : TypedMpd (Option Segments)) (url : List ℕ) (now : ℤ) (p : Presented) → presented_of mpd url (Some now) ≡ Ok p
+    → EndAtTimes (looked_at now p)
 made_timed mpd url now p made t s =
     at_times (window_of (looked_at now p) s) (content_at p s t)
-    (λ content at. All-at (λ (c : Content). AreLasting c.runs.members) p.contents (s * length p.tracks + t) content (contents_last mpd url (Some now) p made) at)
+    (λ content at. All-at (λ (c : Content). AreLasting c.runs.members) p.contents (s * length p.tracks + t) content
+    (contents_last mpd url (Some now) p made) at)
 
 -- those of an update's MPD do
-pub comes_timed : (s : Standing) (c : Coming) (force : Presented) (now at : ℤ) → Comes s c force now → is_some (mpd_of (update_of c at)) ≡ true → EndAtTimes (looked_at now force)
+pub comes_timed : (s : Standing) (c : Coming) (force : Presented) (now at : ℤ) → Comes s c force now
+    → is_some (mpd_of (update_of c at)) ≡ true → EndAtTimes (looked_at now force)
 comes_timed s (comes.Refresh mpd) force now at made some = made_timed (segments_mpd mpd.now) s.base now force made
 comes_timed s (comes.Reset mpd) force now at made some = made_timed (segments_mpd mpd.now) s.base now force made
 comes_timed s comes.Tick force now at made some = absurd (cc)

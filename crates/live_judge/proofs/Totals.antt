@@ -1,5 +1,6 @@
 -- Sums of printed durations, which stop at the last value of a counter.
-use Rattle.std.proofs.Common.{◌≡◌, ℕ, zero, suc, ◌+◌, ◌-◌, ◌^◌, ◌<◌, ◌≤◌, cond, Bool, true, false, List, [], ◌∷◌, ◌++◌, length, sum, Option, Some, refl, ◌∙◌, ap, subst, arith, length-append}
+use Rattle.std.proofs.Common.{◌≡◌, ℕ, zero, suc, ◌+◌, ◌-◌, ◌^◌, ◌<◌, ◌≤◌, cond, Bool, true, false, List, [], ◌∷◌, ◌++◌, length, sum, Option}
+use Rattle.std.proofs.Common.{Some, refl, ◌∙◌, ap, subst, arith, length-append}
 use Rattle.std.specs.Prelude.{IfSome, flat_map, option_map, slice_get}
 use Rattle.exact_time.specs.Tick.{time_of}
 use Rattle.presentation.specs.Counting.{sections_of}
@@ -10,6 +11,7 @@ use Rattle.live_meaning.specs.Segments.{id_at}
 use Rattle.live_meaning.specs.Known.{ids_of}
 use Rattle.live_meaning.specs.Refusals.{ids_in}
 use Rattle.live_meaning.specs.States.{new_durations}
+use Rattle.live_meaning.proofs.InForce.{id_there}
 use Rattle.live_judge.specs.declared.times.NewTimes.{NewTimes}
 use Rattle.live_judge.specs.declared.times.NewRun.{NewRun}
 use Rattle.live_judge.specs.declared.track_next.TrackNext.{TrackNext}
@@ -22,7 +24,7 @@ use Rattle.live_judge.specs.Times.{IsNextRun, IsRun, left_of}
 use Rattle.live_judge.proofs.Keeping.{length-kepts}
 use Rattle.live_judge.proofs.New.{durations_are}
 use Rattle.live_judge.proofs.NewDurations.{sound_there}
-use Rattle.live_judge.proofs.Places.{id_there, place_there}
+use Rattle.live_judge.proofs.Places.{place_there}
 use Rattle.live_judge.proofs.Removing.{sum-append, sum-cons}
 use Rattle.live_judge.proofs.Tracks.{paired_there}
 
@@ -36,7 +38,8 @@ pub record IsSoFar (total : ℕ) (left all : List ℕ) : Type 0 where
 pub sums_first : (left all : List ℕ) → left ≡ all → IsSoFar 0 left all
 sums_first left all same = let one = ap sum same in record { sums = omega (arith, one); bound = omega arith }
 
-pub sums_next : (total more next : ℕ) (ds old new all : List ℕ) → old ≡ ds ++ new → more ≡ capped (sum ds) → next ≡ capped (total + more) → IsSoFar total old all → IsSoFar next new all
+pub sums_next : (total more next : ℕ) (ds old new all : List ℕ) → old ≡ ds ++ new → more ≡ capped (sum ds) → next ≡ capped (total + more)
+    → IsSoFar total old all → IsSoFar next new all
 sums_next total more next ds old new all same is added before =
     let both : sum old ≡ sum ds + sum new = ap sum same ∙ sum-append ds new in
     record { sums = omega (arith, both, is, added, before.sums); bound = omega (arith, added) }
@@ -46,7 +49,8 @@ sums_all total left all none before = let zero_left : sum left ≡ 0 = ap sum no
 
 -- ---- runs
 
-pub run_sum : (ds : List ℕ) (run : NewRun) (first total : ℕ) → IsRun ds run → first ≡ run.first → total ≡ capped (run.others.total + first) → total ≡ capped (sum ds)
+pub run_sum : (ds : List ℕ) (run : NewRun) (first total : ℕ) → IsRun ds run → first ≡ run.first → total ≡ capped (run.others.total + first)
+    → total ≡ capped (sum ds)
 run_sum ds run first total is same added =
     let all : sum ds ≡ run.first + sum is.others = ap sum is.is ∙ sum-cons run.first is.others in
     let others = ap (λ e. e.total) is.summed in
@@ -84,7 +88,8 @@ last_some : (l : TrackNext) → IsTrackNext l → (k : Last) × ((t_of l).last �
 last_some l is =
     let kept = kept_in l.track.now in
     let paired = paired_there l is in
-    let long : length kept ≡ length (l.track.now).facts.items = length-kepts (l.track.now).items.items (l.track.now).facts.items paired.paired in
+    let long : length kept ≡ length (l.track.now).facts.items = length-kepts (l.track.now).items.items
+    (l.track.now).facts.items paired.paired in
     let there = some_there kept (length kept - 1) (omega (arith, long, paired.some)) in
     (last_from (time_of (l.track.now).begin) there.0, ap (option_map (last_from (time_of (l.track.now).begin))) there.1)
 
@@ -95,9 +100,11 @@ no_fewer false n = omega arith
 pub durations_there : (l : TrackNext) → IsTrackNext l → new_durations (c_of l) l.index (t_of l) ≡ all_durs l
 durations_there l is =
     let last = last_some l is in
-    let low = subst (λ (o : Option Last). IfSome o (λ k. k.section ≤ (t_of l).place + ((l.next.now).standing.now).resets)) last.1 (sound_there l is).section in
+    let low = subst (λ (o : Option Last). IfSome o (λ k. k.section ≤ (t_of l).place + ((l.next.now).standing.now).resets)) last.1
+    (sound_there l is).section in
     let more : ((l.next.now).standing.now).resets ≤ (coming_of l.next.now).resets =
     no_fewer (is_reset (update_of (l.next.now).coming (l.next.now).now)) ((l.next.now).standing.now).resets in
     durations_are (c_of l) (l.next.now).place (t_of l) l.index last.0
-    (λ s less. place_there (ids_of (c_of l).known) (ids_in (p_of l.next.now)) (l.next.now).place s (id_at (p_of l.next.now) s) is.next.stands (id_there (p_of l.next.now).sections s less))
+    (λ s less. place_there (ids_of (c_of l).known) (ids_in (p_of l.next.now)) (l.next.now).place s
+    (id_at (p_of l.next.now) s) is.next.stands (id_there (p_of l.next.now).sections s less))
     last.1 (omega (arith, low, more))

@@ -32,31 +32,40 @@ pub reached_there : (l : TrackNext) → IsTrackNext l → (s : ℕ) (r : Segment
     → IsReached r (window_of (p_of l.next.now) s)
 reached_there l is s r within has =
     let at = content_there (content_at (p_of l.next.now) s l.index) r has in
-    subst (λ (q : SegmentTimeline). IsReached q (window_of (p_of l.next.now) s)) at.2 (reached_of (p_of l.next.now) s l.index at.0 at.1 (is.next.counted s l.index within (index_within l is)))
+    subst (λ (q : SegmentTimeline). IsReached q (window_of (p_of l.next.now) s)) at.2
+    (reached_of (p_of l.next.now) s l.index at.0 at.1 (is.next.counted s l.index within (index_within l is)))
 
-pub none_before : (l : TrackNext) (s : ℕ) (k : LastKept) → (t_of l).last ≡ Some (last_of k) → (t_of l).place ≡ k.place → (l.next.now).place + s < k.place
+pub none_before : (l : TrackNext) (s : ℕ) (k : LastKept) → (t_of l).last ≡ Some (last_of k) → (t_of l).place ≡ k.place
+    → (l.next.now).place + s < k.place
     → new_timings (p_of l.next.now) (l.next.now).place (t_of l) l.index s ≡ []
-none_before l s k last at less = none_earlier (p_of l.next.now) (l.next.now).place (t_of l) l.index s (last_of k) last (omega (arith, at, less))
+none_before l s k last at less = none_earlier (p_of l.next.now) (l.next.now).place (t_of l) l.index s (last_of k) last
+    (omega (arith, at, less))
 
-module _ (l : TrackNext) (s : ℕ) (r : SegmentTimeline) (has : option_map (λ (content : Content). content.runs) (content_at (p_of l.next.now) s l.index) ≡ Some r) where
+module _ (l : TrackNext) (s : ℕ) (r : SegmentTimeline) (has : option_map (λ (content : Content). content.runs)
+    (content_at (p_of l.next.now) s l.index) ≡ Some r) where
   abbrev its : (content : Content) × (content_at (p_of l.next.now) s l.index ≡ Some content) × (content.runs ≡ r)
   its = content_there (content_at (p_of l.next.now) s l.index) r has
 
   module _ (k : LastKept) (last : (t_of l).last ≡ Some (last_of k)) (at : (t_of l).place ≡ k.place) where
-    pub cursor_behind : (cursor : ℕ) → (l.next.now).place + s ≡ k.place → IsPlaceAfter (time_of k.end) (expansion r (window_of (p_of l.next.now) s)) cursor
+    pub cursor_behind : (cursor : ℕ) → (l.next.now).place + s ≡ k.place
+        → IsPlaceAfter (time_of k.end) (expansion r (window_of (p_of l.next.now) s)) cursor
         → StartsNew (p_of l.next.now) (l.next.now).place (t_of l) l.index s cursor
     cursor_behind cursor same after =
         starts_behind (p_of l.next.now) (l.next.now).place (t_of l) l.index s (last_of k) last its.0 its.1 cursor (same ∙ sym at)
-        (subst (λ (q : SegmentTimeline). IsPlaceAfter (time_of k.end) (expansion q (window_of (p_of l.next.now) s)) cursor) (sym its.2) after)
+        (subst (λ (q : SegmentTimeline). IsPlaceAfter (time_of k.end) (expansion q (window_of (p_of l.next.now) s)) cursor)
+        (sym its.2) after)
 
-    pub cursor_first : (cursor : ℕ) (w : Window) → w ≡ window_of (p_of l.next.now) s → k.place < (l.next.now).place + s → listed w (take cursor (expansion r w)) ≡ []
+    pub cursor_first : (cursor : ℕ) (w : Window) → w ≡ window_of (p_of l.next.now) s → k.place < (l.next.now).place + s
+        → listed w (take cursor (expansion r w)) ≡ []
         → StartsNew (p_of l.next.now) (l.next.now).place (t_of l) l.index s cursor
     cursor_first cursor w same less none =
         starts_first (p_of l.next.now) (l.next.now).place (t_of l) l.index s (last_of k) last its.0 its.1 cursor (omega (arith, at, less))
-        (subst (λ (q : SegmentTimeline). listed (window_of (p_of l.next.now) s) (take cursor (expansion q (window_of (p_of l.next.now) s))) ≡ []) (sym its.2)
+        (subst (λ (q : SegmentTimeline). listed (window_of (p_of l.next.now) s) (take cursor (expansion q (window_of (p_of l.next.now) s)))
+        ≡ []) (sym its.2)
         (subst (λ (v : Window). listed v (take cursor (expansion r v)) ≡ []) same none))
 
-    pub walk_from : (cursor : ℕ) (w : Window) → StartsNew (p_of l.next.now) (l.next.now).place (t_of l) l.index s cursor → w ≡ window_of (p_of l.next.now) s
+    pub walk_from : (cursor : ℕ) (w : Window) → StartsNew (p_of l.next.now) (l.next.now).place (t_of l) l.index s cursor
+        → w ≡ window_of (p_of l.next.now) s
         → listed_from cursor r w ≡ new_timings (p_of l.next.now) (l.next.now).place (t_of l) l.index s
     walk_from cursor w starts same =
         starts_there (p_of l.next.now) (l.next.now).place (t_of l) l.index s (last_of k) last its.0 its.1 cursor r w starts its.2 same

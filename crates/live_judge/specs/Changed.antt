@@ -1,5 +1,6 @@
 -- What an MPD alone breaks, by the places of its Periods.
-use Rattle.std.specs.Prelude.{◌≡◌, ℕ, ◌+◌, ◌<◌, ◌==◌, not, Bool, true, false, List, [], ◌∷◌, ◌++◌, length, slice_get, Option, Some, None, IfSome, ◌&&◌, unsigned_abs}
+use Rattle.std.specs.Prelude.{◌≡◌, ℕ, ◌+◌, ◌<◌, ◌==◌, not, Bool, true, false, List, [], ◌∷◌, ◌++◌, length, slice_get, Option, Some, None}
+use Rattle.std.specs.Prelude.{IfSome, ◌&&◌, unsigned_abs}
 use Rattle.exact_time.specs.Time.{Time}
 use Rattle.url_parts.specs.declared.address.Part.{Part}
 use Rattle.std.specs.Option.{option_map_or}
@@ -9,7 +10,8 @@ use Rattle.live_meaning.specs.Updates.{Values}
 use Rattle.live_meaning.specs.Segments.{place_of}
 use Rattle.live_meaning.specs.Known.{Attributes, Known, all_same, attributes_at, goes_on, ids_of}
 use Rattle.live_meaning.specs.Histories.{Common}
-use Rattle.live_meaning.specs.Refusals.{Changed, Moved, Refusal, are_alike, ids_in, is_changed, moved_told, older_than, starts_otherwise, told_if}
+use Rattle.live_meaning.specs.Refusals.{Changed, Moved, Refusal, are_alike, ids_in, is_changed, moved_told, older_than, starts_otherwise}
+use Rattle.live_meaning.specs.Refusals.{told_if}
 
 -- the place that the first of some ids has among the known ones, or behind them
 abbrev pub first_place : (known ids : List (List ℕ)) → ℕ
@@ -26,11 +28,16 @@ place_among known ids = place_if (are_once ids && goes_on known ids) (first_plac
 
 -- attributes by `@presentationTimeOffset` in seconds
 abbrev pub attributes_by : Time → Part → Attributes
-attributes_by offset initialization = record { timescale = offset.scale; time_offset = unsigned_abs offset.ticks; initialization = initialization }
+attributes_by offset initialization = record {
+  timescale = offset.scale;
+  time_offset = unsigned_abs offset.ticks;
+  initialization = initialization;
+}
 
 -- a known Period has other attributes, or begins at another time
 abbrev pub has_other : List Known → Presented → (place section : ℕ) → Bool
-has_other known p place s = option_map_or (λ (k : Known). not (all_same k.attributes (attributes_at p s))) (slice_get known (place + s)) false
+has_other known p place s = option_map_or (λ (k : Known). not (all_same k.attributes (attributes_at p s)))
+    (slice_get known (place + s)) false
 
 abbrev pub moved_from : Presented → (place section : ℕ) → Option Known → List Refusal
 moved_from p place s None = []

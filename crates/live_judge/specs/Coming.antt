@@ -41,7 +41,8 @@ timed_told is_reset c tracks = joint_told is_reset c tracks ++ long_told c 0 tra
 
 -- the refusals before those of addresses
 abbrev pub told_before : State → Update → Presented → List Refusal
-told_before s u p = map Presentation (range_faults p) ++ mpd_told s (mpd_of u) p ++ timed_told (is_reset u) (common_with s.common u p) s.tracks
+told_before s u p = map Presentation (range_faults p) ++ mpd_told s (mpd_of u) p ++ timed_told (is_reset u)
+    (common_with s.common u p) s.tracks
 
 -- ---- an update whose presentation is judged
 

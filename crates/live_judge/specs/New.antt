@@ -20,7 +20,8 @@ new_timings p place of track section = filter (is_new_in place of section) (list
 
 abbrev pub new_in : Numbering → Presented → (place : ℕ) → Track → (track section : ℕ) → List Segment
 new_in n p place of track section =
-    option_map_or (λ content. map (segment_with n (place + section) (start_of p section) content) (new_timings p place of track section)) (content_at p section track) []
+    option_map_or (λ content. map (segment_with n (place + section) (start_of p section) content) (new_timings p place of track section))
+    (content_at p section track) []
 
 -- their printed durations
 abbrev pub durations_in : Common → (place : ℕ) → Track → (track section : ℕ) → List ℕ
@@ -30,7 +31,8 @@ durations_in c place of track section =
 -- the segments from a place on are the new ones
 abbrev pub StartsNew : Presented → (place : ℕ) → Track → (track section cursor : ℕ) → Type 0
 StartsNew p place of track section cursor =
-    IfSome (content_at p section track) (λ content. listed_from cursor content.runs (window_of p section) ≡ new_timings p place of track section)
+    IfSome (content_at p section track) (λ content. listed_from cursor content.runs (window_of p section)
+    ≡ new_timings p place of track section)
 
 -- the first one of some segments has this section and these times
 pub record IsFirstNew (number : ℕ) (times : Timing) (xs : List Segment) : Type 0 where

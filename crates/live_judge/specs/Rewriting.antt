@@ -1,5 +1,6 @@
 -- Kept segments of a Period, held against what a new MPD has there.
-use Rattle.std.specs.Prelude.{◌≡◌, ℕ, zero, suc, ◌-◌, ◌&&◌, not, min, Bool, false, List, [], ◌∷◌, filter, take, drop, reverse, length, slice_get, All, Option, Some, None, option_map, if◌then◌else◌}
+use Rattle.std.specs.Prelude.{◌≡◌, ℕ, zero, suc, ◌-◌, ◌&&◌, not, min, Bool, false, List, [], ◌∷◌, filter, take, drop, reverse, length}
+use Rattle.std.specs.Prelude.{slice_get, All, Option, Some, None, option_map, if◌then◌else◌}
 use Rattle.exact_time.specs.Time.{IsTime, Time, at_most}
 use Rattle.timeline.specs.Expansions.{Timing}
 use Rattle.timeline.specs.Listed.{timing_of}
@@ -42,12 +43,14 @@ is_same_as None new = false
 is_same_as (Some old) new = is_same_timing old new
 
 -- a new segment with the kept one behind which as many are left, where it ends from a time on and differs; otherwise another pair
-abbrev pub or_other : (kept : List Timing) → (left : ℕ) → (first : Time) → Timing → Option (Option Timing × Timing) → Option (Option Timing × Timing)
+abbrev pub or_other : (kept : List Timing) → (left : ℕ) → (first : Time) → Timing → Option (Option Timing × Timing)
+    → Option (Option Timing × Timing)
 or_other kept left first new found = let old = slice_get (reverse kept) left in
     if at_most first new.end && not (is_same_as old new) then Some (old, new) else found
 
 -- kept segments against so many new ones: the last pair that differs of those that end from a time on
-unfoldable pub held : (kept : List Timing) → (first : Time) → (left : ℕ) → (new : List Timing) → Option (Option Timing × Timing) → Option (Option Timing × Timing)
+unfoldable pub held : (kept : List Timing) → (first : Time) → (left : ℕ) → (new : List Timing) → Option (Option Timing × Timing)
+    → Option (Option Timing × Timing)
 held kept first zero new found = found
 held kept first (suc left) [] found = found
 held kept first (suc left) (x ∷ xs) found = held kept first left xs (or_other kept left first x found)

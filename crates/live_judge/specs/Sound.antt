@@ -1,5 +1,6 @@
 -- What holds of each state that accepted updates of typed MPDs leave, and of what shows one.
-use Rattle.std.specs.Prelude.{◌≡◌, ◌⊎◌, ℕ, ◌+◌, ◌*◌, ◌<◌, ◌≤◌, ℤ, pos, ◌-ℤ◌, false, true, List, [], ◌∷◌, length, map, slice_get, All, IfSome, Option, Some, None, option_map}
+use Rattle.std.specs.Prelude.{◌≡◌, ◌⊎◌, ℕ, ◌+◌, ◌*◌, ◌<◌, ◌≤◌, ℤ, pos, ◌-ℤ◌, false, true, List, [], ◌∷◌, length, map, slice_get, All}
+use Rattle.std.specs.Prelude.{IfSome, Option, Some, None, option_map}
 use Rattle.exact_time.specs.Time.{AreRising, IsAtMost, IsTime, before, nanoseconds, seconds}
 use Rattle.timeline.specs.Expansions.{Timing}
 use Rattle.presentation.specs.Presented.{Presented, is_finished, listed_at, looked_at}

@@ -36,7 +36,8 @@ pub fn place_of(
     requires starts { standing.now.availability_start ≡ availability_start_of standing.now.opened }
     requires room { length standing.now.known + length force.now.sections < 2 ^ 64 }
     ensures judged { Judges result (spec.listed_told (common_shown standing.now) (mpd_of (update_of coming.entry (pos 0))) force.now) }
-    ensures place { IfOk result (λ place. spec.IsPlaceBy (mpd_of (update_of coming.entry (pos 0))) (common_shown standing.now) standing.now.place force.now place) }
+    ensures place { IfOk result (λ place. spec.IsPlaceBy (mpd_of (update_of coming.entry (pos 0)))
+        (common_shown standing.now) standing.now.place force.now place) }
 {
     match coming.mpd() {
         Some(mpd) => check_mpd(standing, mpd, force),
@@ -49,7 +50,8 @@ fn check_mpd(standing: &Standing, mpd: &Mpd, force: &Presentation) -> Result<usi
     requires starts { standing.now.availability_start ≡ availability_start_of standing.now.opened }
     requires room { length standing.now.known + length force.now.sections < 2 ^ 64 }
     ensures judged { Judges result (spec.listed_told (common_shown standing.now) (Some (segments_mpd mpd.now)) force.now) }
-    ensures place { IfOk result (λ place. spec.IsPlaceBy (Some (segments_mpd mpd.now)) (common_shown standing.now) standing.now.place force.now place) }
+    ensures place { IfOk result (λ place. spec.IsPlaceBy (Some (segments_mpd mpd.now))
+        (common_shown standing.now) standing.now.place force.now place) }
 {
     check_older(standing.published, mpd.publish_time())?;
     let place = check_changed(standing, mpd, force)?;
@@ -77,7 +79,8 @@ fn check_changed(
     requires once { are_once (ids_of standing.now.known) ≡ true }
     requires starts { standing.now.availability_start ≡ availability_start_of standing.now.opened }
     requires room { length standing.now.known + length force.now.sections < 2 ^ 64 }
-    ensures judged { Judges result (rules.told_if (rules.is_changed (common_shown standing.now) (segments_mpd mpd.now) force.now) rules.Changed) }
+    ensures judged { Judges result (rules.told_if (rules.is_changed (common_shown standing.now)
+        (segments_mpd mpd.now) force.now) rules.Changed) }
     ensures place { IfOk result (λ place. spec.place_among (ids_of standing.now.known) (rules.ids_in force.now) ≡ Some place) }
     ensures starts { IfOk result (λ _. rules.starts_otherwise (common_shown standing.now) (segments_mpd mpd.now) ≡ false) }
     ensures alike { IfOk result (λ _. rules.are_alike standing.now.opened.tracks force.now.tracks ≡ true) }

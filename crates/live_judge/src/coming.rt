@@ -83,7 +83,8 @@ impl<'a> Next<'a> {
         requires unended { is_finished (in_force standing.now) ≡ false }
         requires forward { int_lt now standing.now.instant ≡ false }
         requires comes { Comes standing.now coming force.now now }
-        ensures judged { Judges result (told_before (state_shown standing.now tracks.now) (update_of coming.entry now) (looked_at now force.now)) }
+        ensures judged { Judges result (told_before (state_shown standing.now tracks.now) (update_of coming.entry now)
+            (looked_at now force.now)) }
         ensures next { IfOk result (λ next. IsNext next × (next.standing.now ≡ standing.now) × (next.tracks.now ≡ tracks.now)
             × (next.coming ≡ coming.entry) × (next.force.now ≡ force.now) × (next.now ≡ now)) }
     {

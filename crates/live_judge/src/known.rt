@@ -171,7 +171,8 @@ pub fn periods_from(
     section: usize,
 ) -> Result<Vec<KnownPeriod>, NoMemory>
     requires { section ≤ length force.now.sections }
-    ensures { IfOk result (λ new. map known_shown new.items ≡ map (known_at force.now) (range_with_len section (length force.now.sections - section))) }
+    ensures { IfOk result (λ new. map known_shown new.items ≡ map (known_at force.now)
+        (range_with_len section (length force.now.sections - section))) }
 {
     let mut new = Vec::new(alloc);
     for at in section..force.sections().len() {

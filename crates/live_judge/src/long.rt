@@ -30,7 +30,8 @@ impl TrackNext<'_> {
     fn check_long(&self) -> Result<(), RefreshFault>
         requires next { IsTrackNext self.now }
         requires joined { IsJoined self.now.next.now }
-        ensures { Judges result (longs_told (unit_of (c_of self.entry.now).terms) (c_of self.entry.now).target (new_durations (c_of self.entry.now) self.entry.now.index (t_of self.entry.now))) }
+        ensures { Judges result (longs_told (unit_of (c_of self.entry.now).terms) (c_of self.entry.now).target
+            (new_durations (c_of self.entry.now) self.entry.now.index (t_of self.entry.now))) }
     {
         for section in 0..self.next.force.sections().len() {
             self.check_long_in(section)?;

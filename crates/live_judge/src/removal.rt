@@ -118,7 +118,8 @@ impl TrackNext<'_> {
     pub fn removed(&self) -> usize
         requires next { IsTrackNext self.now }
         requires joined { IsJoined self.now.next.now }
-        ensures { result ≡ removed_from (c_of self.entry.now) (kept_and_new (c_of self.entry.now) self.entry.now.index (t_of self.entry.now)) }
+        ensures { result ≡ removed_from (c_of self.entry.now) (kept_and_new (c_of self.entry.now) self.entry.now.index
+            (t_of self.entry.now)) }
     {
         let least = self.next.least_length().saturating_sub(self.total());
         removed_of(self.track, self.next.force, self.next.now, least)
@@ -128,7 +129,8 @@ impl TrackNext<'_> {
     pub(crate) fn kept_count(&self) -> u128
         requires next { IsTrackNext self.now }
         requires joined { IsJoined self.now.next.now }
-        ensures kept { result ≡ count_kept (c_of self.entry.now) (kept_and_new (c_of self.entry.now) self.entry.now.index (t_of self.entry.now)) }
+        ensures kept { result ≡ count_kept (c_of self.entry.now) (kept_and_new (c_of self.entry.now) self.entry.now.index
+            (t_of self.entry.now)) }
         ensures bounded { result < 2 ^ 127 + 2 ^ 64 }
     {
         let all = self.track.facts.len() as u128 + self.new_count();

@@ -39,8 +39,11 @@ impl Next<'_> {
     pub(crate) fn check_kept(&self) -> Result<(), RefreshFault>
         requires next { IsNext self.now }
         requires comes { Comes self.now.standing.now self.now.coming self.now.force.now self.now.now }
-        requires unmoved { is_some (mpd_of (update_of self.now.coming self.now.now)) ≡ true → AreUnmoved self.now.standing.now.known (p_of self.now) self.now.place }
-        ensures { Judges result (kept_told (common_shown self.entry.now.standing.now) (mpd_of (update_of self.entry.now.coming self.entry.now.now)) (p_of self.entry.now) (map track_shown self.entry.now.tracks.now)) }
+        requires unmoved { is_some (mpd_of (update_of self.now.coming self.now.now)) ≡ true
+            → AreUnmoved self.now.standing.now.known (p_of self.now) self.now.place }
+        ensures { Judges result (kept_told (common_shown self.entry.now.standing.now)
+            (mpd_of (update_of self.entry.now.coming self.entry.now.now)) (p_of self.entry.now)
+            (map track_shown self.entry.now.tracks.now)) }
     {
         if self.coming.mpd().is_none() {
             return Ok(());
@@ -52,7 +55,8 @@ impl Next<'_> {
         requires next { IsNext self.now }
         requires timed { EndAtTimes (p_of self.now) }
         requires unmoved { AreUnmoved self.now.standing.now.known (p_of self.now) self.now.place }
-        ensures { Judges result (rewritten_told (common_shown self.entry.now.standing.now) (p_of self.entry.now) 0 (map track_shown self.entry.now.tracks.now)) }
+        ensures { Judges result (rewritten_told (common_shown self.entry.now.standing.now) (p_of self.entry.now) 0
+            (map track_shown self.entry.now.tracks.now)) }
     {
         for track in 0..self.tracks.len() {
             self.of(track).check_rewritten()?;
@@ -66,7 +70,8 @@ impl TrackNext<'_> {
         requires next { IsTrackNext self.now }
         requires timed { EndAtTimes (p_of self.now.next.now) }
         requires unmoved { AreUnmoved self.now.next.now.standing.now.known (p_of self.now.next.now) self.now.next.now.place }
-        ensures { Judges result (flat_map (rewritten_in (common_shown self.entry.now.next.now.standing.now) (p_of self.entry.now.next.now) self.entry.now.index (t_of self.entry.now)) (sections_of (p_of self.entry.now.next.now))) }
+        ensures { Judges result (flat_map (rewritten_in (common_shown self.entry.now.next.now.standing.now)
+            (p_of self.entry.now.next.now) self.entry.now.index (t_of self.entry.now)) (sections_of (p_of self.entry.now.next.now))) }
     {
         let mut from = 0;
         for section in 0..self.next.force.sections().len() {
@@ -83,7 +88,8 @@ impl TrackNext<'_> {
         requires unmoved { AreUnmoved self.now.next.now.standing.now.known (p_of self.now.next.now) self.now.next.now.place }
         requires section { section < length (p_of self.now.next.now).sections }
         requires block { IsBlock (self.now.next.now.place + section) self.now.track.now block }
-        ensures { Judges result (rewritten_in (common_shown self.entry.now.next.now.standing.now) (p_of self.entry.now.next.now) self.entry.now.index (t_of self.entry.now) section) }
+        ensures { Judges result (rewritten_in (common_shown self.entry.now.next.now.standing.now)
+            (p_of self.entry.now.next.now) self.entry.now.index (t_of self.entry.now) section) }
     {
         match self.rewritten(section, block) {
             Some(pair) => Err(RefreshFault::Rewritten {
@@ -102,7 +108,8 @@ impl TrackNext<'_> {
         requires unmoved { AreUnmoved self.now.next.now.standing.now.known (p_of self.now.next.now) self.now.next.now.place }
         requires section { section < length (p_of self.now.next.now).sections }
         requires block { IsBlock (self.now.next.now.place + section) self.now.track.now block }
-        ensures { option_map pair_of result ≡ rewritten_by (times_of (in_block block self.entry.now.track.now)) (expansion_at (p_of self.entry.now.next.now) self.entry.now.index section) }
+        ensures { option_map pair_of result ≡ rewritten_by (times_of (in_block block self.entry.now.track.now))
+            (expansion_at (p_of self.entry.now.next.now) self.entry.now.index section) }
     {
         if block.begin == block.end {
             return None;
@@ -158,7 +165,8 @@ fn place_before(runs: &Runs, window: &Window, behind: Cursor, wanted: u64) -> Cu
 /// The first pair of kept and new segments that differs, both seen from the back, of those that end from a time on.
 fn last_other(ended: Ended<'_>, first: Tick, track: &LiveTrack, block: Block) -> Option<Pair>
     requires { IsWithin block track.now }
-    ensures { option_map pair_of result ≡ held (times_of (in_block block track.now)) (time_of first) ended.entry.count ended.entry.walk None }
+    ensures { option_map pair_of result ≡ held (times_of (in_block block track.now))
+        (time_of first) ended.entry.count ended.entry.walk None }
 {
     let mut walk = ended.walk;
     let mut left = ended.count;
@@ -183,7 +191,8 @@ fn or_pair(
     found: Option<Pair>,
 ) -> Option<Pair>
     requires { IsWithin block track.now }
-    ensures { option_map pair_of result ≡ or_other (times_of (in_block block track.now)) left (time_of first) (timing_of new) (option_map pair_of found) }
+    ensures { option_map pair_of result ≡ or_other (times_of (in_block block track.now)) left (time_of first) (timing_of new)
+        (option_map pair_of found) }
 {
     let kept = track.from_back(block, left);
     if first <= new.end && !is_same(kept, new) {

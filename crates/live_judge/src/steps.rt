@@ -13,7 +13,8 @@ impl<'a> Next<'a> {
     /// Judges the times of the new segments, and how many are kept with them.
     pub(crate) fn check_times(&self) -> Result<(), RefreshFault>
         requires { IsNext self.now }
-        ensures { Judges result (timed_told (is_reset (update_of self.entry.now.coming self.entry.now.now)) (coming_of self.entry.now) (map track_shown self.entry.now.tracks.now)) }
+        ensures { Judges result (timed_told (is_reset (update_of self.entry.now.coming self.entry.now.now)) (coming_of self.entry.now)
+            (map track_shown self.entry.now.tracks.now)) }
     {
         self.check_joints()?;
         self.check_long()?;
@@ -23,7 +24,8 @@ impl<'a> Next<'a> {
     /// A gap or an overlap behind a last segment; before a reset, tracks that end in different Periods.
     fn check_joints(&self) -> Result<(), RefreshFault>
         requires { IsNext self.now }
-        ensures { Judges result (rules.joint_told (is_reset (update_of self.entry.now.coming self.entry.now.now)) (coming_of self.entry.now) (map track_shown self.entry.now.tracks.now)) }
+        ensures { Judges result (rules.joint_told (is_reset (update_of self.entry.now.coming self.entry.now.now))
+            (coming_of self.entry.now) (map track_shown self.entry.now.tracks.now)) }
     {
         if self.coming.is_reset() {
             self.check_even()
@@ -69,7 +71,8 @@ impl<'a> Next<'a> {
 impl TrackNext<'_> {
     fn check_step(&self) -> Result<(), RefreshFault>
         requires { IsTrackNext self.now }
-        ensures { Judges result (rules.step_behind self.entry.now.index (t_of self.entry.now).last (new_of (c_of self.entry.now) self.entry.now.index (t_of self.entry.now))) }
+        ensures { Judges result (rules.step_behind self.entry.now.index (t_of self.entry.now).last
+            (new_of (c_of self.entry.now) self.entry.now.index (t_of self.entry.now))) }
     {
         let last = self.track.last();
         match self.first_new() {

@@ -107,8 +107,10 @@ impl<'a> TrackNext<'a> {
         requires next { IsTrackNext self.now }
         requires section { section < length (p_of self.now.next.now).sections }
         requires joined { IsJoined self.now.next.now }
-        ensures { MatchOption result (durations_in (c_of self.entry.now) self.entry.now.next.now.place (t_of self.entry.now) self.entry.now.index section ≡ [])
-            (λ times. IsPaced times × (left_of times ≡ durations_in (c_of self.entry.now) self.entry.now.next.now.place (t_of self.entry.now) self.entry.now.index section)) }
+        ensures { MatchOption result (durations_in (c_of self.entry.now) self.entry.now.next.now.place
+            (t_of self.entry.now) self.entry.now.index section ≡ [])
+            (λ times. IsPaced times × (left_of times ≡ durations_in (c_of self.entry.now) self.entry.now.next.now.place
+            (t_of self.entry.now) self.entry.now.index section)) }
     {
         let walk = self.walk(section)?;
         let start = self.first_new_in(section)?.start;
@@ -126,7 +128,8 @@ impl<'a> TrackNext<'a> {
         requires next { IsTrackNext self.now }
         requires section { section < length (p_of self.now.next.now).sections }
         requires joined { IsJoined self.now.next.now }
-        ensures { result ≡ capped (sum (durations_in (c_of self.entry.now) self.entry.now.next.now.place (t_of self.entry.now) self.entry.now.index section)) }
+        ensures { result ≡ capped (sum (durations_in (c_of self.entry.now) self.entry.now.next.now.place
+            (t_of self.entry.now) self.entry.now.index section)) }
     {
         let Some(mut times) = self.times(section) else {
             return 0;

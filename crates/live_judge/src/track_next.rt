@@ -76,7 +76,8 @@ impl<'a> TrackNext<'a> {
     pub(crate) fn runs(&self, section: usize) -> &'a Runs
         requires next { IsTrackNext self.now }
         requires section { section < length (p_of self.now.next.now).sections }
-        ensures content { option_map (λ content. content.runs) (content_at (p_of self.entry.now.next.now) section self.entry.now.index) ≡ Some result.now }
+        ensures content { option_map (λ content. content.runs) (content_at (p_of self.entry.now.next.now) section self.entry.now.index)
+            ≡ Some result.now }
         ensures fits { IsWindowOf result.now (window_of (p_of self.entry.now.next.now) section) }
         ensures reached { IsReached result.now (window_of (p_of self.entry.now.next.now) section) }
     {
@@ -89,8 +90,10 @@ impl<'a> TrackNext<'a> {
     pub fn cursor(&self, section: usize) -> Option<Cursor>
         requires next { IsTrackNext self.now }
         requires section { section < length (p_of self.now.next.now).sections }
-        ensures { MatchOption result (new_timings (p_of self.entry.now.next.now) self.entry.now.next.now.place (t_of self.entry.now) self.entry.now.index section ≡ [])
-            (λ cursor. StartsNew (p_of self.entry.now.next.now) self.entry.now.next.now.place (t_of self.entry.now) self.entry.now.index section cursor) }
+        ensures { MatchOption result (new_timings (p_of self.entry.now.next.now) self.entry.now.next.now.place
+            (t_of self.entry.now) self.entry.now.index section ≡ [])
+            (λ cursor. StartsNew (p_of self.entry.now.next.now) self.entry.now.next.now.place
+            (t_of self.entry.now) self.entry.now.index section cursor) }
     {
         let last = self.track.last();
         let place = self.next.place + section;
@@ -107,8 +110,10 @@ impl<'a> TrackNext<'a> {
     pub(crate) fn walk(&self, section: usize) -> Option<TimeWalk<'a>>
         requires next { IsTrackNext self.now }
         requires section { section < length (p_of self.now.next.now).sections }
-        ensures { MatchOption result (new_timings (p_of self.entry.now.next.now) self.entry.now.next.now.place (t_of self.entry.now) self.entry.now.index section ≡ [])
-            (λ walk. (walk ≡ new_timings (p_of self.entry.now.next.now) self.entry.now.next.now.place (t_of self.entry.now) self.entry.now.index section)
+        ensures { MatchOption result (new_timings (p_of self.entry.now.next.now) self.entry.now.next.now.place
+            (t_of self.entry.now) self.entry.now.index section ≡ [])
+            (λ walk. (walk ≡ new_timings (p_of self.entry.now.next.now) self.entry.now.next.now.place
+            (t_of self.entry.now) self.entry.now.index section)
             × ArePaced walk × All IsWithinLimits walk) }
     {
         let cursor = self.cursor(section)?;
@@ -120,7 +125,8 @@ impl<'a> TrackNext<'a> {
     pub(crate) fn new_count_in(&self, section: usize) -> u64
         requires next { IsTrackNext self.now }
         requires section { section < length (p_of self.now.next.now).sections }
-        ensures { result ≡ length (new_timings (p_of self.entry.now.next.now) self.entry.now.next.now.place (t_of self.entry.now) self.entry.now.index section) }
+        ensures { result ≡ length (new_timings (p_of self.entry.now.next.now) self.entry.now.next.now.place
+            (t_of self.entry.now) self.entry.now.index section) }
     {
         match self.cursor(section) {
             Some(cursor) => {
@@ -148,8 +154,10 @@ impl<'a> TrackNext<'a> {
     pub(crate) fn first_new_in(&self, section: usize) -> Option<Span>
         requires next { IsTrackNext self.now }
         requires section { section < length (p_of self.now.next.now).sections }
-        ensures { MatchOption result (new_timings (p_of self.entry.now.next.now) self.entry.now.next.now.place (t_of self.entry.now) self.entry.now.index section ≡ [])
-            (λ span. (slice_get (new_timings (p_of self.entry.now.next.now) self.entry.now.next.now.place (t_of self.entry.now) self.entry.now.index section) 0 ≡ Some (timing_of span))
+        ensures { MatchOption result (new_timings (p_of self.entry.now.next.now) self.entry.now.next.now.place
+            (t_of self.entry.now) self.entry.now.index section ≡ [])
+            (λ span. (slice_get (new_timings (p_of self.entry.now.next.now) self.entry.now.next.now.place
+            (t_of self.entry.now) self.entry.now.index section) 0 ≡ Some (timing_of span))
             × IsWithinLimits (timing_of span)) }
     {
         let mut walk = self.walk(section)?;
@@ -160,7 +168,8 @@ impl<'a> TrackNext<'a> {
     pub(crate) fn first_new(&self) -> Option<FirstNew>
         requires { IsTrackNext self.now }
         ensures { MatchOption result (new_of (c_of self.entry.now) self.entry.now.index (t_of self.entry.now) ≡ [])
-            (λ first. IsFirstNew first.number (timing_of first.span) (new_of (c_of self.entry.now) self.entry.now.index (t_of self.entry.now))) }
+            (λ first. IsFirstNew first.number (timing_of first.span)
+            (new_of (c_of self.entry.now) self.entry.now.index (t_of self.entry.now))) }
     {
         for section in 0..self.next.force.sections().len() {
             if let Some(span) = self.first_new_in(section) {

@@ -1,6 +1,7 @@
--- What accepted updates of typed MPDs leave: their segments stand in order, those of one section lie in one Period and have one map, and no duration
--- is longer than the target allows.
-use Rattle.std.proofs.Common.{◌≡◌, ℕ, zero, suc, ◌+◌, ◌-◌, ◌*◌, ◌≤◌, ◌<◌, ◌/◌, ◌%◌, leb, ltb, ℤ, List, [], ◌∷◌, ◌++◌, map, length, Option, Some, None, refl, sym, ◌∙◌, ap, subst, inl, inr, arith}
+-- What accepted updates of typed MPDs leave: their segments stand in order, those of one section lie in one Period and have one map, and
+-- no duration is longer than the target allows.
+use Rattle.std.proofs.Common.{◌≡◌, ℕ, zero, suc, ◌+◌, ◌-◌, ◌*◌, ◌≤◌, ◌<◌, ◌/◌, ◌%◌, leb, ltb, ℤ, List, [], ◌∷◌, ◌++◌, map, length, Option}
+use Rattle.std.proofs.Common.{Some, None, refl, sym, ◌∙◌, ap, subst, inl, inr, arith}
 use Rattle.std.specs.Prelude.{All, filter, flat_map, option_map, slice_get}
 use Rattle.std.specs.List.{range_with_len}
 use Rattle.std.specs.Option.{option_map_or}
@@ -33,15 +34,18 @@ use Rattle.live_meaning.specs.Updates.{Terms, Update, Values, mpd_of, unit_of}
 use Rattle.live_meaning.specs.Segments.{Numbering, Segment, id_at, listed_in_period, listed_of, place_behind, place_of, segment_with}
 use Rattle.live_meaning.specs.Known.{Known}
 use Rattle.live_meaning.specs.Removal.{half_more}
-use Rattle.live_meaning.specs.Histories.{Common, Past, Whole, all_of, begun_common, begun_with, common_with, gone_on, longest_in, new_listed, numbering_of, whole_of}
+use Rattle.live_meaning.specs.Histories.{Common, Past, Whole, all_of, begun_common, begun_with, common_with, gone_on, longest_in}
+use Rattle.live_meaning.specs.Histories.{new_listed, numbering_of, whole_of}
 use Rattle.live_meaning.specs.States.{State, Track, new_durations, shown, state_of, track_of}
 use Rattle.live_meaning.specs.Refusals.{LongSegment, Refusal, long_told}
-use Rattle.live_meaning.specs.Laws.{AcceptedAreListedInOrder, AcceptedNeverDrift, AreTyped, DurationsFitTarget, IsAccepted, IsTyped, SectionsHaveOneMap, SectionsNeverFall}
+use Rattle.live_meaning.specs.Laws.{AcceptedAreListedInOrder, AcceptedNeverDrift, AreTyped, DurationsFitTarget, IsAccepted, IsTyped}
+use Rattle.live_meaning.specs.Laws.{SectionsHaveOneMap, SectionsNeverFall}
 use Rattle.live_meaning.proofs.Allowed.{IsAllowed, IsFirst, accepted_hold, none_of_each}
 use Rattle.live_meaning.proofs.Grown.{get_more}
 use Rattle.live_meaning.proofs.Histories.{Sound, mapped, past_holds, sound}
 use Rattle.live_meaning.proofs.InForce.{IsInForce, IsKnown, first_in_force, known_of, later_in_force, listed_known, maps_of, rising}
-use Rattle.live_meaning.proofs.Orders.{all_are_in_order, behind_have, past_ordered, period_own, periods_are_listed_in_order, sections_never_drift}
+use Rattle.live_meaning.proofs.Orders.{all_are_in_order, behind_have, past_ordered, period_own, periods_are_listed_in_order}
+use Rattle.live_meaning.proofs.Orders.{sections_never_drift}
 use Rattle.live_meaning.proofs.Tracks.{Each, each_after, each_begun, each_both, track_at}
 
 -- ---- sections
@@ -71,7 +75,8 @@ rising_sections (z ∷ all) (suc i) (suc j) x y order le at_x at_y =
 greatest_is : (ns : List ℕ) → All (λ n. n ≤ greatest ns) ns
 greatest_is [] = All-nil (λ n. n ≤ 0)
 greatest_is (n ∷ ns) =
-    All-cons (λ m. m ≤ greatest (n ∷ ns)) n ns (omega arith) (All-weaker (λ m. m ≤ greatest ns) (λ m. m ≤ greatest (n ∷ ns)) (λ m le. omega (arith, le)) ns (greatest_is ns))
+    All-cons (λ m. m ≤ greatest (n ∷ ns)) n ns (omega arith) (All-weaker (λ m. m ≤ greatest ns) (λ m. m ≤ greatest (n ∷ ns))
+    (λ m le. omega (arith, le)) ns (greatest_is ns))
 
 greatest_at : (f : ℕ → ℕ) (n s : ℕ) → s < n → f s ≤ greatest (map f (range_with_len 0 n))
 greatest_at f n s less =
@@ -92,10 +97,12 @@ one_section u last section [] elsewhere own = refl
 one_section u last section (x ∷ xs) elsewhere own =
     let here : x.section ≡ section = All-head (λ (y : Segment). y.section ≡ section) x xs own in
     new_section u last x xs (subst (λ (s : ℕ). IsElsewhere s last) (sym here) elsewhere)
-    (All-weaker (λ (y : Segment). y.section ≡ section) (λ y. y.section ≡ x.section) (λ y is. is ∙ sym here) xs (All-tail (λ (y : Segment). y.section ≡ section) x xs own))
+    (All-weaker (λ (y : Segment). y.section ≡ section) (λ y. y.section ≡ x.section) (λ y is. is
+    ∙ sym here) xs (All-tail (λ (y : Segment). y.section ≡ section) x xs own))
 
 -- Period by Period
-module _ (P : ℕ → Type 0) (u : ℕ) (number : ℕ → ℕ) (list : ℕ → List Segment) (limit : ℕ) (rises : (s r : ℕ) → s < r → r < limit → number s < number r)
+module _ (P : ℕ → Type 0) (u : ℕ) (number : ℕ → ℕ) (list : ℕ → List Segment) (limit : ℕ) (rises : (s r : ℕ) → s < r → r < limit
+    → number s < number r)
     (own : (s : ℕ) → All (λ x. x.section ≡ number s) (list s)) (each : (s : ℕ) → s < limit → All P (section_durations u (list s))) where
   periods_told : (last : Option Last) (a n : ℕ) → a + n ≤ limit → ((s : ℕ) → a ≤ s → s < limit → IsElsewhere (number s) last)
       → All P (durations (told_behind u last (flat_map list (range_with_len a n))))
@@ -104,14 +111,20 @@ module _ (P : ℕ → Type 0) (u : ℕ) (number : ℕ → ℕ) (list : ℕ → L
       let rest : List Segment = flat_map list (range_with_len (a + 1) n) in
       let first : durations (told_behind u last (list a)) ≡ section_durations u (list a) =
       one_section u last (number a) (list a) (elsewhere a (omega arith) (omega arith)) (own a) in
-      let split : durations (told_behind u last (list a ++ rest)) ≡ section_durations u (list a) ++ durations (told_behind u (last_behind last (list a)) rest) =
-      ap durations (goes_on u last (list a) rest) ∙ map-append (λ t. t.duration) (told_behind u last (list a)) (told_behind u (last_behind last (list a)) rest)
+      let split : durations (told_behind u last (list a ++ rest)) ≡ section_durations u (list a)
+      ++ durations (told_behind u (last_behind last (list a)) rest) =
+      ap durations (goes_on u last (list a) rest) ∙ map-append (λ t. t.duration) (told_behind u last (list a))
+      (told_behind u (last_behind last (list a)) rest)
       ∙ ap (λ (ds : List ℕ). ds ++ durations (told_behind u (last_behind last (list a)) rest)) first in
-      subst (All P) (sym split) (All-append P (section_durations u (list a)) (durations (told_behind u (last_behind last (list a)) rest)) (each a (omega arith))
-      (periods_told (last_behind last (list a)) (a + 1) n (omega arith) (λ s above within. elsewhere_behind last (number a) (number s) (list a) (own a) (rises a s (omega arith) within) (elsewhere s (omega arith) within))))
+      subst (All P) (sym split) (All-append P (section_durations u (list a)) (durations (told_behind u (last_behind last (list a)) rest))
+      (each a (omega arith))
+      (periods_told (last_behind last (list a)) (a + 1) n (omega arith)
+      (λ s above within. elsewhere_behind last (number a) (number s) (list a) (own a) (rises a s (omega arith) within)
+      (elsewhere s (omega arith) within))))
 
 printed_at : (u place start : ℕ) (n : Numbering) (o : Option Content) (xs : List Timing)
-    → All (λ d. d ≤ greatest (durations_of u xs)) (section_durations u (option_map_or (λ content. map (segment_with n place start content) xs) o []))
+    → All (λ d. d ≤ greatest (durations_of u xs))
+    (section_durations u (option_map_or (λ content. map (segment_with n place start content) xs) o []))
 printed_at u place start n None xs = All-nil (λ d. d ≤ greatest (durations_of u xs))
 printed_at u place start n (Some content) [] = All-nil (λ d. d ≤ greatest (durations_of u []))
 printed_at u place start n (Some content) (x ∷ xs) =
@@ -126,10 +139,15 @@ first_longest c u t is in_tracks =
     let n : Numbering = numbering_of c in
     let rise = rising c is t in
     let most : (s : ℕ) → s < length p.sections → longest_at p u t s ≤ longest_in u p =
-    λ s less. omega (arith, greatest_at (longest_at p u t) (length p.sections) s less, greatest_at (longest_of p u) (length p.tracks) t in_tracks) in
+    λ s less. omega (
+      arith,
+      greatest_at (longest_at p u t) (length p.sections) s less,
+      greatest_at (longest_of p u) (length p.tracks) t in_tracks,
+    ) in
     periods_told (λ d. d ≤ longest_in u p) u (λ s. place_of n.ids (id_at p s) + n.resets) (listed_in_period n p t) (length p.sections)
     (λ s r less within. omega (arith, rise.places s r less within)) (period_own n p t)
-    (λ s less. All-weaker (λ d. d ≤ longest_at p u t s) (λ d. d ≤ longest_in u p) (λ d le. omega (arith, le, most s less)) (section_durations u (listed_in_period n p t s))
+    (λ s less. All-weaker (λ d. d ≤ longest_at p u t s) (λ d. d ≤ longest_in u p) (λ d le. omega (arith, le, most s less))
+    (section_durations u (listed_in_period n p t s))
     (printed_at u (place_of n.ids (id_at p s)) (start_of p s) n (content_at p s t) (listed_at p s t)))
     None 0 (length p.sections) (omega arith) (λ s above within. tt)
 
@@ -141,8 +159,16 @@ half_more_fits unit d longest some le =
     let enough = (div_ceil_times (3 * longest) (2 * unit) (omega arith)).0 in
     let parts = div-add-mod' d unit in
     elim (cases_Bool (leb unit (2 * (d % unit)))) [
-      | inl is ↦ rw is (elim (cases_lt q h) [ inl less ↦ omega (arith, less) | inr more ↦ absurd (omega (arith, enough, parts, leb-true _ _ is, mul-le-mul_left unit more)) ])
-      | inr other ↦ rw other (elim (cases_lt h q) [ inl less ↦ absurd (omega (arith, enough, parts, mul-le-mul_left unit less)) | inr more ↦ more ])
+      | inl is ↦ rw is (elim (cases_lt q h) [
+        | inl less ↦ omega (arith, less)
+        | inr more ↦
+            absurd (omega (arith, enough, parts, leb-true _ _ is, mul-le-mul_left unit more))
+      ])
+      | inr other ↦ rw other (elim (cases_lt h q) [
+        | inl less ↦
+            absurd (omega (arith, enough, parts, mul-le-mul_left unit less))
+        | inr more ↦ more
+      ])
     ]
 
 -- ---- durations of what later updates list
@@ -151,7 +177,8 @@ short_enough : (unit target : ℕ) (ds : List ℕ) → map (LongSegment target) 
     → All (λ d. rounded unit d ≤ target) ds
 short_enough unit target [] none = All-nil (λ d. rounded unit d ≤ target)
 short_enough unit target (d ∷ ds) none = elim (cases_Bool (ltb target (rounded unit d))) [
-  | inl is ↦ let never : LongSegment target d ∷ map (LongSegment target) (filter (λ d. ltb target (rounded unit d)) ds) ≡ [] = rw is at none in absurd (cc)
+  | inl is ↦ let never : LongSegment target d ∷ map (LongSegment target) (filter (λ d. ltb target (rounded unit d)) ds) ≡ [] =
+      rw is at none in absurd (cc)
   | inr other ↦
       let rest : map (LongSegment target) (filter (λ d. ltb target (rounded unit d)) ds) ≡ [] = rw other at none in
       All-cons (λ d. rounded unit d ≤ target) d ds (ltb-false _ _ other) (short_enough unit target ds rest)
@@ -174,8 +201,10 @@ pub record IsLeft (w : Whole) : Type 0 where
 
 still_known : (known more : List Known) (t : ℕ) (x : Segment) → IsKnown known t x → IsKnown (known ++ more) t x
 still_known known more t x is =
-    mapped (λ k. (k.start, slice_get (maps_of k.attributes) t)) (slice_get known x.value.place) (x.value.period_start, Some x.value.map) (IsKnown (known ++ more) t x) is
-    (λ k at same. ap (option_map (λ (k : Known). (k.start, slice_get (maps_of k.attributes) t))) (get_more known more x.value.place k at) ∙ ap (λ v. Some v) same)
+    mapped (λ k. (k.start, slice_get (maps_of k.attributes) t)) (slice_get known x.value.place) (x.value.period_start, Some x.value.map)
+    (IsKnown (known ++ more) t x) is
+    (λ k at same. ap (option_map (λ (k : Known). (k.start, slice_get (maps_of k.attributes) t))) (get_more known more x.value.place k at)
+    ∙ ap (λ v. Some v) same)
 
 abbrev long_of : Common → ℕ → Track → List Refusal
 long_of c t track = map (LongSegment c.target) (filter (λ d. ltb c.target (rounded (unit_of c.terms) d)) (new_durations c t track))
@@ -194,7 +223,8 @@ module _ (differ : PeriodIdsDiffer) (sections : SectionsArePeriods) where
           track = less;
           known = listed_known c t force less;
           fits =
-              All-weaker (λ d. d ≤ longest_in u p) (λ d. rounded u d ≤ c.target) (λ d le. omega (arith, half_more_fits u d (longest_in u p) some le)) (durations (told u (listed_of (numbering_of c) p t)))
+              All-weaker (λ d. d ≤ longest_in u p) (λ d. rounded u d ≤ c.target)
+              (λ d le. omega (arith, half_more_fits u d (longest_in u p) some le)) (durations (told u (listed_of (numbering_of c) p t)))
               (first_longest c u t force less);
         }) 0 (length p.tracks) (omega arith);
       }
@@ -213,29 +243,37 @@ module _ (differ : PeriodIdsDiffer) (sections : SectionsArePeriods) where
             let new : List Segment = new_listed c t past.all in
             let fresh : List ℕ = new_durations c t (track_of unit past) in
             let grown : durations (told unit (past.all ++ new)) ≡ durations (told unit past.all) ++ fresh =
-            ap durations (told_goes_on unit past.all new) ∙ map-append (λ t. t.duration) (told unit past.all) (told_behind unit (last_behind None past.all) new) in
+            ap durations (told_goes_on unit past.all new)
+            ∙ map-append (λ t. t.duration) (told unit past.all) (told_behind unit (last_behind None past.all) new) in
             record {
               track = both.0.track;
               known =
                   All-append (IsKnown c.known t) past.all new
-                  (All-weaker (IsKnown w.common.known t) (IsKnown c.known t) (λ x is. still_known w.common.known _ t x is) past.all both.0.known)
-                  (behind_have (IsKnown c.known t) (last_behind None past.all) (place_behind 0 past.all) (listed_of (numbering_of c) p t) (listed_known c t force both.0.track));
+                  (All-weaker (IsKnown w.common.known t) (IsKnown c.known t)
+                  (λ x is. still_known w.common.known _ t x is) past.all both.0.known)
+                  (behind_have (IsKnown c.known t) (last_behind None past.all) (place_behind 0 past.all) (listed_of (numbering_of c) p t)
+                  (listed_known c t force both.0.track));
               fits =
                   subst (All (λ d. rounded unit d ≤ c.target)) (sym grown)
-                  (All-append (λ d. rounded unit d ≤ c.target) (durations (told unit past.all)) fresh both.0.fits (short_enough unit c.target fresh both.1));
+                  (All-append (λ d. rounded unit d ≤ c.target) (durations (told unit past.all)) fresh both.0.fits
+                  (short_enough unit c.target fresh both.1));
             }) 0 w.pasts (each_both (IsTold w.common) (λ t past. long_of c t (track_of unit past) ≡ []) 0 w.pasts is.each long);
       }
 
-  pub accepted_left : (terms : Terms) (history : List Update) → IsAccepted terms history → AreTyped history → (w : Whole) → whole_of terms history ≡ Some w
+  pub accepted_left : (terms : Terms) (history : List Update) → IsAccepted terms history → AreTyped history → (w : Whole)
+      → whole_of terms history ≡ Some w
       → IsLeft w
-  accepted_left terms history accepted typed w is = accepted_hold terms IsTyped IsLeft (begins_left terms) (goes_on_left terms) history accepted typed w is
+  accepted_left terms history accepted typed w is = accepted_hold terms IsTyped IsLeft (begins_left terms)
+      (goes_on_left terms) history accepted typed w is
 
   pub accepted_are_listed_in_order : AcceptedAreListedInOrder
   accepted_are_listed_in_order terms history accepted typed earlier later w t split whole =
-      let same : (front : List Update) (u : Update) (back : List Update) → earlier ≡ front ++ u ∷ back → history ≡ front ++ u ∷ (back ++ later) =
+      let same : (front : List Update) (u : Update) (back : List Update) → earlier ≡ front ++ u ∷ back
+      → history ≡ front ++ u ∷ (back ++ later) =
       λ front u back is. split ∙ ap (λ (us : List Update). us ++ later) is ∙ append_assoc front (u ∷ back) later in
       let left =
-      accepted_left terms earlier (λ front u back is. accepted front u (back ++ later) (same front u back is)) (λ front u back is. typed front u (back ++ later) (same front u back is)) w whole in
+      accepted_left terms earlier (λ front u back is. accepted front u (back ++ later) (same front u back is))
+      (λ front u back is. typed front u (back ++ later) (same front u back is)) w whole in
       periods_are_listed_in_order (numbering_of w.common) w.common.force t (rising w.common left.force t)
 
   pub accepted_never_drift : SumsAreFloors → AcceptedNeverDrift
@@ -244,13 +282,18 @@ module _ (differ : PeriodIdsDiffer) (sections : SectionsArePeriods) where
 
   pub sections_never_fall : SectionsNeverFall
   sections_never_fall terms history t i j x y accepted typed le at_x at_y =
-      rising_sections (all_of terms history t) i j x y (all_are_in_order terms history t (accepted_are_listed_in_order terms history accepted typed)) le at_x at_y
+      rising_sections (all_of terms history t) i j x y
+      (all_are_in_order terms history t (accepted_are_listed_in_order terms history accepted typed)) le at_x at_y
 
   pub past_known : (terms : Terms) (history : List Update) (t : ℕ) → IsAccepted terms history → AreTyped history
       → (known : List Known) × All (IsKnown known t) (all_of terms history t)
   past_known terms history t accepted typed =
       past_holds (λ past. (known : List Known) × All (IsKnown known t) past.all) terms history t ([], All-nil (IsKnown [] t))
-      (λ w is past at. (w.common.known, (track_at (IsTold w.common) w.pasts t past (accepted_left terms history accepted typed w is).each at).known))
+      (λ w is past at. (
+        w.common.known,
+        (track_at (IsTold w.common) w.pasts t past
+            (accepted_left terms history accepted typed w is).each at).known,
+      ))
 
   pub sections_have_one_map : SectionsHaveOneMap
   sections_have_one_map terms history t i j x y accepted typed at_x at_y same =
@@ -259,17 +302,23 @@ module _ (differ : PeriodIdsDiffer) (sections : SectionsArePeriods) where
       (past_ordered terms history t (accepted_are_listed_in_order terms history accepted typed)).1.one i j x y at_x at_y same in
       let known = past_known terms history t accepted typed in
       let own : (x.value.period_start, Some x.value.map) ≡ (y.value.period_start, Some y.value.map) =
-      same_Some _ _ (sym (All-at (IsKnown known.0 t) all i x known.1 at_x) ∙ ap (known_of known.0 t) place ∙ All-at (IsKnown known.0 t) all j y known.1 at_y) in
+      same_Some _ _ (sym (All-at (IsKnown known.0 t) all i x known.1 at_x) ∙ ap (known_of known.0 t) place
+      ∙ All-at (IsKnown known.0 t) all j y known.1 at_y) in
       record { place = place; start = ap (λ v. v.0) own; map = same_Some _ _ (ap (λ v. v.1) own) }
 
   pub durations_fit_target : DurationsFitTarget
   unfolding state_of
   durations_fit_target terms history s t shows typed =
-      mapped shown (whole_of terms history) s (All (λ d. rounded (unit_of terms) d ≤ s.common.target) (durations (told (unit_of terms) (all_of terms history t)))) shows.leaves
-      (λ w whole shown_is. subst (λ (s : State). All (λ d. rounded (unit_of terms) d ≤ s.common.target) (durations (told (unit_of terms) (all_of terms history t)))) shown_is
-      (past_holds (λ past. All (λ d. rounded (unit_of terms) d ≤ w.common.target) (durations (told (unit_of terms) past.all))) terms history t (All-nil (λ d. rounded (unit_of terms) d ≤ w.common.target))
+      mapped shown (whole_of terms history) s (All (λ d. rounded (unit_of terms) d ≤ s.common.target)
+      (durations (told (unit_of terms) (all_of terms history t)))) shows.leaves
+      (λ w whole shown_is. subst (λ (s : State). All (λ d. rounded (unit_of terms) d ≤ s.common.target)
+      (durations (told (unit_of terms) (all_of terms history t)))) shown_is
+      (past_holds (λ past. All (λ d. rounded (unit_of terms) d ≤ w.common.target) (durations (told (unit_of terms) past.all))) terms
+      history t (All-nil (λ d. rounded (unit_of terms) d ≤ w.common.target))
       (λ v is past at.
       let same : v ≡ w = same_Some _ _ (sym is ∙ whole) in
       let its = (sound terms history w whole).its_terms in
-      let fits : IsFitting w.common past.all = (track_at (IsTold w.common) w.pasts t past (accepted_left terms history shows.accepted typed w whole).each (ap (λ (x : Whole). slice_get x.pasts t) (sym same) ∙ at)).fits in
+      let fits : IsFitting w.common past.all =
+      (track_at (IsTold w.common) w.pasts t past (accepted_left terms history shows.accepted typed w whole).each
+      (ap (λ (x : Whole). slice_get x.pasts t) (sym same) ∙ at)).fits in
       subst (λ (x : Terms). All (λ d. rounded (unit_of x) d ≤ w.common.target) (durations (told (unit_of x) past.all))) its fits)))

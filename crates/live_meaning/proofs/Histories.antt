@@ -1,5 +1,6 @@
 -- A state with an update more is the state of the history with that update.
-use Rattle.std.proofs.Common.{◌≡◌, ℕ, ℤ, List, [], ◌∷◌, ◌++◌, length, Option, Some, None, Result, Ok, Err, refl, sym, ◌∙◌, ap, subst, arith, length-append}
+use Rattle.std.proofs.Common.{◌≡◌, ℕ, ℤ, List, [], ◌∷◌, ◌++◌, length, Option, Some, None, Result, Ok, Err, refl, sym, ◌∙◌, ap, subst, arith}
+use Rattle.std.proofs.Common.{length-append}
 use Rattle.std.specs.Prelude.{option_map, slice_get, unwrap_or}
 use Rattle.std.specs.List.{fold}
 use Rattle.std.specs.Option.{option_map_or}
@@ -11,7 +12,8 @@ use Rattle.presentation.specs.declared.fault.PresentationFault.{PresentationFaul
 use Rattle.presentation.specs.Presented.{Presented}
 use Rattle.presentation.specs.Told.{presented_of}
 use Rattle.live_meaning.specs.Updates.{Terms, Update, Refresh, Reset, Tick, Values}
-use Rattle.live_meaning.specs.Histories.{Common, Past, Whole, after, begun_common, begun_with, common_with, force_by, gone_on, no_past, past_of, whole_of}
+use Rattle.live_meaning.specs.Histories.{Common, Past, Whole, after, begun_common, begun_with, common_with, force_by, gone_on, no_past}
+use Rattle.live_meaning.specs.Histories.{past_of, whole_of}
 use Rattle.live_meaning.specs.States.{State, shown, state_of, state_with}
 use Rattle.live_meaning.specs.Refusals.{Refusal, begun_by, begun_of, first_refusal_of, next_of, next_with, refusal_of, update_refusal}
 use Rattle.live_meaning.specs.Laws.{AcceptedAreAccepted, HistoriesBegin, HistoriesGoOn, HistoriesRefuse, IsAccepted, Shows, with_accepted}
@@ -36,7 +38,8 @@ whole_goes_on terms history u = fold-append (after terms) None history (u ∷ []
 
 -- what the first MPD begins with, and each update behind others leaves, where these are given so
 module _ (terms : Terms) (H : Whole → Type 0) (IsGiven : List Update → Update → Type 0)
-    (begins : (earlier : List Update) (mpd : Values) (now : ℤ) (p : Presented) → whole_of terms earlier ≡ None → IsGiven earlier (Refresh mpd now)
+    (begins : (earlier : List Update) (mpd : Values) (now : ℤ) (p : Presented) → whole_of terms earlier ≡ None
+    → IsGiven earlier (Refresh mpd now)
     → presented_of mpd terms.url (Some now) ≡ Ok p → H (begun_with (begun_common terms mpd now p)))
     (goes_on : (earlier : List Update) (u : Update) (w : Whole) (p : Presented) → whole_of terms earlier ≡ Some w → IsGiven earlier u
     → force_by terms w.common.force u ≡ Ok p → H w → H (gone_on w u p)) where
@@ -61,7 +64,8 @@ module _ (terms : Terms) (H : Whole → Type 0) (IsGiven : List Update → Updat
       (λ front v back same. given front v back (sym moved ∙ same))
       (λ v v_is. after_holds earlier start u v from (given earlier u later refl) before v_is) w is
 
-  pub holds : (history : List Update) → ((front : List Update) (u : Update) (back : List Update) → history ≡ front ++ u ∷ back → IsGiven front u)
+  pub holds : (history : List Update) → ((front : List Update) (u : Update) (back : List Update) → history ≡ front ++ u ∷ back
+      → IsGiven front u)
       → (w : Whole) → whole_of terms history ≡ Some w → H w
   holds history given w is = all_hold [] history None refl given (λ v never. absurd (cc)) w is
 
@@ -90,7 +94,8 @@ of_whole P t None none found = none
 of_whole P t (Some w) none found = of_pasts P (slice_get w.pasts t) none (found w refl)
 
 pub past_holds : (P : Past → Type 0) (terms : Terms) (history : List Update) (t : ℕ) → P no_past
-    → ((w : Whole) → whole_of terms history ≡ Some w → (past : Past) → slice_get w.pasts t ≡ Some past → P past) → P (past_of terms history t)
+    → ((w : Whole) → whole_of terms history ≡ Some w → (past : Past) → slice_get w.pasts t ≡ Some past → P past)
+    → P (past_of terms history t)
 past_holds P terms history t none found = of_whole P t (whole_of terms history) none found
 
 -- ---- histories with an update more
@@ -119,7 +124,8 @@ snoc P [] u all here (w ∷ earlier) v later is = absurd (omega (arith, ap lengt
 snoc P (y ∷ history) u all here [] v later is = subst (λ (x : Update). P [] x) (ap (first_update u) is) (all [] y history refl)
 snoc P (y ∷ history) u all here (w ∷ earlier) v later is =
     subst (λ (x : Update). P (x ∷ earlier) v) (ap (first_update u) is)
-    (snoc (λ xs x. P (y ∷ xs) x) history u (λ before x behind same. all (y ∷ before) x behind (ap (λ (xs : List Update). y ∷ xs) same)) here earlier v later (ap rest_of is))
+    (snoc (λ xs x. P (y ∷ xs) x) history u (λ before x behind same. all (y ∷ before) x behind
+    (ap (λ (xs : List Update). y ∷ xs) same)) here earlier v later (ap rest_of is))
 
 accepts_more : (terms : Terms) (history : List Update) (u : Update) → IsAccepted terms history → update_refusal terms history u ≡ None
     → IsAccepted terms (history ++ u ∷ [])
@@ -140,7 +146,8 @@ histories_refuse terms history u before shows = rw shows.leaves refl
 pub histories_go_on : HistoriesGoOn
 unfolding state_of next_of
 histories_go_on terms history u before later shows next =
-    next_is before u later (refusal_of before u) (force_by before.common.terms before.common.force u) (Shows terms (history ++ u ∷ []) later) next
+    next_is before u later (refusal_of before u) (force_by before.common.terms before.common.force u)
+    (Shows terms (history ++ u ∷ []) later) next
     (λ p none force same. record {
       accepted = accepts_more terms history u shows.accepted (histories_refuse terms history u before shows ∙ none);
       leaves =
@@ -148,14 +155,16 @@ histories_go_on terms history u before later shows next =
           (λ w whole shown_is.
           let is = sound terms history w whole in
           let forced : force_by terms w.common.force u ≡ Ok p = subst (λ (s : State). force_by terms s.common.force u ≡ Ok p) (sym shown_is)
-          (subst (λ (x : Terms). force_by x before.common.force u ≡ Ok p) (ap (λ (s : State). s.common.terms) (sym shown_is) ∙ is.its_terms) force) in
+          (subst (λ (x : Terms). force_by x before.common.force u ≡ Ok p) (ap (λ (s : State). s.common.terms) (sym shown_is)
+          ∙ is.its_terms) force) in
           let grown : whole_of terms (history ++ u ∷ []) ≡ Some (gone_on w u p) =
           whole_goes_on terms history u ∙ ap (λ o. after terms o u) whole ∙ ap (λ r. option_map (gone_on w u) (result_ok r)) forced in
           ap (option_map shown) grown
           ∙ ap (λ (s : State). Some s) (shown_goes_on w u p is.within ∙ ap (λ (s : State). state_with s u p) shown_is ∙ same));
     })
 
-begun_is : (terms : Terms) (mpd : Values) (now : ℤ) (s : State) (refusal : Option Refusal) (first : Result Presented PresentationFault) (C : Type 0) → begun_by terms mpd now refusal first ≡ Ok s
+begun_is : (terms : Terms) (mpd : Values) (now : ℤ) (s : State) (refusal : Option Refusal) (first : Result Presented PresentationFault)
+    (C : Type 0) → begun_by terms mpd now refusal first ≡ Ok s
     → ((p : Presented) → refusal ≡ None → first ≡ Ok p → shown (begun_with (begun_common terms mpd now p)) ≡ s → C) → C
 begun_is terms mpd now s (Some refusal) first C is found = absurd (cc)
 begun_is terms mpd now s None (Ok p) C is found = found p refl refl (cc)
@@ -164,10 +173,12 @@ begun_is terms mpd now s None (Err fault) C is found = absurd (cc)
 pub histories_begin : HistoriesBegin
 unfolding state_of begun_of
 histories_begin terms mpd now s begins =
-    begun_is terms mpd now s (first_refusal_of terms mpd now) (presented_of mpd terms.url (Some now)) (Shows terms (Refresh mpd now ∷ []) s) begins
+    begun_is terms mpd now s (first_refusal_of terms mpd now) (presented_of mpd terms.url (Some now))
+    (Shows terms (Refresh mpd now ∷ []) s) begins
     (λ p none first same. record {
       accepted =
-          accepts_more terms [] (Refresh mpd now) (λ earlier v later is. absurd (omega (arith, ap length is, length-append earlier (v ∷ later)))) none;
+          accepts_more terms [] (Refresh mpd now) (λ earlier v later is.
+          absurd (omega (arith, ap length is, length-append earlier (v ∷ later)))) none;
       leaves =
           ap (λ r. option_map shown (option_map (λ q. begun_with (begun_common terms mpd now q)) (result_ok r))) first
           ∙ ap (λ (x : State). Some x) same;
@@ -185,7 +196,8 @@ accepted_from : (terms : Terms) (updates history : List Update) → IsAccepted t
     → IsAccepted terms (fold (λ h u. with_accepted terms h u (update_refusal terms h u)) history updates)
 accepted_from terms [] history accepted = accepted
 accepted_from terms (u ∷ updates) history accepted =
-    accepted_from terms updates (with_accepted terms history u (update_refusal terms history u)) (accepted_step terms history u (update_refusal terms history u) refl accepted)
+    accepted_from terms updates (with_accepted terms history u (update_refusal terms history u))
+    (accepted_step terms history u (update_refusal terms history u) refl accepted)
 
 pub accepted_are_accepted : AcceptedAreAccepted
 accepted_are_accepted terms updates = accepted_from terms updates [] (none_accepted terms)

@@ -1,5 +1,6 @@
 -- The Periods in force are the last ones of those that are known.
-use Rattle.std.proofs.Common.{◌≡◌, ℕ, zero, suc, ◌+◌, Bool, true, false, ◌||◌, not, List, [], ◌∷◌, ◌++◌, length, drop, take, filter, Some, bytes_eq, refl, sym, ◌∙◌, ap, subst, inl, inr, arith}
+use Rattle.std.proofs.Common.{◌≡◌, ℕ, zero, suc, ◌+◌, Bool, true, false, ◌||◌, not, List, [], ◌∷◌, ◌++◌, length, drop, take, filter, Some}
+use Rattle.std.proofs.Common.{bytes_eq, refl, sym, ◌∙◌, ap, subst, inl, inr, arith}
 use Rattle.std.specs.Prelude.{is_none, slice_get}
 use Rattle.std.specs.List.{list_all, list_any, position_or_len, starts_with}
 use Rattle.std.proofs.lemmas.Bool.{and_parts, cases_Bool, cases_lt, le-ltb, lt-ltb}
@@ -209,4 +210,5 @@ get_behind {X} (x ∷ front) xs k =
 pub placed_in : (known ids : List (List ℕ)) (last : AreLast known ids) (s : ℕ) (x : List ℕ) → slice_get ids s ≡ Some x
     → place_of known x ≡ length last.front + s
 placed_in known ids last s x at =
-    placed_at known (length last.front + s) x last.once (ap (λ (xs : List (List ℕ)). slice_get xs (length last.front + s)) last.split ∙ get_behind last.front ids s ∙ at)
+    placed_at known (length last.front + s) x last.once (ap (λ (xs : List (List ℕ)). slice_get xs (length last.front + s)) last.split
+    ∙ get_behind last.front ids s ∙ at)

@@ -1,5 +1,7 @@
 -- What an accepted update leaves in force.
-use Rattle.std.proofs.Common.{◌≡◌, ℕ, zero, suc, ◌+◌, ◌*◌, ◌<◌, Bool, true, false, ◌==◌, ◌&&◌, ◌||◌, not, ℤ, List, [], ◌∷◌, ◌++◌, map, filter, length, get_or, bytes_eq, Option, Some, None, Ok, refl, sym, ◌∙◌, ap, subst, inl, inr, arith, length-append}
+use Rattle.std.proofs.Common.{◌≡◌, ℕ, zero, suc, ◌+◌, ◌*◌, ◌<◌, Bool, true, false, ◌==◌, ◌&&◌, ◌||◌, not, ℤ, List, [], ◌∷◌, ◌++◌, map}
+use Rattle.std.proofs.Common.{filter, length, get_or, bytes_eq, Option, Some, None, Ok, refl, sym, ◌∙◌, ap, subst, inl, inr, arith}
+use Rattle.std.proofs.Common.{length-append}
 use Rattle.std.specs.Prelude.{All, is_none, is_some, option_map, option_to_list, slice_get}
 use Rattle.std.specs.List.{find, list_any, position_or_len, range_with_len}
 use Rattle.std.specs.Option.{option_eq, option_map_or, option_or}
@@ -29,13 +31,16 @@ use Rattle.url_parts.specs.declared.address.Part.{Part}
 use Rattle.url_parts.specs.declared.range.Range.{Range}
 use Rattle.live_meaning.specs.Updates.{Refresh, Reset, Terms, Tick, Update, Values}
 use Rattle.live_meaning.specs.Segments.{Segment, id_at, listed_of, place_of}
-use Rattle.live_meaning.specs.Known.{Attributes, Known, all_same, attributes_at, attributes_of, goes_on, has_id, ids_of, is_new, known_at, known_by, known_with, periods_of, same_attributes}
+use Rattle.live_meaning.specs.Known.{Attributes, Known, all_same, attributes_at, attributes_of, goes_on, has_id, ids_of, is_new, known_at}
+use Rattle.live_meaning.specs.Known.{known_by, known_with, periods_of, same_attributes}
 use Rattle.live_meaning.specs.Histories.{Common, numbering_of}
 use Rattle.live_meaning.specs.States.{State}
-use Rattle.live_meaning.specs.Refusals.{Changed, are_alike, differs_at, ids_in, is_alike, is_changed, lack_ids, moved_by, moved_told, mpd_told, older_than, rewritten_told, starts_otherwise, told_if}
+use Rattle.live_meaning.specs.Refusals.{Changed, are_alike, differs_at, ids_in, is_alike, is_changed, lack_ids, moved_by, moved_told}
+use Rattle.live_meaning.specs.Refusals.{mpd_told, older_than, rewritten_told, starts_otherwise, told_if}
 use Rattle.live_meaning.specs.Laws.{HasRisingPeriods, IsTyped}
 use Rattle.live_meaning.proofs.Allowed.{IsAllowed, IsFirst, negated, none_each, told_none}
-use Rattle.live_meaning.proofs.Ids.{AreLast, get_behind, last_again, last_at_first, last_with_new, new_ids, new_in, place_is, placed_at, placed_in}
+use Rattle.live_meaning.proofs.Ids.{AreLast, get_behind, last_again, last_at_first, last_with_new, new_ids, new_in, place_is, placed_at}
+use Rattle.live_meaning.proofs.Ids.{placed_in}
 use Rattle.live_meaning.proofs.Orders.{listed_have}
 use Rattle.live_meaning.proofs.Times.{IsSoundIn, period_timed, presented_sound}
 
@@ -56,7 +61,7 @@ names_are front (x ∷ xs) =
     ∙ names_are (front ++ x ∷ []) xs in
     rw here (ap (λ (ids : List (List ℕ)). x.id ∷ ids) rest)
 
-id_there : (xs : List Section) (s : ℕ) → s < length xs
+pub id_there : (xs : List Section) (s : ℕ) → s < length xs
     → slice_get (map (λ section. section.id) xs) s ≡ Some (option_map_or (λ section. section.id) (slice_get xs s) [])
 id_there [] s less = absurd (omega arith)
 id_there (x ∷ xs) zero less = refl
@@ -69,7 +74,7 @@ known_ids p (s ∷ ss) = ap (λ (ids : List (List ℕ)). id_at p s ∷ ids) (kno
 ids_of_periods : (p : Presented) → ids_of (periods_of p) ≡ ids_in p
 ids_of_periods p = known_ids p (sections_of p) ∙ names_are [] p.sections
 
-known_grown : (known : List Known) (p : Presented) → ids_of (known_with known p) ≡ ids_of known ++ new_in (ids_of known) (ids_in p)
+pub known_grown : (known : List Known) (p : Presented) → ids_of (known_with known p) ≡ ids_of known ++ new_in (ids_of known) (ids_in p)
 known_grown known p =
     map-append (λ (k : Known). k.id) known (filter (is_new known) (periods_of p))
     ∙ ap (λ (ids : List (List ℕ)). ids_of known ++ ids) (new_ids known (periods_of p) ∙ ap (new_in (ids_of known)) (ids_of_periods p))
@@ -89,12 +94,15 @@ position_mapped (k ∷ known) id =
 known_at_place : (known : List Known) (id : List ℕ) → slice_get known (place_of (ids_of known) id) ≡ known_by known id
 known_at_place known id = ap (slice_get known) (place_is (ids_of known) id ∙ position_mapped known id) ∙ sym (find_at (has_id id) known)
 
-known_once : (known : List Known) (j : ℕ) (k : Known) → are_once (ids_of known) ≡ true → slice_get known j ≡ Some k → known_by known k.id ≡ Some k
+known_once : (known : List Known) (j : ℕ) (k : Known) → are_once (ids_of known) ≡ true → slice_get known j ≡ Some k
+    → known_by known k.id ≡ Some k
 known_once known j k once at =
-    let there = placed_at (ids_of known) j k.id once (slice_get-map (λ (k : Known). k.id) known j ∙ ap (option_map (λ (k : Known). k.id)) at) in
+    let there = placed_at (ids_of known) j k.id once (slice_get-map (λ (k : Known). k.id) known j
+    ∙ ap (option_map (λ (k : Known). k.id)) at) in
     sym (known_at_place known k.id) ∙ ap (slice_get known) there ∙ at
 
-find_kept : (test keep : Known → Bool) (ks : List Known) → ((k : Known) → test k ≡ true → keep k ≡ true) → find test (filter keep ks) ≡ find test ks
+find_kept : (test keep : Known → Bool) (ks : List Known) → ((k : Known) → test k ≡ true → keep k ≡ true)
+    → find test (filter keep ks) ≡ find test ks
 find_kept test keep [] all = refl
 find_kept test keep (k ∷ ks) all = elim (cases_Bool (test k)) [
   | inl is ↦ rw (all k is, is) refl
@@ -104,14 +112,21 @@ find_kept test keep (k ∷ ks) all = elim (cases_Bool (test k)) [
   ]
 ]
 
-stays_known : (known : List Known) (p : Presented) (id : List ℕ) (k : Known) → known_by known id ≡ Some k → known_by (known_with known p) id ≡ Some k
-stays_known known p id k is = find-append (has_id id) known (filter (is_new known) (periods_of p)) ∙ ap (λ o. option_or o (find (has_id id) (filter (is_new known) (periods_of p)))) is
+stays_known : (known : List Known) (p : Presented) (id : List ℕ) (k : Known) → known_by known id ≡ Some k
+    → known_by (known_with known p) id ≡ Some k
+stays_known known p id k is = find-append (has_id id) known (filter (is_new known) (periods_of p))
+    ∙ ap (λ o. option_or o (find (has_id id) (filter (is_new known) (periods_of p)))) is
 
 newly_known : (known : List Known) (p : Presented) (s : ℕ) → are_once (ids_in p) ≡ true → s < length p.sections
     → known_by known (id_at p s) ≡ None → known_by (known_with known p) (id_at p s) ≡ Some (known_at p s)
 newly_known known p s once less none =
     let id : List ℕ = id_at p s in
-    let many : s < length (periods_of p) = omega (arith, less, length-map (sections_of p) (known_at p), length-range_with_len 0 (length p.sections)) in
+    let many : s < length (periods_of p) = omega (
+      arith,
+      less,
+      length-map (sections_of p) (known_at p),
+      length-range_with_len 0 (length p.sections),
+    ) in
     let at : slice_get (periods_of p) s ≡ Some (known_at p s) =
     slice_get-get_or (periods_of p) s (known_at p s) many
     ∙ ap (λ k. Some k) (get_or-map-range_with_len (known_at p) 0 (length p.sections) s s (known_at p s) less (omega arith)) in
@@ -155,7 +170,12 @@ place_in opened known p is s less = placed_in (ids_of known) (ids_in p) is.last 
 
 pub rising : (c : Common) → IsInForce c.opened c.known c.force → (t : ℕ) → HasRisingPeriods (numbering_of c) c.force t
 rising c is t = record {
-  places = λ s r less within. omega (arith, less, place_in c.opened c.known c.force is s (omega (arith, less, within)), place_in c.opened c.known c.force is r within);
+  places = λ s r less within. omega (
+    arith,
+    less,
+    place_in c.opened c.known c.force is s (omega (arith, less, within)),
+    place_in c.opened c.known c.force is r within,
+  );
   last = λ s. (period_timed c.force s t is.sound).0;
   rise = λ s. (period_timed c.force s t is.sound).1;
 }
@@ -165,7 +185,8 @@ presented_filled : (mpd : Values) (url : List ℕ) (now : Option ℤ) (p : Prese
 presented_filled mpd url now p made =
     let told = is_told mpd url now p made in
     let rows : List Row = first_rows mpd.periods in
-    let tracks : length (map track_of (in_order rows)) ≡ length rows = length-map (in_order rows) track_of ∙ length_in_order (λ row. row.description.kind) rows in
+    let tracks : length (map track_of (in_order rows)) ≡ length rows = length-map (in_order rows) track_of
+    ∙ length_in_order (λ row. row.description.kind) rows in
     subst (λ (q : Presented). length q.contents ≡ length q.sections * length q.tracks) told.is
     (length-map told.tolds _
     ∙ all_filled url mpd.facts.live (is_some now) mpd.periods told.tolds told.none told.told
@@ -210,14 +231,16 @@ same_maps [] (b ∷ others) is = absurd (cc)
 same_maps (a ∷ ones) [] is = absurd (cc)
 same_maps (a ∷ ones) (b ∷ others) is =
     let both = and_parts (same_attributes a b) (all_same ones others) is in
-    let own = and_parts (a.timescale == b.timescale && a.time_offset == b.time_offset) (same_part a.initialization b.initialization) both.0 in
+    let own = and_parts (a.timescale == b.timescale && a.time_offset == b.time_offset)
+    (same_part a.initialization b.initialization) both.0 in
     ap (λ part. part ∷ maps_of ones) (one_part _ _ own.1) ∙ ap (λ parts. b.initialization ∷ parts) (same_maps ones others both.1)
 
 not_any : (test : ℕ → Bool) (n s : ℕ) → list_any test (range_with_len 0 n) ≡ false → s < n → test s ≡ false
 not_any test n s none less = elim (cases_Bool (test s)) [
   | inl is ↦
       let here : get_or (range_with_len 0 n) s 0 ≡ s = get_or-range_with_len 0 n s 0 less ∙ omega arith in
-      let some = list_any_at test (range_with_len 0 n) s 0 (omega (arith, less, length-range_with_len 0 n)) (ap test here ∙ is) in absurd (cc)
+      let some = list_any_at test (range_with_len 0 n) s 0 (omega (arith, less, length-range_with_len 0 n)) (ap test here ∙ is) in
+      absurd (cc)
   | inr other ↦ other
 ]
 
@@ -237,17 +260,21 @@ mpd_in_force : (s : State) (mpd : Values) (url : List ℕ) (now : ℤ) (p : Pres
 mpd_in_force s mpd url now p is none made =
     let c : Common = s.common in
     let each =
-    none_each (older_than c.published mpd.facts.publish_time) (told_if (is_changed c mpd p) Changed) (moved_told c p) (rewritten_told c p 0 s.tracks) none in
+    none_each (older_than c.published mpd.facts.publish_time) (told_if (is_changed c mpd p) Changed) (moved_told c p)
+    (rewritten_told c p 0 s.tracks) none in
     let kept =
-    unchanged (starts_otherwise c mpd) (lack_ids mpd) (are_once (ids_in p)) (goes_on (ids_of c.known) (ids_in p)) (are_alike c.opened.tracks p.tracks)
+    unchanged (starts_otherwise c mpd) (lack_ids mpd) (are_once (ids_in p)) (goes_on (ids_of c.known) (ids_in p))
+    (are_alike c.opened.tracks p.tracks)
     (list_any (differs_at c p) (sections_of p)) (told_none (is_changed c mpd p) Changed each.1) in
     record {
       last =
-          subst (λ (ids : List (List ℕ)). AreLast ids (ids_in p)) (sym (known_grown c.known p)) (last_with_new (ids_of c.known) (ids_in p) is.last.once kept.0 kept.1);
+          subst (λ (ids : List (List ℕ)). AreLast ids (ids_in p)) (sym (known_grown c.known p))
+          (last_with_new (ids_of c.known) (ids_in p) is.last.once kept.0 kept.1);
       sound = presented_sound mpd url (Some now) p made;
       tracks = sym (alike_many c.opened.tracks p.tracks kept.2);
       filled = presented_filled mpd url (Some now) p made;
-      same = λ r less. known_in c.known p r kept.0 less (known_by c.known (id_at p r)) refl (λ k is. as_known c p r k each.2 kept.3 less is);
+      same = λ r less. known_in c.known p r kept.0 less (known_by c.known (id_at p r)) refl
+          (λ k is. as_known c p r k each.2 kept.3 less is);
     }
 
 pub later_in_force : (s : State) (u : Update) (p : Presented) → IsAllowed s u p → IsInForce s.common.opened s.common.known s.common.force
@@ -258,10 +285,12 @@ later_in_force s (Tick now) p allowed is =
     let forced = allowed.forced in
     let same : looked_at now s.common.force ≡ p = cc in
     let at : IsInForce s.common.opened s.common.known p =
-    subst (λ (q : Presented). IsInForce s.common.opened s.common.known q) same (record { last = is.last; sound = is.sound; tracks = is.tracks; filled = is.filled; same = is.same }) in
+    subst (λ (q : Presented). IsInForce s.common.opened s.common.known q) same
+    (record { last = is.last; sound = is.sound; tracks = is.tracks; filled = is.filled; same = is.same }) in
     record {
       last =
-          subst (λ (ids : List (List ℕ)). AreLast ids (ids_in p)) (sym (known_grown s.common.known p)) (last_again (ids_of s.common.known) (ids_in p) at.last);
+          subst (λ (ids : List (List ℕ)). AreLast ids (ids_in p)) (sym (known_grown s.common.known p))
+          (last_again (ids_of s.common.known) (ids_in p) at.last);
       sound = at.sound;
       tracks = at.tracks;
       filled = at.filled;
@@ -286,9 +315,11 @@ own_map p s t content filled in_sections in_tracks at =
     λ r less. let there = found p.contents (s * n + r) (omega (arith, less, filled, mul-le-mul_left n in_sections)) in rw there.1 refl in
     let here : get_or (range_with_len 0 n) t 0 ≡ t = get_or-range_with_len 0 n t 0 in_tracks ∙ omega arith in
     let long : length (range_with_len 0 n) ≡ n = length-range_with_len 0 n in
-    let ranged : slice_get (range_with_len 0 n) t ≡ Some t = slice_get-get_or (range_with_len 0 n) t 0 (omega (arith, in_tracks, long)) ∙ ap (λ r. Some r) here in
+    let ranged : slice_get (range_with_len 0 n) t ≡ Some t = slice_get-get_or (range_with_len 0 n) t 0 (omega (arith, in_tracks, long))
+    ∙ ap (λ r. Some r) here in
     let row = in_row own 1 (range_with_len 0 n) t 0 t
-    (λ j d within. one (get_or (range_with_len 0 n) j d) (omega (arith, within, long, get_or-range_with_len 0 n j d (omega (arith, within, long))))) ranged (omega arith) in
+    (λ j d within. one (get_or (range_with_len 0 n) j d)
+    (omega (arith, within, long, get_or-range_with_len 0 n j d (omega (arith, within, long))))) ranged (omega arith) in
     let place : t * 1 + 0 ≡ t = omega arith in
     slice_get-map (λ (a : Attributes). a.initialization) (attributes_at p s) t
     ∙ ap (λ k. option_map (λ (a : Attributes). a.initialization) (slice_get (attributes_at p s) k)) (sym place)
@@ -299,9 +330,12 @@ pub listed_known : (c : Common) (t : ℕ) → IsInForce c.opened c.known c.force
 listed_known c t is in_tracks =
     listed_have (IsKnown c.known t) (numbering_of c) c.force t (λ s content less at.
     let own = is.same s less in
-    let there = ap (option_map (λ (k : Known). (k.start, slice_get (maps_of k.attributes) t))) (known_at_place c.known (id_at c.force s) ∙ own.1.0) in
-    let maps = ap (λ parts. slice_get parts t) own.1.1.1 ∙ own_map c.force s t content is.filled less (omega (arith, in_tracks, is.tracks)) at in
-    λ j d within. there ∙ ap (λ n. Some (n, slice_get (maps_of own.0.attributes) t)) own.1.1.0 ∙ ap (λ o. Some (start_of c.force s, o)) maps)
+    let there = ap (option_map (λ (k : Known). (k.start, slice_get (maps_of k.attributes) t))) (known_at_place c.known (id_at c.force s)
+    ∙ own.1.0) in
+    let maps = ap (λ parts. slice_get parts t) own.1.1.1
+    ∙ own_map c.force s t content is.filled less (omega (arith, in_tracks, is.tracks)) at in
+    λ j d within. there ∙ ap (λ n. Some (n, slice_get (maps_of own.0.attributes) t)) own.1.1.0
+    ∙ ap (λ o. Some (start_of c.force s, o)) maps)
 
 -- ---- the first MPD
 

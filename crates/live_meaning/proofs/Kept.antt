@@ -1,5 +1,7 @@
 -- No playlist is ever empty, and numbers grow with the updates.
-use Rattle.std.proofs.Common.{◌≡◌, ℕ, zero, suc, ◌+◌, ◌*◌, ◌≤◌, ◌<◌, Bool, true, false, cond, eqb, ltb, not, ℤ, List, [], ◌∷◌, ◌++◌, map, length, drop, filter, get_or, bytes_eq, Option, Some, None, Ok, refl, sym, ◌∙◌, ap, subst, inl, inr, arith, length-append, length-drop}
+use Rattle.std.proofs.Common.{◌≡◌, ℕ, zero, suc, ◌+◌, ◌*◌, ◌≤◌, ◌<◌, Bool, true, false, cond, eqb, ltb, not, ℤ, List, [], ◌∷◌, ◌++◌, map}
+use Rattle.std.proofs.Common.{length, drop, filter, get_or, bytes_eq, Option, Some, None, Ok, refl, sym, ◌∙◌, ap, subst, inl, inr, arith}
+use Rattle.std.proofs.Common.{length-append, length-drop}
 use Rattle.std.specs.Prelude.{All, IfSome, flat_map, is_none, if◌then◌else◌, option_map, slice_get, sum_by}
 use Rattle.std.specs.List.{fold, position_or_len, range_with_len}
 use Rattle.std.specs.Option.{option_map_or}
@@ -17,8 +19,10 @@ use Rattle.timeline.specs.Expansions.{Timing}
 use Rattle.timeline.specs.Listed.{answered_count, expansion, is_listed, is_out_of_range}
 use Rattle.presentation.specs.declared.fault.PresentationFault.TheVariants.{NoSegments}
 use Rattle.presentation.specs.declared.parts.Content.{Content}
-use Rattle.presentation.specs.Counting.{count_faults, count_of_track, is_over, limit_faults, listed_count, number_in, sections_of, track_faults, tracks_of, section_faults, whole_track_faults}
-use Rattle.presentation.specs.Presented.{Following, Presented, content_at, is_finished, listed_at, listed_in, looked_at, start_of, whole_window, window_at, window_of}
+use Rattle.presentation.specs.Counting.{count_faults, count_of_track, is_over, limit_faults, listed_count, number_in, sections_of}
+use Rattle.presentation.specs.Counting.{track_faults, tracks_of, section_faults, whole_track_faults}
+use Rattle.presentation.specs.Presented.{Following, Presented, content_at, is_finished, listed_at, listed_in, looked_at, start_of}
+use Rattle.presentation.specs.Presented.{whole_window, window_at, window_of}
 use Rattle.presentation.specs.PresentedLaws.{PresentedAreFew, PresentedAreFollowed}
 use Rattle.presentation.specs.Told.{presented_of}
 use Rattle.presentation.proofs.Ending.{none_behind}
@@ -29,9 +33,11 @@ use Rattle.live_meaning.specs.Updates.{Refresh, Reset, Terms, Tick, Update, Valu
 use Rattle.live_meaning.specs.Segments.{Kept, Numbering, Segment, behind, id_at, listed_in_period, listed_of, place_behind, segments_of}
 use Rattle.live_meaning.specs.Known.{Known, ids_of, is_new, known_at, known_with, periods_of}
 use Rattle.live_meaning.specs.Removal.{is_available, removed_of}
-use Rattle.live_meaning.specs.Histories.{Common, Past, Whole, after, begun_common, begun_with, common_with, force_by, gone_on, least_length, new_listed, numbering_of, past_after, whole_of}
+use Rattle.live_meaning.specs.Histories.{Common, Past, Whole, after, begun_common, begun_with, common_with, force_by, gone_on, least_length}
+use Rattle.live_meaning.specs.Histories.{new_listed, numbering_of, past_after, whole_of}
 use Rattle.live_meaning.specs.States.{State, Track, kept_and_new, removed_from, shown, state_of, track_of}
-use Rattle.live_meaning.specs.Refusals.{Refusal, Window as Windowed, count_kept, counts_kept, counts_listed, over_in_all, over_in_track, told_if}
+use Rattle.live_meaning.specs.Refusals.{Refusal, Window as Windowed, count_kept, counts_kept, counts_listed, over_in_all, over_in_track}
+use Rattle.live_meaning.specs.Refusals.{told_if}
 use Rattle.live_meaning.specs.Playlists.{FollowedPlaylist, item_of, playlist_of, playlist_with}
 use Rattle.live_meaning.specs.Laws.{IsAccepted, IsSmall, NeverEmpty, NumbersStaySmall}
 use Rattle.live_meaning.proofs.Allowed.{IsAllowed, IsFirst, accepted_hold, none_of_each, told_none}
@@ -39,7 +45,8 @@ use Rattle.live_meaning.proofs.Histories.{Sound, mapped}
 use Rattle.live_meaning.proofs.Ids.{place_is}
 use Rattle.live_meaning.proofs.Orders.{behind_have, listed_have, made_in}
 use Rattle.live_meaning.proofs.Reloads.{looked_up}
-use Rattle.live_meaning.proofs.Tracks.{Each, each_after, each_begun, each_both, kept_segments, length-told, told-segments, track_at, track_goes_on}
+use Rattle.live_meaning.proofs.Tracks.{Each, each_after, each_begun, each_both, kept_segments, length-told, told-segments, track_at}
+use Rattle.live_meaning.proofs.Tracks.{track_goes_on}
 
 -- ---- how many segments are listed
 
@@ -61,9 +68,14 @@ listed_many n p t (s ∷ ss) =
     )
 
 counted : (window : Window) (o : Option Content)
-    → number_in (option_map_or (λ content. answered_count content.runs window) o (Ok 0)) ≤ length (option_map_or (λ content. listed_in window content.runs) o [])
+    → number_in (option_map_or (λ content. answered_count content.runs window) o (Ok 0)) ≤ length
+    (option_map_or (λ content. listed_in window content.runs) o [])
 counted window None = omega arith
-counted window (Some content) = elim (cases_Bool (is_out_of_range content.runs window)) [ inl out ↦ rw out (omega arith) | inr not_out ↦ rw not_out (omega arith) ]
+counted window (Some content) = elim (cases_Bool (is_out_of_range content.runs window)) [
+  | inl out ↦ rw out (omega arith)
+  | inr not_out ↦
+      rw not_out (omega arith)
+]
 
 all_counted : (p : Presented) (t : ℕ) (ss : List ℕ) → sum_by (listed_count p t) ss ≤ length (flat_map (λ s. listed_at p s t) ss)
 all_counted p t [] = omega arith
@@ -77,7 +89,8 @@ all_counted p t (s ∷ ss) =
     )
 
 -- a track of a followed presentation
-some_listed : (p : Presented) (t : ℕ) → is_finished p ≡ false → count_faults p ≡ [] → t < length p.tracks → 0 < length (flat_map (λ s. listed_at p s t) (sections_of p))
+some_listed : (p : Presented) (t : ℕ) → is_finished p ≡ false → count_faults p ≡ [] → t < length p.tracks
+    → 0 < length (flat_map (λ s. listed_at p s t) (sections_of p))
 some_listed p t followed none less =
     let tracks = none_first (flat_map (track_faults p) (tracks_of p)) (limit_faults (is_over p)) none in
     let track = none_within (track_faults p) (length p.tracks) t tracks less in
@@ -91,11 +104,13 @@ some_listed p t followed none less =
 few_at : (f : ℕ → ℕ) (a n t : ℕ) → over_in_track a (map f (range_with_len a n)) ≡ [] → a ≤ t → t < a + n → f t ≤ 20000
 few_at f a zero t none le less = absurd (omega arith)
 few_at f a (suc n) t none le less = elim (cases_lt a t) [
-  | inl later ↦ few_at f (a + 1) n t (none_behind (told_if (ltb 20000 (f a)) (Windowed a (f a))) (over_in_track (a + 1) (map f (range_with_len (a + 1) n))) none) (omega arith) (omega arith)
+  | inl later ↦ few_at f (a + 1) n t (none_behind (told_if (ltb 20000 (f a)) (Windowed a (f a)))
+      (over_in_track (a + 1) (map f (range_with_len (a + 1) n))) none) (omega arith) (omega arith)
   | inr first ↦
       let same : a ≡ t = omega arith in
       subst (λ k. f k ≤ 20000) same
-      (ltb-false _ _ (told_none (ltb 20000 (f a)) (Windowed a (f a)) (none_first (told_if (ltb 20000 (f a)) (Windowed a (f a))) (over_in_track (a + 1) (map f (range_with_len (a + 1) n))) none)))
+      (ltb-false _ _ (told_none (ltb 20000 (f a)) (Windowed a (f a))
+      (none_first (told_if (ltb 20000 (f a)) (Windowed a (f a))) (over_in_track (a + 1) (map f (range_with_len (a + 1) n))) none)))
 ]
 
 -- ---- how many are removed
@@ -108,7 +123,8 @@ position_within test (x ∷ xs) ys all = elim (cases_Bool (test x)) [
   | inr other ↦ rw other (omega (arith, position_within test xs ys all))
 ]
 
-removed_most : (f : Option Following) (units : ℕ) (kept new : List Kept) → IfSome f (λ f. All (λ x. is_available f x ≡ true) (segments_of new))
+removed_most : (f : Option Following) (units : ℕ) (kept new : List Kept)
+    → IfSome f (λ f. All (λ x. is_available f x ≡ true) (segments_of new))
     → removed_of f units (kept ++ new) ≤ length kept
 removed_most None units kept new all = omega arith
 removed_most (Some f) units kept new all =
@@ -120,12 +136,14 @@ removed_most (Some f) units kept new all =
       length-map kept (λ (k : Kept). k.segment),
     )
 
-listed_pass : (window : Window) (o : Option Content) → All (λ x. is_listed window x ≡ true) (option_map_or (λ content. listed_in window content.runs) o [])
+listed_pass : (window : Window) (o : Option Content)
+    → All (λ x. is_listed window x ≡ true) (option_map_or (λ content. listed_in window content.runs) o [])
 listed_pass window None = All-nil (λ x. is_listed window x ≡ true)
 listed_pass window (Some content) = filter_passes (is_listed window) (expansion content.runs window)
 
 -- what is listed is available
-listed_available : (n : Numbering) (p : Presented) (t : ℕ) (f : Following) → p.following ≡ Some f → All (λ x. is_available f x ≡ true) (listed_of n p t)
+pub listed_available : (n : Numbering) (p : Presented) (t : ℕ) (f : Following) → p.following ≡ Some f
+    → All (λ x. is_available f x ≡ true) (listed_of n p t)
 listed_available n p t f is = listed_have (λ x. is_available f x ≡ true) n p t (λ s content less at. λ j d within.
     let window : window_of p s ≡ window_at f (start_of p s) = ap (λ o. option_map_or (λ f. window_at f (start_of p s)) o whole_window) is in
     let x : Timing = get_or (listed_at p s t) j d in
@@ -145,7 +163,8 @@ new_available n p t u last place (Some f) is =
 abbrev IsEarly : ℕ → Segment → Type 0
 IsEarly accepted x = x.section < 1001 * accepted
 
-listed_early : (c : Common) (t : ℕ) → length c.known ≤ 1000 * c.accepted → c.resets < c.accepted → All (IsEarly c.accepted) (listed_of (numbering_of c) c.force t)
+listed_early : (c : Common) (t : ℕ) → length c.known ≤ 1000 * c.accepted → c.resets < c.accepted
+    → All (IsEarly c.accepted) (listed_of (numbering_of c) c.force t)
 listed_early c t known resets = listed_have (IsEarly c.accepted) (numbering_of c) c.force t (λ s content less at.
     let within = prefix_len-le-length (λ x. not (bytes_eq (id_at c.force s) x)) (ids_of c.known) in
     let place = place_is (ids_of c.known) (id_at c.force s) in
@@ -157,19 +176,23 @@ pub record IsKept (accepted : ℕ) (past : Past) : Type 0 where
   pub few : length past.all ≤ past.first + 20000
   pub early : All (IsEarly accepted) past.all
 
-past_kept : (c : Common) (t accepted : ℕ) (past : Past) → c.accepted ≡ accepted + 1 → 0 < c.target → All (IsEarly c.accepted) (listed_of (numbering_of c) c.force t)
-    → count_kept c (kept_and_new c t (track_of (unit_of c.terms) past)) ≤ 20000 → IsKept accepted past → IsKept c.accepted (past_after c t past)
+past_kept : (c : Common) (t accepted : ℕ) (past : Past) → c.accepted ≡ accepted + 1 → 0 < c.target
+    → All (IsEarly c.accepted) (listed_of (numbering_of c) c.force t)
+    → count_kept c (kept_and_new c t (track_of (unit_of c.terms) past)) ≤ 20000 → IsKept accepted past
+    → IsKept c.accepted (past_after c t past)
 past_kept c t accepted past one target early few is =
     let u : ℕ = unit_of c.terms in
     let new : List Segment = new_listed c t past.all in
     let told_new : List Kept = told_behind u (last_behind None past.all) new in
     let kept : List Kept = drop past.first (told u past.all) in
     let all : List Segment = past.all ++ new in
-    let first : (past_after c t past).first ≡ past.first + removed_from c (kept ++ told_new) = ap (λ (track : Track). track.first) (track_goes_on c t past (omega (arith, is.some))) in
+    let first : (past_after c t past).first ≡ past.first + removed_from c (kept ++ told_new) =
+    ap (λ (track : Track). track.first) (track_goes_on c t past (omega (arith, is.some))) in
     let removed : removed_from c (kept ++ told_new) ≤ length kept =
     removed_most c.force.following (least_length c) kept told_new
     (new_available (numbering_of c) c.force t u (last_behind None past.all) (place_behind 0 past.all) c.force.following refl) in
-    let next = next_is_first past.first (least_length c) (option_map is_available c.force.following) (durations (told u all)) (segments_of (told u all)) in
+    let next = next_is_first past.first (least_length c) (option_map is_available c.force.following) (durations (told u all))
+    (segments_of (told u all)) in
     let enough : 0 < least_length c = omega (arith, mul-le-mul_left u target, one-le-pow c.terms.digits 10 (omega arith)) in
     let many = length-append past.all new in
     let held = length-drop past.first (told u past.all) in
@@ -177,12 +200,19 @@ past_kept c t accepted past one target early few is =
     let both = length-append kept told_new in
     let fresh = length-told u (last_behind None past.all) new in
     record {
-      some = omega (arith, next.some enough (length-map (told u all) (λ (k : Kept). k.duration) ∙ sym (length-map (told u all) (λ (k : Kept). k.segment))) (omega (arith, is.some, many, ap length (told-segments u None all))), ap length (told-segments u None all));
+      some = omega (
+        arith,
+        next.some enough (length-map (told u all) (λ (k : Kept). k.duration)
+            ∙ sym (length-map (told u all) (λ (k : Kept). k.segment))) (omega (arith, is.some, many, ap length (told-segments u None all))),
+        ap length (told-segments u None all),
+      );
       first = omega (arith, first, removed, held, told_all, is.few, is.first, one);
       few = omega (arith, first, few, both, fresh, held, told_all, many, is.some);
       early =
-          All-append (IsEarly c.accepted) past.all new (All-weaker (IsEarly accepted) (IsEarly c.accepted) (λ x less. omega (arith, less, one)) past.all is.early)
-          (behind_have (IsEarly c.accepted) (last_behind None past.all) (place_behind 0 past.all) (listed_of (numbering_of c) c.force t) early);
+          All-append (IsEarly c.accepted) past.all new (All-weaker (IsEarly accepted) (IsEarly c.accepted)
+          (λ x less. omega (arith, less, one)) past.all is.early)
+          (behind_have (IsEarly c.accepted) (last_behind None past.all) (place_behind 0 past.all)
+          (listed_of (numbering_of c) c.force t) early);
     }
 
 -- ---- histories
@@ -194,7 +224,7 @@ pub record AreKept (w : Whole) : Type 0 where
   pub resets : w.common.resets < w.common.accepted
   pub each : Each (λ t past. IsKept w.common.accepted past) 0 w.pasts
 
-few_known : (known : List Known) (p : Presented) → length (known_with known p) ≤ length known + length p.sections
+pub few_known : (known : List Known) (p : Presented) → length (known_with known p) ≤ length known + length p.sections
 few_known known p =
     omega (
       arith,
@@ -205,7 +235,7 @@ few_known known p =
       length-range_with_len 0 (length p.sections),
     )
 
-resets_most : (b : Bool) (n : ℕ) → cond b (n + 1) n ≤ n + 1
+pub resets_most : (b : Bool) (n : ℕ) → cond b (n + 1) n ≤ n + 1
 resets_most true n = omega arith
 resets_most false n = omega arith
 
@@ -217,7 +247,8 @@ is_followed false f is = absurd (cc)
 one_more : (terms : Terms) (start : Option Whole) (u : Update) (n : ℕ) → ((v : Whole) → start ≡ Some v → v.common.accepted ≤ n)
     → (w : Whole) → after terms start u ≡ Some w → w.common.accepted ≤ n + 1
 one_more terms None (Refresh mpd now) n before w is =
-    mapped (λ p. begun_with (begun_common terms mpd now p)) (result_ok (presented_of mpd terms.url (Some now))) w (w.common.accepted ≤ n + 1) is
+    mapped (λ p. begun_with (begun_common terms mpd now p)) (result_ok (presented_of mpd terms.url (Some now))) w
+    (w.common.accepted ≤ n + 1) is
     (λ p made same. omega (arith, ap (λ (w : Whole). w.common.accepted) same))
 one_more terms None (Reset mpd now) n before w is = absurd (cc)
 one_more terms None (Tick now) n before w is = absurd (cc)
@@ -226,17 +257,20 @@ one_more terms (Some v) u n before w is =
     (λ p made same. omega (arith, before v refl, ap (λ (w : Whole). w.common.accepted) same))
 
 counted_from : (terms : Terms) (history : List Update) (start : Option Whole) (n : ℕ) (w : Whole)
-    → ((v : Whole) → start ≡ Some v → v.common.accepted ≤ n) → fold (after terms) start history ≡ Some w → w.common.accepted ≤ n + length history
+    → ((v : Whole) → start ≡ Some v → v.common.accepted ≤ n) → fold (after terms) start history ≡ Some w
+    → w.common.accepted ≤ n + length history
 counted_from terms [] start n w before is = omega (arith, before w is)
 counted_from terms (u ∷ history) start n w before is =
     omega (arith, counted_from terms history (after terms start u) (n + 1) w (one_more terms start u n before) is)
 
 module _ (few : PresentedAreFew) (followed : PresentedAreFollowed) where
-  begins_kept : (terms : Terms) (mpd : Values) (now : ℤ) (p : Presented) → Unit {0} → IsFirst terms mpd now p → AreKept (begun_with (begun_common terms mpd now p))
+  begins_kept : (terms : Terms) (mpd : Values) (now : ℤ) (p : Presented) → Unit {0} → IsFirst terms mpd now p
+      → AreKept (begun_with (begun_common terms mpd now p))
   begins_kept terms mpd now p given first =
       let c : Common = begun_common terms mpd now p in
       let sections = (few mpd terms.url (Some now) p first.made).0 in
-      let live : is_finished p ≡ false = ap is_none (followed mpd terms.url (Some now) p first.made) ∙ is_followed mpd.facts.live _ first.live in
+      let live : is_finished p ≡ false = ap is_none (followed mpd terms.url (Some now) p first.made)
+      ∙ is_followed mpd.facts.live _ first.live in
       let window = none_first (over_in_track 0 (counts_listed p)) (over_in_all 0 0 (counts_listed p)) first.window in
       record {
         target = omega arith;
@@ -248,18 +282,26 @@ module _ (few : PresentedAreFew) (followed : PresentedAreFollowed) where
             record {
               some = omega (arith, many, some_listed p t live first.counts less);
               first = omega arith;
-              few = omega (arith, many, few_at (λ t. length (flat_map (λ s. listed_at p s t) (sections_of p))) 0 (length p.tracks) t window (omega arith) (omega (arith, less)));
+              few = omega (
+                arith,
+                many,
+                few_at (λ t. length (flat_map (λ s. listed_at p s t) (sections_of p))) 0 (length p.tracks) t window
+                    (omega arith) (omega (arith, less)),
+              );
               early = listed_early c t (omega (arith, few_known [] p, sections)) (omega arith);
             }) 0 (length p.tracks) (omega arith);
       }
 
-  later_few : (s : State) (u : Update) (p : Presented) → length s.common.force.sections ≤ 1000 → force_by s.common.terms s.common.force u ≡ Ok p
+  later_few : (s : State) (u : Update) (p : Presented) → length s.common.force.sections ≤ 1000
+      → force_by s.common.terms s.common.force u ≡ Ok p
       → length p.sections ≤ 1000
   later_few s (Refresh mpd now) p is forced = (few mpd s.common.terms.url (Some now) p forced).0
   later_few s (Reset mpd now) p is forced = (few mpd s.common.terms.url (Some now) p forced).0
-  later_few s (Tick now) p is forced = let same : looked_at now s.common.force ≡ p = cc in subst (λ (q : Presented). length q.sections ≤ 1000) same is
+  later_few s (Tick now) p is forced = let same : looked_at now s.common.force ≡ p = cc in
+      subst (λ (q : Presented). length q.sections ≤ 1000) same is
 
-  goes_on_kept : (terms : Terms) (w : Whole) (u : Update) (p : Presented) → Unit {0} → Sound terms w → IsAllowed (shown w) u p → AreKept w → AreKept (gone_on w u p)
+  goes_on_kept : (terms : Terms) (w : Whole) (u : Update) (p : Presented) → Unit {0} → Sound terms w → IsAllowed (shown w) u p → AreKept w
+      → AreKept (gone_on w u p)
   goes_on_kept terms w u p given its allowed is =
       let c : Common = common_with w.common u p in
       let unit : ℕ = unit_of c.terms in
@@ -277,11 +319,13 @@ module _ (few : PresentedAreFew) (followed : PresentedAreFollowed) where
         known = known;
         resets = resets;
         each = each_after c (λ t past. IsKept w.common.accepted past × (own t (track_of unit past) ≡ [])) (λ t past. IsKept c.accepted past)
-            (λ t past both. past_kept c t w.common.accepted past refl is.target (listed_early c t known resets) (ltb-false _ _ (told_none _ _ both.1)) both.0) 0 w.pasts
+            (λ t past both. past_kept c t w.common.accepted past refl is.target (listed_early c t known resets)
+            (ltb-false _ _ (told_none _ _ both.1)) both.0) 0 w.pasts
             (each_both (λ t past. IsKept w.common.accepted past) (λ t past. own t (track_of unit past) ≡ []) 0 w.pasts is.each window);
       }
 
-  pub accepted_kept : (terms : Terms) (history : List Update) → IsAccepted terms history → (w : Whole) → whole_of terms history ≡ Some w → AreKept w
+  pub accepted_kept : (terms : Terms) (history : List Update) → IsAccepted terms history → (w : Whole) → whole_of terms history ≡ Some w
+      → AreKept w
   accepted_kept terms history accepted w is =
       accepted_hold terms (λ mpd. Unit {0}) AreKept (begins_kept terms) (goes_on_kept terms) history accepted (λ front u back same. tt) w is
 
@@ -292,8 +336,16 @@ module _ (few : PresentedAreFew) (followed : PresentedAreFollowed) where
       let unit : ℕ = unit_of w.common.terms in
       mapped (λ past. playlist_with w.common (track_of unit past)) (slice_get w.pasts t) playlist (0 < length playlist.items)
       (sym (looked_up w t) ∙ ap (λ (s : State). playlist_of s t) shown_is ∙ there) (λ past at same.
-      let kept = track_at (λ t past. IsKept w.common.accepted past) w.pasts t past (accepted_kept terms history shows.accepted w whole).each at in
-      omega (arith, kept.some, ap (λ (p : FollowedPlaylist). length p.items) same, length-map (drop past.first (told unit past.all)) item_of, length-drop past.first (told unit past.all), length-told unit None past.all)))
+      let kept = track_at (λ t past. IsKept w.common.accepted past) w.pasts t past
+      (accepted_kept terms history shows.accepted w whole).each at in
+      omega (
+        arith,
+        kept.some,
+        ap (λ (p : FollowedPlaylist). length p.items) same,
+        length-map (drop past.first (told unit past.all)) item_of,
+        length-drop past.first (told unit past.all),
+        length-told unit None past.all,
+      )))
 
   pub numbers_stay_small : NumbersStaySmall
   unfolding state_of
@@ -310,9 +362,17 @@ module _ (few : PresentedAreFew) (followed : PresentedAreFollowed) where
         omega (arith, counted_from terms history None 0 w (λ v never. absurd (cc)) whole),
         record {
           kept = omega (arith, kept.few, length-drop past.first (told unit past.all), length-told unit None past.all);
-          listed = omega (arith, kept.first, kept.few, kept.some, length-drop past.first (told unit past.all), length-told unit None past.all);
+          listed = omega (
+            arith,
+            kept.first,
+            kept.few,
+            kept.some,
+            length-drop past.first (told unit past.all),
+            length-told unit None past.all,
+          );
           known = are.known;
           resets = are.resets;
-          sections = subst (All (IsEarly w.common.accepted)) (sym (kept_segments unit past.first past.all)) (All-drop (IsEarly w.common.accepted) past.first past.all kept.early);
+          sections = subst (All (IsEarly w.common.accepted)) (sym (kept_segments unit past.first past.all))
+              (All-drop (IsEarly w.common.accepted) past.first past.all kept.early);
         },
       ))))

@@ -1,5 +1,6 @@
 -- All segments that were listed stand in order, where each update lists its own in order, and those of one section lie in one Period.
-use Rattle.std.proofs.Common.{◌≡◌, ℕ, ◌+◌, ◌-◌, ◌≤◌, ◌<◌, zero, suc, ◌&&◌, ◌⊎◌, Bool, true, false, cond, eqb, List, [], ◌∷◌, ◌++◌, map, Option, Some, None, refl, sym, ◌∙◌, ap, subst, inl, inr, arith}
+use Rattle.std.proofs.Common.{◌≡◌, ℕ, ◌+◌, ◌-◌, ◌≤◌, ◌<◌, zero, suc, ◌&&◌, ◌⊎◌, Bool, true, false, cond, eqb, List, [], ◌∷◌, ◌++◌, map}
+use Rattle.std.proofs.Common.{Option, Some, None, refl, sym, ◌∙◌, ap, subst, inl, inr, arith}
 use Rattle.std.specs.Prelude.{All, flat_map, length, option_map, slice_get}
 use Rattle.std.proofs.lemmas.List.{append-nil, append_assoc}
 use Rattle.exact_time.specs.Laws.{SumsAreFloors}
@@ -7,7 +8,8 @@ use Rattle.std.specs.Option.{option_map_or}
 use Rattle.std.specs.List.{range_with_len}
 use Rattle.std.specs.Result.{result_ok}
 use Rattle.std.proofs.lemmas.Bool.{and_parts, cases_Bool, cases_lt, eqb-true, le-ltb}
-use Rattle.std.proofs.lemmas.List.Elements.{All-nil, All-cons, All-append, All-filter, All-head, All-map, All-tail, All-weaker, filter_passes}
+use Rattle.std.proofs.lemmas.List.Elements.{All-nil, All-cons, All-append, All-filter, All-head, All-map, All-tail, All-weaker}
+use Rattle.std.proofs.lemmas.List.Elements.{filter_passes}
 use Rattle.std.proofs.lemmas.Simd.{map-map}
 use Rattle.exact_time.specs.Time.{AreRising, Time, before}
 use Rattle.exact_time.proofs.TimeOrder.{before-true}
@@ -19,9 +21,11 @@ use Rattle.followed.proofs.PrintedSections.{last_section, sections_sum}
 use Rattle.presentation.specs.declared.parts.Content.{Content}
 use Rattle.presentation.specs.Presented.{Presented, content_at, listed_at, start_of}
 use Rattle.presentation.proofs.Grids.{All-at}
-use Rattle.live_meaning.specs.Segments.{Numbering, Segment, behind, id_at, is_later, listed_in_period, listed_of, place_behind, place_of, segment_with}
+use Rattle.live_meaning.specs.Segments.{Numbering, Segment, behind, id_at, is_later, listed_in_period, listed_of, place_behind, place_of}
+use Rattle.live_meaning.specs.Segments.{segment_with}
 use Rattle.live_meaning.specs.Updates.{Terms, Update, Refresh, is_reset, unit_of}
-use Rattle.live_meaning.specs.Histories.{Common, Whole, after, all_of, begun_common, begun_with, common_with, gone_on, numbering_of, whole_of}
+use Rattle.live_meaning.specs.Histories.{Common, Whole, after, all_of, begun_common, begun_with, common_with, gone_on, numbering_of}
+use Rattle.live_meaning.specs.Histories.{whole_of}
 use Rattle.live_meaning.specs.Laws.{AllAreInOrder, DoesLast, PeriodsAreListedInOrder, IsListedInOrder, SectionsNeverDrift}
 use Rattle.live_meaning.proofs.Histories.{holds, past_holds, whole_goes_on}
 use Rattle.live_meaning.proofs.Tracks.{Each, each_after, each_begun, last_goes_on, place_goes_on, track_at}
@@ -32,13 +36,15 @@ flat_have : (P : Segment → Type 0) (list : ℕ → List Segment) (a n : ℕ) �
     → All P (flat_map list (range_with_len a n))
 flat_have P list a zero each = All-nil P
 flat_have P list a (suc n) each =
-    All-append P (list a) (flat_map list (range_with_len (a + 1) n)) (each a (omega arith) (omega arith)) (flat_have P list (a + 1) n (λ s le less. each s (omega arith) (omega arith)))
+    All-append P (list a) (flat_map list (range_with_len (a + 1) n)) (each a (omega arith) (omega arith))
+    (flat_have P list (a + 1) n (λ s le less. each s (omega arith) (omega arith)))
 
 abbrev pub made_in : Numbering → Presented → (s : ℕ) → Content → Timing → Segment
 made_in n p s content x = segment_with n (place_of n.ids (id_at p s)) (start_of p s) content x
 
 made_of : (P : Segment → Type 0) (make : Content → Timing → Segment) (o : Option Content) (xs : List Timing)
-    → ((content : Content) → o ≡ Some content → All (λ x. P (make content x)) xs) → All P (option_map_or (λ content. map (make content) xs) o [])
+    → ((content : Content) → o ≡ Some content → All (λ x. P (make content x)) xs)
+    → All P (option_map_or (λ content. map (make content) xs) o [])
 made_of P make None xs each = All-nil P
 made_of P make (Some content) xs each = All-map P (make content) xs (each content refl)
 
@@ -48,10 +54,12 @@ pub period_have : (P : Segment → Type 0) (n : Numbering) (p : Presented) (t s 
 period_have P n p t s each = made_of P (made_in n p s) (content_at p s t) (listed_at p s t) each
 
 pub listed_have : (P : Segment → Type 0) (n : Numbering) (p : Presented) (t : ℕ)
-    → ((s : ℕ) (content : Content) → s < length p.sections → content_at p s t ≡ Some content → All (λ x. P (made_in n p s content x)) (listed_at p s t))
+    → ((s : ℕ) (content : Content) → s < length p.sections → content_at p s t ≡ Some content
+    → All (λ x. P (made_in n p s content x)) (listed_at p s t))
     → All P (listed_of n p t)
 listed_have P n p t each =
-    flat_have P (listed_in_period n p t) 0 (length p.sections) (λ s le less. period_have P n p t s (λ content at. each s content (omega arith) at))
+    flat_have P (listed_in_period n p t) 0 (length p.sections) (λ s le less. period_have P n p t s
+    (λ content at. each s content (omega arith) at))
 
 -- ---- sections are places and resets
 
@@ -76,7 +84,11 @@ later_is_behind last place resets x le numbered is = elim (cases_lt place x.valu
     | inl same ↦ elim (cases_Bool (before last.end x.end)) [
       | inl later ↦
           let one : place ≡ x.value.place = eqb-true _ _ same in
-          elim (cases_lt last.section x.section) [ inl less ↦ inl less | inr not_before ↦ inr (omega arith, before-true last.end x.end later) ]
+          elim (cases_lt last.section x.section) [
+            | inl less ↦ inl less
+            | inr not_before ↦
+                inr (omega arith, before-true last.end x.end later)
+          ]
       | inr not_later ↦ let never : false ≡ true = rw (le-ltb place x.value.place not_less, same, not_later) at is in absurd (cc)
     ]
     | inr other ↦ let never : false ≡ true = rw (le-ltb place x.value.place not_less, other) at is in absurd (cc)
@@ -86,7 +98,8 @@ later_is_behind last place resets x le numbered is = elim (cases_lt place x.valu
 all_behind : (last : Last) (place resets : ℕ) (xs : List Segment) → last.section ≤ place + resets → All (IsNumbered resets) xs
     → All (λ x. is_later last place x.value.place x.end ≡ true → BehindLast (Some last) x.section x.end) xs
 all_behind last place resets xs le numbered =
-    All-weaker (IsNumbered resets) (λ x. is_later last place x.value.place x.end ≡ true → BehindLast (Some last) x.section x.end) (λ x is. later_is_behind last place resets x le is) xs numbered
+    All-weaker (IsNumbered resets) (λ x. is_later last place x.value.place x.end ≡ true → BehindLast (Some last) x.section x.end)
+    (λ x is. later_is_behind last place resets x le is) xs numbered
 
 pub behind_in_order : (last : Option Last) (place resets : ℕ) (xs : List Segment) → IsLastNumbered resets last place
     → All (IsNumbered resets) xs → InOrder None xs → InOrder last (behind last place xs)
@@ -98,7 +111,8 @@ last_numbered : (last : Option Last) (place resets : ℕ) (xs : List Segment) �
     → IsLastNumbered resets (last_behind last xs) (place_behind place xs)
 last_numbered last place resets [] le numbered = le
 last_numbered last place resets (x ∷ xs) le numbered =
-    last_numbered (Some (last_with last x)) x.value.place resets xs (omega (arith, last_section last x, All-head (IsNumbered resets) x xs numbered)) (All-tail (IsNumbered resets) x xs numbered)
+    last_numbered (Some (last_with last x)) x.value.place resets xs
+    (omega (arith, last_section last x, All-head (IsNumbered resets) x xs numbered)) (All-tail (IsNumbered resets) x xs numbered)
 
 more_resets : (last : Option Last) (place resets more : ℕ) → resets ≤ more → IsLastNumbered resets last place
     → IsLastNumbered more last place
@@ -114,7 +128,8 @@ behind_have P (Some last) place xs all = All-filter (λ x. is_later last place x
 later_place : (last : Last) (place p : ℕ) (end : Time) → is_later last place p end ≡ true → place ≤ p
 later_place last place p end is = elim (cases_lt place p) [
   | inl less ↦ omega arith
-  | inr le ↦ let same : (eqb place p && before last.end end) ≡ true = rw (le-ltb place p le) at is in omega (arith, eqb-true place p (and_parts _ _ same).0)
+  | inr le ↦ let same : (eqb place p && before last.end end) ≡ true = rw (le-ltb place p le) at is in
+      omega (arith, eqb-true place p (and_parts _ _ same).0)
 ]
 
 behind_later : (last : Option Last) (place resets : ℕ) (xs : List Segment) → IsLastNumbered resets last place
@@ -135,7 +150,8 @@ climbs : (l : Last) (place resets : ℕ) (xs : List Segment) → l.section ≡ p
 climbs l place resets [] same order numbered = (omega arith, All-nil _)
 climbs l place resets (x ∷ xs) same (timed, behind, order) numbered =
     let here : x.section ≡ x.value.place + resets = All-head (IsNumbered resets) x xs numbered in
-    let rest = climbs (last_with (Some l) x) x.value.place resets xs (last_section (Some l) x ∙ here) order (All-tail (IsNumbered resets) x xs numbered) in
+    let rest = climbs (last_with (Some l) x) x.value.place resets xs (last_section (Some l) x
+    ∙ here) order (All-tail (IsNumbered resets) x xs numbered) in
     let more : place ≤ x.value.place = elim behind [ inl less ↦ omega (arith, less, here) | inr both ↦ omega (arith, both.0, here) ] in
     (omega (arith, more, rest.0), All-cons (λ (y : Segment). y.value.place ≤ place_behind x.value.place xs) x xs rest.0 rest.1)
 
@@ -144,8 +160,11 @@ ends_highest : (last : Option Last) (place resets : ℕ) (xs : List Segment) →
 ends_highest last place resets [] later order numbered = (omega arith, All-nil _)
 ends_highest last place resets (x ∷ xs) later (timed, behind, order) numbered =
     let here : x.section ≡ x.value.place + resets = All-head (IsNumbered resets) x xs numbered in
-    let rest = climbs (last_with last x) x.value.place resets xs (last_section last x ∙ here) order (All-tail (IsNumbered resets) x xs numbered) in
-    (omega (arith, All-head (λ (y : Segment). place ≤ y.value.place) x xs later, rest.0), All-cons (λ (y : Segment). y.value.place ≤ place_behind x.value.place xs) x xs rest.0 rest.1)
+    let rest = climbs (last_with last x) x.value.place resets xs (last_section last x ∙ here) order
+    (All-tail (IsNumbered resets) x xs numbered) in (
+      omega (arith, All-head (λ (y : Segment). place ≤ y.value.place) x xs later, rest.0),
+      All-cons (λ (y : Segment). y.value.place ≤ place_behind x.value.place xs) x xs rest.0 rest.1,
+    )
 
 pub get_either : {X : Type 0} (xs ys : List X) (k : ℕ) (x : X) → slice_get (xs ++ ys) k ≡ Some x
     → (slice_get xs k ≡ Some x) ⊎ (slice_get ys (k - length xs) ≡ Some x)
@@ -157,12 +176,14 @@ get_either {X} (y ∷ xs) ys (suc k) x at = elim (get_either xs ys k x at) [
 ]
 
 abbrev HaveOnePlace : List Segment → Type 0
-HaveOnePlace xs = (i j : ℕ) (x y : Segment) → slice_get xs i ≡ Some x → slice_get xs j ≡ Some y → x.section ≡ y.section → x.value.place ≡ y.value.place
+HaveOnePlace xs = (i j : ℕ) (x y : Segment) → slice_get xs i ≡ Some x → slice_get xs j ≡ Some y → x.section ≡ y.section
+    → x.value.place ≡ y.value.place
 
 one_place : (resets place : ℕ) (all new : List Segment) → All (IsUpTo resets place) all → All (λ x. place ≤ x.value.place) new
     → All (IsNumbered resets) new → HaveOnePlace all → HaveOnePlace (all ++ new)
 one_place resets place all new up later numbered one i j x y at_x at_y same =
-    let old : (k : ℕ) (z : Segment) → slice_get all k ≡ Some z → IsUpTo resets place z = λ k z at. All-at (IsUpTo resets place) all k z up at in
+    let old : (k : ℕ) (z : Segment) → slice_get all k ≡ Some z → IsUpTo resets place z =
+    λ k z at. All-at (IsUpTo resets place) all k z up at in
     let fresh : (k : ℕ) (z : Segment) → slice_get new k ≡ Some z → (place ≤ z.value.place) × IsNumbered resets z =
     λ k z at. (All-at (λ z. place ≤ z.value.place) new k z later at, All-at (IsNumbered resets) new k z numbered at) in
     elim (get_either all new i x at_x) [
@@ -223,26 +244,36 @@ ListsInOrder c = (t : ℕ) → InOrder None (listed_of (numbering_of c) c.force 
 abbrev pub Ordered : Whole → Type 0
 Ordered w = Each (λ t past. IsOrdered w.common.resets past.all) 0 w.pasts
 
-pub all_ordered : (terms : Terms) (history : List Update) → IsListedInOrder terms history → (w : Whole) → whole_of terms history ≡ Some w → Ordered w
+pub all_ordered : (terms : Terms) (history : List Update) → IsListedInOrder terms history → (w : Whole) → whole_of terms history ≡ Some w
+    → Ordered w
 all_ordered terms history lists w is =
     holds terms Ordered (λ earlier u. (v : Whole) → whole_of terms (earlier ++ u ∷ []) ≡ Some v → ListsInOrder v.common)
     (λ earlier mpd now p from given made.
     let c : Common = begun_common terms mpd now p in
     let u : Update = Refresh mpd now in
-    let own = given (begun_with c) (whole_goes_on terms earlier u ∙ ap (λ o. after terms o u) from ∙ ap (λ r. option_map (λ q. begun_with (begun_common terms mpd now q)) (result_ok r)) made) in
+    let own = given (begun_with c) (whole_goes_on terms earlier u ∙ ap (λ o. after terms o u) from
+    ∙ ap (λ r. option_map (λ q. begun_with (begun_common terms mpd now q)) (result_ok r)) made) in
     each_begun c (λ t past. IsOrdered 0 past.all) (length p.tracks)
-    (λ t less. more_ordered 0 0 [] (listed_of (numbering_of c) p t) (omega arith) (listed_numbered (numbering_of c) p t) (own t) none_ordered) 0 (length p.tracks) (omega arith))
+    (λ t less. more_ordered 0 0 [] (listed_of (numbering_of c) p t) (omega arith) (listed_numbered (numbering_of c) p t)
+    (own t) none_ordered) 0 (length p.tracks) (omega arith))
     (λ earlier u v p from given made its.
     let c : Common = common_with v.common u p in
-    let own = given (gone_on v u p) (whole_goes_on terms earlier u ∙ ap (λ o. after terms o u) from ∙ ap (λ r. option_map (gone_on v u) (result_ok r)) made) in
+    let own = given (gone_on v u p) (whole_goes_on terms earlier u ∙ ap (λ o. after terms o u) from
+    ∙ ap (λ r. option_map (gone_on v u) (result_ok r)) made) in
     each_after c (λ t past. IsOrdered v.common.resets past.all) (λ t past. IsOrdered c.resets past.all)
-    (λ t past. more_ordered v.common.resets c.resets past.all (listed_of (numbering_of c) p t) (resets_rise (is_reset u) v.common.resets) (listed_numbered (numbering_of c) p t) (own t)) 0 v.pasts its)
+    (λ t past. more_ordered v.common.resets c.resets past.all (listed_of (numbering_of c) p t) (resets_rise (is_reset u) v.common.resets)
+    (listed_numbered (numbering_of c) p t) (own t)) 0 v.pasts its)
     history (λ front u back same v v_is t. lists (front ++ u ∷ []) back v t (same ∙ sym (append_assoc front (u ∷ []) back)) v_is) w is
 
-pub past_ordered : (terms : Terms) (history : List Update) (t : ℕ) → IsListedInOrder terms history → (resets : ℕ) × IsOrdered resets (all_of terms history t)
+pub past_ordered : (terms : Terms) (history : List Update) (t : ℕ) → IsListedInOrder terms history
+    → (resets : ℕ) × IsOrdered resets (all_of terms history t)
 past_ordered terms history t lists =
     past_holds (λ past. (resets : ℕ) × IsOrdered resets past.all) terms history t (0, none_ordered)
-    (λ w is past at. (w.common.resets, track_at (λ t past. IsOrdered w.common.resets past.all) w.pasts t past (all_ordered terms history lists w is) at))
+    (λ w is past at. (
+      w.common.resets,
+      track_at (λ t past. IsOrdered w.common.resets past.all) w.pasts t past
+          (all_ordered terms history lists w is) at,
+    ))
 
 pub all_are_in_order : AllAreInOrder
 all_are_in_order terms history t lists = (past_ordered terms history t lists).1.order
@@ -259,19 +290,22 @@ module _ (number : ℕ → ℕ) (list : ℕ → List Segment) (limit : ℕ) (ris
   above s a zero less le = All-nil (λ (x : Segment). number s < x.section)
   above s a (suc n) less le =
       All-append (λ (x : Segment). number s < x.section) (list a) (flat_map list (range_with_len (a + 1) n))
-      (All-weaker (λ (x : Segment). x.section ≡ number a) (λ x. number s < x.section) (λ x is. omega (arith, rises s a less (omega arith), is)) (list a) (own a))
+      (All-weaker (λ (x : Segment). x.section ≡ number a) (λ x. number s < x.section)
+      (λ x is. omega (arith, rises s a less (omega arith), is)) (list a) (own a))
       (above s (a + 1) n (omega arith) (omega arith))
 
   with_later : (a : ℕ) (later : List Segment) → InOrder None later → All (λ x. number a < x.section) later → InOrder None (list a ++ later)
   with_later a [] later above = subst (λ (xs : List Segment). InOrder None xs) (sym (append-nil (list a))) (order a)
   with_later a (y ∷ ys) later above =
       let more : number a < y.section = All-head (λ (x : Segment). number a < x.section) y ys above in
-      sections_are_in_order (list a) ys y (order a) later (All-weaker (λ (x : Segment). x.section ≡ number a) (λ x. x.section < y.section) (λ x is. omega (arith, is, more)) (list a) (own a))
+      sections_are_in_order (list a) ys y (order a) later (All-weaker (λ (x : Segment). x.section ≡ number a) (λ x. x.section < y.section)
+      (λ x is. omega (arith, is, more)) (list a) (own a))
 
   pub periods_in_order : (a n : ℕ) → a + n ≤ limit → InOrder None (flat_map list (range_with_len a n))
   periods_in_order a zero le = tt
   periods_in_order a (suc n) le =
-      with_later a (flat_map list (range_with_len (a + 1) n)) (periods_in_order (a + 1) n (omega arith)) (above a (a + 1) n (omega arith) (omega arith))
+      with_later a (flat_map list (range_with_len (a + 1) n)) (periods_in_order (a + 1) n (omega arith))
+      (above a (a + 1) n (omega arith) (omega arith))
 
 period_in : (n : Numbering) (place start : ℕ) (o : Option Content) (xs : List Timing) → All DoesLast xs → AreRising (map (λ x. x.end) xs)
     → InOrder None (option_map_or (λ content. map (segment_with n place start content) xs) o [])
@@ -279,7 +313,11 @@ period_in n place start None xs last rise = tt
 period_in n place start (Some content) xs last rise =
     let make : Timing → Segment = segment_with n place start content in
     section_is_in_order (place + n.resets) (map make xs)
-    (All-map IsTimed make xs (All-weaker DoesLast (λ x. IsTimed (make x)) (λ x is. record { start = is.start; end = is.end; lasts = is.lasts }) xs last))
+    (All-map IsTimed make xs (All-weaker DoesLast (λ x. IsTimed (make x)) (λ x is. record {
+      start = is.start;
+      end = is.end;
+      lasts = is.lasts;
+    }) xs last))
     (All-map (λ (x : Segment). x.section ≡ place + n.resets) make xs (λ j d within. refl))
     (subst AreRising (sym (map-map (λ (x : Segment). x.end) make xs)) rise)
 
@@ -290,5 +328,7 @@ period_own n p t s =
 
 pub periods_are_listed_in_order : PeriodsAreListedInOrder
 periods_are_listed_in_order n p t is =
-    periods_in_order (λ s. place_of n.ids (id_at p s) + n.resets) (listed_in_period n p t) (length p.sections) (λ s r less within. omega (arith, is.places s r less within))
-    (λ s. period_own n p t s) (λ s. period_in n (place_of n.ids (id_at p s)) (start_of p s) (content_at p s t) (listed_at p s t) (is.last s) (is.rise s)) 0 (length p.sections) (omega arith)
+    periods_in_order (λ s. place_of n.ids (id_at p s) + n.resets) (listed_in_period n p t) (length p.sections)
+    (λ s r less within. omega (arith, is.places s r less within))
+    (λ s. period_own n p t s) (λ s. period_in n (place_of n.ids (id_at p s)) (start_of p s) (content_at p s t) (listed_at p s t)
+    (is.last s) (is.rise s)) 0 (length p.sections) (omega arith)

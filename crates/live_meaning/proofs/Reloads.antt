@@ -1,5 +1,6 @@
 -- Each playlist of a followed track may take the place of the one before it.
-use Rattle.std.proofs.Common.{◌≡◌, ℕ, ◌+◌, ◌-◌, ◌*◌, ◌^◌, ◌≤◌, zero, suc, Bool, false, List, [], ◌∷◌, ◌++◌, map, length, drop, sum, Option, Some, None, Ok, refl, sym, ◌∙◌, ap, subst, inl, inr, arith}
+use Rattle.std.proofs.Common.{◌≡◌, ℕ, ◌+◌, ◌-◌, ◌*◌, ◌^◌, ◌≤◌, zero, suc, Bool, false, List, [], ◌∷◌, ◌++◌, map, length, drop, sum, Option}
+use Rattle.std.proofs.Common.{Some, None, Ok, refl, sym, ◌∙◌, ap, subst, inl, inr, arith}
 use Rattle.std.specs.Prelude.{option_map, slice_get, sum_by}
 use Rattle.std.specs.Result.{result_ok}
 use Rattle.std.proofs.lemmas.Bool.{cases_Bool, cases_lt}
@@ -19,7 +20,8 @@ use Rattle.presentation.specs.Presented.{Presented, is_finished}
 use Rattle.live_meaning.specs.Updates.{Update, unit_of}
 use Rattle.live_meaning.specs.Segments.{Kept, Segment, segments_of}
 use Rattle.live_meaning.specs.Removal.{is_available}
-use Rattle.live_meaning.specs.Histories.{Common, Past, Whole, after, common_with, force_by, gone_on, least_length, new_listed, past_after, whole_of}
+use Rattle.live_meaning.specs.Histories.{Common, Past, Whole, after, common_with, force_by, gone_on, least_length, new_listed, past_after}
+use Rattle.live_meaning.specs.Histories.{whole_of}
 use Rattle.live_meaning.specs.States.{State, Track, shown, state_of, track_of}
 use Rattle.live_meaning.specs.Refusals.{Ended, refusal_of}
 use Rattle.live_meaning.specs.Playlists.{FollowedPlaylist, item_of, playlist_of, playlist_with}
@@ -56,9 +58,15 @@ read_from digits (suc n) (t ∷ ts) = read_from digits n ts
 
 -- the segments of all, from the first kept one on
 media_is : (c : Common) (unit : ℕ) (past : Past) →
-    media_of (playlist_with c (track_of unit past)) ≡ media_from c.target past.first (is_finished c.force) (map (read c.terms.digits) (told unit past.all))
+    media_of (playlist_with c (track_of unit past)) ≡ media_from c.target past.first (is_finished c.force)
+    (map (read c.terms.digits) (told unit past.all))
 media_is c unit past =
-    ap (λ (xs : List MediaSegment). let m : Media = record { target = c.target; sequence = past.first; ended = is_finished c.force; segments = xs } in m) (read_from c.terms.digits past.first (told unit past.all))
+    ap (λ (xs : List MediaSegment). let m : Media = record {
+      target = c.target;
+      sequence = past.first;
+      ended = is_finished c.force;
+      segments = xs;
+    } in m) (read_from c.terms.digits past.first (told unit past.all))
 
 -- ---- units and nanoseconds
 
@@ -68,7 +76,8 @@ nanos digits [] = omega arith
 nanos digits (t ∷ ts) =
     omega (
       arith,
-      sum_by-cons (λ (segment : MediaSegment). segment.duration) (segment_of digits (item_of t)) (map (λ k. segment_of digits (item_of k)) ts),
+      sum_by-cons (λ (segment : MediaSegment). segment.duration) (segment_of digits (item_of t))
+          (map (λ k. segment_of digits (item_of k)) ts),
       nanos digits ts,
       ap (λ n. n * 10 ^ (9 - digits)) (sum_by-cons (λ n. n) t.duration (durations ts)),
     )
@@ -116,7 +125,8 @@ module _ (sentences : RulesAreSentences) (itself : ReloadsItself) where
       → is_finished w.common.force ≡ false →
       let c = common_with w.common u p in
       let unit = unit_of w.common.terms in
-      lawful (media_of (playlist_with w.common (track_of unit past))) (media_of (playlist_with c (track_of unit (past_after c t past)))) ≡ Ok tt
+      lawful (media_of (playlist_with w.common (track_of unit past))) (media_of (playlist_with c (track_of unit (past_after c t past))))
+      ≡ Ok tt
   update_is_lawful w u p t past within unended =
       let c : Common = common_with w.common u p in
       let unit : ℕ = unit_of w.common.terms in
@@ -135,12 +145,18 @@ module _ (sentences : RulesAreSentences) (itself : ReloadsItself) where
         rises = is.rises;
         within = omega (arith, stays_within c t past within, length-map ts (read digits), length-told unit None all);
         lasts =
-            λ rises. omega (arith, nanos_from digits next ts, three_targets_last digits c.target (sum (drop next (durations ts))) (is.lasts rises));
+            λ rises. omega (
+              arith,
+              nanos_from digits next ts,
+              three_targets_last digits c.target (sum (drop next (durations ts)))
+                  (is.lasts rises),
+            );
       } in
       let there : past.first ≤ length olds =
       omega (arith, within, length-map (told unit past.all) (read digits), length-told unit None past.all) in
       let grown =
-      grown_is_lawful sentences itself c.target past.first next (is_finished p) olds news there (subst (λ (xs : List MediaSegment). IsLater c.target past.first next xs) grow later) in
+      grown_is_lawful sentences itself c.target past.first next (is_finished p) olds news there
+      (subst (λ (xs : List MediaSegment). IsLater c.target past.first next xs) grow later) in
       let old_is = media_is w.common unit past ∙ ap (λ (e : Bool). media_from c.target past.first e olds) unended in
       let new_is =
       media_is c unit (past_after c t past) ∙ ap (λ (xs : List MediaSegment). media_from c.target next (is_finished p) xs) grow in
@@ -154,16 +170,20 @@ module _ (sentences : RulesAreSentences) (itself : ReloadsItself) where
       let refused : refusal_of before u ≡ None =
       sym (histories_refuse terms history u before shows) ∙ shows_later.accepted history u [] refl in
       mapped shown (whole_of terms history) before (lawful (media_of old) (media_of new) ≡ Ok tt) shows.leaves (λ w whole shown_is.
-      mapped shown (whole_of terms (history ++ u ∷ [])) later (lawful (media_of old) (media_of new) ≡ Ok tt) shows_later.leaves (λ v whole_later shown_later.
+      mapped shown (whole_of terms (history ++ u ∷ [])) later (lawful (media_of old) (media_of new) ≡ Ok tt) shows_later.leaves
+      (λ v whole_later shown_later.
       let step : after terms (Some w) u ≡ Some v =
       ap (λ o. after terms o u) (sym whole) ∙ sym (whole_goes_on terms history u) ∙ whole_later in
-      mapped (gone_on w u) (result_ok (force_by terms w.common.force u)) v (lawful (media_of old) (media_of new) ≡ Ok tt) step (λ p forced grown.
+      mapped (gone_on w u) (result_ok (force_by terms w.common.force u)) v (lawful (media_of old) (media_of new) ≡ Ok tt) step
+      (λ p forced grown.
       let c : Common = common_with w.common u p in
       let unit : ℕ = unit_of w.common.terms in
       let old_there = sym (looked_up w t) ∙ ap (λ (s : State). playlist_of s t) shown_is ∙ old_is in
-      mapped (λ past. playlist_with w.common (track_of unit past)) (slice_get w.pasts t) old (lawful (media_of old) (media_of new) ≡ Ok tt) old_there (λ past at made.
+      mapped (λ past. playlist_with w.common (track_of unit past)) (slice_get w.pasts t) old
+      (lawful (media_of old) (media_of new) ≡ Ok tt) old_there (λ past at made.
       let new_there =
-      sym (ap (λ (o : Option Past). option_map (λ x. playlist_with c (track_of unit x)) o) (past_at c 0 t w.pasts ∙ ap (option_map (past_after c (0 + t))) at))
+      sym (ap (λ (o : Option Past). option_map (λ x. playlist_with c (track_of unit x)) o) (past_at c 0 t w.pasts
+      ∙ ap (option_map (past_after c (0 + t))) at))
       ∙ sym (looked_up (gone_on w u p) t) ∙ ap (λ (s : State). playlist_of s t) (ap shown grown ∙ shown_later) ∙ new_is in
       let made_new = same_Some _ _ new_there in
       let unended : is_finished w.common.force ≡ false =

@@ -17,7 +17,9 @@ use Rattle.live_meaning.specs.States.{State, shown, state_with}
 use Rattle.live_meaning.specs.Segments.{whole_nanos}
 use Rattle.live_meaning.specs.Known.{goes_on}
 use Rattle.live_meaning.specs.Removal.{target_of}
-use Rattle.live_meaning.specs.Refusals.{Changed, ClockBack, Ended, LongSegment, Moved, NotOpen, Older, Rewritten, Step, Window, long_told, makes_segments, moved_told, older_than, refusal_behind, refusal_of, rewritten_told, steps_told, window_told}
+use Rattle.live_meaning.specs.Refusals.{Changed, ClockBack, Ended, LongSegment, Moved, NotOpen, Older, Rewritten, Step, Window, long_told}
+use Rattle.live_meaning.specs.Refusals.{makes_segments, moved_told, older_than, refusal_behind, refusal_of, rewritten_told, steps_told}
+use Rattle.live_meaning.specs.Refusals.{window_told}
 use Rattle.followed.specs.Places.{last_place}
 use Rattle.hls_writer.specs.Finished.{rounded}
 
@@ -38,7 +40,17 @@ lasting n = record { start = at 0; end = at n }
 
 abbrev content : List Member → Content
 content members =
-    record { initialization = part; runs = record { members = members; ticks = 1; origin = 0; offset = 0; first_number = 1; names = Addresses [] } }
+    record {
+      initialization = part;
+      runs = record {
+        members = members;
+        ticks = 1;
+        origin = 0;
+        offset = 0;
+        first_number = 1;
+        names = Addresses [];
+      };
+    }
 
 abbrev video : Described
 video = record { kind = Video; set = 0; language = None; codecs = None; bandwidth = 1000; size = None; frame_rate = None }
@@ -48,7 +60,14 @@ period start = record { id = 112 ∷ []; start = start; length = None }
 
 abbrev presented : (start : ℕ) → List Member → Option Following → Presented
 presented start members following =
-    record { tracks = video ∷ []; sections = period start ∷ []; contents = content members ∷ []; left_out = 0; following = following; places = [] }
+    record {
+      tracks = video ∷ [];
+      sections = period start ∷ [];
+      contents = content members ∷ [];
+      left_out = 0;
+      following = following;
+      places = [];
+    }
 
 -- with segments as long as the first one and a depth, at an instant
 abbrev live_by : Extent → (depth now : ℕ) → Presented
@@ -113,7 +132,8 @@ small :
 small = (refl, refl, refl, refl, refl, refl, refl, refl, refl, refl)
 
 -- neither an instant nor a reset may come first; an update that is refused for what it changes makes no segment
-not_first : (terms : Terms) (now : ℤ) → (refusal_behind terms None (Tick now) ≡ Some NotOpen) × (refusal_behind terms None (Reset mpd now) ≡ Some NotOpen)
+not_first : (terms : Terms) (now : ℤ) → (refusal_behind terms None (Tick now) ≡ Some NotOpen)
+    × (refusal_behind terms None (Reset mpd now) ≡ Some NotOpen)
 not_first terms now = (refl, refl)
 
 makes_none : makes_segments (Some Changed) ≡ false
@@ -176,6 +196,7 @@ begins_anew :
     (kept (reset 12 60 old) ≡ (6, of 1 (25 ∷ 26 ∷ 27 ∷ 28 ∷ 29 ∷ 30 ∷ [])) ∷ [])
     × (dates (reset 12 60 old) ≡ map second (48 ∷ 50 ∷ 52 ∷ 54 ∷ 56 ∷ 58 ∷ []) ∷ [])
     × (kept (reset 12 30 old) ≡ (5, (0, 10) ∷ of 1 (11 ∷ 12 ∷ 13 ∷ 14 ∷ 15 ∷ [])) ∷ [])
-    × (kept (state_with (reset 4 60 (first 4 20)) (Refresh mpd (second 62)) (live 2 4 62)) ≡ (0, of 0 (9 ∷ 10 ∷ []) ++ of 1 (29 ∷ 30 ∷ 31 ∷ [])) ∷ [])
+    × (kept (state_with (reset 4 60 (first 4 20)) (Refresh mpd (second 62)) (live 2 4 62))
+    ≡ (0, of 0 (9 ∷ 10 ∷ []) ++ of 1 (29 ∷ 30 ∷ 31 ∷ [])) ∷ [])
 unfolding repeated steps_within floor_in greatest_of state_with
 begins_anew = (refl, refl, refl, refl)

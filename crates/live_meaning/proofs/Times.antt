@@ -1,5 +1,6 @@
 -- In each Period of an MPD's presentation the ends of the listed segments rise, at each instant.
-use Rattle.std.proofs.Common.{◌≡◌, ℕ, zero, suc, ◌+◌, ◌*◌, Bool, ℤ, List, [], ◌∷◌, map, length, Option, Some, None, Ok, refl, sym, ap, subst, inl, inr}
+use Rattle.std.proofs.Common.{◌≡◌, ℕ, zero, suc, ◌+◌, ◌*◌, Bool, ℤ, List, [], ◌∷◌, map, length, Option, Some, None, Ok, refl, sym, ap}
+use Rattle.std.proofs.Common.{subst, inl, inr}
 use Rattle.std.specs.Prelude.{All, filter, unwrap_or}
 use Rattle.std.specs.List.{AllByRecursion}
 use Rattle.std.specs.Option.{option_map_or}
@@ -12,7 +13,8 @@ use Rattle.mpd_levels.specs.Segments.{Segments}
 use Rattle.timeline.specs.declared.entry.End.{End}
 use Rattle.timeline.specs.declared.names.Names.{Names}
 use Rattle.timeline.specs.declared.window.Window.{Window}
-use Rattle.timeline.specs.Expansions.{Closed, Endless, Extent, Member, SegmentTimeline, Short, Timing, ended_by, extents, numbered, repeat_of, repeated}
+use Rattle.timeline.specs.Expansions.{Closed, Endless, Extent, Member, SegmentTimeline, Short, Timing, ended_by, extents, numbered}
+use Rattle.timeline.specs.Expansions.{repeat_of, repeated}
 use Rattle.timeline.specs.Limits.{too_long}
 use Rattle.timeline.specs.Listed.{instant_of, is_listed}
 use Rattle.timeline.specs.Steady.{AreLasting, Lasts, LastsTicks}
@@ -74,8 +76,10 @@ extents_last instant (Endless x ∷ later) lasting =
 
 numbered_last : (n : ℕ) (xs : List Extent) → AllByRecursion Lasts xs → AllByRecursion DoesLast (numbered n xs)
 numbered_last n [] all = tt
-numbered_last n (x ∷ xs) all =
-    (record { start = all.0.start_is; end = all.0.end_is; lasts = IsAtMost-from_before x.start x.end all.0.ends }, numbered_last (n + 1) xs all.1)
+numbered_last n (x ∷ xs) all = (
+  record { start = all.0.start_is; end = all.0.end_is; lasts = IsAtMost-from_before x.start x.end all.0.ends },
+  numbered_last (n + 1) xs all.1,
+)
 
 numbered_ends : (n : ℕ) (xs : List Extent) → map (λ y. y.end) (numbered n xs) ≡ map (λ y. y.end) xs
 numbered_ends n [] = refl
@@ -92,8 +96,10 @@ listed_timed window timeline sound =
     numbered_last timeline.first_number xs (extents_last (instant_of window) timeline.members sound.lasting) in
     let rise : AreRising (map (λ (y : Extent). y.end) xs) =
     ends_rise timeline.members sound.lasting (no_step_from too_long None timeline.members sound.steady) (instant_of window) in (
-      All-filter (is_listed window) DoesLast (numbered timeline.first_number xs) (All-from_recursion DoesLast (numbered timeline.first_number xs) last),
-      filter_rises (is_listed window) (numbered timeline.first_number xs) last (subst AreRising (sym (numbered_ends timeline.first_number xs)) rise),
+      All-filter (is_listed window) DoesLast (numbered timeline.first_number xs)
+          (All-from_recursion DoesLast (numbered timeline.first_number xs) last),
+      filter_rises (is_listed window) (numbered timeline.first_number xs) last
+          (subst AreRising (sym (numbered_ends timeline.first_number xs)) rise),
     )
 
 -- ---- those of a presentation
@@ -119,4 +125,5 @@ pub presented_sound : (mpd : Values) (url : List ℕ) (now : Option ℤ) (p : Pr
     → All IsSoundIn p.contents
 presented_sound mpd url now p made =
     let told = is_told mpd url now p made in
-    subst (λ (q : Presented). All IsSoundIn q.contents) told.is (all_have (λ runs. IsSound runs.members) mpd.facts.live (runs_sound mpd.facts.live) url mpd.periods told.tolds told.told)
+    subst (λ (q : Presented). All IsSoundIn q.contents) told.is (all_have (λ runs. IsSound runs.members) mpd.facts.live
+    (runs_sound mpd.facts.live) url mpd.periods told.tolds told.told)

@@ -1,5 +1,6 @@
 -- What an update makes of a track's past is what it makes of what is kept of it.
-use Rattle.std.proofs.Common.{◌≡◌, ℕ, zero, suc, ◌+◌, ◌≤◌, List, [], ◌∷◌, ◌++◌, map, length, drop, Option, Some, None, refl, sym, ◌∙◌, ap, subst, arith, length-append}
+use Rattle.std.proofs.Common.{◌≡◌, ℕ, zero, suc, ◌+◌, ◌≤◌, List, [], ◌∷◌, ◌++◌, map, length, drop, Option, Some, None, refl, sym, ◌∙◌, ap}
+use Rattle.std.proofs.Common.{subst, arith, length-append}
 use Rattle.std.specs.Prelude.{Bool, ◌<◌, option_map, slice_get}
 use Rattle.std.specs.List.{range_with_len}
 use Rattle.std.proofs.lemmas.Option.{same_Some}
@@ -26,7 +27,8 @@ told-segments u last [] = refl
 told-segments u last (x ∷ xs) = ap (λ (ys : List Segment). x ∷ ys) (told-segments u (Some (last_with last x)) xs)
 
 pub kept_segments : (u n : ℕ) (all : List Segment) → segments_of (drop n (told u all)) ≡ drop n all
-kept_segments u n all = sym (drop-map (λ (k : Kept). k.segment) n (told u all)) ∙ ap (λ (xs : List Segment). drop n xs) (told-segments u None all)
+kept_segments u n all = sym (drop-map (λ (k : Kept). k.segment) n (told u all))
+    ∙ ap (λ (xs : List Segment). drop n xs) (told-segments u None all)
 
 pub last_goes_on : (last : Option Last) (all more : List Segment) → last_behind last (all ++ more) ≡ last_behind (last_behind last all) more
 last_goes_on last [] more = refl
@@ -59,8 +61,10 @@ pub first_rises : (f : Option Following) (units former : ℕ) (ts : List Kept)
     → first_kept f units former ts ≡ former + removed_of f units (drop former ts)
 first_rises f units former ts =
     next_rises former units (option_map is_available f) (durations ts) (segments_of ts)
-    ∙ ap (λ (ns : List ℕ). former + next_first 0 (option_map is_available f) units ns (drop former (segments_of ts))) (drop-map (λ (t : Kept). t.duration) former ts)
-    ∙ ap (λ (xs : List Segment). former + next_first 0 (option_map is_available f) units (durations (drop former ts)) xs) (drop-map (λ (t : Kept). t.segment) former ts)
+    ∙ ap (λ (ns : List ℕ). former + next_first 0 (option_map is_available f) units ns (drop former (segments_of ts)))
+    (drop-map (λ (t : Kept). t.duration) former ts)
+    ∙ ap (λ (xs : List Segment). former + next_first 0 (option_map is_available f) units (durations (drop former ts)) xs)
+    (drop-map (λ (t : Kept). t.segment) former ts)
 
 -- ---- one track
 
@@ -83,10 +87,13 @@ track_goes_on c t past within =
     ap (λ n. drop n ts) first
     ∙ sym (drop-drop (removed_from c kept) past.first ts)
     ∙ ap (λ (ks : List Kept). drop (removed_from c kept) ks) same in
-    ap (λ (ks : List Kept). made ks (past_after c t past).first (last_behind None (past.all ++ new)) (place_behind 0 (past.all ++ new))) left
+    ap (λ (ks : List Kept). made ks (past_after c t past).first (last_behind None (past.all ++ new))
+    (place_behind 0 (past.all ++ new))) left
     ∙ ap (λ n. made (drop (removed_from c kept) kept) n (last_behind None (past.all ++ new)) (place_behind 0 (past.all ++ new))) first
-    ∙ ap (λ (l : Option Last). made (drop (removed_from c kept) kept) (past.first + removed_from c kept) l (place_behind 0 (past.all ++ new))) (last_goes_on None past.all new)
-    ∙ ap (λ n. made (drop (removed_from c kept) kept) (past.first + removed_from c kept) (last_behind (last_behind None past.all) new) n) (place_goes_on 0 past.all new)
+    ∙ ap (λ (l : Option Last). made (drop (removed_from c kept) kept) (past.first + removed_from c kept) l
+    (place_behind 0 (past.all ++ new))) (last_goes_on None past.all new)
+    ∙ ap (λ n. made (drop (removed_from c kept) kept) (past.first + removed_from c kept) (last_behind (last_behind None past.all) new) n)
+    (place_goes_on 0 past.all new)
 
 -- the first place stays within all segments
 pub stays_within : (c : Common) (t : ℕ) (past : Past) → past.first ≤ length past.all
@@ -115,7 +122,8 @@ tracks_go_on c t (past ∷ pasts) (here, later) =
     ap (λ (track : Track). track ∷ map (track_of (unit_of c.terms)) (pasts_after c (t + 1) pasts)) (track_goes_on c t past here)
     ∙ ap (λ (tracks : List Track). track_after c t (track_of (unit_of c.terms) past) ∷ tracks) (tracks_go_on c (t + 1) pasts later)
 
-pub each_both : (P Q : ℕ → Past → Type 0) (t : ℕ) (pasts : List Past) → Each P t pasts → Each Q t pasts → Each (λ t past. P t past × Q t past) t pasts
+pub each_both : (P Q : ℕ → Past → Type 0) (t : ℕ) (pasts : List Past) → Each P t pasts → Each Q t pasts
+    → Each (λ t past. P t past × Q t past) t pasts
 each_both P Q t [] ps qs = tt
 each_both P Q t (past ∷ pasts) (p, ps) (q, qs) = ((p, q), each_both P Q (t + 1) pasts ps qs)
 

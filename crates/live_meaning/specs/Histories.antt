@@ -1,5 +1,6 @@
 -- What a history of accepted updates leaves, with all segments that it ever listed.
-use Rattle.std.specs.Prelude.{ℕ, ◌+◌, ℤ, pos, List, [], ◌∷◌, ◌++◌, map, slice_get, Option, Some, None, option_map, unwrap_or, if◌then◌else◌, Result, Ok}
+use Rattle.std.specs.Prelude.{ℕ, ◌+◌, ℤ, pos, List, [], ◌∷◌, ◌++◌, map, slice_get, Option, Some, None, option_map, unwrap_or, if◌then◌else◌}
+use Rattle.std.specs.Prelude.{Result, Ok}
 use Rattle.std.specs.List.{fold}
 use Rattle.std.specs.Option.{option_map_or}
 use Rattle.std.specs.Result.{result_ok}
@@ -145,5 +146,5 @@ abbrev pub all_of : Terms → List Update → (track : ℕ) → List Segment
 all_of terms history t = (past_of terms history t).all
 
 -- the place of the first one of them that is kept
-abbrev pub first_of : Terms → List Update → (track : ℕ) → ℕ
-first_of terms history t = (past_of terms history t).first
+abbrev pub first_kept_of : Terms → List Update → (track : ℕ) → ℕ
+first_kept_of terms history t = (past_of terms history t).first

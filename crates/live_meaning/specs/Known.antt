@@ -1,5 +1,6 @@
 -- The Periods that were seen.
-use Rattle.std.specs.Prelude.{ℕ, ◌==◌, ◌&&◌, not, Bool, true, false, List, [], ◌∷◌, ◌++◌, length, map, filter, flat_map, drop, bytes_eq, Option, option_map, option_to_list, is_none}
+use Rattle.std.specs.Prelude.{ℕ, ◌==◌, ◌&&◌, not, Bool, true, false, List, [], ◌∷◌, ◌++◌, length, map, filter, flat_map, drop, bytes_eq}
+use Rattle.std.specs.Prelude.{Option, option_map, option_to_list, is_none}
 use Rattle.std.specs.List.{find, list_any, list_all, range_with_len, starts_with}
 use Rattle.url_parts.specs.declared.address.Part.{Part}
 use Rattle.reload_law.specs.Rules.{same_part}

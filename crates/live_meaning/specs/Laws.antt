@@ -1,5 +1,6 @@
 -- What holds of histories.
-use Rattle.std.specs.Prelude.{◌≡◌, ℕ, ℤ, ◌+◌, ◌-◌, ◌*◌, ◌^◌, ◌<◌, ◌≤◌, All, List, [], ◌∷◌, ◌++◌, filter, length, map, sum, take, slice_get, Option, Some, None, Ok}
+use Rattle.std.specs.Prelude.{◌≡◌, ℕ, ℤ, ◌+◌, ◌-◌, ◌*◌, ◌^◌, ◌<◌, ◌≤◌, All, List, [], ◌∷◌, ◌++◌, filter, length, map, sum, take, slice_get}
+use Rattle.std.specs.Prelude.{Option, Some, None, Ok}
 use Rattle.std.specs.List.{fold}
 use Rattle.exact_time.specs.Time.{AreRising, IsAtMost, IsTime, Time, difference}
 use Rattle.exact_time.specs.Floor.{floor_in}
@@ -55,7 +56,8 @@ HistoriesGoOn =
 -- and is refused what the whole history refuses
 abbrev pub HistoriesRefuse : Type 0
 HistoriesRefuse =
-    (terms : Terms) (history : List Update) (u : Update) (before : State) → Shows terms history before → update_refusal terms history u ≡ refusal_of before u
+    (terms : Terms) (history : List Update) (u : Update) (before : State) → Shows terms history before
+    → update_refusal terms history u ≡ refusal_of before u
 
 abbrev pub HistoriesBegin : Type 0
 HistoriesBegin = (terms : Terms) (mpd : Values) (now : ℤ) (s : State) → begun_of terms mpd now ≡ Ok s → Shows terms (Refresh mpd now ∷ []) s
@@ -92,7 +94,8 @@ AllAreInOrder = (terms : Terms) (history : List Update) (t : ℕ) → IsListedIn
 abbrev pub NeverDrifts : Terms → (history : List Update) → Type 0
 NeverDrifts terms history = (t section k : ℕ) (x : Segment) (xs : List Segment) (end : Time)
     → filter (is_in section) (all_of terms history t) ≡ x ∷ xs → slice_get (ends (x ∷ xs)) k ≡ Some end
-    → sum (take (k + 1) (durations (filter (λ y. is_in section y.segment) (told (unit_of terms) (all_of terms history t))))) ≡ floor_in (unit_of terms) (difference end x.start)
+    → sum (take (k + 1) (durations (filter (λ y. is_in section y.segment) (told (unit_of terms) (all_of terms history t)))))
+    ≡ floor_in (unit_of terms) (difference end x.start)
 
 abbrev pub SectionsNeverDrift : Type 0
 SectionsNeverDrift = (terms : Terms) (history : List Update) → IsListedInOrder terms history → NeverDrifts terms history
@@ -134,7 +137,8 @@ pub record LieTogether (x y : Segment) : Type 0 where
 abbrev pub SectionsHaveOneMap : Type 0
 SectionsHaveOneMap =
     (terms : Terms) (history : List Update) (t i j : ℕ) (x y : Segment) → IsAccepted terms history → AreTyped history
-    → slice_get (all_of terms history t) i ≡ Some x → slice_get (all_of terms history t) j ≡ Some y → x.section ≡ y.section → LieTogether x y
+    → slice_get (all_of terms history t) i ≡ Some x → slice_get (all_of terms history t) j ≡ Some y → x.section ≡ y.section
+    → LieTogether x y
 
 -- each duration that was ever printed, to the nearest second, is at most the target duration (RFC 8216, 4.3.3.1)
 abbrev pub DurationsFitTarget : Type 0

@@ -1,7 +1,10 @@
 -- Why an update may not follow a history: the rules in their order.
-use Rattle.std.specs.Prelude.{ℕ, ◌+◌, ◌-◌, ℤ, Bool, true, false, ◌==◌, ◌&&◌, ◌||◌, not, nat_lt, int_lt, is_some, List, [], ◌∷◌, ◌++◌, length, map, filter, flat_map, reverse, sum, slice_get, Option, Some, None, option_to_list, if◌then◌else◌, Result, Ok, Err}
+use Rattle.std.specs.Prelude.{ℕ, ◌+◌, ◌-◌, ℤ, Bool, true, false, ◌==◌, ◌&&◌, ◌||◌, not, nat_lt, int_lt, is_some, List, [], ◌∷◌, ◌++◌}
+use Rattle.std.specs.Prelude.{length, map, filter, flat_map, reverse, sum, Option, Some, None, option_to_list, if◌then◌else◌, Result, Ok}
+use Rattle.std.specs.Prelude.{Err}
 use Rattle.std.specs.List.{list_any, last_or}
 use Rattle.std.specs.Option.{option_map_or}
+use Rattle.bridge_io.specs.Firsts.{first_of}
 use Rattle.exact_time.specs.Time.{Time, at_most}
 use Rattle.mpd_rules.specs.Laws.{are_once}
 use Rattle.timeline.specs.Expansions.{Extent, Timing}
@@ -21,7 +24,8 @@ use Rattle.followed.specs.Durations.{Last, is_in}
 use Rattle.live_meaning.specs.Segments.{Kept, Segment, id_at, is_later, place_of, segments_of, times_of}
 use Rattle.live_meaning.specs.Known.{Known, all_same, attributes_at, goes_on, ids_of, known_by}
 use Rattle.live_meaning.specs.Histories.{Common, availability_start_of, begun_common, begun_with, common_with, force_by}
-use Rattle.live_meaning.specs.States.{State, Track, kept_and_new, new_count, new_durations, new_of, removed_from, shown, state_of, state_with}
+use Rattle.live_meaning.specs.States.{State, Track, kept_and_new, new_count, new_durations, new_of, removed_from, shown, state_of}
+use Rattle.live_meaning.specs.States.{state_with}
 
 pub data Refusal : Type 0 where
   -- the former instant, and the earlier one of the update
@@ -71,7 +75,8 @@ older_than (Some former) (Some new) = told_if (int_lt new former) (Older former 
 -- an MPD that isn't dynamic need not say when it begins to be available
 abbrev pub starts_otherwise : Common → Values → Bool
 starts_otherwise c mpd =
-    option_map_or (λ start. int_lt start (availability_start_of c.opened) || int_lt (availability_start_of c.opened) start) mpd.facts.availability_start mpd.facts.live
+    option_map_or (λ start. int_lt start (availability_start_of c.opened) || int_lt (availability_start_of c.opened) start)
+    mpd.facts.availability_start mpd.facts.live
 
 abbrev pub lack_ids : Values → Bool
 lack_ids mpd = list_any (λ period. not (is_some period.id)) mpd.periods
@@ -138,7 +143,8 @@ ends_within first last x = at_most first x.end && at_most x.end last
 abbrev pub rewritten_by : (kept : List Timing) → (expansion : List Timing) → Option (Option Timing × Timing)
 rewritten_by [] xs = None
 rewritten_by (old ∷ olds) xs =
-    option_map_or (λ last. first_other (reverse (old ∷ olds)) (reverse (filter (ends_within old.end last.end) xs))) (last_or None (old ∷ olds)) None
+    option_map_or (λ last. first_other (reverse (old ∷ olds)) (reverse (filter (ends_within old.end last.end) xs)))
+    (last_or None (old ∷ olds)) None
 
 abbrev pub expansion_at : Presented → (track section : ℕ) → List Timing
 expansion_at p t s = option_map_or (λ content. expansion content.runs (window_of p s)) (content_at p s t) []
@@ -183,7 +189,8 @@ joint_told false c tracks = steps_told c 0 tracks
 abbrev pub long_told : Common → (t : ℕ) → List Track → List Refusal
 long_told c t [] = []
 long_told c t (track ∷ tracks) =
-    map (LongSegment c.target) (filter (λ d. nat_lt c.target (rounded (unit_of c.terms) d)) (new_durations c t track)) ++ long_told c (t + 1) tracks
+    map (LongSegment c.target) (filter (λ d. nat_lt c.target (rounded (unit_of c.terms) d)) (new_durations c t track))
+    ++ long_told c (t + 1) tracks
 
 -- ---- 10: more segments than may be kept
 
@@ -272,9 +279,6 @@ first_told_by mpd (Ok p) = first_told_with mpd p
 
 abbrev pub first_refusals_of : Terms → Values → (now : ℤ) → List Refusal
 first_refusals_of terms mpd now = first_told_by mpd (presented_of mpd terms.url (Some now))
-
-abbrev pub first_of : List Refusal → Option Refusal
-first_of refusals = slice_get refusals 0
 
 -- why an update may not follow a state
 unfoldable pub refusal_of : State → Update → Option Refusal

@@ -1,5 +1,6 @@
 -- The segments that a followed presentation lists.
-use Rattle.std.specs.Prelude.{ℕ, ◌+◌, ℤ, pos, ◌+ℤ◌, ◌*ℤ◌, ◌==◌, ◌&&◌, ◌||◌, nat_lt, Bool, List, [], ◌∷◌, length, map, filter, flat_map, slice_get, bytes_eq, Option, Some, None, unwrap_or}
+use Rattle.std.specs.Prelude.{ℕ, ◌+◌, ℤ, pos, ◌+ℤ◌, ◌*ℤ◌, ◌==◌, ◌&&◌, ◌||◌, nat_lt, Bool, List, [], ◌∷◌, length, map, filter, flat_map}
+use Rattle.std.specs.Prelude.{slice_get, bytes_eq, Option, Some, None, unwrap_or}
 use Rattle.std.specs.List.{position}
 use Rattle.std.specs.Int.{int_div_euclid}
 use Rattle.std.specs.Option.{option_map_or}
@@ -77,7 +78,8 @@ segment_with n place period_start content x =
 -- the listed segments of a track in a Period, and in all Periods
 abbrev pub listed_in_period : Numbering → Presented → (track section : ℕ) → List Segment
 listed_in_period n p t s =
-    option_map_or (λ content. map (segment_with n (place_of n.ids (id_at p s)) (start_of p s) content) (listed_at p s t)) (content_at p s t) []
+    option_map_or (λ content. map (segment_with n (place_of n.ids (id_at p s)) (start_of p s) content) (listed_at p s t))
+    (content_at p s t) []
 
 abbrev pub listed_of : Numbering → Presented → (track : ℕ) → List Segment
 listed_of n p t = flat_map (listed_in_period n p t) (sections_of p)

@@ -21,7 +21,12 @@ pub record State : Type 0 where
 
 abbrev pub track_of : (unit : ℕ) → Past → Track
 track_of unit past =
-    record { kept = drop past.first (told unit past.all); first = past.first; last = last_behind None past.all; place = place_behind 0 past.all }
+    record {
+      kept = drop past.first (told unit past.all);
+      first = past.first;
+      last = last_behind None past.all;
+      place = place_behind 0 past.all;
+    }
 
 abbrev pub shown : Whole → State
 shown w = record { common = w.common; tracks = map (track_of (unit_of w.common.terms)) w.pasts }

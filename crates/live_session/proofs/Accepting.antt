@@ -1,5 +1,6 @@
 -- What an accepted update leaves.
-use Rattle.std.proofs.Common.{◌≡◌, ℕ, ◌+◌, ◌*◌, ◌^◌, ◌<◌, ◌≤◌, cond, Bool, true, false, ℤ, List, [], ◌∷◌, ◌++◌, map, length, sum, All, Option, Some, None, Ok, refl, sym, ◌∙◌, ap, subst, arith}
+use Rattle.std.proofs.Common.{◌≡◌, ℕ, ◌+◌, ◌*◌, ◌^◌, ◌<◌, ◌≤◌, cond, Bool, true, false, ℤ, List, [], ◌∷◌, ◌++◌, map, length, sum, All}
+use Rattle.std.proofs.Common.{Option, Some, None, Ok, refl, sym, ◌∙◌, ap, subst, arith}
 use Rattle.std.specs.Prelude.{unwrap_or}
 use Rattle.std.proofs.lemmas.List.Elements.{All-nil, All-cons, All-append, All-head, All-tail, All-weaker}
 use Rattle.exact_time.specs.declared.tick.Tick.{Tick}
@@ -16,6 +17,7 @@ use Rattle.live_meaning.specs.Removal.{removed_of}
 use Rattle.live_meaning.specs.States.{State, Track, new_count, state_with, track_after, tracks_after}
 use Rattle.live_meaning.specs.Refusals.{appended_by, counts_kept, ids_in, makes_segments, next_of, over_in_all, over_in_track}
 use Rattle.live_meaning.proofs.Allowed.{IsAllowed, allowed}
+use Rattle.live_meaning.proofs.Kept.{few_known}
 use Rattle.live_judge.specs.declared.standing.Standing.{Standing}
 use Rattle.live_judge.specs.declared.track.Fact.{Fact}
 use Rattle.live_judge.specs.declared.track.LiveTrack.{LiveTrack}
@@ -31,7 +33,6 @@ use Rattle.live_session.specs.Making.{all_kept}
 use Rattle.live_session.specs.Sessions.{IsNumbered, IsSession}
 use Rattle.live_session.specs.Written.{IsWritten}
 use Rattle.live_session.proofs.FirstTracks.{AreDated, IsDated, all_written, kept_with, same_shown}
-use Rattle.live_session.proofs.Knowing.{few_known}
 use Rattle.live_session.proofs.Limits.{IsGrownOf, IsKeptOf, all_after, all_grown, all_kept_after, few_new}
 use Rattle.live_session.proofs.Pushing.{length-kepts}
 use Rattle.live_session.proofs.Refusing.{appended_all, gives_accepted}

@@ -1,5 +1,6 @@
 -- What a first MPD begins, and why it is refused.
-use Rattle.std.proofs.Common.{◌≡◌, ℕ, zero, suc, ◌+◌, ◌≤◌, ◌<◌, ℤ, Bool, true, false, not, nat_lt, ◌==◌, ◌&&◌, ◌||◌, List, [], ◌∷◌, ◌++◌, map, flat_map, length, sum, All, Option, Some, None, Result, Ok, Err, refl, sym, ◌∙◌, ap, subst, arith}
+use Rattle.std.proofs.Common.{◌≡◌, ℕ, zero, suc, ◌+◌, ◌≤◌, ◌<◌, ℤ, Bool, true, false, not, nat_lt, ◌==◌, ◌&&◌, ◌||◌, List, [], ◌∷◌, ◌++◌}
+use Rattle.std.proofs.Common.{map, flat_map, length, sum, All, Option, Some, None, Result, Ok, Err, refl, sym, ◌∙◌, ap, subst, arith}
 use Rattle.std.specs.Prelude.{IfSome, slice_get, sum_by, if◌then◌else◌}
 use Rattle.std.specs.List.{list_any, range_with_len}
 use Rattle.std.specs.Option.{option_map_or}
@@ -7,6 +8,7 @@ use Rattle.std.proofs.lemmas.Bool.{le-ltb, lt-ltb, ltb-false}
 use Rattle.std.proofs.lemmas.List.Concat.{length-flat_map}
 use Rattle.std.proofs.lemmas.List.Elements.{All-nil, All-cons, All-append, All-head}
 use Rattle.std.proofs.lemmas.List.Sums.{sum_by-cons}
+use Rattle.bridge_io.specs.Firsts.{first_of}
 use Rattle.timeline.specs.Expansions.{Timing}
 use Rattle.timeline.specs.declared.fault.TimeFault.{TimeFault}
 use Rattle.timeline.specs.declared.window.Window.{Window}
@@ -26,7 +28,9 @@ use Rattle.url_parts.specs.declared.range.Range.{Range}
 use Rattle.presentation.specs.declared.fault.PresentationFault.{PresentationFault}
 use Rattle.presentation.specs.declared.fault.PresentationFault.TheVariants as presented
 use Rattle.presentation.specs.declared.parts.Content.{Content}
-use Rattle.presentation.specs.Counting.{count_at, count_faults, count_of_all, count_of_track, counted, faults_of_count, is_long, is_over, limit_faults, listed_count, number_in, place_at, refusal, section_faults, sections_of, track_faults, tracks_of, unless_any, whole_track_faults}
+use Rattle.presentation.specs.Counting.{count_at, count_faults, count_of_all, count_of_track, counted, faults_of_count, is_long, is_over}
+use Rattle.presentation.specs.Counting.{limit_faults, listed_count, number_in, place_at, refusal, section_faults, sections_of, track_faults}
+use Rattle.presentation.specs.Counting.{tracks_of, unless_any, whole_track_faults}
 use Rattle.presentation.specs.Presented.{Presented, content_at, is_finished, listed_at, listed_in, window_of}
 use Rattle.presentation.specs.Printing.{IsCounted}
 use Rattle.presentation.specs.Told.{presented_of}
@@ -36,7 +40,9 @@ use Rattle.presentation.proofs.Reached.{all_reached, none_later}
 use Rattle.live_meaning.specs.Updates.{Terms, Values}
 use Rattle.live_meaning.specs.Histories.{begun_common, begun_with}
 use Rattle.live_meaning.specs.States.{shown}
-use Rattle.live_meaning.specs.Refusals.{NotDynamic, Presentation, Refusal, Window as Windowed, begun_of, counts_listed, first_appended_by, first_of, first_refusal_of, first_told_by, is_of_address, makes_segments, over_in_all, over_in_track, told_if, window_told}
+use Rattle.live_meaning.specs.Refusals.{NotDynamic, Presentation, Refusal, Window as Windowed, begun_of, counts_listed, first_appended_by}
+use Rattle.live_meaning.specs.Refusals.{first_refusal_of, first_told_by, is_of_address, makes_segments, over_in_all, over_in_track, told_if}
+use Rattle.live_meaning.specs.Refusals.{window_told}
 use Rattle.live_judge.specs.declared.fault.RefreshFault.{RefreshFault}
 use Rattle.live_judge.specs.declared.fault.RefreshFault.TheVariants as faults
 use Rattle.live_judge.specs.Faults.{Judges, Tells, of_presentation, told}

@@ -1,5 +1,6 @@
 -- The tracks of a first MPD.
-use Rattle.std.proofs.Common.{◌≡◌, ℕ, zero, suc, ◌+◌, ◌-◌, ◌^◌, ℤ, List, [], ◌∷◌, ◌++◌, map, flat_map, filter, length, All, Option, Some, None, refl, sym, ◌∙◌, ap, subst, arith, length-append, append_assoc}
+use Rattle.std.proofs.Common.{◌≡◌, ℕ, zero, suc, ◌+◌, ◌-◌, ◌^◌, ℤ, List, [], ◌∷◌, ◌++◌, map, flat_map, filter, length, All, Option, Some}
+use Rattle.std.proofs.Common.{None, refl, sym, ◌∙◌, ap, subst, arith, length-append, append_assoc}
 use Rattle.std.specs.Prelude.{true, replicate, slice_get, sum_by}
 use Rattle.std.specs.List.{range_with_len}
 use Rattle.std.specs.Option.{option_map_or}
@@ -25,6 +26,7 @@ use Rattle.mpd_rules.specs.Laws.{are_once}
 use Rattle.live_meaning.specs.Histories.{Common, availability_start_of, begun_common, begun_past, longest_in, numbering_of}
 use Rattle.live_meaning.specs.States.{Track, track_of}
 use Rattle.live_meaning.specs.Refusals.{ids_in}
+use Rattle.live_meaning.proofs.InForce.{id_there}
 use Rattle.live_judge.specs.declared.track.Fact.{Fact}
 use Rattle.live_judge.specs.declared.track.LiveTrack.{LiveTrack}
 use Rattle.live_judge.specs.Known.{StandsAt}
@@ -32,14 +34,15 @@ use Rattle.live_judge.specs.Shown.{kept_of, kepts_of, track_of as shown_of, trac
 use Rattle.live_judge.proofs.Contents.{length-new}
 use Rattle.live_judge.proofs.FirstStates.{all_new}
 use Rattle.live_judge.proofs.New.{new_is}
-use Rattle.live_judge.proofs.Places.{id_there, place_there}
+use Rattle.live_judge.proofs.Places.{place_there}
 use Rattle.live_session.specs.Begun.{AreFirst, empty_tracks, first_numbers}
 use Rattle.live_session.specs.Growth.{grown, inside_of}
 use Rattle.live_session.specs.declared.made.MadeTrack.{MadeTrack}
 use Rattle.live_session.specs.declared.maker.Maker.{Maker}
 use Rattle.live_session.specs.Making.{AreMade, AreMakeable, all_kept}
 use Rattle.live_session.specs.Kept.{AreSideBySide, empty_track, with_all, with_kept}
-use Rattle.live_session.specs.New.{IsBegun, faults_by, joins, numbers_of, shown_by, new_all, new_counted, new_faults, new_faults_in, new_in, new_kept}
+use Rattle.live_session.specs.New.{IsBegun, faults_by, joins, numbers_of, shown_by, new_all, new_counted, new_faults, new_faults_in, new_in}
+use Rattle.live_session.specs.New.{new_kept}
 use Rattle.live_session.specs.Written.{IsWritten}
 use Rattle.live_session.proofs.Beginning.{many}
 use Rattle.live_session.proofs.Pushing.{grown as pushed_all}

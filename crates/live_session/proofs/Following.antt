@@ -1,5 +1,6 @@
 -- What a session is behind an update.
-use Rattle.std.proofs.Common.{◌≡◌, true, ℕ, ℤ, [], ◌^◌, ◌<◌, ◌≤◌, List, ◌++◌, map, length, sum, All, Option, None, refl, sym, ◌∙◌, ap, subst, arith}
+use Rattle.std.proofs.Common.{◌≡◌, true, ℕ, ℤ, [], ◌^◌, ◌<◌, ◌≤◌, List, ◌++◌, map, length, sum, All, Option, None, refl, sym, ◌∙◌, ap}
+use Rattle.std.proofs.Common.{subst, arith}
 use Rattle.live_meaning.specs.Updates.{Update, mpd_of, now_of}
 use Rattle.live_meaning.specs.Known.{Known}
 use Rattle.live_meaning.specs.Refusals.{Refusal, appended_by, clock_told, ended_told}
@@ -23,7 +24,8 @@ use Rattle.live_session.specs.Growth.{grown, inside_of, trimmed}
 use Rattle.live_session.specs.Kept.{AreSideBySide}
 use Rattle.live_session.specs.Making.{all_kept}
 use Rattle.live_session.specs.Sessions.{IsSession}
-use Rattle.live_session.proofs.Accepting.{few_made, goes, new as new_standing, same_session, same_state, session_after, side_by_side, trimmable}
+use Rattle.live_session.proofs.Accepting.{few_made, goes, new as new_standing, same_session, same_state, session_after, side_by_side}
+use Rattle.live_session.proofs.Accepting.{trimmable}
 use Rattle.live_session.proofs.FirstTracks.{same_many, same_shown}
 use Rattle.live_session.proofs.Planning.{now_at}
 use Rattle.live_session.proofs.Refusing.{refused_early, refused_unpresented, refused_wanting}

@@ -1,36 +1,24 @@
 -- The Periods of an update that were never seen are those behind the known ones.
-use Rattle.std.proofs.Common.{◌≡◌, ℕ, zero, suc, ◌+◌, ◌-◌, ◌<◌, ◌≤◌, ℤ, true, false, List, [], ◌∷◌, ◌++◌, map, length, drop, None, refl, sym, ◌∙◌, ap, arith, length-drop, length-append, zero-add}
+use Rattle.std.proofs.Common.{◌≡◌, ℕ, zero, suc, ◌+◌, ◌-◌, ◌<◌, ◌≤◌, ℤ, true, false, List, [], ◌∷◌, ◌++◌, map, length, drop, None, refl}
+use Rattle.std.proofs.Common.{sym, ◌∙◌, ap, arith, length-drop, length-append, zero-add}
 use Rattle.std.specs.Prelude.{filter, is_none, slice_get, unwrap_or}
 use Rattle.mpd_rules.specs.Laws.{are_once}
 use Rattle.std.specs.List.{range_with_len}
 use Rattle.std.proofs.lemmas.List.{length-map, map-append}
-use Rattle.std.proofs.lemmas.List.FromFn.{length-range_with_len}
-use Rattle.std.proofs.lemmas.List.Sums.{count_by-le-length, length-filter}
 use Rattle.std.proofs.lemmas.Option.{slice_get_past}
-use Rattle.presentation.specs.Counting.{sections_of}
 use Rattle.presentation.specs.Presented.{Presented}
 use Rattle.live_meaning.specs.Segments.{id_at}
 use Rattle.live_meaning.specs.Updates.{mpd_of}
 use Rattle.live_meaning.specs.Known.{Known, ids_of, is_new, known_at, known_with, periods_of}
 use Rattle.live_meaning.specs.Refusals.{ids_in}
+use Rattle.live_meaning.proofs.InForce.{id_there}
 use Rattle.live_judge.specs.declared.coming.Next.{Next}
 use Rattle.live_judge.specs.declared.coming.Coming.{Coming}
 use Rattle.live_judge.specs.declared.coming.Coming.TheVariants as comes
 use Rattle.live_judge.specs.declared.standing.Standing.{Standing}
 use Rattle.live_judge.specs.Coming.{Comes, IsNext, p_of, update_of}
 use Rattle.live_judge.specs.Known.{StandsAt}
-use Rattle.live_judge.proofs.Places.{id_there, known_before, same_stand}
-
-pub few_known : (known : List Known) (p : Presented) → length (known_with known p) ≤ length known + length p.sections
-few_known known p =
-    omega (
-      arith,
-      length-append known (filter (is_new known) (periods_of p)),
-      length-filter (is_new known) (periods_of p),
-      count_by-le-length (is_new known) (periods_of p),
-      length-map (sections_of p) (known_at p),
-      length-range_with_len 0 (length p.sections),
-    )
+use Rattle.live_judge.proofs.Places.{known_before, same_stand}
 
 -- the known ones and those in force end together
 pub ends : (known : List Known) (p : Presented) (place : ℕ) → StandsAt (ids_of known) (ids_in p) place

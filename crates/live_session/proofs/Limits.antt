@@ -1,5 +1,6 @@
 -- How many segments an accepted update brings and leaves.
-use Rattle.std.proofs.Common.{◌≡◌, ℕ, ◌+◌, ◌*◌, ◌-◌, ◌<◌, ◌≤◌, ltb, true, get_or, List, [], ◌∷◌, map, length, sum, All, Option, Some, None, sym, ◌∙◌, ap, arith, length-append, length-drop}
+use Rattle.std.proofs.Common.{◌≡◌, ℕ, ◌+◌, ◌*◌, ◌-◌, ◌<◌, ◌≤◌, ltb, true, get_or, List, [], ◌∷◌, map, length, sum, All, Option, Some, None}
+use Rattle.std.proofs.Common.{sym, ◌∙◌, ap, arith, length-append, length-drop}
 use Rattle.std.specs.Prelude.{slice_get, option_map}
 use Rattle.std.specs.Option.{option_map_or}
 use Rattle.std.proofs.Math.Nat.{mul-le-mul_left, one-le-pow}

@@ -1,5 +1,6 @@
 -- The new segments of a section as they are made one by one.
-use Rattle.std.proofs.Common.{◌≡◌, ℕ, ◌+◌, ◌-◌, ◌^◌, ◌≤◌, List, [], ◌∷◌, ◌++◌, map, length, All, Option, Some, None, Result, Ok, Err, refl, sym, ◌∙◌, ap, subst, arith, append_assoc}
+use Rattle.std.proofs.Common.{◌≡◌, ℕ, ◌+◌, ◌-◌, ◌^◌, ◌≤◌, List, [], ◌∷◌, ◌++◌, map, length, All, Option, Some, None, Result, Ok, Err, refl}
+use Rattle.std.proofs.Common.{sym, ◌∙◌, ap, subst, arith, append_assoc}
 use Rattle.std.specs.Prelude.{false, option_map, slice_get, IfSome, IsSome}
 use Rattle.std.specs.Result.{result_unwrap_or}
 use Rattle.std.proofs.lemmas.Option.{same_Some}
@@ -32,8 +33,10 @@ use Rattle.live_session.specs.declared.made.Made.{Made}
 use Rattle.live_session.specs.declared.maker.Maker.{Maker}
 use Rattle.live_session.specs.declared.maker.Section.{Section}
 use Rattle.live_session.specs.Made.{all_made, kept_as, made_kept}
-use Rattle.live_session.specs.Making.{IsKeptNext, IsMadeBehind, IsNotMade, IsRefused, IsSection, IsSectionMakeable, StandsBefore, behind_in, end_in, number_of}
-use Rattle.live_session.specs.New.{faults_by, left_to_make, later_listed, new_faults_in, new_in, new_timings, numbers_of, segments_in, shown_by, track_at}
+use Rattle.live_session.specs.Making.{IsKeptNext, IsMadeBehind, IsNotMade, IsRefused, IsSection, IsSectionMakeable, StandsBefore, behind_in}
+use Rattle.live_session.specs.Making.{end_in, number_of}
+use Rattle.live_session.specs.New.{faults_by, left_to_make, later_listed, new_faults_in, new_in, new_timings, numbers_of, segments_in}
+use Rattle.live_session.specs.New.{shown_by, track_at}
 use Rattle.live_session.proofs.Told.{kept_at, segment_at, told_there}
 use Rattle.live_session.proofs.Sections.{times_are}
 

@@ -1,7 +1,9 @@
 -- What is planned of an update, and why it is refused.
-use Rattle.std.proofs.Common.{◌≡◌, false, true, ℕ, ◌+◌, ◌-◌, ◌<◌, ◌≤◌, ℤ, pos, List, [], ◌∷◌, ◌++◌, map, length, sum, Some, None, Result, Ok, Err, refl, sym, ◌∙◌, ap, subst, inl, inr, arith}
+use Rattle.std.proofs.Common.{◌≡◌, false, true, ℕ, ◌+◌, ◌-◌, ◌<◌, ◌≤◌, ℤ, pos, List, [], ◌∷◌, ◌++◌, map, length, sum, Some, None, Result}
+use Rattle.std.proofs.Common.{Ok, Err, refl, sym, ◌∙◌, ap, subst, inl, inr, arith}
 use Rattle.std.specs.Prelude.{IfSome, MatchResult, unwrap_or}
 use Rattle.std.specs.List.{range_with_len}
+use Rattle.bridge_io.specs.Firsts.{first_of}
 use Rattle.presentation.specs.Counting.{range_faults}
 use Rattle.presentation.specs.Presented.{Presented, is_finished, looked_at}
 use Rattle.presentation.proofs.Ending.{none_behind}
@@ -10,7 +12,8 @@ use Rattle.live_meaning.specs.Updates.{Update, is_reset, mpd_of, now_of}
 use Rattle.live_meaning.specs.Known.{ids_of, known_at, known_with}
 use Rattle.live_meaning.specs.Histories.{Common, common_with, published_by}
 use Rattle.live_meaning.specs.States.{State, new_count}
-use Rattle.live_meaning.specs.Refusals.{Ended, Presentation, appended_by, clock_told, counts_kept, ended_told, first_of, ids_in, joint_told, long_told, makes_segments, mpd_told, urls_told, window_told}
+use Rattle.live_meaning.specs.Refusals.{Ended, Presentation, appended_by, clock_told, counts_kept, ended_told, ids_in, joint_told}
+use Rattle.live_meaning.specs.Refusals.{long_told, makes_segments, mpd_told, urls_told, window_told}
 use Rattle.live_judge.specs.declared.coming.Coming.{Coming}
 use Rattle.live_judge.specs.declared.coming.Coming.TheVariants as comes
 use Rattle.live_judge.specs.declared.coming.Next.{Next}
@@ -25,7 +28,8 @@ use Rattle.live_judge.specs.Shown.{common_shown, in_force, state_shown, track_sh
 use Rattle.live_meaning.proofs.Allowed.{told_none}
 use Rattle.live_judge.proofs.Listing.{mpd_at}
 use Rattle.live_session.specs.declared.change.Plan.{Plan}
-use Rattle.live_session.specs.Changes.{AreUnmade, IsPlan, IsPresented, IsPlanOf, IsRefused, IsUnplanned, first_new, new_in_all, resets_with, tracks_grown}
+use Rattle.live_session.specs.Changes.{AreUnmade, IsPlan, IsPresented, IsPlanOf, IsRefused, IsUnplanned, first_new, new_in_all, resets_with}
+use Rattle.live_session.specs.Changes.{tracks_grown}
 use Rattle.live_session.specs.Growth.{grown}
 use Rattle.live_session.specs.Making.{all_kept}
 use Rattle.live_session.specs.Sessions.{CountsRefused}

@@ -1,5 +1,6 @@
 -- The session that a first MPD begins.
-use Rattle.std.proofs.Common.{◌≡◌, ℕ, zero, suc, ◌+◌, ◌<◌, ℤ, pos, Bool, true, false, not, List, [], ◌∷◌, ◌++◌, map, length, All, Option, Some, None, Result, Ok, Err, refl, sym, ◌∙◌, ap, subst, arith}
+use Rattle.std.proofs.Common.{◌≡◌, ℕ, zero, suc, ◌+◌, ◌<◌, ℤ, pos, Bool, true, false, not, List, [], ◌∷◌, ◌++◌, map, length, All, Option}
+use Rattle.std.proofs.Common.{Some, None, Result, Ok, Err, refl, sym, ◌∙◌, ap, subst, arith}
 use Rattle.std.specs.Prelude.{IfSome, IsErrAnd, if◌then◌else◌, option_map, slice_get, sum, unwrap_or}
 use Rattle.std.specs.List.{range_with_len}
 use Rattle.std.specs.Option.{option_map_or}
@@ -24,7 +25,8 @@ use Rattle.live_meaning.specs.Known.{Known, ids_of, periods_of}
 use Rattle.live_meaning.specs.Histories.{Common, availability_start_of, begun_common, begun_with}
 use Rattle.live_meaning.specs.States.{State, Track, shown}
 use Rattle.live_meaning.specs.Playlists.{FollowedPlaylist, item_of, playlist_with}
-use Rattle.live_meaning.specs.Refusals.{NotDynamic, Presentation, Refusal, begun_of, counts_listed, first_appended_by, ids_in, told_if, window_told}
+use Rattle.live_meaning.specs.Refusals.{NotDynamic, Presentation, Refusal, begun_of, counts_listed, first_appended_by, ids_in, told_if}
+use Rattle.live_meaning.specs.Refusals.{window_told}
 use Rattle.live_meaning.specs.Laws.{HistoriesBegin, IsSmall, IsTyped, NeverEmpty, NumbersStaySmall, Shows}
 use Rattle.live_meaning.proofs.Allowed.{negated, none_mapped, told_none}
 use Rattle.live_judge.specs.declared.fault.RefreshFault.{RefreshFault}

@@ -1,5 +1,6 @@
 -- The new segments of a track, section by section, and those of all tracks.
-use Rattle.std.proofs.Common.{◌≡◌, ℕ, zero, suc, ◌+◌, ◌-◌, ◌^◌, ◌<◌, ◌≤◌, List, [], ◌∷◌, ◌++◌, map, flat_map, length, drop, All, Option, Some, None, refl, sym, ◌∙◌, ap, subst, inl, inr, arith, append_assoc, length-append, zero-add}
+use Rattle.std.proofs.Common.{◌≡◌, ℕ, zero, suc, ◌+◌, ◌-◌, ◌^◌, ◌<◌, ◌≤◌, List, [], ◌∷◌, ◌++◌, map, flat_map, length, drop, All, Option}
+use Rattle.std.proofs.Common.{Some, None, refl, sym, ◌∙◌, ap, subst, inl, inr, arith, append_assoc, length-append, zero-add}
 use Rattle.std.specs.Prelude.{option_map, slice_get, IfSome}
 use Rattle.std.specs.List.{range_with_len}
 use Rattle.std.proofs.lemmas.Bool.{cases_lt}
@@ -22,7 +23,8 @@ use Rattle.live_judge.specs.Shown.{last_of, track_shown}
 use Rattle.live_session.specs.Kept.{no_place}
 use Rattle.live_session.specs.Made.{all_made}
 use Rattle.live_session.specs.Making.{AreMade, IsMadeBehind, IsNotMade, IsSectionMakeable, all_kept, first_section, number_of}
-use Rattle.live_session.specs.New.{IsBegun, joins, new_all, new_among, new_counted, new_faults, new_faults_among, new_faults_in, new_faults_of, new_in, new_kept, numbers_of, shown_by, track_at}
+use Rattle.live_session.specs.New.{IsBegun, joins, new_all, new_among, new_counted, new_faults, new_faults_among, new_faults_in}
+use Rattle.live_session.specs.New.{new_faults_of, new_in, new_kept, numbers_of, shown_by, track_at}
 use Rattle.live_session.proofs.Sections.{Stood, joins_next, none_faults, none_new, skip, stands, stands_next}
 
 -- ---- segments with their durations

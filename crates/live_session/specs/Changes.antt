@@ -1,6 +1,8 @@
 -- What an update changes beside the tracks, and what it is planned to add to them.
-use Rattle.std.specs.Prelude.{◌≡◌, ℕ, ◌+◌, ◌-◌, ◌<◌, ◌≤◌, ◌^◌, ◌⊎◌, ℤ, pos, All, List, [], ◌∷◌, ◌++◌, length, map, sum, IfSome, Option, None, Some, Ok, Err, unwrap_or, if◌then◌else◌}
+use Rattle.std.specs.Prelude.{◌≡◌, ℕ, ◌+◌, ◌-◌, ◌<◌, ◌≤◌, ◌^◌, ◌⊎◌, ℤ, pos, All, List, [], ◌∷◌, ◌++◌, length, map, sum, IfSome, Option}
+use Rattle.std.specs.Prelude.{None, Some, Ok, Err, unwrap_or, if◌then◌else◌}
 use Rattle.std.specs.List.{range_with_len}
+use Rattle.bridge_io.specs.Firsts.{first_of}
 use Rattle.iso_time.specs.Instant.{IsReadable, IsWritable}
 use Rattle.presentation.specs.declared.fault.PresentationFault.{PresentationFault}
 use Rattle.presentation.specs.Presented.{Presented, looked_at}
@@ -10,7 +12,7 @@ use Rattle.live_meaning.specs.Segments.{place_behind}
 use Rattle.live_meaning.specs.Known.{ids_of, known_at, known_with}
 use Rattle.live_meaning.specs.Histories.{Common, availability_start_of, common_with, force_by, published_by}
 use Rattle.live_meaning.specs.States.{State, Track, kept_and_new, new_count, new_of}
-use Rattle.live_meaning.specs.Refusals.{Presentation, Refusal, appended_by, first_of, ids_in, next_of, refusal_of, urls_told}
+use Rattle.live_meaning.specs.Refusals.{Presentation, Refusal, appended_by, ids_in, next_of, refusal_of, urls_told}
 use Rattle.live_judge.specs.declared.coming.Coming.{Coming}
 use Rattle.live_judge.specs.declared.coming.Next.{Next}
 use Rattle.live_judge.specs.declared.fault.RefreshFault.{RefreshFault}

@@ -1,5 +1,6 @@
 -- What is so of segments as they are made one by one.
-use Rattle.std.specs.Prelude.{◌≡◌, ◌⊎◌, ℕ, ◌+◌, ◌-◌, ◌^◌, ◌<◌, ◌≤◌, pos, neg_ℤ, ◌==◌, All, List, [], ◌∷◌, ◌++◌, length, map, slice_get, Option, Some, None, IfSome, Result, Ok, Err, MatchOption, MatchResult, IsSome, if◌then◌else◌}
+use Rattle.std.specs.Prelude.{◌≡◌, ◌⊎◌, ℕ, ◌+◌, ◌-◌, ◌^◌, ◌<◌, ◌≤◌, pos, neg_ℤ, ◌==◌, All, List, [], ◌∷◌, ◌++◌, length, map, slice_get}
+use Rattle.std.specs.Prelude.{Option, Some, None, IfSome, Result, Ok, Err, MatchOption, MatchResult, IsSome, if◌then◌else◌}
 use Rattle.exact_time.specs.Time.{IsAtMost, IsTime, Time, seconds}
 use Rattle.exact_time.specs.declared.tick.Tick.{Tick}
 use Rattle.iso_time.specs.Instant.{IsWritable}
@@ -25,7 +26,8 @@ use Rattle.live_session.specs.declared.maker.Section.{Section}
 use Rattle.live_judge.specs.Shown.{track_shown}
 use Rattle.live_session.specs.Kept.{AreSideBySide}
 use Rattle.live_session.specs.Made.{all_made, kept_as, made_kept}
-use Rattle.live_session.specs.New.{IsBegun, joins, later_listed, left_to_make, new_all, new_counted, new_faults, new_in, new_kept, numbers_of, shown_by, track_at}
+use Rattle.live_session.specs.New.{IsBegun, joins, later_listed, left_to_make, new_all, new_counted, new_faults, new_in, new_kept}
+use Rattle.live_session.specs.New.{numbers_of, shown_by, track_at}
 
 -- ---- where a section begins
 

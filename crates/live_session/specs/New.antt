@@ -1,6 +1,7 @@
 -- Which segments an update lists behind those that were listed before: Period by Period, where the Periods have the places from
 -- a first one on.
-use Rattle.std.specs.Prelude.{◌≡◌, ℕ, ◌+◌, ◌-◌, ◌^◌, ◌<◌, ◌≤◌, true, List, [], ◌∷◌, ◌++◌, map, filter, flat_map, length, Option, Some, None, option_map, false, IfSome}
+use Rattle.std.specs.Prelude.{◌≡◌, ℕ, ◌+◌, ◌-◌, ◌^◌, ◌<◌, ◌≤◌, true, List, [], ◌∷◌, ◌++◌, map, filter, flat_map, length, Option, Some, None}
+use Rattle.std.specs.Prelude.{option_map, false, IfSome}
 use Rattle.std.specs.Option.{option_map_or}
 use Rattle.exact_time.specs.Tick.{time_of}
 use Rattle.exact_time.specs.Time.{IsAtMost}

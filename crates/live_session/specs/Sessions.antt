@@ -1,5 +1,6 @@
 -- What a session keeps true, and what its calls say.
-use Rattle.std.specs.Prelude.{◌≡◌, ℕ, ◌+◌, ◌*◌, ◌≤◌, ℤ, All, List, [], ◌∷◌, ◌++◌, length, IfSome, MatchResult, None, Some, Option, Result, Ok, Err}
+use Rattle.std.specs.Prelude.{◌≡◌, ℕ, ◌+◌, ◌*◌, ◌≤◌, ℤ, All, List, [], ◌∷◌, ◌++◌, length, IfSome, MatchResult, None, Some, Option, Result}
+use Rattle.std.specs.Prelude.{Ok, Err}
 use Rattle.std.specs.Option.{option_map_or}
 use Rattle.iso_time.specs.Instant.{IsReadable}
 use Rattle.presentation.specs.declared.fault.PresentationFault.TheVariants.{Url}

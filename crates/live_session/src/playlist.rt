@@ -3,7 +3,7 @@ ghost use Rattle.std.specs.Prelude.{◌≡◌, ◌<◌, Some, length, slice_get,
 ghost use Rattle.bridge_io.specs.Fault.{HasCause};
 ghost use Rattle.bridge_io.specs.InOrder.{MayBegin};
 ghost use Rattle.bridge_io.specs.Outside.{put, Changes};
-ghost use Rattle.file_pieces.specs.declared.fault.OutFault.TheVariants.{WriteFault};
+ghost use Rattle.bridge_io.specs.declared.out_fault.OutFault.TheVariants.{WriteFault};
 ghost use Rattle.hls_writer.specs.Items.{head_of, item_of};
 ghost use Rattle.presentation.specs.Presented.{is_finished, looked_at};
 ghost use Rattle.live_meaning.specs.Playlists.{live_text};

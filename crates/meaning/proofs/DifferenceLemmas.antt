@@ -1,7 +1,8 @@
 -- No first difference is found exactly where two presentations agree.
-use Rattle.std.proofs.Common.{◌≡◌, ℕ, zero, suc, ◌+◌, Bool, true, false, List, [], ◌∷◌, length, Option, Some, None, bytes_eq, refl, sym, ◌∙◌, ap, subst, arith}
+use Rattle.std.proofs.Common.{◌≡◌, ℕ, zero, suc, ◌+◌, Bool, true, false, List, [], ◌∷◌, length, Option, Some, None, bytes_eq, refl, sym}
+use Rattle.std.proofs.Common.{◌∙◌, ap, subst, arith}
 use Rattle.std.specs.Bool.{Decides}
-use Rattle.std.specs.Option.{option_eq}
+use Rattle.std.specs.Option.{option_eq, option_or}
 use Rattle.std.proofs.lemmas.Bool.Decides.{Decides-eqb, Decides-int_eq, Decides-and, Decides-or, Decides-like}
 use Rattle.std.proofs.lemmas.Slice.Eq.{bytes_eq-Decides}
 use Rattle.exact_time.specs.Time.{Time, cross, difference}
@@ -14,7 +15,9 @@ use Rattle.meaning.specs.declared.difference.Difference.{Difference}
 use Rattle.meaning.specs.Meanings.{Segment, Entry, Track, Meaning}
 use Rattle.meaning.specs.Same.{Pairwise, SameSegment, SameEntries, SameTrack, IsSameOrRounded, Agrees, begin_of, rounded_down}
 use Rattle.meaning.proofs.SameLemmas.{Pairwise-wider, Pairwise-length}
-use Rattle.meaning.specs.Differences.{rank_of, is_same_kind, is_same_range, is_same_part, is_same_or_rounded, is_same_head, unless, or_later, segment_difference, segments_difference, entry_difference, entries_difference, heads_difference, tracks_difference, first_difference, in_entry}
+use Rattle.meaning.specs.Differences.{rank_of, is_same_kind, is_same_range, is_same_part, is_same_or_rounded, is_same_head, unless}
+use Rattle.meaning.specs.Differences.{segment_difference, segments_difference, entry_difference, entries_difference, heads_difference}
+use Rattle.meaning.specs.Differences.{tracks_difference, first_difference, in_entry}
 
 -- nothing is found exactly where P holds
 abbrev Finds : Option Difference → Type 0 → Type 0
@@ -25,11 +28,11 @@ Finds-unless true found h = (λ p. refl, λ e. h.0 refl)
 Finds-unless false found h = (λ p. let e = h.1 p in absurd (cc), λ e. absurd (cc))
 
 -- a later search may rest on what the first one didn't find
-Finds-then : {P Q : Type 0} (first later : Option Difference) → Finds first P → (P → Finds later Q) → Finds (or_later first later) (P × Q)
+Finds-then : {P Q : Type 0} (first later : Option Difference) → Finds first P → (P → Finds later Q) → Finds (option_or first later) (P × Q)
 Finds-then None later h k = (λ p. (k p.0).0 p.1, λ e. let p = h.1 refl in (p, (k p).1 e))
 Finds-then (Some found) later h k = (λ p. h.0 p.0, λ e. absurd (cc))
 
-Finds-or : {P Q : Type 0} (first later : Option Difference) → Finds first P → Finds later Q → Finds (or_later first later) (P × Q)
+Finds-or : {P Q : Type 0} (first later : Option Difference) → Finds first P → Finds later Q → Finds (option_or first later) (P × Q)
 Finds-or first later h k = Finds-then first later h (λ p. k)
 
 Finds-like : {P Q : Type 0} (found : Option Difference) → (P → Q) → (Q → P) → Finds found P → Finds found Q
@@ -52,29 +55,35 @@ kind_at-rank Audio = refl
 kind_at-rank Text = refl
 
 Decides-kind : (a b : Kind) → Decides (is_same_kind a b) (a ≡ b)
-Decides-kind a b = Decides-like (is_same_kind a b) (λ same. sym (kind_at-rank a) ∙ ap kind_at same ∙ kind_at-rank b) (λ e. ap rank_of e) (Decides-eqb (rank_of a) (rank_of b))
+Decides-kind a b = Decides-like (is_same_kind a b) (λ same. sym (kind_at-rank a) ∙ ap kind_at same
+    ∙ kind_at-rank b) (λ e. ap rank_of e) (Decides-eqb (rank_of a) (rank_of b))
 
 same_range : (a b : Range) → a.first ≡ b.first → a.count ≡ b.count → a ≡ b
-same_range a b first count = subst (λ n. a ≡ record { first = n; count = b.count }) first (subst (λ n. a ≡ record { first = a.first; count = n }) count refl)
+same_range a b first count = subst (λ n. a ≡ record { first = n; count = b.count }) first
+    (subst (λ n. a ≡ record { first = a.first; count = n }) count refl)
 
 Decides-range : (a b : Range) → Decides (is_same_range a b) (a ≡ b)
-Decides-range a b = Decides-like (is_same_range a b) (λ same. same_range a b same.0 same.1) (λ e. (ap (λ r. r.first) e, ap (λ r. r.count) e)) (Decides-and _ _ (Decides-eqb a.first b.first) (Decides-eqb a.count b.count))
+Decides-range a b = Decides-like (is_same_range a b) (λ same. same_range a b same.0 same.1)
+    (λ e. (ap (λ r. r.first) e, ap (λ r. r.count) e)) (Decides-and _ _ (Decides-eqb a.first b.first) (Decides-eqb a.count b.count))
 
-Decides-option : {A : Type 0} (E : A → A → Bool) → ((a b : A) → Decides (E a b) (a ≡ b)) → (x y : Option A) → Decides (option_eq E x y) (x ≡ y)
+Decides-option : {A : Type 0} (E : A → A → Bool) → ((a b : A) → Decides (E a b) (a ≡ b)) → (x y : Option A)
+    → Decides (option_eq E x y) (x ≡ y)
 Decides-option E each None None = (λ h. refl, λ e. refl)
 Decides-option E each None (Some y) = (λ h. absurd (cc), λ e. absurd (cc))
 Decides-option E each (Some x) None = (λ h. absurd (cc), λ e. absurd (cc))
 Decides-option E each (Some x) (Some y) = Decides-like (E x y) (λ same. ap Some same) (λ e. (cc)) (each x y)
 
 same_part : (a b : Part) → a.address ≡ b.address → a.range ≡ b.range → a ≡ b
-same_part a b address range = subst (λ x. a ≡ record { address = x; range = b.range }) address (subst (λ x. a ≡ record { address = a.address; range = x }) range refl)
+same_part a b address range = subst (λ x. a ≡ record { address = x; range = b.range }) address
+    (subst (λ x. a ≡ record { address = a.address; range = x }) range refl)
 
 Decides-part : (a b : Part) → Decides (is_same_part a b) (a ≡ b)
 Decides-part a b = Decides-like (is_same_part a b) (λ same. same_part a b same.0 same.1) (λ e. (ap (λ p. p.address) e, ap (λ p. p.range) e))
     (Decides-and _ _ (bytes_eq-Decides a.address b.address) (Decides-option is_same_range Decides-range a.range b.range))
 
 Decides-time : (unit : ℕ) (x y : Time) → Decides (is_same_or_rounded unit x y) (IsSameOrRounded unit x y)
-Decides-time unit x y = Decides-or _ _ (Decides-int_eq (cross x y) (cross y x)) (Decides-int_eq (cross (rounded_down unit x) y) (cross y (rounded_down unit x)))
+Decides-time unit x y = Decides-or _ _ (Decides-int_eq (cross x y) (cross y x))
+    (Decides-int_eq (cross (rounded_down unit x) y) (cross y (rounded_down unit x)))
 
 abbrev SameHead : Track → Track → Type 0
 SameHead a b = (a.kind ≡ b.kind) × (a.language ≡ b.language)
@@ -85,26 +94,34 @@ Decides-head a b = Decides-and _ _ (Decides-kind a.kind b.kind) (Decides-option 
 -- ---- the parts of a presentation
 
 module _ (unit : ℕ) where
-  Finds-segment : (at : Aspect → Difference) (begin_a begin_b : Time) (a b : Segment) → Finds (segment_difference unit at begin_a begin_b a b) (SameSegment (IsSameOrRounded unit) begin_a begin_b a b)
+  Finds-segment : (at : Aspect → Difference) (begin_a begin_b : Time) (a b : Segment)
+      → Finds (segment_difference unit at begin_a begin_b a b) (SameSegment (IsSameOrRounded unit) begin_a begin_b a b)
   Finds-segment at begin_a begin_b a b = Finds-like _
       (λ h. record { part = same_part a.part b.part h.0 h.1.0; time = h.1.1 })
       (λ same. (ap (λ x. x.address) same.part, (ap (λ x. x.range) same.part, same.time)))
-      (Finds-or _ _ (Finds-unless _ _ (bytes_eq-Decides a.part.address b.part.address)) (Finds-or _ _ (Finds-unless _ _ (Decides-option is_same_range Decides-range a.part.range b.part.range)) (Finds-unless _ _ (Decides-time unit (difference a.end begin_a) (difference b.end begin_b)))))
+      (Finds-or _ _ (Finds-unless _ _ (bytes_eq-Decides a.part.address b.part.address))
+      (Finds-or _ _ (Finds-unless _ _ (Decides-option is_same_range Decides-range a.part.range b.part.range))
+      (Finds-unless _ _ (Decides-time unit (difference a.end begin_a) (difference b.end begin_b)))))
 
-  Finds-segments : (t s k : ℕ) (begin_a begin_b : Time) (xs ys : List Segment) → Finds (segments_difference unit t s k begin_a begin_b xs ys) (Pairwise (SameSegment (IsSameOrRounded unit) begin_a begin_b) xs ys)
+  Finds-segments : (t s k : ℕ) (begin_a begin_b : Time) (xs ys : List Segment)
+      → Finds (segments_difference unit t s k begin_a begin_b xs ys) (Pairwise (SameSegment (IsSameOrRounded unit) begin_a begin_b) xs ys)
   Finds-segments t s k begin_a begin_b [] [] = (λ h. refl, λ e. tt)
-  Finds-segments t s k begin_a begin_b (a ∷ xs) (b ∷ ys) = Finds-or _ _ (Finds-segment (in_entry t s k) begin_a begin_b a b) (Finds-segments t s (k + 1) begin_a begin_b xs ys)
+  Finds-segments t s k begin_a begin_b (a ∷ xs) (b ∷ ys) = Finds-or _ _ (Finds-segment (in_entry t s k) begin_a begin_b a b)
+      (Finds-segments t s (k + 1) begin_a begin_b xs ys)
   Finds-segments t s k begin_a begin_b [] (b ∷ ys) = Finds-never _
   Finds-segments t s k begin_a begin_b (a ∷ xs) [] = Finds-never _
 
   Finds-entry : (t s : ℕ) (a b : Option Entry) → Finds (entry_difference unit t s a b) (SameEntries (IsSameOrRounded unit) a b)
   Finds-entry t s None None = (λ h. refl, λ e. tt)
-  Finds-entry t s (Some a) (Some b) = Finds-like _ (λ h. record { initialization = h.0; segments = h.1 }) (λ same. (same.initialization, same.segments))
-      (Finds-or _ _ (Finds-unless _ _ (Decides-part a.initialization b.initialization)) (Finds-segments t s 0 (begin_of a.segments) (begin_of b.segments) a.segments b.segments))
+  Finds-entry t s (Some a) (Some b) = Finds-like _ (λ h. record { initialization = h.0; segments = h.1 })
+      (λ same. (same.initialization, same.segments))
+      (Finds-or _ _ (Finds-unless _ _ (Decides-part a.initialization b.initialization))
+      (Finds-segments t s 0 (begin_of a.segments) (begin_of b.segments) a.segments b.segments))
   Finds-entry t s None (Some b) = Finds-never _
   Finds-entry t s (Some a) None = Finds-never _
 
-  Finds-entries : (t s : ℕ) (xs ys : List (Option Entry)) → Finds (entries_difference unit t s xs ys) (Pairwise (SameEntries (IsSameOrRounded unit)) xs ys)
+  Finds-entries : (t s : ℕ) (xs ys : List (Option Entry))
+      → Finds (entries_difference unit t s xs ys) (Pairwise (SameEntries (IsSameOrRounded unit)) xs ys)
   Finds-entries t s [] [] = (λ h. refl, λ e. tt)
   Finds-entries t s (a ∷ xs) (b ∷ ys) = Finds-or _ _ (Finds-entry t s a b) (Finds-entries t (s + 1) xs ys)
   Finds-entries t s [] (b ∷ ys) = Finds-never _
@@ -135,12 +152,19 @@ module _ (unit : ℕ) where
   pub Finds-first : (a b : Meaning) → Finds (first_difference unit a b) (Agrees unit a b)
   unfolding first_difference
   Finds-first a b = Finds-like _
-      (λ (h : (a.sections ≡ b.sections) × ((length a.tracks ≡ length b.tracks) × (Pairwise SameHead a.tracks b.tracks × Pairwise SameBody a.tracks b.tracks))). record { sections = h.0; tracks = both a.tracks b.tracks h.1.1.0 h.1.1.1 })
+      (λ (h : (a.sections ≡ b.sections) × ((length a.tracks ≡ length b.tracks)
+      × (Pairwise SameHead a.tracks b.tracks × Pairwise SameBody a.tracks b.tracks))). record {
+        sections = h.0;
+        tracks = both a.tracks b.tracks h.1.1.0 h.1.1.1;
+      })
       (λ same. (
         same.sections,
         (
           Pairwise-length _ a.tracks b.tracks same.tracks,
-          (Pairwise-wider _ SameHead (λ x y h. (h.kind, h.language)) a.tracks b.tracks same.tracks, Pairwise-wider _ SameBody (λ x y h. h.entries) a.tracks b.tracks same.tracks),
+          (
+            Pairwise-wider _ SameHead (λ x y h. (h.kind, h.language)) a.tracks b.tracks same.tracks,
+            Pairwise-wider _ SameBody (λ x y h. h.entries) a.tracks b.tracks same.tracks,
+          ),
         ),
       ))
       (Finds-or _ _ (Finds-unless _ _ (Decides-eqb a.sections b.sections))

@@ -4,7 +4,8 @@ use Rattle.exact_time.specs.Time.{Time}
 use Rattle.meaning.specs.Meanings.{Entry, Meaning}
 use Rattle.meaning.specs.Same.{Pairwise, SameEntries, Same}
 
-pub Pairwise-wider : {A B : Type 0} (R S : A → B → Type 0) → ((a : A) (b : B) → R a b → S a b) → (xs : List A) (ys : List B) → Pairwise R xs ys → Pairwise S xs ys
+pub Pairwise-wider : {A B : Type 0} (R S : A → B → Type 0) → ((a : A) (b : B) → R a b → S a b) → (xs : List A) (ys : List B)
+    → Pairwise R xs ys → Pairwise S xs ys
 Pairwise-wider R S wider [] [] h = h
 Pairwise-wider R S wider (a ∷ xs) (b ∷ ys) h = (wider a b h.0, Pairwise-wider R S wider xs ys h.1)
 Pairwise-wider R S wider [] (b ∷ ys) h = h

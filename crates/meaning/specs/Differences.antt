@@ -1,7 +1,7 @@
 -- Where two manifests differ first.
 use Rattle.std.specs.Prelude.{ℕ, ◌+◌, ◌==◌, ◌&&◌, ◌||◌, Bool, List, [], ◌∷◌, length, bytes_eq, if◌then◌else◌, Option, Some, None}
 use Rattle.std.specs.Ordering.{int_eq}
-use Rattle.std.specs.Option.{option_eq}
+use Rattle.std.specs.Option.{option_eq, option_or}
 use Rattle.exact_time.specs.Time.{Time, cross, difference}
 use Rattle.bridge_io.specs.declared.media.Kind.{Kind}
 use Rattle.bridge_io.specs.declared.media.Kind.TheVariants.{Video, Audio, Text}
@@ -43,10 +43,6 @@ is_same_head a b = is_same_kind a.kind b.kind && option_eq bytes_eq a.language b
 abbrev pub unless : Bool → Difference → Option Difference
 unless same found = if same then None else Some found
 
-abbrev pub or_later : Option Difference → Option Difference → Option Difference
-or_later (Some found) later = Some found
-or_later None later = later
-
 -- a difference of the whole, of a track, of a track in a section
 abbrev pub in_all : Aspect → Difference
 in_all what = record { what = what; section = 0; track = 0; segment = 0 }
@@ -60,47 +56,48 @@ in_entry t s k what = record { what = what; section = s; track = t; segment = k 
 -- of a segment first the address, then the range, then the time
 abbrev pub segment_difference : ℕ → (Aspect → Difference) → (begin_a begin_b : Time) → (a b : Segment) → Option Difference
 segment_difference unit at begin_a begin_b a b =
-    or_later (unless (bytes_eq a.part.address b.part.address) (at aspect.Address))
-    (or_later (unless (option_eq is_same_range a.part.range b.part.range) (at aspect.Range))
+    option_or (unless (bytes_eq a.part.address b.part.address) (at aspect.Address))
+    (option_or (unless (option_eq is_same_range a.part.range b.part.range) (at aspect.Range))
     (unless (is_same_or_rounded unit (difference a.end begin_a) (difference b.end begin_b)) (at aspect.Time)))
 
 -- segment by segment, and then their number
 abbrev pub segments_difference : ℕ → ℕ → ℕ → ℕ → (begin_a begin_b : Time) → (xs ys : List Segment) → Option Difference
 segments_difference unit t s k begin_a begin_b [] [] = None
 segments_difference unit t s k begin_a begin_b (a ∷ xs) (b ∷ ys) =
-    or_later (segment_difference unit (in_entry t s k) begin_a begin_b a b) (segments_difference unit t s (k + 1) begin_a begin_b xs ys)
+    option_or (segment_difference unit (in_entry t s k) begin_a begin_b a b) (segments_difference unit t s (k + 1) begin_a begin_b xs ys)
 segments_difference unit t s k begin_a begin_b xs ys = Some (in_entry t s k aspect.Count)
 
 -- of an entry first the initialization part
 abbrev pub entry_difference : ℕ → ℕ → ℕ → (a b : Option Entry) → Option Difference
 entry_difference unit t s None None = None
 entry_difference unit t s (Some a) (Some b) =
-    or_later (unless (is_same_part a.initialization b.initialization) (in_entry t s 0 aspect.Initialization))
+    option_or (unless (is_same_part a.initialization b.initialization) (in_entry t s 0 aspect.Initialization))
     (segments_difference unit t s 0 (begin_of a.segments) (begin_of b.segments) a.segments b.segments)
 entry_difference unit t s a b = Some (in_entry t s 0 aspect.Initialization)
 
 -- section by section
 abbrev pub entries_difference : ℕ → ℕ → ℕ → (xs ys : List (Option Entry)) → Option Difference
 entries_difference unit t s [] [] = None
-entries_difference unit t s (a ∷ xs) (b ∷ ys) = or_later (entry_difference unit t s a b) (entries_difference unit t (s + 1) xs ys)
+entries_difference unit t s (a ∷ xs) (b ∷ ys) = option_or (entry_difference unit t s a b) (entries_difference unit t (s + 1) xs ys)
 entries_difference unit t s xs ys = Some (in_entry t s 0 aspect.Initialization)
 
 -- track by track, what each one is
 abbrev pub heads_difference : ℕ → (xs ys : List Track) → Option Difference
 heads_difference t [] ys = None
 heads_difference t (a ∷ xs) [] = None
-heads_difference t (a ∷ xs) (b ∷ ys) = or_later (unless (is_same_head a b) (in_track t aspect.Track)) (heads_difference (t + 1) xs ys)
+heads_difference t (a ∷ xs) (b ∷ ys) = option_or (unless (is_same_head a b) (in_track t aspect.Track)) (heads_difference (t + 1) xs ys)
 
 -- track by track, what each one has
 abbrev pub tracks_difference : ℕ → ℕ → (xs ys : List Track) → Option Difference
 tracks_difference unit t [] ys = None
 tracks_difference unit t (a ∷ xs) [] = None
-tracks_difference unit t (a ∷ xs) (b ∷ ys) = or_later (entries_difference unit t 0 a.entries b.entries) (tracks_difference unit (t + 1) xs ys)
+tracks_difference unit t (a ∷ xs) (b ∷ ys) = option_or (entries_difference unit t 0 a.entries b.entries)
+    (tracks_difference unit (t + 1) xs ys)
 
 -- The first place where the second neither means the same as the first nor rounds its times down: the number of
 -- sections, the number of tracks, what each track is, and then by track and section what it has there.
 unfoldable pub first_difference : ℕ → Meaning → Meaning → Option Difference
 first_difference unit a b =
-    or_later (unless (a.sections == b.sections) (in_all aspect.Sections))
-    (or_later (unless (length a.tracks == length b.tracks) (in_all aspect.Tracks))
-    (or_later (heads_difference 0 a.tracks b.tracks) (tracks_difference unit 0 a.tracks b.tracks)))
+    option_or (unless (a.sections == b.sections) (in_all aspect.Sections))
+    (option_or (unless (length a.tracks == length b.tracks) (in_all aspect.Tracks))
+    (option_or (heads_difference 0 a.tracks b.tracks) (tracks_difference unit 0 a.tracks b.tracks)))

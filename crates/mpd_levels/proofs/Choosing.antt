@@ -3,10 +3,12 @@ use Rattle.std.proofs.Common.{◌≡◌, Bool, true, false, List, [], ◌∷◌,
 use Rattle.std.proofs.lemmas.Bool.{cases_Bool}
 
 module _ {X Y : Type 0} (test : X → Bool) (show : X → Y) where
-  pub one_passes : (done : List Y) (x : X) (rest : List X) (all : List Y) → test x ≡ true → done ++ map show (filter test (x ∷ rest)) ≡ all → (done ++ show x ∷ []) ++ map show (filter test rest) ≡ all
+  pub one_passes : (done : List Y) (x : X) (rest : List X) (all : List Y) → test x ≡ true → done ++ map show (filter test (x ∷ rest)) ≡ all
+      → (done ++ show x ∷ []) ++ map show (filter test rest) ≡ all
   one_passes done x rest all passes so_far = append_assoc done (show x ∷ []) (map show (filter test rest)) ∙ rw passes at so_far
 
-  pub one_fails : (done : List Y) (x : X) (rest : List X) (all : List Y) → test x ≡ false → done ++ map show (filter test (x ∷ rest)) ≡ all → done ++ map show (filter test rest) ≡ all
+  pub one_fails : (done : List Y) (x : X) (rest : List X) (all : List Y) → test x ≡ false → done ++ map show (filter test (x ∷ rest)) ≡ all
+      → done ++ map show (filter test rest) ≡ all
   one_fails done x rest all fails so_far = rw fails at so_far
 
 module _ {X : Type 0} (Holds : X → Type 0) where

@@ -3,12 +3,12 @@ use Rattle.std.proofs.Common.{◌≡◌, ℕ, ◌^◌, Bool, true, false, List, 
 use Rattle.std.specs.Prelude.{codes, filter, find, is_some, IfSome, option_map, option_and_then}
 use Rattle.std.proofs.lemmas.Bool.{cases_Bool}
 use Rattle.std.proofs.lemmas.List.Elements.{All-cons, All-nil}
+use Rattle.bridge_io.proofs.Texts.{same_bytes}
 use Rattle.mpd_values.specs.declared.blank.Blank.TheVariants.{Space}
 use Rattle.mpd_values.specs.Blanks.{trimmed}
 use Rattle.mpd_values.specs.Numbers.{has_minus, is_between, kept_if, number_between, number_of, signed_of, signed_64_of}
 use Rattle.mpd_text.specs.Trees.{Element}
 use Rattle.mpd_text.specs.Views.{side_by_side}
-use Rattle.mpd_text.proofs.NameLemmas.{same_bytes}
 use Rattle.mpd_profile.specs.declared.listed.Addressing.{Addressing}
 use Rattle.mpd_profile.specs.declared.listed.Listed.{Listed}
 use Rattle.mpd_profile.specs.declared.listed.Listed.TheVariants.{SegmentTemplate, SegmentList, SegmentTimeline, S}
@@ -30,17 +30,20 @@ pub kept_whole : {X : Type 0} (test : X → Bool) (o : Option X) → is_some (ke
 kept_whole test None some = refl
 kept_whole test (Some x) some = elim (cases_Bool (test x)) [ inl passes ↦ rw passes refl | inr fails ↦ absurd (cc (rw fails at some)) ]
 
-between_whole : (least bound : ℕ) (value : Option (List ℕ)) → ((text : List ℕ) → value ≡ Some text → is_value (Number least bound) text ≡ true)
+between_whole : (least bound : ℕ) (value : Option (List ℕ)) → ((text : List ℕ) → value ≡ Some text
+    → is_value (Number least bound) text ≡ true)
     → option_and_then (number_between least bound) value ≡ option_and_then number_of value
 unfolding is_value
 between_whole least bound None fits = refl
 between_whole least bound (Some text) fits = kept_whole (is_between least bound) (number_of text) (fits text refl)
 
-mapped_whole : {X Y : Type 0} (f : X → Y) (test : X → Bool) (o : Option X) → is_some (option_map f (kept_if test o)) ≡ true → option_map f (kept_if test o) ≡ option_map f (kept_if (λ x. true) o)
+mapped_whole : {X Y : Type 0} (f : X → Y) (test : X → Bool) (o : Option X) → is_some (option_map f (kept_if test o)) ≡ true
+    → option_map f (kept_if test o) ≡ option_map f (kept_if (λ x. true) o)
 mapped_whole f test None some = refl
 mapped_whole f test (Some x) some = elim (cases_Bool (test x)) [ inl passes ↦ rw passes refl | inr fails ↦ absurd (cc (rw fails at some)) ]
 
-signed_whole : (value : Option (List ℕ)) → ((text : List ℕ) → value ≡ Some text → is_value Signed text ≡ true) → option_and_then signed_64_of value ≡ option_and_then signed_of value
+signed_whole : (value : Option (List ℕ)) → ((text : List ℕ) → value ≡ Some text → is_value Signed text ≡ true)
+    → option_and_then signed_64_of value ≡ option_and_then signed_of value
 unfolding is_value signed_64_of signed_of
 signed_whole None fits = refl
 signed_whole (Some text) fits = elim (cases_Bool (has_minus (trimmed Space text))) [
@@ -72,15 +75,18 @@ module _ (addressing : Addressing) (parent : Parent) (l : Listed) (name : List �
   all_hold : (cs : List Element) → All Sound cs → All Holds (filter (is_named name) cs)
   all_hold [] all = All-nil Holds
   all_hold (c ∷ cs) all = elim (cases_Bool (is_named name c)) [
-    | inl named ↦ rw named (All-cons Holds c (filter (is_named name) cs) (child_holds c (all_first Sound c cs all) named) (all_hold cs (all_behind Sound c cs all)))
+    | inl named ↦ rw named (All-cons Holds c (filter (is_named name) cs) (child_holds c (all_first Sound c cs all) named)
+        (all_hold cs (all_behind Sound c cs all)))
     | inr other ↦ rw other (all_hold cs (all_behind Sound c cs all))
   ]
 
 -- ---- the elements
 
 module _ (addressing : Addressing) (dynamic : Bool) where
-  number_fits : (l : Listed) (e : Element) (name : List ℕ) (least bound : ℕ) → value_of addressing l name ≡ Some (Number least bound) → IsSound addressing dynamic l e → FitsBetween least bound name e.head
-  number_fits l e name least bound is sound = between_whole least bound (value_named name e.head) (λ text there. sound.values name text (Number least bound) is there)
+  number_fits : (l : Listed) (e : Element) (name : List ℕ) (least bound : ℕ) → value_of addressing l name ≡ Some (Number least bound)
+      → IsSound addressing dynamic l e → FitsBetween least bound name e.head
+  number_fits l e name least bound is sound = between_whole least bound (value_named name e.head)
+      (λ text there. sound.values name text (Number least bound) is there)
 
   run_fits : (s : Element) → IsSound addressing dynamic S s → FitsRun s
   run_fits s sound = record {
@@ -91,7 +97,8 @@ module _ (addressing : Addressing) (dynamic : Bool) where
 
   timeline_fits : (timeline : Element) → IsSound addressing dynamic SegmentTimeline timeline → FitsTimeline timeline
   timeline_fits timeline sound =
-      all_hold addressing (parent_of SegmentTimeline dynamic timeline) S (codes "S") FitsRun refl (λ c. refl) run_fits (side_by_side timeline.children)
+      all_hold addressing (parent_of SegmentTimeline dynamic timeline) S (codes "S") FitsRun refl (λ c. refl) run_fits
+      (side_by_side timeline.children)
       (sound_children addressing dynamic SegmentTimeline timeline sound)
 
   template_fits : (e : Element) → IsSound addressing dynamic SegmentTemplate e → FitsSegments e
@@ -102,7 +109,8 @@ module _ (addressing : Addressing) (dynamic : Bool) where
       start_number = number_fits SegmentTemplate e (codes "startNumber") 0 (2 ^ 63) refl sound;
       time_offset = number_fits SegmentTemplate e (codes "presentationTimeOffset") 0 (2 ^ 63) refl sound;
     };
-    timeline = found_holds addressing (parent_of SegmentTemplate dynamic e) SegmentTimeline (codes "SegmentTimeline") FitsTimeline refl (λ c. refl) timeline_fits
+    timeline = found_holds addressing (parent_of SegmentTemplate dynamic e) SegmentTimeline (codes "SegmentTimeline") FitsTimeline refl
+        (λ c. refl) timeline_fits
         (side_by_side e.children) (sound_children addressing dynamic SegmentTemplate e sound);
   }
 
@@ -114,16 +122,20 @@ module _ (addressing : Addressing) (dynamic : Bool) where
       start_number = number_fits SegmentList e (codes "startNumber") 0 (2 ^ 63) refl sound;
       time_offset = number_fits SegmentList e (codes "presentationTimeOffset") 0 (2 ^ 63) refl sound;
     };
-    timeline = found_holds addressing (parent_of SegmentList dynamic e) SegmentTimeline (codes "SegmentTimeline") FitsTimeline refl (λ c. refl) timeline_fits
+    timeline = found_holds addressing (parent_of SegmentList dynamic e) SegmentTimeline (codes "SegmentTimeline") FitsTimeline refl
+        (λ c. refl) timeline_fits
         (side_by_side e.children) (sound_children addressing dynamic SegmentList e sound);
   }
 
   -- A Period, an AdaptationSet or a Representation: the two equations are `refl` at each of them.
-  pub level_fits : (listed : Listed) (level : Element) → child_of addressing listed template_name ≡ Some SegmentTemplate → child_of addressing listed list_name ≡ Some SegmentList
+  pub level_fits : (listed : Listed) (level : Element) → child_of addressing listed template_name ≡ Some SegmentTemplate
+      → child_of addressing listed list_name ≡ Some SegmentList
       → IsSound addressing dynamic listed level → FitsLevel level
   level_fits listed level template list sound =
       let children = sound_children addressing dynamic listed level sound in
       record {
-        template = found_holds addressing (parent_of listed dynamic level) SegmentTemplate template_name FitsSegments template (λ c. refl) template_fits (side_by_side level.children) children;
-        list = found_holds addressing (parent_of listed dynamic level) SegmentList list_name FitsSegments list (λ c. refl) list_fits (side_by_side level.children) children;
+        template = found_holds addressing (parent_of listed dynamic level) SegmentTemplate template_name FitsSegments template
+            (λ c. refl) template_fits (side_by_side level.children) children;
+        list = found_holds addressing (parent_of listed dynamic level) SegmentList list_name FitsSegments list (λ c. refl) list_fits
+            (side_by_side level.children) children;
       }

@@ -27,7 +27,8 @@ means_by template list base =
     if template then Some means.Template else if list then Some means.List else if base then Some means.Base else None
 
 abbrev pub means_at : Element → Option Means
-means_at level = means_by (is_some (child_named template_name level)) (is_some (child_named list_name level)) (is_some (child_named base_name level))
+means_at level = means_by (is_some (child_named template_name level)) (is_some (child_named list_name level))
+    (is_some (child_named base_name level))
 
 -- the lowest level that has one of the three decides which of them is used
 abbrev pub used : List Element → Option Means

@@ -1,5 +1,6 @@
 -- How the segments of a Representation are told one by one: ISO/IEC 23009-1, 5.3.9.
-use Rattle.std.specs.Prelude.{ℕ, pos, ◌||◌, ◌&&◌, not, Bool, true, false, List, [], ◌∷◌, map, codes, is_none, if◌then◌else◌, Option, Some, None, option_map, option_and_then, unwrap_or}
+use Rattle.std.specs.Prelude.{ℕ, pos, ◌||◌, ◌&&◌, not, Bool, true, false, List, [], ◌∷◌, map, codes, is_none, if◌then◌else◌, Option, Some}
+use Rattle.std.specs.Prelude.{None, option_map, option_and_then, unwrap_or}
 use Rattle.url_parts.specs.declared.range.Range.{Range}
 use Rattle.mpd_text.specs.Trees.{Head, Element}
 use Rattle.mpd_profile.specs.Heads.{value_named}
@@ -142,7 +143,8 @@ told is_list values = record {
   timeline = values.timeline;
   urls = values.urls;
   init_template = values.attributes.initialization;
-  init_reference = unless_there values.attributes.initialization (option_and_then (λ (i : Initialization). i.reference) values.initialization);
+  init_reference = unless_there values.attributes.initialization
+      (option_and_then (λ (i : Initialization). i.reference) values.initialization);
   init_range = unless_there values.attributes.initialization (option_and_then (λ (i : Initialization). i.range) values.initialization);
   has_initialization = not (is_none values.initialization);
 }

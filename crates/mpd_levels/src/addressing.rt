@@ -170,7 +170,8 @@ impl<'a> Addressing<'a> {
 
     /// The Initialization element, unless the attribute is there.
     fn initialization(&self) -> Option<&'a Initialization>
-        ensures { option_map (λ i. i.now) result ≡ spec.unless_there self.now.row.now.values.attributes.initialization self.now.row.now.values.initialization }
+        ensures { option_map (λ i. i.now) result
+            ≡ spec.unless_there self.now.row.now.values.attributes.initialization self.now.row.now.values.initialization }
     {
         match (
             &self.row.values.attributes.initialization,

@@ -58,7 +58,8 @@ impl Level {
         node: Node<'_>,
     ) -> Result<Level, NoMemory>
         requires { FitsLevel (element_of node) }
-        ensures says { (above : List Element) → Says tables.old self.now above → IfOk result (λ level. Says tables.new level (element_of node.entry ∷ above)) }
+        ensures says { (above : List Element) → Says tables.old self.now above
+            → IfOk result (λ level. Says tables.new level (element_of node.entry ∷ above)) }
         ensures grows { Grows tables.old tables.new }
     {
         let template_node = child_named(node, "SegmentTemplate");
@@ -79,7 +80,8 @@ impl Level {
     /// How the segments of a Representation at this level are told one by one. There is nothing exactly where neither
     /// a SegmentTemplate nor a SegmentList is used.
     pub fn segments(&self) -> Result<Option<SegmentRow>, NoMemory>
-        ensures { (tables : Tables) (levels : List Element) → Says tables self.now levels → IfOk result (λ row. IsTold tables row (segments_of levels)) }
+        ensures { (tables : Tables) (levels : List Element) → Says tables self.now levels
+            → IfOk result (λ row. IsTold tables row (segments_of levels)) }
     {
         match self.means {
             Some(Means::Template) => Ok(Some(SegmentRow::of(false, &self.template)?)),
@@ -108,7 +110,8 @@ fn means_of(
     list: Option<Node<'_>>,
     base: Option<Node<'_>>,
 ) -> Option<Means>
-    ensures { result ≡ means_by (is_some (option_map element_of template.entry)) (is_some (option_map element_of list.entry)) (is_some (option_map element_of base.entry)) }
+    ensures { result ≡ means_by (is_some (option_map element_of template.entry)) (is_some (option_map element_of list.entry))
+        (is_some (option_map element_of base.entry)) }
 {
     if template.is_some() {
         Some(Means::Template)

@@ -1,5 +1,6 @@
 -- A printed tree is UTF-8 without a character that no text may have.
-use Rattle.std.proofs.Common.{◌≡◌, ℕ, suc, not, Bool, true, false, ◌==◌, ◌&&◌, List, [], ◌∷◌, ◌++◌, Option, Some, None, option_map, if◌then◌else◌, codes, IsUtf8, refl, sym, ap, subst, inl, inr, arith}
+use Rattle.std.proofs.Common.{◌≡◌, ℕ, suc, not, Bool, true, false, ◌==◌, ◌&&◌, List, [], ◌∷◌, ◌++◌, Option, Some, None, option_map}
+use Rattle.std.proofs.Common.{if◌then◌else◌, codes, IsUtf8, refl, sym, ap, subst, inl, inr, arith}
 use Rattle.std.specs.List.{flat_map}
 use Rattle.std.proofs.lemmas.Bool.{and_parts, cases_eq}
 use Rattle.std.proofs.lemmas.Str.{IsUtf8-append, IsUtf8-nil, IsUtf8-encode, IsUtf8-from_is_utf8, IsCharBoundary-start}
@@ -24,7 +25,8 @@ newly [] u = refl
 newly (b ∷ bs) u = let boundary = IsCharBoundary-start (b ∷ bs) u in grind (arith, boundary.1)
 
 -- nothing that begins before the bytes ends in them
-begins_before : (x : ℕ) (a b : List ℕ) → begins_newly b ≡ true → begins_with_bad_character (x ∷ a) ≡ false → begins_with_bad_character (x ∷ (a ++ b)) ≡ false
+begins_before : (x : ℕ) (a b : List ℕ) → begins_newly b ≡ true → begins_with_bad_character (x ∷ a) ≡ false
+    → begins_with_bad_character (x ∷ (a ++ b)) ≡ false
 unfolding begins_with_bad_character begins_with_noncharacter
 begins_before x [] [] new e = e
 begins_before x [] (c ∷ cs) new e =
@@ -45,7 +47,8 @@ none_of true later e = absurd (some_is_not_none 0 e)
 none_of false None e = (refl, refl)
 none_of false (Some k) e = absurd (some_is_not_none (suc k) e)
 
-no_bad : (a b : List ℕ) → begins_newly b ≡ true → first_bad_character a ≡ None → first_bad_character b ≡ None → first_bad_character (a ++ b) ≡ None
+no_bad : (a b : List ℕ) → begins_newly b ≡ true → first_bad_character a ≡ None → first_bad_character b ≡ None
+    → first_bad_character (a ++ b) ≡ None
 no_bad [] b new A B = B
 no_bad (x ∷ a) b new A B =
     let parts = none_of (begins_with_bad_character (x ∷ a)) (first_bad_character a) A in
@@ -61,7 +64,8 @@ joined {a = a} {b = b} A B = record {
 -- ---- escaped values
 
 -- what holds of the four escapes, and of other bytes as they are
-by_escape : (P : ℕ → List ℕ → Type 0) → P 38 (codes "&amp;") → P 60 (codes "&lt;") → P 62 (codes "&gt;") → P 34 (codes "&quot;") → ((b : ℕ) → P b (b ∷ []))
+by_escape : (P : ℕ → List ℕ → Type 0) → P 38 (codes "&amp;") → P 60 (codes "&lt;") → P 62 (codes "&gt;") → P 34 (codes "&quot;")
+    → ((b : ℕ) → P b (b ∷ []))
     → (b : ℕ) → P b (escape_of b)
 by_escape P amp less greater quote other b = elim (cases_eq b 38) [
   | inl is ↦ subst (λ k. P k (escape_of k)) (sym is) amp
@@ -82,7 +86,8 @@ third_stays : (b c : ℕ) (ds : List ℕ) → begins_with_noncharacter (b ∷ (c
 unfolding begins_with_noncharacter escape_all
 third_stays b c [] = refl
 third_stays b c (d ∷ ds) =
-    by_escape (λ d e. begins_with_noncharacter (b ∷ (c ∷ (e ++ escape_all ds))) ≡ begins_with_noncharacter (b ∷ (c ∷ (d ∷ ds)))) refl refl refl refl
+    by_escape (λ d e. begins_with_noncharacter (b ∷ (c ∷ (e ++ escape_all ds)))
+    ≡ begins_with_noncharacter (b ∷ (c ∷ (d ∷ ds)))) refl refl refl refl
     (λ d. refl) d
 
 second_stays : (b : ℕ) (cs : List ℕ) → begins_with_noncharacter (b ∷ escape_all cs) ≡ begins_with_noncharacter (b ∷ cs)
@@ -124,7 +129,8 @@ unfolding escape_all
 characters_escaped [] ok = IsUtf8-nil
 characters_escaped (c ∷ cs) ok =
     let parts = and_parts _ _ ok in
-    subst IsUtf8 (sym (escape-append (encode c) (encodes cs))) (IsUtf8-append _ _ (character_escaped c parts.0) (characters_escaped cs parts.1))
+    subst IsUtf8 (sym (escape-append (encode c) (encodes cs))) (IsUtf8-append _ _ (character_escaped c parts.0)
+    (characters_escaped cs parts.1))
 
 escaped : {value : List ℕ} → IsClean value → IsClean (escape_all value)
 escaped {value = value} clean = record {
@@ -162,7 +168,8 @@ literals = record {
 }
 
 attribute_clean : (a : List ℕ × List ℕ) → IsLegalAttribute a → IsClean (attribute_text a)
-attribute_clean a legal = joined (joined (joined (joined literals.space legal.name.clean) literals.equals) (escaped legal.value)) literals.quote
+attribute_clean a legal = joined (joined (joined (joined literals.space legal.name.clean) literals.equals)
+    (escaped legal.value)) literals.quote
 
 attributes_clean : (attributes : List (List ℕ × List ℕ)) → AllLegal attributes → IsClean (flat_map attribute_text attributes)
 attributes_clean [] legal = literals.none
@@ -171,7 +178,8 @@ attributes_clean (a ∷ more) legal = joined (attribute_clean a legal.0) (attrib
 opening_clean : (tag : Tag) → IsLegalTag tag → IsClean (opening tag)
 opening_clean tag legal = joined (joined literals.less_than legal.name.clean) (attributes_clean tag.attributes legal.attributes)
 
-enclosed_clean : (tag : Tag) (children : Markup) → IsLegalTag tag → IsClean (printed children) → IsClean (enclosed tag children (printed children))
+enclosed_clean : (tag : Tag) (children : Markup) → IsLegalTag tag → IsClean (printed children)
+    → IsClean (enclosed tag children (printed children))
 enclosed_clean tag nothing legal inside = joined (opening_clean tag legal) literals.empty
 enclosed_clean tag (element first within after) legal inside =
     joined (joined (joined (opening_clean tag legal) literals.greater_than) (joined literals.line_feed inside))

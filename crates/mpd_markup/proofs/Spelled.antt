@@ -3,12 +3,14 @@ use Rattle.std.proofs.Common.{◌≡◌, ℕ, suc, max, List, [], ◌∷◌, ◌
 use Rattle.bridge_io.specs.declared.place.Place.{Place}
 use Rattle.mpd_text.specs.Characters.{is_white}
 use Rattle.mpd_text.specs.Trees.{depth}
-use Rattle.mpd_text.specs.Grammar.{IsAttribute, AreAttributes, OpensTag, IsElementRound, IsContent, IsMisc, IsProlog, IsDocument, AllDiffer, names_of, past}
+use Rattle.mpd_text.specs.Grammar.{IsAttribute, AreAttributes, OpensTag, IsElementRound, IsContent, IsMisc, IsProlog, IsDocument, AllDiffer}
+use Rattle.mpd_text.specs.Grammar.{names_of, past}
 use Rattle.std.proofs.lemmas.List.{append-nil}
 use Rattle.mpd_text.specs.Escapes.{escape_all}
 use Rattle.mpd_text.proofs.ReadBack.{reads_back}
 use Rattle.mpd_markup.specs.Markup.{Tag, Markup, nothing, element, attribute_text, opening, enclosed, printed, declaration, document}
-use Rattle.mpd_markup.specs.Placed.{attributes_at, line_feeds, text_round, head_at, placed, root_place, root_read, levels, IsLegalAttribute, AllLegal, IsLegalTag, AreLegal, IsLegal}
+use Rattle.mpd_markup.specs.Placed.{attributes_at, line_feeds, text_round, head_at, placed, root_place, root_read, levels, IsLegalAttribute}
+use Rattle.mpd_markup.specs.Placed.{AllLegal, IsLegalTag, AreLegal, IsLegal}
 use Rattle.std.specs.List.{flat_map}
 
 attribute_is : (here : Place) (a : List ℕ × List ℕ) → IsLegalAttribute a
@@ -89,7 +91,11 @@ element_is tag (element first within after) legal inside from = (
       is_white = refl;
     };
     is_inside = inside (past from (opening tag ++ codes ">"));
-    is_end_tag = record { white = []; bytes_are = ap (λ front. front ++ codes ">") (sym (append-nil (codes "</" ++ tag.name))); is_white = refl };
+    is_end_tag = record {
+      white = [];
+      bytes_are = ap (λ front. front ++ codes ">") (sym (append-nil (codes "</" ++ tag.name)));
+      is_white = refl;
+    };
   }),
 )
 
@@ -137,7 +143,13 @@ declares = record {
     is_declaration = inr (record {
       front = declared;
       bytes_are = refl;
-      opens = record { white = 32; inside = codes "version=\"1.0\" encoding=\"UTF-8\""; bytes_are = refl; is_white = refl; ends_later = refl };
+      opens = record {
+        white = 32;
+        inside = codes "version=\"1.0\" encoding=\"UTF-8\"";
+        bytes_are = refl;
+        is_white = refl;
+        ends_later = refl;
+      };
     });
   };
   is_misc = line_feed_is;

@@ -26,7 +26,8 @@ opening tag = codes "<" ++ tag.name ++ flat_map attribute_text tag.attributes
 -- an element, of which the children are printed
 abbrev pub enclosed : Tag → Markup → List ℕ → List ℕ
 enclosed tag nothing inside = opening tag ++ codes "/>"
-enclosed tag (element first within after) inside = opening tag ++ codes ">" ++ (codes "\n" ++ inside) ++ (codes "</" ++ tag.name ++ codes ">")
+enclosed tag (element first within after) inside = opening tag ++ codes ">" ++ (codes "\n" ++ inside)
+    ++ (codes "</" ++ tag.name ++ codes ">")
 
 abbrev pub printed : Markup → List ℕ
 printed nothing = []

@@ -15,7 +15,8 @@ use Rattle.mpd_markup.specs.Markup.{Tag, Markup, nothing, element, attribute_tex
 abbrev pub attributes_at : Place → List (List ℕ × List ℕ) → List Attribute
 attributes_at here [] = []
 attributes_at here (attribute ∷ attributes) =
-    record { name = attribute.0; value = attribute.1; place = past here (codes " ") } ∷ attributes_at (past here (attribute_text attribute)) attributes
+    record { name = attribute.0; value = attribute.1; place = past here (codes " ") } ∷ attributes_at
+    (past here (attribute_text attribute)) attributes
 
 -- the line feeds behind elements
 abbrev pub line_feeds : Markup → List ℕ

@@ -21,7 +21,8 @@ both : (a b : Bool) → (a && b) ≡ true → (a ≡ true) × (b ≡ true)
 both true b is = (refl, is)
 both false b none = absurd (cc)
 
-few_kept : (least bound : ℕ) (digits : List ℕ) → has_room least bound ≡ true → are_few_digits digits ≡ true → is_some (kept_if (is_between least bound) (numeral_of digits)) ≡ true
+few_kept : (least bound : ℕ) (digits : List ℕ) → has_room least bound ≡ true → are_few_digits digits ≡ true
+    → is_some (kept_if (is_between least bound) (numeral_of digits)) ≡ true
 few_kept least bound digits room few =
     let parts = both (all_ascii_digits digits) _ few in
     let small = digits_value_short model digits 18 parts.0 (grind (arith, nat_tests)) in
@@ -37,10 +38,14 @@ untrimmed : (text : List ℕ) → list_all is_ascii_digit text ≡ true → trim
 unfolding trimmed
 untrimmed text digits =
     let ends : length text - suffix_len (is_blank Space) text ≡ length text =
-    let none = suffix_len_is (is_blank Space) text (length text) 48 (omega arith) (λ k from to. absurd (omega arith)) (λ some. no_blank text (length text - 1) digits (omega arith)) in omega arith in
-    let begins = prefix_len_is (is_blank Space) text 0 48 (omega arith) (λ k below. absurd (omega arith)) (λ some. no_blank text 0 digits some) in
+    let none = suffix_len_is (is_blank Space) text (length text) 48 (omega arith) (λ k from to. absurd (omega arith))
+    (λ some. no_blank text (length text - 1) digits (omega arith)) in omega arith in
+    let begins = prefix_len_is (is_blank Space) text 0 48 (omega arith) (λ k below. absurd (omega arith))
+    (λ some. no_blank text 0 digits some) in
     rw (ends, take_all (length text) text (omega arith), begins) refl
 
-pub few_are_numbers : (least bound : ℕ) (text : List ℕ) → has_room least bound ≡ true → are_few_digits text ≡ true → true ≡ is_some (number_between least bound text)
+pub few_are_numbers : (least bound : ℕ) (text : List ℕ) → has_room least bound ≡ true → are_few_digits text ≡ true
+    → true ≡ is_some (number_between least bound text)
 unfolding number_of
-few_are_numbers least bound text room few = rw (untrimmed text (both (list_all is_ascii_digit text) _ few).0) (sym (few_kept least bound text room few))
+few_are_numbers least bound text room few = rw (untrimmed text (both (list_all is_ascii_digit text) _ few).0)
+    (sym (few_kept least bound text room few))

@@ -1,9 +1,10 @@
 -- Names that tell nothing.
-use Rattle.std.proofs.Common.{◌≡◌, ℕ, true, false, List, Option, Some, None, refl, sym, ap, ◌∙◌, bytes_eq, nat_lt, length, inl, inr, ◌⊎◌, ◌||◌, Bool}
+use Rattle.std.proofs.Common.{◌≡◌, ℕ, true, false, List, Option, Some, None, refl, sym, ap, ◌∙◌, bytes_eq, nat_lt, length, inl, inr, ◌⊎◌}
+use Rattle.std.proofs.Common.{◌||◌, Bool}
 use Rattle.std.specs.Prelude.{codes}
 use Rattle.std.proofs.lemmas.Bool.{cases_Bool}
+use Rattle.bridge_io.proofs.Texts.{same_bytes}
 use Rattle.mpd_text.specs.Trees.{Attribute}
-use Rattle.mpd_text.proofs.NameLemmas.{same_bytes}
 use Rattle.mpd_profile.specs.declared.listed.Listed.{Listed}
 use Rattle.mpd_profile.specs.declared.listed.Listed.TheVariants as listed
 use Rattle.mpd_profile.specs.Features.{attribute_feature, is_entry_value, is_essential_in, is_segment_element, parent_feature}
@@ -26,7 +27,11 @@ differs_too name word short long = elim (cases_Bool (bytes_eq word name)) [
 
 module _ (name : List ℕ) (short : is_short name ≡ true) where
   pub no_segments : is_segment_element name ≡ false
-  no_segments = rw (differs name (codes "SegmentTemplate") short refl, differs name (codes "SegmentList") short refl, differs name (codes "SegmentBase") short refl) refl
+  no_segments = rw (
+    differs name (codes "SegmentTemplate") short refl,
+    differs name (codes "SegmentList") short refl,
+    differs name (codes "SegmentBase") short refl,
+  ) refl
 
   pub no_timeline : bytes_eq name (codes "SegmentTimeline") ≡ false
   no_timeline = differs name (codes "SegmentTimeline") short refl

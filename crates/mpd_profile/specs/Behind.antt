@@ -1,17 +1,18 @@
 -- What the elements before one in its parent say of it.
-use Rattle.std.specs.Prelude.{◌≡◌, ℕ, ◌&&◌, Bool, List, codes, bytes_eq}
+use Rattle.std.specs.Prelude.{◌≡◌, ℕ, ◌&&◌, Bool, List, codes, map}
 use Rattle.std.specs.List.{list_any}
+use Rattle.bridge_io.specs.Texts.{is_among}
 use Rattle.mpd_text.specs.Trees.{Head}
 use Rattle.mpd_profile.specs.declared.siblings.Siblings.{Siblings}
-use Rattle.mpd_profile.specs.Features.{is_among, is_segment_element}
+use Rattle.mpd_profile.specs.Features.{is_segment_element, names_of}
 use Rattle.mpd_profile.specs.Refusals.{has_id}
 
 abbrev pub holds_id : Siblings → List ℕ → Bool
-holds_id siblings id = list_any (λ key. bytes_eq key.now id) siblings.ids.keys
+holds_id siblings id = is_among id (map (λ key. key.now) siblings.ids.keys)
 
 -- what is kept of the elements before
 pub record IsBehind (siblings : Siblings) (dynamic : Bool) (before : List Head) : Type 0 where
   pub segments : siblings.segments ≡ list_any (λ head. is_segment_element head.name) before
-  pub timeline : siblings.timeline ≡ is_among (codes "SegmentTimeline") before
-  pub initialization : siblings.initialization ≡ is_among (codes "Initialization") before
+  pub timeline : siblings.timeline ≡ is_among (codes "SegmentTimeline") (names_of before)
+  pub initialization : siblings.initialization ≡ is_among (codes "Initialization") (names_of before)
   pub ids : (id : List ℕ) → holds_id siblings id ≡ (dynamic && list_any (has_id id) before)

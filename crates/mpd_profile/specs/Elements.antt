@@ -2,11 +2,13 @@
 -- whole.
 use Rattle.std.specs.Prelude.{ℕ, ◌^◌, List, [], ◌∷◌, codes, bytes_eq, find, Option, option_map}
 use Rattle.mpd_profile.specs.declared.listed.Listed.{Listed}
-use Rattle.mpd_profile.specs.declared.listed.Listed.TheVariants.{Mpd, BaseUrl, Period, AdaptationSet, Representation, SegmentTemplate, SegmentList, SegmentBase, Initialization, SegmentTimeline, S, SegmentUrl}
+use Rattle.mpd_profile.specs.declared.listed.Listed.TheVariants.{Mpd, BaseUrl, Period, AdaptationSet, Representation, SegmentTemplate}
+use Rattle.mpd_profile.specs.declared.listed.Listed.TheVariants.{SegmentList, SegmentBase, Initialization, SegmentTimeline, S, SegmentUrl}
 use Rattle.mpd_profile.specs.declared.listed.Addressing.{Addressing}
 use Rattle.mpd_profile.specs.declared.listed.Addressing.TheVariants.{Segments, Index}
 use Rattle.mpd_profile.specs.declared.value.Value.{Value}
-use Rattle.mpd_profile.specs.declared.value.Value.TheVariants.{MpdType, Instant, Duration, AnyText, Number, Signed, FrameRate, Codes, Language, Range}
+use Rattle.mpd_profile.specs.declared.value.Value.TheVariants.{MpdType, Instant, Duration, AnyText, Number, Signed, FrameRate, Codes}
+use Rattle.mpd_profile.specs.declared.value.Value.TheVariants.{Language, Range}
 
 -- a name with what it names
 abbrev pub Named : Type 0 → Type 0

@@ -1,6 +1,8 @@
 -- Features of ISO/IEC 23009-1 that are refused by name wherever they stand.
-use Rattle.std.specs.Prelude.{ℕ, ◌&&◌, ◌||◌, Bool, true, false, List, [], ◌∷◌, ◌++◌, codes, bytes_eq, flat_map, if◌then◌else◌, Option, Some, None, option_and_then}
+use Rattle.std.specs.Prelude.{ℕ, ◌&&◌, ◌||◌, Bool, true, false, List, [], ◌∷◌, ◌++◌, codes, bytes_eq, map, flat_map, if◌then◌else◌, Option}
+use Rattle.std.specs.Prelude.{Some, None, option_and_then}
 use Rattle.std.specs.List.{list_any}
+use Rattle.bridge_io.specs.Texts.{is_among}
 use Rattle.bridge_io.specs.declared.place.Place.{Place}
 use Rattle.bridge_io.specs.declared.media.Kind.{Kind}
 use Rattle.mpd_text.specs.Trees.{Attribute, Head}
@@ -36,16 +38,15 @@ abbrev pub is_segment_element : List ℕ → Bool
 is_segment_element name =
     bytes_eq name (codes "SegmentTemplate") || (bytes_eq name (codes "SegmentList") || bytes_eq name (codes "SegmentBase"))
 
--- some element among these has this name
-abbrev pub is_among : List ℕ → List Head → Bool
-is_among name heads = list_any (λ head. bytes_eq head.name name) heads
+abbrev pub names_of : List Head → List (List ℕ)
+names_of heads = map (λ head. head.name) heads
 
 -- the second of those elements of which one parent has one
 abbrev pub is_second : List Head → List ℕ → Bool
 is_second before name =
     (is_segment_element name && list_any (λ head. is_segment_element head.name) before)
-    || ((bytes_eq name (codes "SegmentTimeline") && is_among (codes "SegmentTimeline") before)
-    || (bytes_eq name (codes "Initialization") && is_among (codes "Initialization") before))
+    || ((bytes_eq name (codes "SegmentTimeline") && is_among (codes "SegmentTimeline") (names_of before))
+    || (bytes_eq name (codes "Initialization") && is_among (codes "Initialization") (names_of before)))
 
 abbrev pub feature_if : Listed → (second : Bool) → List ℕ → Option Feature
 feature_if parent second name =

@@ -51,12 +51,14 @@ refused_child pass parent before e =
     flat_map (told_by pass)
     (if is_left_out parent.head (child_of (addressing_of pass) parent.listed e.head.name) e then []
     else visit_in (addressing_of pass) parent before e.head
-    ∷ inside (child_of (addressing_of pass) parent.listed e.head.name) (λ listed. visits_in (addressing_of pass) (parent_in parent listed e.head) [] e.children))
+    ∷ inside (child_of (addressing_of pass) parent.listed e.head.name)
+    (λ listed. visits_in (addressing_of pass) (parent_in parent listed e.head) [] e.children))
 
 -- in one after the other
 unfoldable pub refused_along : Pass → Parent → List Head → List Element → List RuleFault
 refused_along pass parent before [] = []
-refused_along pass parent before (e ∷ others) = refused_child pass parent before e ++ refused_along pass parent (before ++ e.head ∷ []) others
+refused_along pass parent before (e ∷ others) = refused_child pass parent before e ++ refused_along pass parent
+    (before ++ e.head ∷ []) others
 
 -- in an MPD
 unfoldable pub refused_in : Pass → Element → List RuleFault

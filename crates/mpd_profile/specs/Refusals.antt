@@ -1,5 +1,6 @@
 -- What is refused in an MPD before its Periods and Representations are put together, pass by pass.
-use Rattle.std.specs.Prelude.{ℕ, ◌&&◌, ◌||◌, not, Bool, true, false, List, [], ◌∷◌, ◌++◌, codes, bytes_eq, flat_map, is_none, if◌then◌else◌, Option, Some, None, Result, Ok, Err}
+use Rattle.std.specs.Prelude.{ℕ, ◌&&◌, ◌||◌, not, Bool, true, false, List, [], ◌∷◌, ◌++◌, codes, bytes_eq, flat_map, is_none, if◌then◌else◌}
+use Rattle.std.specs.Prelude.{Option, Some, None}
 use Rattle.std.specs.List.{list_any}
 use Rattle.mpd_text.specs.Trees.{Attribute, Head, Element}
 use Rattle.mpd_values.specs.MediaTypes.{is_alike}
@@ -97,11 +98,6 @@ value_refusals addressing root = flat_map (values_at addressing) (visits_of addr
 -- of an MPD whose segments are addressed so
 unfoldable pub refusals_of : Addressing → Element → List RuleFault
 refusals_of addressing root = root_refusals root ++ feature_refusals root ++ value_refusals addressing root
-
--- the first of them
-abbrev pub first_of : List RuleFault → Result (Unit {0}) RuleFault
-first_of [] = Ok tt
-first_of (fault ∷ faults) = Err fault
 
 -- want of memory tells nothing of an MPD
 abbrev pub refusal : RuleFault → Option RuleFault

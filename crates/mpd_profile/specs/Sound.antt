@@ -19,7 +19,8 @@ parent_of listed dynamic e = record { listed = listed; head = e.head; dynamic = 
 
 -- An element that is read so has nothing refused for its values, neither in itself nor in what is looked at in it.
 pub record IsSound (addressing : Addressing) (dynamic : Bool) (listed : Listed) (e : Element) : Type 0 where
-  pub values : (name text : List ℕ) (value : Value) → value_of addressing listed name ≡ Some value → value_named name e.head ≡ Some text → is_value value text ≡ true
+  pub values : (name text : List ℕ) (value : Value) → value_of addressing listed name ≡ Some value → value_named name e.head ≡ Some text
+      → is_value value text ≡ true
   pub required : list_any (lacks e.head) (required_of (Some listed) dynamic) ≡ false
   pub inside : flat_map (values_at addressing) (visits_in addressing (parent_of listed dynamic e) [] e.children) ≡ []
 
@@ -31,7 +32,8 @@ pub record IsSoundAs (addressing : Addressing) (parent : Parent) (l : Listed) (c
 
 abbrev pub IsSoundChild : Addressing → Parent → Element → Type 0
 IsSoundChild addressing parent c =
-    (l : Listed) → child_of addressing parent.listed c.head.name ≡ Some l → is_left_out parent.head (Some l) c ≡ false → IsSoundAs addressing parent l c
+    (l : Listed) → child_of addressing parent.listed c.head.name ≡ Some l → is_left_out parent.head (Some l) c ≡ false
+    → IsSoundAs addressing parent l c
 
 -- each element directly in one, as far as it is read and isn't left out
 abbrev pub AreSoundChildren : Addressing → Bool → Listed → Element → Type 0

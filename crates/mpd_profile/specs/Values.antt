@@ -12,7 +12,8 @@ use Rattle.mpd_values.specs.FrameRates.{frame_rate_between}
 use Rattle.mpd_values.specs.Codecs.{are_read_codes}
 use Rattle.mpd_values.specs.Languages.{is_language}
 use Rattle.mpd_profile.specs.declared.value.Value.{Value}
-use Rattle.mpd_profile.specs.declared.value.Value.TheVariants.{MpdType, Instant, Duration, AnyText, Number, Signed, FrameRate, Codes, Language, Range}
+use Rattle.mpd_profile.specs.declared.value.Value.TheVariants.{MpdType, Instant, Duration, AnyText, Number, Signed, FrameRate, Codes}
+use Rattle.mpd_profile.specs.declared.value.Value.TheVariants.{Language, Range}
 
 -- numbers below 10^18 are all within bounds
 abbrev pub has_room : (least bound : ℕ) → Bool

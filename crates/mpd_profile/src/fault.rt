@@ -3,7 +3,6 @@ ghost use Rattle.std.specs.Prelude.{◌≡◌};
 ghost use Rattle.mpd_profile.specs.declared.fault.RuleFault.TheVariants.{Memory};
 
 use bridge_io::{NoMemory, Place};
-use std::alloc::{AllocError, AllocFailed};
 use thiserror::Error;
 
 /// Why an MPD is refused, and where: at the `<` of an element, or at the first byte of an attribute's name.
@@ -56,26 +55,14 @@ pub enum RuleFault {
     Memory,
 }
 
-impl From<NoMemory> for RuleFault {
+/// Every error that tells want of memory alone.
+impl<E: Drop> From<E> for RuleFault
+where
+    NoMemory: From<E>,
+{
     ghost from_gives = { λ _ fault. fault ≡ Memory };
 
-    fn from(_: NoMemory) -> RuleFault {
-        RuleFault::Memory
-    }
-}
-
-impl From<AllocError> for RuleFault {
-    ghost from_gives = { λ _ fault. fault ≡ Memory };
-
-    fn from(_: AllocError) -> RuleFault {
-        RuleFault::Memory
-    }
-}
-
-impl<T: Drop> From<AllocFailed<T>> for RuleFault {
-    ghost from_gives = { λ _ fault. fault ≡ Memory };
-
-    fn from(_: AllocFailed<T>) -> RuleFault {
+    fn from(_: E) -> RuleFault {
         RuleFault::Memory
     }
 }

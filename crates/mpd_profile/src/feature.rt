@@ -69,7 +69,8 @@ fn is_essential_in(parent: Listed, name: &str) -> bool
 
 /// Whether a code stands for another kind of media than a Representation of this media type.
 pub(crate) fn has_foreign(media_type: Option<&str>, codecs: Option<&str>) -> bool
-    ensures { result ≡ spec.has_foreign (spec.kind_named (option_map (λ text. text.now) media_type.entry)) (option_map (λ text. text.now) codecs.entry) }
+    ensures { result ≡ spec.has_foreign (spec.kind_named (option_map (λ text. text.now) media_type.entry))
+        (option_map (λ text. text.now) codecs.entry) }
 {
     match (media_type, codecs) {
         (Some(media_type), Some(codecs)) => match kind_of(media_type) {

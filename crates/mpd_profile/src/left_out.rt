@@ -44,7 +44,8 @@ pub fn is_representation_left_out(media_type: Option<&str>, representation: Node
 }
 
 fn has_none_kept(set: Node<'_>) -> bool
-    ensures { result ≡ list_all (spec.is_none_kept (spec.type_of (element_of set.entry).head)) (side_by_side (element_of set.entry).children) }
+    ensures { result ≡ list_all (spec.is_none_kept (spec.type_of (element_of set.entry).head))
+        (side_by_side (element_of set.entry).children) }
 {
     let media_type = value_named(set, "mimeType");
     set.children().all(|child| is_none_kept(media_type, child))

@@ -1,13 +1,14 @@
 // The passes.
 ghost use Rattle.std.specs.Prelude.{◌≡◌, List, [], OnOk, flat_map};
 ghost use Rattle.bridge_io.specs.Answer.{Gives};
+ghost use Rattle.bridge_io.specs.Firsts.{first_fault};
 ghost use Rattle.mpd_text.specs.Nodes.{element_of, root_of};
 ghost use Rattle.mpd_text.specs.Trees.{Head};
 ghost use Rattle.mpd_profile.specs.declared.listed.Listed.TheVariants.{Mpd};
 ghost use Rattle.mpd_profile.specs.Behind.{IsBehind};
 ghost use Rattle.mpd_profile.specs.Heads.{is_dynamic};
 ghost use Rattle.mpd_profile.specs.Passes as passes;
-ghost use Rattle.mpd_profile.specs.Refusals.{first_of, refusal, refusals_of, root_refusals};
+ghost use Rattle.mpd_profile.specs.Refusals.{refusal, refusals_of, root_refusals};
 ghost use Rattle.mpd_profile.specs.Sound.{IsSound};
 ghost use Rattle.mpd_profile.specs.Visits.{unless_empty};
 
@@ -30,7 +31,7 @@ const NAMESPACE: &str = "urn:mpeg:dash:schema:mpd:2011";
 ///
 /// The answer is that refusal with its place, or `Memory`, which says nothing of the MPD.
 pub fn check(alloc: Global, tree: &Tree, addressing: Addressing) -> Result<(), RuleFault>
-    ensures refused { Gives (λ u. u) refusal result (first_of (refusals_of addressing (root_of tree.now))) }
+    ensures refused { Gives (λ u. u) refusal result (first_fault (refusals_of addressing (root_of tree.now))) }
     ensures sound { OnOk result (IsSound addressing (is_dynamic (root_of tree.now).head) Mpd (root_of tree.now)) }
 {
     let root = tree.root();
@@ -41,7 +42,7 @@ pub fn check(alloc: Global, tree: &Tree, addressing: Addressing) -> Result<(), R
 
 #[tactic(auto, unfolding(crate::specs::Refusals::root_refusals))]
 fn check_root(root: Node<'_>) -> Result<(), RuleFault>
-    ensures { result ≡ first_of (root_refusals (element_of root.entry)) }
+    ensures { result ≡ first_fault (root_refusals (element_of root.entry)) }
 {
     if root.name() != "MPD" {
         return Err(RuleFault::Root(root.place()));
@@ -53,7 +54,7 @@ fn check_root(root: Node<'_>) -> Result<(), RuleFault>
 }
 
 fn check_all(alloc: Global, root: Node<'_>, pass: Pass) -> Result<(), RuleFault>
-    ensures { Gives (λ u. u) refusal result (first_of (passes.refused_in pass (element_of root.entry))) }
+    ensures { Gives (λ u. u) refusal result (first_fault (passes.refused_in pass (element_of root.entry))) }
 {
     let dynamic = is_dynamic(root);
     let visit = Visit {
@@ -70,7 +71,8 @@ fn check_all(alloc: Global, root: Node<'_>, pass: Pass) -> Result<(), RuleFault>
 /// Looks at what stands in an element that is read.
 #[cycle(inside)]
 fn check_inside(alloc: Global, parent: &Parent<'_>, pass: Pass) -> Result<(), RuleFault>
-    ensures { Gives (λ u. u) refusal result (first_of (passes.refused_inside pass (passes.parent_shown parent.now) [] (element_of parent.now.node).children)) }
+    ensures { Gives (λ u. u) refusal result (first_fault (passes.refused_inside pass (passes.parent_shown parent.now) []
+        (element_of parent.now.node).children)) }
 {
     let mut siblings = Siblings::new(alloc, parent.dynamic);
     for node in parent.node.children() {
@@ -90,7 +92,8 @@ fn check_child<'a>(
     pass: Pass,
 ) -> Result<(), RuleFault>
     ensures { (before : List Head) → IsBehind siblings.now parent.now.dynamic before →
-        Gives (λ u. u) refusal result (first_of (passes.refused_child pass (passes.parent_shown parent.now) before (element_of node.entry))) }
+        Gives (λ u. u) refusal result (first_fault (passes.refused_child pass (passes.parent_shown parent.now) before
+        (element_of node.entry))) }
 {
     let listed = parent.listed.child(node.name(), pass.addressing());
     if is_left_out(parent.media_type, listed, node) {

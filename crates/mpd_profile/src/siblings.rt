@@ -46,14 +46,16 @@ impl<'a> Siblings<'a> {
 
     /// Whether a Period before has this id.
     pub(crate) fn has_id(&self, id: &str) -> bool
-        ensures { (dynamic : Bool) (before : List Head) → IsBehind self.now dynamic before → result ≡ (dynamic && list_any (has_id id.now) before) }
+        ensures { (dynamic : Bool) (before : List Head) → IsBehind self.now dynamic before
+            → result ≡ (dynamic && list_any (has_id id.now) before) }
     {
         self.ids.contains(id.as_bytes())
     }
 
     /// Adds an element behind the others; the ids of Periods only of a dynamic MPD.
     pub(crate) fn add(&mut self, node: Node<'a>, dynamic: bool) -> Result<(), RuleFault>
-        ensures added { (before : List Head) → IsBehind self.old dynamic before → OnOk result (IsBehind self.new dynamic (before ++ (element_of node.entry).head ∷ [])) }
+        ensures added { (before : List Head) → IsBehind self.old dynamic before
+            → OnOk result (IsBehind self.new dynamic (before ++ (element_of node.entry).head ∷ [])) }
         ensures fault { IfErr result (λ fault. fault ≡ Memory) }
     {
         let name = node.name();

@@ -1,6 +1,7 @@
 // What a pass looks for at one element.
 ghost use Rattle.std.specs.Prelude.{◌≡◌, ◌||◌, List, [], Some};
 ghost use Rattle.std.specs.List.{list_any};
+ghost use Rattle.bridge_io.specs.Firsts.{first_fault};
 ghost use Rattle.mpd_text.specs.Nodes.{element_of};
 ghost use Rattle.mpd_text.specs.Trees.{Head};
 ghost use Rattle.mpd_text.specs.Views.{attribute_shown};
@@ -50,7 +51,8 @@ impl<'a, 'b> Visit<'a, 'b> {
     /// Looks at the element itself and its attributes.
     #[tactic(auto, unfolding(crate::specs::Passes::told_by))]
     pub(crate) fn check(&self, pass: Pass) -> Result<(), RuleFault>
-        ensures { (before : List Head) → IsBehind self.now.siblings.now self.now.dynamic before → result ≡ refusals.first_of (told_by pass (visit_shown self.now before)) }
+        ensures { (before : List Head) → IsBehind self.now.siblings.now self.now.dynamic before
+            → result ≡ first_fault (told_by pass (visit_shown self.now before)) }
     {
         match pass {
             Pass::Features => self.check_features(),
@@ -59,7 +61,8 @@ impl<'a, 'b> Visit<'a, 'b> {
     }
 
     fn check_features(&self) -> Result<(), RuleFault>
-        ensures { (before : List Head) → IsBehind self.now.siblings.now self.now.dynamic before → result ≡ refusals.first_of (features.features_at (visit_shown self.now before)) }
+        ensures { (before : List Head) → IsBehind self.now.siblings.now self.now.dynamic before
+            → result ≡ first_fault (features.features_at (visit_shown self.now before)) }
     {
         match self.feature() {
             Some(feature) => Err(feature.at(self.node.place())),
@@ -71,7 +74,8 @@ impl<'a, 'b> Visit<'a, 'b> {
     fn feature(&self) -> Option<Feature>
         ensures { (before : List Head) → IsBehind self.now.siblings.now self.now.dynamic before →
             let visit = visit_shown self.now before in
-            result ≡ or_else (features.parent_feature visit.parent before visit.head.name) (features.codes_feature visit.listed visit.parent visit.head) }
+            result ≡ or_else (features.parent_feature visit.parent before visit.head.name)
+            (features.codes_feature visit.listed visit.parent visit.head) }
     {
         match self.feature_by_name() {
             Some(feature) => Some(feature),
@@ -107,7 +111,8 @@ impl<'a, 'b> Visit<'a, 'b> {
     }
 
     fn check_attribute_features(&self) -> Result<(), RuleFault>
-        ensures { result ≡ refusals.first_of (features.attributes_told self.now.listed self.now.dynamic (element_of self.now.node).head.attributes) }
+        ensures { result ≡ first_fault (features.attributes_told self.now.listed self.now.dynamic
+            (element_of self.now.node).head.attributes) }
     {
         match self.listed {
             Some(listed) => check_listed_features(self.node, listed, self.dynamic),
@@ -116,7 +121,8 @@ impl<'a, 'b> Visit<'a, 'b> {
     }
 
     fn check_values(&self, addressing: Addressing) -> Result<(), RuleFault>
-        ensures { (before : List Head) → IsBehind self.now.siblings.now self.now.dynamic before → result ≡ refusals.first_of (refusals.values_at addressing (visit_shown self.now before)) }
+        ensures { (before : List Head) → IsBehind self.now.siblings.now self.now.dynamic before
+            → result ≡ first_fault (refusals.values_at addressing (visit_shown self.now before)) }
     {
         let Some(listed) = self.listed else {
             return Ok(());
@@ -133,7 +139,7 @@ impl<'a, 'b> Visit<'a, 'b> {
         addressing: Addressing,
     ) -> Result<(), RuleFault>
         ensures { (before : List Head) → IsBehind self.now.siblings.now self.now.dynamic before →
-            result ≡ refusals.first_of (refusals.attributes_told addressing (visit_shown self.now before) (Some listed)) }
+            result ≡ first_fault (refusals.attributes_told addressing (visit_shown self.now before) (Some listed)) }
     {
         for attr in self.node.attributes() {
             if self.is_refused(listed, attr, addressing) {
@@ -145,7 +151,8 @@ impl<'a, 'b> Visit<'a, 'b> {
 
     fn is_refused(&self, listed: Listed, attr: Attr<'_>, addressing: Addressing) -> bool
         ensures { (before : List Head) → IsBehind self.now.siblings.now self.now.dynamic before →
-            result ≡ (refusals.is_other_value addressing listed (attribute_shown attr.entry) || refusals.is_repeated_id (visit_shown self.now before) listed (attribute_shown attr.entry)) }
+            result ≡ (refusals.is_other_value addressing listed (attribute_shown attr.entry)
+            || refusals.is_repeated_id (visit_shown self.now before) listed (attribute_shown attr.entry)) }
     {
         is_other_value(addressing, listed, attr) || self.is_repeated_id(listed, attr)
     }
@@ -163,7 +170,8 @@ impl<'a, 'b> Visit<'a, 'b> {
     /// Whether it lacks something that it needs.
     fn is_incomplete(&self, listed: Listed) -> bool
         ensures { let visit = visit_shown self.now [] in
-            result ≡ (list_any (refusals.lacks visit.head) (refusals.required_of (Some listed) visit.dynamic) || refusals.has_no_type visit.listed visit.parent visit.head) }
+            result ≡ (list_any (refusals.lacks visit.head) (refusals.required_of (Some listed) visit.dynamic)
+            || refusals.has_no_type visit.listed visit.parent visit.head) }
     {
         self.lacks_required(listed) || self.has_no_type()
     }
@@ -209,7 +217,7 @@ fn is_other_value(addressing: Addressing, listed: Listed, attr: Attr<'_>) -> boo
 }
 
 fn check_listed_features(node: Node<'_>, listed: Listed, dynamic: bool) -> Result<(), RuleFault>
-    ensures { result ≡ refusals.first_of (features.attributes_told (Some listed) dynamic (element_of node.entry).head.attributes) }
+    ensures { result ≡ first_fault (features.attributes_told (Some listed) dynamic (element_of node.entry).head.attributes) }
 {
     for attr in node.attributes() {
         if let Some(feature) = attribute_feature(dynamic, listed, attr) {

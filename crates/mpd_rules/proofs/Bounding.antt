@@ -17,15 +17,18 @@ module _ (total former default : Option ℕ) (p : Element) (ps : List Element) (
   has_start : start_of default p ≡ Some one.start
   has_start =
       let none = none_told (said_told former (said_of total default p ps)) (bounds_of (said_of total default p ps)) one is in
-      started p.head.place former (start_of default p) (said_of total default p ps).end none.0 ∙ ap Some (sym (ap (λ (b : Bounds). b.start) none.1))
+      started p.head.place former (start_of default p) (said_of total default p ps).end none.0
+      ∙ ap Some (sym (ap (λ (b : Bounds). b.start) none.1))
 
-  pub order_goes_on : order_told former (bounds_from total default (p ∷ ps)) ≡ order_told (Some one.start) (bounds_from total (end_said (Some one.start) p) ps)
+  pub order_goes_on : order_told former (bounds_from total default (p ∷ ps)) ≡ order_told (Some one.start)
+      (bounds_from total (end_said (Some one.start) p) ps)
   order_goes_on =
       let none = none_told (said_told former (said_of total default p ps)) (bounds_of (said_of total default p ps)) one is in
       ap (λ fs. fs ++ order_told (start_of default p) (bounds_from total (end_said (start_of default p) p) ps)) none.0
       ∙ ap (λ s. order_told s (bounds_from total (end_said s p) ps)) has_start
 
-  pub bounds_go_on : map bounds_of (bounds_from total default (p ∷ ps)) ≡ one ∷ map bounds_of (bounds_from total (end_said (Some one.start) p) ps)
+  pub bounds_go_on : map bounds_of (bounds_from total default (p ∷ ps))
+      ≡ one ∷ map bounds_of (bounds_from total (end_said (Some one.start) p) ps)
   bounds_go_on =
       let none = none_told (said_told former (said_of total default p ps)) (bounds_of (said_of total default p ps)) one is in
       ap (λ b. b ∷ map bounds_of (bounds_from total (end_said (start_of default p) p) ps)) (sym none.1)

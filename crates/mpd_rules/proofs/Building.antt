@@ -9,12 +9,19 @@ use Rattle.mpd_levels.proofs.Showing.{Shows-grows}
 
 -- what a level says stays as tables grow
 pub Says-grows : {old new : Tables} {level : Level} {levels : List Element} → Grows old new → Says old level levels → Says new level levels
-Says-grows grows says = record { means = says.means; template = Shows-grows grows says.template; list = Shows-grows grows says.list; base = says.base }
+Says-grows grows says = record {
+  means = says.means;
+  template = Shows-grows grows says.template;
+  list = Shows-grows grows says.list;
+  base = says.base;
+}
 
 -- one more row, and what is left
-pub one_pushed : {A B : Type 0} (f : A → B) (old new : List A) (x : A) (y : B) (rest all : List B) → new ≡ old ++ x ∷ [] → f x ≡ y → map f old ++ y ∷ rest ≡ all → map f new ++ rest ≡ all
+pub one_pushed : {A B : Type 0} (f : A → B) (old new : List A) (x : A) (y : B) (rest all : List B) → new ≡ old ++ x ∷ [] → f x ≡ y
+    → map f old ++ y ∷ rest ≡ all → map f new ++ rest ≡ all
 one_pushed f old new x y rest all is shows whole =
-    ap (λ xs. map f xs ++ rest) is ∙ ap (λ ys. ys ++ rest) (map-append f old (x ∷ [])) ∙ append_assoc (map f old) (f x ∷ []) rest ∙ ap (λ z. map f old ++ z ∷ rest) shows ∙ whole
+    ap (λ xs. map f xs ++ rest) is ∙ ap (λ ys. ys ++ rest) (map-append f old (x ∷ [])) ∙ append_assoc (map f old) (f x ∷ []) rest
+    ∙ ap (λ z. map f old ++ z ∷ rest) shows ∙ whole
 
 pub on_ok : {T E P : Type 0} (r : Result T E) → P → OnOk r P
 on_ok (Ok x) p = p

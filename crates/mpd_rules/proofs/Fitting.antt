@@ -1,11 +1,13 @@
 -- The values of an MPD in which none is refused are within their bounds.
-use Rattle.std.proofs.Common.{◌≡◌, ℕ, ◌^◌, ◌&&◌, not, Bool, true, false, List, [], ◌∷◌, Option, Some, None, All, refl, ◌∙◌, ap, inl, inr, arith, nat_lt, ◌==◌}
+use Rattle.std.proofs.Common.{◌≡◌, ℕ, ◌^◌, ◌&&◌, not, Bool, true, false, List, [], ◌∷◌, Option, Some, None, All, refl, ◌∙◌, ap, inl, inr}
+use Rattle.std.proofs.Common.{arith, nat_lt, ◌==◌}
 use Rattle.std.specs.Prelude.{codes, filter, is_some, is_ok, Err, option_and_then}
 use Rattle.std.specs.Option.{option_map_or}
 use Rattle.std.specs.Result.{result_ok}
 use Rattle.std.proofs.lemmas.Bool.{cases_Bool}
 use Rattle.std.proofs.lemmas.Bool.Decides.{nat_tests}
 use Rattle.std.proofs.lemmas.List.Elements.{All-cons, All-nil, All-head, All-tail}
+use Rattle.bridge_io.proofs.Texts.{same_bytes}
 use Rattle.iso_time.specs.Duration.{DurationParts, answer_of, duration_of, months_of, nanos_of, parts_of}
 use Rattle.iso_time.specs.declared.duration.DurationFault.TheVariants.{Shape}
 use Rattle.mpd_values.specs.declared.blank.Blank.TheVariants.{Space}
@@ -14,7 +16,6 @@ use Rattle.mpd_values.specs.FrameRates.{frame_rate_between, frame_rate_of, is_re
 use Rattle.mpd_values.specs.Numbers.{is_between, kept_if, number_between, number_of}
 use Rattle.mpd_text.specs.Trees.{Element}
 use Rattle.mpd_text.specs.Views.{side_by_side}
-use Rattle.mpd_text.proofs.NameLemmas.{same_bytes}
 use Rattle.mpd_profile.specs.declared.listed.Addressing.{Addressing}
 use Rattle.mpd_profile.specs.declared.listed.Listed.{Listed}
 use Rattle.mpd_profile.specs.declared.listed.Listed.TheVariants.{Mpd, Period, AdaptationSet, Representation}
@@ -47,18 +48,21 @@ number_whole least bound (Some n) some = elim (cases_Bool (is_between least boun
   | inr fails ↦ absurd (cc (rw fails at some))
 ]
 
-numbers_fit : (least bound : ℕ) (value : Option (List ℕ)) → ((text : List ℕ) → value ≡ Some text → is_value (Number least bound) text ≡ true)
+numbers_fit : (least bound : ℕ) (value : Option (List ℕ)) → ((text : List ℕ) → value ≡ Some text
+    → is_value (Number least bound) text ≡ true)
     → option_and_then (number_between 0 bound) value ≡ option_and_then number_of value
 unfolding is_value
 numbers_fit least bound None fits = refl
 numbers_fit least bound (Some text) fits = number_whole least bound (number_of text) (fits text refl)
 
-rates_fit : (value : Option (List ℕ)) → ((text : List ℕ) → value ≡ Some text → is_value FrameRate text ≡ true) → option_and_then frame_rate_between value ≡ option_and_then frame_rate_of value
+rates_fit : (value : Option (List ℕ)) → ((text : List ℕ) → value ≡ Some text → is_value FrameRate text ≡ true)
+    → option_and_then frame_rate_between value ≡ option_and_then frame_rate_of value
 unfolding is_value
 rates_fit None fits = refl
 rates_fit (Some text) fits = kept_whole is_read_rate (frame_rate_of text) (fits text refl)
 
-duration_whole : (parts : Option DurationParts) → is_ok (option_map_or answer_of parts (Err Shape)) ≡ true → result_ok (option_map_or answer_of parts (Err Shape)) ≡ option_and_then nanos_unless_months parts
+duration_whole : (parts : Option DurationParts) → is_ok (option_map_or answer_of parts (Err Shape)) ≡ true
+    → result_ok (option_map_or answer_of parts (Err Shape)) ≡ option_and_then nanos_unless_months parts
 duration_whole None ok = absurd (cc ok)
 duration_whole (Some p) ok = elim (cases_Bool (months_of p == 0)) [
   | inl none ↦ elim (cases_Bool (nat_lt (nanos_of p) (10 ^ 19))) [
@@ -68,7 +72,8 @@ duration_whole (Some p) ok = elim (cases_Bool (months_of p == 0)) [
   | inr some ↦ absurd (cc (rw some at ok))
 ]
 
-durations_fit : (value : Option (List ℕ)) → ((text : List ℕ) → value ≡ Some text → is_value Duration text ≡ true) → option_and_then duration_within value ≡ option_and_then duration_in value
+durations_fit : (value : Option (List ℕ)) → ((text : List ℕ) → value ≡ Some text → is_value Duration text ≡ true)
+    → option_and_then duration_within value ≡ option_and_then duration_in value
 unfolding is_value duration_of
 durations_fit None fits = refl
 durations_fit (Some text) fits = duration_whole (parts_of (trimmed Space text)) (fits text refl)
@@ -95,25 +100,31 @@ module _ (addressing : Addressing) (parent : Parent) (l : Listed) (name : List �
   pub kept_hold : (cs : List Element) → All SoundHere cs → All Holds (filter (is_kept l name parent.head) cs)
   kept_hold [] all = All-nil Holds
   kept_hold (c ∷ cs) all = elim (cases_Bool (is_kept l name parent.head c)) [
-    | inl kept ↦ rw kept (All-cons Holds c (filter (is_kept l name parent.head) cs) (child_holds c (All-head SoundHere c cs all) kept) (kept_hold cs (All-tail SoundHere c cs all)))
+    | inl kept ↦ rw kept (All-cons Holds c (filter (is_kept l name parent.head) cs) (child_holds c (All-head SoundHere c cs all) kept)
+        (kept_hold cs (All-tail SoundHere c cs all)))
     | inr other ↦ rw other (kept_hold cs (All-tail SoundHere c cs all))
   ]
 
 -- ---- the elements
 
 module _ (addressing : Addressing) (dynamic : Bool) where
-  number_fits : (l : Listed) (e : Element) (name : List ℕ) (least : ℕ) → value_of addressing l name ≡ Some (Number least (2 ^ 32)) → IsSound addressing dynamic l e → FitsNumber name e.head
-  number_fits l e name least is sound = numbers_fit least (2 ^ 32) (value_named name e.head) (λ text there. sound.values name text (Number least (2 ^ 32)) is there)
+  number_fits : (l : Listed) (e : Element) (name : List ℕ) (least : ℕ) → value_of addressing l name ≡ Some (Number least (2 ^ 32))
+      → IsSound addressing dynamic l e → FitsNumber name e.head
+  number_fits l e name least is sound = numbers_fit least (2 ^ 32) (value_named name e.head)
+      (λ text there. sound.values name text (Number least (2 ^ 32)) is there)
 
-  duration_fits : (l : Listed) (e : Element) (name : List ℕ) → value_of addressing l name ≡ Some Duration → IsSound addressing dynamic l e → FitsDuration name e.head
+  duration_fits : (l : Listed) (e : Element) (name : List ℕ) → value_of addressing l name ≡ Some Duration → IsSound addressing dynamic l e
+      → FitsDuration name e.head
   duration_fits l e name is sound = durations_fit (value_named name e.head) (λ text there. sound.values name text Duration is there)
 
-  common_fits : (l : Listed) (e : Element) → value_of addressing l (codes "width") ≡ Some (Number 0 (2 ^ 32)) → value_of addressing l (codes "height") ≡ Some (Number 0 (2 ^ 32))
+  common_fits : (l : Listed) (e : Element) → value_of addressing l (codes "width") ≡ Some (Number 0 (2 ^ 32))
+      → value_of addressing l (codes "height") ≡ Some (Number 0 (2 ^ 32))
       → value_of addressing l (codes "frameRate") ≡ Some FrameRate → IsSound addressing dynamic l e → FitsCommon e.head
   common_fits l e width height rate sound = record {
     width = number_fits l e (codes "width") 0 width sound;
     height = number_fits l e (codes "height") 0 height sound;
-    frame_rate = rates_fit (value_named (codes "frameRate") e.head) (λ text there. sound.values (codes "frameRate") text FrameRate rate there);
+    frame_rate = rates_fit (value_named (codes "frameRate") e.head)
+        (λ text there. sound.values (codes "frameRate") text FrameRate rate there);
   }
 
   track_fits : (e : Element) → IsSound addressing dynamic Representation e → FitsTrack e
@@ -127,7 +138,8 @@ module _ (addressing : Addressing) (dynamic : Bool) where
   set_fits e sound = record {
     common = common_fits AdaptationSet e refl refl refl sound;
     level = level_fits addressing dynamic AdaptationSet e refl refl sound;
-    tracks = kept_hold addressing (parent_of AdaptationSet dynamic e) Representation (codes "Representation") FitsTrack refl track_fits (side_by_side e.children) (sound_children addressing dynamic AdaptationSet e sound);
+    tracks = kept_hold addressing (parent_of AdaptationSet dynamic e) Representation (codes "Representation") FitsTrack refl track_fits
+        (side_by_side e.children) (sound_children addressing dynamic AdaptationSet e sound);
   }
 
   period_fits : (e : Element) → IsSound addressing dynamic Period e → FitsPeriod e
@@ -135,7 +147,8 @@ module _ (addressing : Addressing) (dynamic : Bool) where
     start = duration_fits Period e (codes "start") refl sound;
     duration = duration_fits Period e (codes "duration") refl sound;
     level = level_fits addressing dynamic Period e refl refl sound;
-    sets = kept_hold addressing (parent_of Period dynamic e) AdaptationSet (codes "AdaptationSet") FitsSet refl set_fits (side_by_side e.children) (sound_children addressing dynamic Period e sound);
+    sets = kept_hold addressing (parent_of Period dynamic e) AdaptationSet (codes "AdaptationSet") FitsSet refl set_fits
+        (side_by_side e.children) (sound_children addressing dynamic Period e sound);
   }
 
   pub mpd_fits : (e : Element) → IsSound addressing dynamic Mpd e → FitsMpd e
@@ -143,5 +156,6 @@ module _ (addressing : Addressing) (dynamic : Bool) where
     total = duration_fits Mpd e (codes "mediaPresentationDuration") refl sound;
     depth = duration_fits Mpd e (codes "timeShiftBufferDepth") refl sound;
     max_segment = duration_fits Mpd e (codes "maxSegmentDuration") refl sound;
-    periods = kept_hold addressing (parent_of Mpd dynamic e) Period (codes "Period") FitsPeriod refl period_fits (side_by_side e.children) (sound_children addressing dynamic Mpd e sound);
+    periods = kept_hold addressing (parent_of Mpd dynamic e) Period (codes "Period") FitsPeriod refl period_fits (side_by_side e.children)
+        (sound_children addressing dynamic Mpd e sound);
   }

@@ -1,5 +1,6 @@
 -- The ranges that an MPD's attributes tell.
-use Rattle.std.proofs.Common.{◌≡◌, ℕ, ◌+◌, ◌-◌, ◌<◌, ◌≤◌, ◌^◌, ◌&&◌, Bool, true, false, List, length, Option, Some, None, IfSome, nat_le, nat_lt, refl, arith}
+use Rattle.std.proofs.Common.{◌≡◌, ℕ, ◌+◌, ◌-◌, ◌<◌, ◌≤◌, ◌^◌, ◌&&◌, Bool, true, false, List, length, Option, Some, None, IfSome, nat_le}
+use Rattle.std.proofs.Common.{nat_lt, refl, arith}
 use Rattle.std.specs.Prelude.{codes, drop, take, position, option_and_then, option_map, if◌then◌else◌, ◌==◌, ◌∷◌, []}
 use Rattle.std.specs.Char.{is_ascii_digit}
 use Rattle.std.specs.Str.Parse.{digits_value}

@@ -28,24 +28,29 @@ periods_shown shown tables periods = map (period_shown shown tables) periods
 
 -- ---- what is refused and told below levels that stand above
 
-abbrev pub refused_in : {S : Type 0} → (Place → Option S → List RuleFault) → (List Element → Option S) → (above : List Element) → Element → List RuleFault
+abbrev pub refused_in : {S : Type 0} → (Place → Option S → List RuleFault) → (List Element → Option S) → (above : List Element) → Element
+    → List RuleFault
 refused_in refused told above e = refused e.head.place (told (e ∷ above))
 
-abbrev pub set_refused : {S : Type 0} → (Place → Option S → List RuleFault) → (List Element → Option S) → (above : List Element) → Element → List RuleFault
+abbrev pub set_refused : {S : Type 0} → (Place → Option S → List RuleFault) → (List Element → Option S) → (above : List Element) → Element
+    → List RuleFault
 set_refused refused told above set = flat_map (refused_in refused told (set ∷ above)) (representations_of set)
 
 abbrev pub period_refused : {S : Type 0} → (Place → Option S → List RuleFault) → (List Element → Option S) → Element → List RuleFault
 period_refused refused told period = flat_map (set_refused refused told (period ∷ [])) (sets_of period)
 
-abbrev pub periods_refused : {S : Type 0} → (many : Bool) → (Place → Option S → List RuleFault) → (List Element → Option S) → ℕ → List Element → List RuleFault
+abbrev pub periods_refused : {S : Type 0} → (many : Bool) → (Place → Option S → List RuleFault) → (List Element → Option S) → ℕ
+    → List Element → List RuleFault
 periods_refused many refused told place [] = []
 periods_refused many refused told place (period ∷ periods) =
     (second_told many place period ++ period_refused refused told period) ++ periods_refused many refused told (place + 1) periods
 
-abbrev pub set_tracks : {S : Type 0} → (List Element → S) → ℕ → (bases : List (List ℕ)) → (above : List Element) → Element → List (TrackRow S)
+abbrev pub set_tracks : {S : Type 0} → (List Element → S) → ℕ → (bases : List (List ℕ)) → (above : List Element) → Element
+    → List (TrackRow S)
 set_tracks told place bases above set = map (track_in told (common_of place bases set) (set ∷ above)) (representations_of set)
 
-abbrev pub sets_tracks : {S : Type 0} → (List Element → S) → ℕ → (bases : List (List ℕ)) → (above : List Element) → List Element → List (TrackRow S)
+abbrev pub sets_tracks : {S : Type 0} → (List Element → S) → ℕ → (bases : List (List ℕ)) → (above : List Element) → List Element
+    → List (TrackRow S)
 sets_tracks told place bases above [] = []
 sets_tracks told place bases above (set ∷ sets) = set_tracks told place bases above set ++ sets_tracks told (place + 1) bases above sets
 

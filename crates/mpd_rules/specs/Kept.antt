@@ -45,7 +45,13 @@ abbrev pub levels_of : Path → List Element
 levels_of path = path.representation ∷ path.set ∷ path.period ∷ []
 
 abbrev pub path_in : (mpd period set : Element) → ℕ → Element → Path
-path_in mpd period set place representation = record { mpd = mpd; period = period; set = set; place = place; representation = representation }
+path_in mpd period set place representation = record {
+  mpd = mpd;
+  period = period;
+  set = set;
+  place = place;
+  representation = representation;
+}
 
 abbrev pub paths_in : (mpd period : Element) → ℕ → List Element → List Path
 paths_in mpd period place [] = []

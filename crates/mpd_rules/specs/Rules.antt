@@ -1,5 +1,6 @@
 -- An MPD's values, or the first refusal.
-use Rattle.std.specs.Prelude.{ℕ, ◌+◌, ◌==◌, ◌||◌, not, Bool, true, false, List, [], ◌∷◌, ◌++◌, flat_map, if◌then◌else◌, Option, Some, None, Result, Ok, Err}
+use Rattle.std.specs.Prelude.{ℕ, ◌+◌, ◌==◌, ◌||◌, not, Bool, true, false, List, [], ◌∷◌, ◌++◌, flat_map, if◌then◌else◌, Option, Some, None}
+use Rattle.std.specs.Prelude.{Result, Ok, Err}
 use Rattle.std.specs.List.{list_any}
 use Rattle.bridge_io.specs.declared.media.Kind.{Kind}
 use Rattle.bridge_io.specs.declared.media.Kind.TheVariants.{Video, Audio, Text}
@@ -67,7 +68,8 @@ unfoldable pub dash_values : Element → TypedMpd (Option Segments)
 dash_values mpd = values_with segments_of mpd
 
 -- behind those of features and values, each pass in document order
-abbrev pub refusals_behind : {X : Type 0} → (many : Bool) → (Place → Option X → List RuleFault) → (List Element → Option X) → Element → List RuleFault
+abbrev pub refusals_behind : {X : Type 0} → (many : Bool) → (Place → Option X → List RuleFault) → (List Element → Option X) → Element
+    → List RuleFault
 refusals_behind many refused told mpd =
     period_refusals mpd
     ++ (static_told many mpd

@@ -2,9 +2,10 @@
 ghost use Rattle.std.specs.Prelude.{◌≡◌, ◌+◌, ◌∷◌, ◌++◌, Bool, IfOk, List, OnOk, flat_map, length, map, sum_by};
 ghost use Rattle.std.specs.List.{All};
 ghost use Rattle.bridge_io.specs.Answer.{Gives};
+ghost use Rattle.bridge_io.specs.Firsts.{first_fault};
 ghost use Rattle.mpd_text.specs.Nodes.{element_of};
 ghost use Rattle.mpd_text.specs.Trees.{Element};
-ghost use Rattle.mpd_profile.specs.Refusals.{first_of, refusal};
+ghost use Rattle.mpd_profile.specs.Refusals.{refusal};
 ghost use Rattle.mpd_levels.specs.declared.tables.Tables.{Tables};
 ghost use Rattle.mpd_levels.specs.Shown.{Grows, Says};
 ghost use Rattle.mpd_rules.specs.Built as spec;
@@ -15,10 +16,10 @@ ghost use Rattle.mpd_rules.specs.Typed.{common_of, track_in};
 
 use crate::children::kept_children;
 use crate::common::{Common, bases_below};
+use crate::from_levels::FromLevels;
 use crate::periods::Bounds;
 use crate::readings::id;
 use crate::rows::{PeriodRow, TrackRow};
-use crate::told::Told;
 use bridge_io::{Place, Sequence};
 use mpd_levels::{Level, SharedText, Tables};
 use mpd_profile::{Listed, RuleFault};
@@ -43,7 +44,7 @@ struct Above {
 
 impl Building {
     /// A Representation of a set.
-    fn track<X: Told>(
+    fn track<X: FromLevels>(
         &mut self,
         alloc: Global,
         node: Node<'_>,
@@ -55,7 +56,7 @@ impl Building {
         ensures grows { Grows self.old.tables self.new.tables }
         ensures left_out { self.new.left_out ≡ self.old.left_out }
         ensures refused { (levels : List Element) → Says self.old.tables above.now levels
-            → Gives (λ _. tt) refusal result (first_of (spec.refused_in X.refused X.of levels (element_of node.entry))) }
+            → Gives (λ _. tt) refusal result (first_fault (spec.refused_in X.refused X.of levels (element_of node.entry))) }
         ensures row { (levels : List Element) (later : Tables) → Says self.old.tables above.now levels → Grows self.new.tables later
             → IfOk result (λ row. spec.track_shown X.shown later row ≡ track_in X.of common.now levels (element_of node.entry)) }
     {
@@ -69,7 +70,7 @@ impl Building {
     }
 
     /// Adds the Representations of a set behind the others.
-    fn add_tracks<X: Told>(
+    fn add_tracks<X: FromLevels>(
         &mut self,
         alloc: Global,
         tracks: &mut Sequence<TrackRow<X>>,
@@ -82,7 +83,8 @@ impl Building {
         ensures grows { Grows self.old.tables self.new.tables }
         ensures left_out { self.new.left_out ≡ self.old.left_out }
         ensures refused { (levels : List Element) → Says self.old.tables above.now levels
-            → Gives (λ _. tt) refusal result (first_of (flat_map (spec.refused_in X.refused X.of levels) (map element_of representations.now))) }
+            → Gives (λ _. tt) refusal result (first_fault (flat_map (spec.refused_in X.refused X.of levels)
+            (map element_of representations.now))) }
         ensures rows { (levels : List Element) (later : Tables) → Says self.old.tables above.now levels → Grows self.new.tables later
             → OnOk result (spec.tracks_shown X.shown later tracks.new
             ≡ spec.tracks_shown X.shown later tracks.old ++ map (track_in X.of common.now levels) (map element_of representations.now)) }
@@ -94,7 +96,7 @@ impl Building {
     }
 
     /// Adds the Representations of a set that is the so many-th one of its Period.
-    fn add_set<X: Told>(
+    fn add_set<X: FromLevels>(
         &mut self,
         alloc: Global,
         tracks: &mut Sequence<TrackRow<X>>,
@@ -107,7 +109,7 @@ impl Building {
         ensures grows { Grows self.old.tables self.new.tables }
         ensures left_out { OnOk result (length self.new.left_out ≡ length self.old.left_out + left_in_set (element_of set.entry)) }
         ensures refused { (levels : List Element) → Says self.old.tables above.now.level levels
-            → Gives (λ _. tt) refusal result (first_of (spec.set_refused X.refused X.of levels (element_of set.entry))) }
+            → Gives (λ _. tt) refusal result (first_fault (spec.set_refused X.refused X.of levels (element_of set.entry))) }
         ensures rows { (levels : List Element) (later : Tables) → Says self.old.tables above.now.level levels → Grows self.new.tables later
             → OnOk result (spec.tracks_shown X.shown later tracks.new
             ≡ spec.tracks_shown X.shown later tracks.old ++ spec.set_tracks X.of place above.now.bases levels (element_of set.entry)) }
@@ -125,7 +127,7 @@ impl Building {
     }
 
     /// The Representations of the sets of a Period.
-    fn tracks<X: Told>(
+    fn tracks<X: FromLevels>(
         &mut self,
         alloc: Global,
         sets: &[Node<'_>],
@@ -134,11 +136,13 @@ impl Building {
         requires fits { All FitsSet (map element_of sets.now) }
         requires said { (levels : List Element) × Says self.now.tables above.now.level levels }
         ensures grows { Grows self.old.tables self.new.tables }
-        ensures left_out { OnOk result (length self.new.left_out ≡ length self.old.left_out + sum_by left_in_set (map element_of sets.now)) }
+        ensures left_out { OnOk result (length self.new.left_out ≡ length self.old.left_out + sum_by left_in_set
+            (map element_of sets.now)) }
         ensures refused { (levels : List Element) → Says self.old.tables above.now.level levels
-            → Gives (λ _. tt) refusal result (first_of (flat_map (spec.set_refused X.refused X.of levels) (map element_of sets.now))) }
+            → Gives (λ _. tt) refusal result (first_fault (flat_map (spec.set_refused X.refused X.of levels) (map element_of sets.now))) }
         ensures rows { (levels : List Element) (later : Tables) → Says self.old.tables above.now.level levels → Grows self.new.tables later
-            → IfOk result (λ tracks. spec.tracks_shown X.shown later tracks ≡ spec.sets_tracks X.of 0 above.now.bases levels (map element_of sets.now)) }
+            → IfOk result (λ tracks. spec.tracks_shown X.shown later tracks ≡ spec.sets_tracks X.of 0 above.now.bases levels
+            (map element_of sets.now)) }
     {
         let mut tracks = Sequence::new(alloc);
         for (place, set) in sets.iter().enumerate() {
@@ -148,7 +152,7 @@ impl Building {
     }
 
     /// A Period of these bounds, below the references of the MPD.
-    fn period<X: Told>(
+    fn period<X: FromLevels>(
         &mut self,
         alloc: Global,
         period: Node<'_>,
@@ -158,7 +162,7 @@ impl Building {
         requires { FitsPeriod (element_of period) }
         ensures grows { Grows self.old.tables self.new.tables }
         ensures left_out { OnOk result (length self.new.left_out ≡ length self.old.left_out + left_in_period (element_of period.entry)) }
-        ensures refused { Gives (λ _. tt) refusal result (first_of (spec.period_refused X.refused X.of (element_of period.entry))) }
+        ensures refused { Gives (λ _. tt) refusal result (first_fault (spec.period_refused X.refused X.of (element_of period.entry))) }
         ensures row { (later : Tables) → Grows self.new.tables later
             → IfOk result (λ row. spec.period_shown X.shown later row ≡ spec.period_in X.of bases.now (element_of period.entry) bounds) }
     {
@@ -182,7 +186,7 @@ impl Building {
     }
 
     /// The Periods of these bounds. Those behind the first one are refused unless there may be many.
-    pub(crate) fn periods<X: Told>(
+    pub(crate) fn periods<X: FromLevels>(
         &mut self,
         alloc: Global,
         periods: &[Node<'_>],
@@ -192,9 +196,12 @@ impl Building {
     ) -> Result<Sequence<PeriodRow<X>>, RuleFault>
         requires fits { All FitsPeriod (map element_of periods.now) }
         requires count { length bounds.now ≡ length periods.now }
-        ensures left_out { OnOk result (length self.new.left_out ≡ length self.old.left_out + sum_by left_in_period (map element_of periods.now)) }
-        ensures refused { Gives (λ _. tt) refusal result (first_of (spec.periods_refused many X.refused X.of 0 (map element_of periods.now))) }
-        ensures rows { IfOk result (λ rows. spec.periods_shown X.shown self.new.tables rows ≡ spec.periods_in X.of bases.now (map element_of periods.now) bounds.now) }
+        ensures left_out { OnOk result (length self.new.left_out ≡ length self.old.left_out + sum_by left_in_period
+            (map element_of periods.now)) }
+        ensures refused { Gives (λ _. tt) refusal result
+            (first_fault (spec.periods_refused many X.refused X.of 0 (map element_of periods.now))) }
+        ensures rows { IfOk result (λ rows. spec.periods_shown X.shown self.new.tables rows
+            ≡ spec.periods_in X.of bases.now (map element_of periods.now) bounds.now) }
     {
         let mut rows = Sequence::new(alloc);
         for (place, period) in periods.iter().enumerate() {

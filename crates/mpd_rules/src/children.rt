@@ -17,7 +17,8 @@ pub(crate) fn kept_children<'a>(
     left_out: &mut Sequence<Place>,
 ) -> Result<Vec<Node<'a>>, NoMemory>
     ensures kept { IfOk result (λ kept. map element_of kept.items ≡ spec.kept_children listed name.now (element_of parent.entry)) }
-    ensures left_out { OnOk result (length left_out.new ≡ length left_out.old + spec.left_children listed name.now (element_of parent.entry)) }
+    ensures left_out { OnOk result (length left_out.new ≡ length left_out.old + spec.left_children listed name.now
+        (element_of parent.entry)) }
 {
     let media_type = value_named(parent, "mimeType");
     let mut kept = Vec::new(alloc);

@@ -7,12 +7,12 @@ mod common;
 mod facts;
 mod file_index;
 mod frame_rate;
+mod from_levels;
 pub mod laws;
 mod passes;
 mod periods;
 mod readings;
 mod rows;
-mod told;
 mod typed;
 mod view;
 

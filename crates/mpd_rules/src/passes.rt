@@ -4,7 +4,8 @@ ghost use Rattle.bridge_io.specs.Answer.{Gives};
 ghost use Rattle.mpd_text.specs.Nodes.{element_of, root_of};
 ghost use Rattle.mpd_profile.specs.Refusals.{refusal};
 ghost use Rattle.mpd_rules.specs.Fits.{FitsMpd};
-ghost use Rattle.mpd_rules.specs.Rules.{indexed_mpd_of, refusals_behind, typed_mpd_of, unless_refused, silence_in, silence_told, static_told, is_silent, is_played};
+ghost use Rattle.mpd_rules.specs.Rules.{indexed_mpd_of, refusals_behind, typed_mpd_of, unless_refused, silence_in, silence_told};
+ghost use Rattle.mpd_rules.specs.Rules.{static_told, is_silent, is_played};
 ghost use Rattle.mpd_rules.specs.Typed.{values_with};
 ghost use Rattle.mpd_rules.specs.Views.{index_mpd, mpd_shown, segments_mpd};
 
@@ -13,9 +14,9 @@ use crate::children::kept_children;
 use crate::common::bases_below;
 use crate::facts::facts_of;
 use crate::file_index::FileIndex;
+use crate::from_levels::FromLevels;
 use crate::periods::read_bounds;
 use crate::rows::PeriodRow;
-use crate::told::Told;
 use crate::typed::TypedMpd;
 use bridge_io::{Kind, Place, Sequence};
 use mpd_levels::{SegmentRow, Tables};
@@ -46,9 +47,10 @@ pub fn rules_indexed(alloc: Global, tree: &Tree) -> Result<TypedMpd<FileIndex>, 
 
 /// The values of an MPD whose elements and attributes are all as they are to be, or the first Period or Representation
 /// that is refused. Unless there may be many, it is to be static and to have one Period.
-fn values<X: Told>(alloc: Global, mpd: Node<'_>, many: bool) -> Result<TypedMpd<X>, RuleFault>
+fn values<X: FromLevels>(alloc: Global, mpd: Node<'_>, many: bool) -> Result<TypedMpd<X>, RuleFault>
     requires { FitsMpd (element_of mpd) }
-    ensures { Gives (mpd_shown X.shown) refusal result (unless_refused (refusals_behind many X.refused X.of (element_of mpd.entry)) (values_with X.of (element_of mpd.entry))) }
+    ensures { Gives (mpd_shown X.shown) refusal result (unless_refused (refusals_behind many X.refused X.of (element_of mpd.entry))
+        (values_with X.of (element_of mpd.entry))) }
 {
     let mut left_out = Sequence::new(alloc);
     let periods = kept_children(alloc, mpd, Listed::Period, "Period", &mut left_out)?;

@@ -1,5 +1,6 @@
 -- How the reader comes through character data, and through the attributes of a tag.
-use Rattle.std.proofs.Common.{◌≡◌, ◌≢◌, ℕ, ◌+◌, ◌≤◌, ◌<◌, Bool, true, false, List, [], ◌∷◌, length, drop, Some, refl, sym, ◌∙◌, ap, subst, arith, slice_get, inl, inr, ◌⊎◌, Result, Ok, Err, MatchResult}
+use Rattle.std.proofs.Common.{◌≡◌, ◌≢◌, ℕ, ◌+◌, ◌≤◌, ◌<◌, Bool, true, false, List, [], ◌∷◌, length, drop, Some, refl, sym, ◌∙◌, ap, subst}
+use Rattle.std.proofs.Common.{arith, slice_get, inl, inr, ◌⊎◌, Result, Ok, Err, MatchResult}
 use Rattle.std.specs.List.{prefix_len}
 use Rattle.std.specs.String.{string_bytes}
 use Rattle.std.proofs.lemmas.Bool.{cases_lt}
@@ -16,7 +17,8 @@ use Rattle.mpd_text.specs.ManyNames.{IsPrepared, HasNames}
 use Rattle.mpd_text.specs.Positions.{IsAt, IsDataRead}
 use Rattle.mpd_text.specs.Reading.{IsAttributeRead, IsDataShown, IsTagRead, view_of}
 use Rattle.mpd_text.specs.Showing.{OpenShown, TagShown}
-use Rattle.mpd_text.specs.Steps.{Mode, Opened, Tag, at_tag, next_mode, context_of_mode, open_names, step_tag, step_tag_end, IsStuck, with_text}
+use Rattle.mpd_text.specs.Steps.{Mode, Opened, Tag, at_tag, next_mode, context_of_mode, open_names, step_tag, step_tag_end, IsStuck}
+use Rattle.mpd_text.specs.Steps.{with_text}
 use Rattle.mpd_text.proofs.NameLemmas.{white_in_name, starts_goes_on, tests, true_is_not_false}
 use Rattle.mpd_text.proofs.Positions.{cut_at, stuck_at}
 use Rattle.mpd_text.proofs.Comments.{other_byte}
@@ -24,12 +26,14 @@ use Rattle.mpd_text.proofs.TagPositions.{run_into}
 use Rattle.mpd_text.proofs.ReaderShows.{data_shows}
 
 -- more of what was read follows
-pub read_then : {T E : Type 0} (r : Result T E) {P Q : T → Type 0} (F : E → Type 0) → MatchResult r P F → ((x : T) → P x → Q x) → MatchResult r Q F
+pub read_then : {T E : Type 0} (r : Result T E) {P Q : T → Type 0} (F : E → Type 0) → MatchResult r P F → ((x : T) → P x → Q x)
+    → MatchResult r Q F
 read_then (Ok x) F p then = then x p
 read_then (Err e) F p then = p
 
 -- the innermost element has more character data
-pub data_is_shown : (old new : Reader) (at : ℕ) (o : Opened) (os : List Opened) → new.text.now ≡ old.text.now → string_bytes new.read ≡ string_bytes old.read → new.growing ≡ old.growing → OpenShown (view_of old) (o ∷ os)
+pub data_is_shown : (old new : Reader) (at : ℕ) (o : Opened) (os : List Opened) → new.text.now ≡ old.text.now
+    → string_bytes new.read ≡ string_bytes old.read → new.growing ≡ old.growing → OpenShown (view_of old) (o ∷ os)
     → IsDataRead old.text.now o os at (string_bytes old.loose) (string_bytes new.loose) → IsDataShown old.text.now at os new
 data_is_shown old new at o os same read growing shown new_data = record {
   innermost = with_text o new_data.text;
@@ -58,7 +62,8 @@ pub record IsTagSoFar (bytes : List ℕ) (at : ℕ) (os : List Opened) (r : Read
 bare : (t : Tag) → t.attributes ≡ [] → ◌≡◌ {A = Tag} (record { name = t.name; place = t.place; attributes = [] }) t
 bare t none = λ i. record { name = t.name; place = t.place; attributes = sym none i }
 
-no_name_there : (os : List Opened) (t : Tag) (white : Bool) (here : Place) (byte : ℕ) → starts_name byte ≡ false → step_tag os t white here byte ≡ step_tag_end os t byte
+no_name_there : (os : List Opened) (t : Tag) (white : Bool) (here : Place) (byte : ℕ) → starts_name byte ≡ false
+    → step_tag os t white here byte ≡ step_tag_end os t byte
 no_name_there os t true here byte other = rw other refl
 no_name_there os t false here byte other = refl
 
@@ -68,30 +73,36 @@ starts_none byte other = elim (tests (starts_name byte)) [
   | inr none ↦ none
 ]
 
-white_enters : (os : List Opened) (t : Tag) (mode : Mode) → IsInTag os t mode → (here : Place) (byte : ℕ) → is_white byte ≡ true → next_mode mode here byte ≡ Some (at_tag os t true)
+white_enters : (os : List Opened) (t : Tag) (mode : Mode) → IsInTag os t mode → (here : Place) (byte : ℕ) → is_white byte ≡ true
+    → next_mode mode here byte ≡ Some (at_tag os t true)
 white_enters os t mode (inl (none, is)) here byte white =
     let other = white_in_name byte white in
     ap (λ m. next_mode m here byte) is ∙ rw (other, white) (ap (λ x. Some (at_tag os x true)) (bare t none))
 white_enters os t mode (inr (before, is)) here byte white =
     ap (λ m. next_mode m here byte) is ∙ no_name_there os t before here byte (starts_none byte (white_in_name byte white)) ∙ rw white refl
 
-in_tag_context : (os : List Opened) (t : Tag) (mode : Mode) (here : Place) → IsInTag os t mode → context_of_mode mode here ≡ Some (tag_context os t)
+in_tag_context : (os : List Opened) (t : Tag) (mode : Mode) (here : Place) → IsInTag os t mode
+    → context_of_mode mode here ≡ Some (tag_context os t)
 in_tag_context os t mode here (inl (none, is)) =
-    ap (λ m. context_of_mode m here) is ∙ ap (λ others. Some (record { names = open_names os; kind = in_start_tag (names_of others); at = t.place.at })) (sym none)
+    ap (λ m. context_of_mode m here) is ∙ ap
+    (λ others. Some (record { names = open_names os; kind = in_start_tag (names_of others); at = t.place.at })) (sym none)
 in_tag_context os t mode here (inr (before, is)) = ap (λ m. context_of_mode m here) is
 
-part_begins : (bytes : List ℕ) (at : ℕ) (os : List Opened) (t : Tag) (mode : Mode) → t.attributes ≡ [] → IsInTag os t mode → IsAt bytes at mode → ((byte : ℕ) → slice_get bytes at ≡ Some byte → goes_on_name byte ≡ false) → IsBehindPart bytes at os t
+part_begins : (bytes : List ℕ) (at : ℕ) (os : List Opened) (t : Tag) (mode : Mode) → t.attributes ≡ [] → IsInTag os t mode
+    → IsAt bytes at mode → ((byte : ℕ) → slice_get bytes at ≡ Some byte → goes_on_name byte ≡ false) → IsBehindPart bytes at os t
 part_begins bytes at os t mode none (inl (empty, is)) there no_name = record {
   mode = mode;
   in_tag = inl (empty, is);
   is_at = there;
-  next = λ byte e. let other = no_name byte e in ap (λ m. next_mode m (place_of bytes at) byte) is ∙ rw other (ap (λ x. step_tag_end os x byte) (bare t none));
+  next = λ byte e. let other = no_name byte e in ap (λ m. next_mode m (place_of bytes at) byte) is
+      ∙ rw other (ap (λ x. step_tag_end os x byte) (bare t none));
 }
 part_begins bytes at os t mode none (inr (before, is)) there no_name = record {
   mode = mode;
   in_tag = inr (before, is);
   is_at = there;
-  next = λ byte e. ap (λ m. next_mode m (place_of bytes at) byte) is ∙ no_name_there os t before (place_of bytes at) byte (starts_none byte (no_name byte e));
+  next = λ byte e. ap (λ m. next_mode m (place_of bytes at) byte) is
+      ∙ no_name_there os t before (place_of bytes at) byte (starts_none byte (no_name byte e));
 }
 
 -- and behind the white space there
@@ -99,19 +110,23 @@ pub record IsBehindWhite (bytes : List ℕ) (at next : ℕ) (os : List Opened) (
   pub mode : Mode
   pub in_tag : IsInTag os t mode
   pub is_at : IsAt bytes next mode
-  pub ends : (byte : ℕ) → slice_get bytes next ≡ Some byte → (at < next → starts_name byte ≡ false) → next_mode mode (place_of bytes next) byte ≡ step_tag_end os t byte
+  pub ends : (byte : ℕ) → slice_get bytes next ≡ Some byte → (at < next → starts_name byte ≡ false)
+      → next_mode mode (place_of bytes next) byte ≡ step_tag_end os t byte
   pub white : at < next → mode ≡ at_tag os t true
 
-pub white_passed : (bytes : List ℕ) (at next : ℕ) (os : List Opened) (t : Tag) → next ≡ at + prefix_len is_white (drop at bytes) → IsBehindPart bytes at os t → IsBehindWhite bytes at next os t
+pub white_passed : (bytes : List ℕ) (at next : ℕ) (os : List Opened) (t : Tag) → next ≡ at + prefix_len is_white (drop at bytes)
+    → IsBehindPart bytes at os t → IsBehindWhite bytes at next os t
 white_passed bytes at next os t run b = elim (cases_lt at next) [
   | inl some ↦
-      let into = run_into bytes at b.mode (at_tag os t true) is_white b.is_at (white_enters os t b.mode b.in_tag) (λ here byte white. let other = starts_none byte (white_in_name byte white) in rw (other, white) refl) in
+      let into = run_into bytes at b.mode (at_tag os t true) is_white b.is_at (white_enters os t b.mode b.in_tag)
+      (λ here byte white. let other = starts_none byte (white_in_name byte white) in rw (other, white) refl) in
       elim into.2 [
         | inl first ↦ absurd (omega (arith, first.1, run))
         | inr then ↦ record {
           mode = at_tag os t true;
           in_tag = inr (true, refl);
-          is_at = subst (λ k. IsAt bytes k (at_tag os t true)) (sym run) (subst (IsAt bytes (at + prefix_len is_white (drop at bytes))) then into.1);
+          is_at = subst (λ k. IsAt bytes k (at_tag os t true)) (sym run) (subst (IsAt bytes (at + prefix_len is_white (drop at bytes)))
+              then into.1);
           ends = λ byte e no_name. no_name_there os t true (place_of bytes next) byte (no_name some);
           white = λ _. refl;
         }
@@ -122,23 +137,29 @@ white_passed bytes at next os t run b = elim (cases_lt at next) [
         mode = b.mode;
         in_tag = b.in_tag;
         is_at = subst (λ k. IsAt bytes k b.mode) here b.is_at;
-        ends = λ byte e no_name. subst (λ k. next_mode b.mode (place_of bytes k) byte ≡ step_tag_end os t byte) here (b.next byte (ap (slice_get bytes) here ∙ e));
+        ends = λ byte e no_name. subst (λ k. next_mode b.mode (place_of bytes k) byte ≡ step_tag_end os t byte) here
+            (b.next byte (ap (slice_get bytes) here ∙ e));
         white = λ some. absurd (omega (arith, some));
       }
 ]
 
 -- the bytes end
-pub tag_cut : (bytes : List ℕ) (at next : ℕ) (os : List Opened) (t : Tag) → IsBehindWhite bytes at next os t → length bytes ≤ next → IsStuck bytes (Cut (place_of bytes (length bytes)))
+pub tag_cut : (bytes : List ℕ) (at next : ℕ) (os : List Opened) (t : Tag) → IsBehindWhite bytes at next os t → length bytes ≤ next
+    → IsStuck bytes (Cut (place_of bytes (length bytes)))
 tag_cut bytes at next os t b past =
     let here : next ≡ length bytes = omega (arith, b.is_at.within) in
-    cut_at bytes b.mode (tag_context os t) (subst (λ k. IsAt bytes k b.mode) here b.is_at) (in_tag_context os t b.mode (place_of bytes (length bytes)) b.in_tag) (λ e. cc)
+    cut_at bytes b.mode (tag_context os t) (subst (λ k. IsAt bytes k b.mode) here b.is_at)
+    (in_tag_context os t b.mode (place_of bytes (length bytes)) b.in_tag) (λ e. cc)
 
 -- neither a name behind white space nor an end
-pub tag_stuck : (bytes : List ℕ) (at next byte : ℕ) (os : List Opened) (t : Tag) → IsBehindWhite bytes at next os t → slice_get bytes next ≡ Some byte → is_white byte ≡ false → byte ≢ 62 → byte ≢ 47 → (at < next → starts_name byte ≡ false) → IsStuck bytes (Syntax (place_of bytes next))
+pub tag_stuck : (bytes : List ℕ) (at next byte : ℕ) (os : List Opened) (t : Tag) → IsBehindWhite bytes at next os t
+    → slice_get bytes next ≡ Some byte → is_white byte ≡ false → byte ≢ 62 → byte ≢ 47 → (at < next → starts_name byte ≡ false)
+    → IsStuck bytes (Syntax (place_of bytes next))
 tag_stuck bytes at next byte os t b e no_white no_end no_slash no_name =
     let no_close = other_byte byte 62 no_end in
     let open_still = other_byte byte 47 no_slash in
-    stuck_at bytes next byte b.mode (tag_context os t) b.is_at (in_tag_context os t b.mode (place_of bytes next) b.in_tag) e (b.ends byte e no_name ∙ rw (no_white, no_close, open_still) refl)
+    stuck_at bytes next byte b.mode (tag_context os t) b.is_at (in_tag_context os t b.mode (place_of bytes next) b.in_tag) e
+    (b.ends byte e no_name ∙ rw (no_white, no_close, open_still) refl)
 
 end_names_none : goes_on_name 62 ≡ false
 unfolding goes_on_name starts_name
@@ -148,7 +169,8 @@ slash_names_none : goes_on_name 47 ≡ false
 unfolding goes_on_name starts_name
 slash_names_none = refl
 
-pub tag_is_read : (bytes : List ℕ) (at close byte : ℕ) (os : List Opened) (t : Tag) (r : Reader) → IsBehindWhite bytes at close os t → slice_get bytes close ≡ Some byte → (byte ≡ 62) ⊎ (byte ≡ 47) → TagShown (view_of r) t os → IsTagRead bytes os close r
+pub tag_is_read : (bytes : List ℕ) (at close byte : ℕ) (os : List Opened) (t : Tag) (r : Reader) → IsBehindWhite bytes at close os t
+    → slice_get bytes close ≡ Some byte → (byte ≡ 62) ⊎ (byte ≡ 47) → TagShown (view_of r) t os → IsTagRead bytes os close r
 tag_is_read bytes at close byte os t r b e is shown = record {
   tag = t;
   mode = b.mode;
@@ -166,7 +188,8 @@ tag_is_read bytes at close byte os t r b e is shown = record {
     ends c (inr slash) = subst (λ x. goes_on_name x ≡ false) (sym slash) slash_names_none
 
 -- before the first attribute
-pub tag_begins : (bytes : List ℕ) (at : ℕ) (os : List Opened) (t : Tag) (mode : Mode) (r : Reader) (many : ManyNames) → HasNames many [] → t.attributes ≡ [] → IsInTag os t mode → IsAt bytes at mode → ((byte : ℕ) → slice_get bytes at ≡ Some byte → goes_on_name byte ≡ false)
+pub tag_begins : (bytes : List ℕ) (at : ℕ) (os : List Opened) (t : Tag) (mode : Mode) (r : Reader) (many : ManyNames) → HasNames many []
+    → t.attributes ≡ [] → IsInTag os t mode → IsAt bytes at mode → ((byte : ℕ) → slice_get bytes at ≡ Some byte → goes_on_name byte ≡ false)
     → TagShown (view_of r) t os → IsTagSoFar bytes at os r many
 tag_begins bytes at os t mode r many has none in_tag there no_name shown = record {
   tag = t;
@@ -176,7 +199,8 @@ tag_begins bytes at os t mode r many has none in_tag there no_name shown = recor
 }
 
 -- behind an attribute
-pub attribute_is_read : (bytes : List ℕ) (end : ℕ) (os : List Opened) (r : Reader) (many : ManyNames) → IsAttributeRead bytes os end r many → IsTagSoFar bytes end os r many
+pub attribute_is_read : (bytes : List ℕ) (end : ℕ) (os : List Opened) (r : Reader) (many : ManyNames) → IsAttributeRead bytes os end r many
+    → IsTagSoFar bytes end os r many
 attribute_is_read bytes end os r many a = record {
   tag = a.tag;
   stands = record { mode = at_tag os a.tag false; in_tag = inr (false, refl); is_at = a.is_at; next = λ byte e. refl };
@@ -185,5 +209,7 @@ attribute_is_read bytes end os r many a = record {
 }
 
 -- the white space there, where the bytes are those of the text
-pub so_far_white : (bytes text : List ℕ) (at next : ℕ) (os : List Opened) (r : Reader) (many : ManyNames) → bytes ≡ text → next ≡ at + prefix_len is_white (drop at bytes) → (s : IsTagSoFar text at os r many) → IsBehindWhite text at next os s.tag
-so_far_white bytes text at next os r many same run s = white_passed text at next os s.tag (run ∙ ap (λ l. at + prefix_len is_white (drop at l)) same) s.stands
+pub so_far_white : (bytes text : List ℕ) (at next : ℕ) (os : List Opened) (r : Reader) (many : ManyNames) → bytes ≡ text
+    → next ≡ at + prefix_len is_white (drop at bytes) → (s : IsTagSoFar text at os r many) → IsBehindWhite text at next os s.tag
+so_far_white bytes text at next os r many same run s = white_passed text at next os s.tag (run
+    ∙ ap (λ l. at + prefix_len is_white (drop at l)) same) s.stands

@@ -2,7 +2,9 @@
 use Rattle.std.specs.List.{position_from}
 use Rattle.std.proofs.lemmas.Iterator.Adapters.{position_from-zero}
 use Rattle.std.proofs.lemmas.List.{drop_all, get_or-drop, get_or-take, length-drop, length-take}
-use Rattle.std.proofs.Common.{if◌then◌else◌, subst, ◌≢◌, ◌==◌, ◌⊎◌, cond, ◌≡◌, ℕ, zero, suc, ◌+◌, ◌-◌, ◌<◌, ◌≤◌, Bool, true, false, List, [], ◌∷◌, length, get_or, drop, take, Option, Some, None, option_map, position, refl, sym, ◌∙◌, ap, arith, inl, inr, min, IfSome}
+use Rattle.std.proofs.Common.{if◌then◌else◌, subst, ◌≢◌, ◌==◌, ◌⊎◌, cond, ◌≡◌, ℕ, zero, suc, ◌+◌, ◌-◌, ◌<◌, ◌≤◌, Bool, true, false, List}
+use Rattle.std.proofs.Common.{[], ◌∷◌, length, get_or, drop, take, Option, Some, None, option_map, position, refl, sym, ◌∙◌, ap, arith, inl}
+use Rattle.std.proofs.Common.{inr, min, IfSome}
 use Rattle.std.proofs.lemmas.List.Quantifiers.{position-Some}
 use Rattle.std.proofs.lemmas.Bool.{cases_lt}
 use Rattle.byte_scan.specs.Class.{is_low_control}
@@ -12,7 +14,8 @@ nothing_begins : begins_with_bad_character [] ≡ true → ⊥
 unfolding begins_with_bad_character
 nothing_begins e = cc
 
-pub first_at : (bytes : List ℕ) (k : ℕ) → begins_with_bad_character (drop k bytes) ≡ true → ((j : ℕ) → j < k → begins_with_bad_character (drop j bytes) ≡ false)
+pub first_at : (bytes : List ℕ) (k : ℕ) → begins_with_bad_character (drop k bytes) ≡ true
+    → ((j : ℕ) → j < k → begins_with_bad_character (drop j bytes) ≡ false)
     → first_bad_character bytes ≡ Some k
 first_at [] zero e before = absurd (nothing_begins e)
 first_at [] (suc k) e before = absurd (nothing_begins e)
@@ -31,19 +34,22 @@ none_below : (k : ℕ) → k < 0 → ⊥
 none_below k h = omega arith
 
 -- what begins at a place
-pub at_control : (bytes : List ℕ) (k : ℕ) → k < length bytes → is_low_control (get_or bytes k 0) ≡ true → begins_with_bad_character (drop k bytes) ≡ true
+pub at_control : (bytes : List ℕ) (k : ℕ) → k < length bytes → is_low_control (get_or bytes k 0) ≡ true
+    → begins_with_bad_character (drop k bytes) ≡ true
 unfolding begins_with_bad_character
 at_control [] k h e = absurd (none_below k h)
 at_control (b ∷ bs) zero h e = rw e refl
 at_control (b ∷ bs) (suc k) h e = at_control bs k (omega arith) e
 
-at_noncharacter : (bytes : List ℕ) (k : ℕ) → k < length bytes → begins_with_noncharacter (drop k bytes) ≡ true → begins_with_bad_character (drop k bytes) ≡ true
+at_noncharacter : (bytes : List ℕ) (k : ℕ) → k < length bytes → begins_with_noncharacter (drop k bytes) ≡ true
+    → begins_with_bad_character (drop k bytes) ≡ true
 unfolding begins_with_bad_character
 at_noncharacter [] k h e = absurd (none_below k h)
 at_noncharacter (b ∷ bs) zero h e = grind (arith, e)
 at_noncharacter (b ∷ bs) (suc k) h e = at_noncharacter bs k (omega arith) e
 
-at_neither : (bytes : List ℕ) (k : ℕ) → (k < length bytes → is_low_control (get_or bytes k 0) ≡ false) → begins_with_noncharacter (drop k bytes) ≡ false → begins_with_bad_character (drop k bytes) ≡ false
+at_neither : (bytes : List ℕ) (k : ℕ) → (k < length bytes → is_low_control (get_or bytes k 0) ≡ false)
+    → begins_with_noncharacter (drop k bytes) ≡ false → begins_with_bad_character (drop k bytes) ≡ false
 unfolding begins_with_bad_character
 at_neither [] zero c n = refl
 at_neither [] (suc k) c n = refl
@@ -75,17 +81,20 @@ none_up_to bytes from n j within none low high =
     other_start bytes j (λ is. none k (omega arith) (omega (arith, low, high)) (ap (λ b. b == 239) (there ∙ is)))
 
 rest_length : (bytes : List ℕ) (from : ℕ) → length (take (length bytes - from) (drop from bytes)) ≡ length bytes - from
-rest_length bytes from = length-take (length bytes - from) (drop from bytes) ∙ ap (min (length bytes - from)) (length-drop from bytes) ∙ grind arith
+rest_length bytes from = length-take (length bytes - from) (drop from bytes) ∙ ap (min (length bytes - from)) (length-drop from bytes)
+    ∙ grind arith
 
 pub lead_within : (bytes : List ℕ) (from k : ℕ) → k < length (take (length bytes - from) (drop from bytes)) → from + k < length bytes
 lead_within bytes from k h = omega (arith, h, rest_length bytes from)
 
 -- where none is left none begins
 pub none_from : (bytes : List ℕ) (from j : ℕ)
-    → ((k : ℕ) → 0 ≤ k → k < length (take (length bytes - from) (drop from bytes)) → (get_or (take (length bytes - from) (drop from bytes)) k 0 == 239) ≡ true → ⊥)
+    → ((k : ℕ) → 0 ≤ k → k < length (take (length bytes - from) (drop from bytes))
+    → (get_or (take (length bytes - from) (drop from bytes)) k 0 == 239) ≡ true → ⊥)
     → from ≤ j → begins_with_noncharacter (drop j bytes) ≡ false
 none_from bytes from j none low = elim (cases_lt j (length bytes)) [
-  | inl inside ↦ none_up_to bytes from (length bytes - from) j (omega arith) (λ k l h. none k l (omega (arith, h, rest_length bytes from))) low (omega (arith, inside, low))
+  | inl inside ↦ none_up_to bytes from (length bytes - from) j (omega arith)
+      (λ k l h. none k l (omega (arith, h, rest_length bytes from))) low (omega (arith, inside, low))
   | inr behind ↦ ap begins_with_noncharacter (drop_all j bytes (omega arith)) ∙ nothing_of_it
 ]
 
@@ -120,15 +129,19 @@ control_first bytes k (Some o) e other le =
     let found = position-Some is_low_control bytes k 0 e in
     first_at bytes k (at_control bytes k found.0 found.1) (λ j h. at_neither bytes j (λ l. found.2 j h) (other.2 j (omega (arith, h, le))))
 
-pub noncharacter_first : (bytes : List ℕ) (o : ℕ) (control : Option ℕ) → position is_low_control bytes ≡ control → IsFirstNoncharacter bytes (Some o)
+pub noncharacter_first : (bytes : List ℕ) (o : ℕ) (control : Option ℕ) → position is_low_control bytes ≡ control
+    → IsFirstNoncharacter bytes (Some o)
     → IfSome control (λ k. o ≤ k) → first_bad_character bytes ≡ Some o
 noncharacter_first bytes o None e other le =
-    first_at bytes o (at_noncharacter bytes o other.0 other.1) (λ j h. at_neither bytes j (λ l. position_none is_low_control bytes e j l) (other.2 j h))
+    first_at bytes o (at_noncharacter bytes o other.0 other.1) (λ j h. at_neither bytes j (λ l. position_none is_low_control bytes e j l)
+    (other.2 j h))
 noncharacter_first bytes o (Some k) e other le =
     let found = position-Some is_low_control bytes k 0 e in
-    first_at bytes o (at_noncharacter bytes o other.0 other.1) (λ j h. at_neither bytes j (λ l. found.2 j (omega (arith, h, le))) (other.2 j h))
+    first_at bytes o (at_noncharacter bytes o other.0 other.1) (λ j h. at_neither bytes j (λ l. found.2 j (omega (arith, h, le)))
+    (other.2 j h))
 
-pub neither_at_all : (bytes : List ℕ) → position is_low_control bytes ≡ None → IsFirstNoncharacter bytes None → first_bad_character bytes ≡ None
+pub neither_at_all : (bytes : List ℕ) → position is_low_control bytes ≡ None → IsFirstNoncharacter bytes None
+    → first_bad_character bytes ≡ None
 neither_at_all bytes e other = none_at bytes (λ j. at_neither bytes j (λ l. position_none is_low_control bytes e j l) (other j))
 
 -- the lesser of two that may be there
@@ -154,7 +167,8 @@ first_of_both bytes (Some k) (Some o) e other = elim (cases_lt k o) [
   | inr above ↦ noncharacter_first bytes o (Some k) (sym e) other (omega arith) ∙ ap Some (min_right k o above)
 ]
 
-pub one_more : (bytes : List ℕ) (n : ℕ) → ((j : ℕ) → j < n → begins_with_noncharacter (drop j bytes) ≡ false) → begins_with_noncharacter (drop n bytes) ≡ false
+pub one_more : (bytes : List ℕ) (n : ℕ) → ((j : ℕ) → j < n → begins_with_noncharacter (drop j bytes) ≡ false)
+    → begins_with_noncharacter (drop n bytes) ≡ false
     → (j : ℕ) → j < n + 1 → begins_with_noncharacter (drop j bytes) ≡ false
 one_more bytes n below here j h = elim (cases_lt j n) [
   | inl before ↦ below j before

@@ -1,5 +1,6 @@
 -- What the reader holds stays in its places while rows grow.
-use Rattle.std.proofs.Common.{◌≡◌, ℕ, ◌+◌, ◌-◌, ◌<◌, ◌≤◌, List, ◌++◌, length, take, drop, get_or, inl, inr, refl, sym, ap, ◌∙◌, subst, arith, Option, Some, None, IfSome, Result, Ok, Err, IfOk, OnOk, OnErr}
+use Rattle.std.proofs.Common.{◌≡◌, ℕ, ◌+◌, ◌-◌, ◌<◌, ◌≤◌, List, ◌++◌, length, take, drop, get_or, inl, inr, refl, sym, ap, ◌∙◌, subst}
+use Rattle.std.proofs.Common.{arith, Option, Some, None, IfSome, Result, Ok, Err, IfOk, OnOk, OnErr}
 use Rattle.std.specs.List.{slice_get, All}
 use Rattle.std.specs.Str.{IsUtf8, IsCharBoundary}
 use Rattle.std.proofs.lemmas.Bool.{cases_lt}
@@ -9,7 +10,7 @@ use Rattle.std.proofs.lemmas.Option.{slice_get_within, slice_get-get_or, get_or_
 use Rattle.std.proofs.lemmas.Str.{IsCharBoundary-at_seam, IsCharBoundary-end, IsCharBoundary-start, IsUtf8-drop}
 use Rattle.mpd_text.specs.declared.growing.Growing.{Growing}
 use Rattle.mpd_text.specs.declared.growing.OpenElement.{OpenElement}
-use Rattle.mpd_text.specs.declared.tree.Span.{Span}
+use Rattle.mpd_text.specs.declared.tree.KeptSpan.{KeptSpan}
 use Rattle.mpd_text.specs.declared.tree.AttributeRow.{AttributeRow}
 use Rattle.mpd_text.specs.declared.tree.ElementRow.{ElementRow}
 use Rattle.mpd_text.specs.Bounds.{Appends}
@@ -31,7 +32,8 @@ All-at P xs k x all is = subst P (get_or_from_slice_get xs k x x is) (all k x (s
 pub elements_stay : (P : ElementRow → Type 0) (old new : Growing) → HasStayed old new → All P old.elements.items → All P new.elements.items
 elements_stay P old new same all = subst (All P) (sym same.elements) all
 
-pub attributes_stay : (P : AttributeRow → Type 0) (old new : Growing) → HasStayed old new → All P old.attributes.items → All P new.attributes.items
+pub attributes_stay : (P : AttributeRow → Type 0) (old new : Growing) → HasStayed old new → All P old.attributes.items
+    → All P new.attributes.items
 attributes_stay P old new same all = subst (All P) (sym same.attributes) all
 
 pub entries_stay : (P : List OpenElement → Type 0) (old new : Growing) → HasStayed old new → P old.open.items → P new.open.items
@@ -39,26 +41,40 @@ entries_stay P old new same all = subst P (sym same.entries) all
 
 -- an element begins
 pub nothing_kept : (source kept : List ℕ) → IsUtf8 kept → IsKept source kept (record { start = 0; end = 0 })
-nothing_kept source kept utf8 = record { ordered = omega arith; start_is = IsCharBoundary-start kept utf8; end_is = IsCharBoundary-start kept utf8; whole = λ h. omega arith }
+nothing_kept source kept utf8 = record {
+  ordered = omega arith;
+  start_is = IsCharBoundary-start kept utf8;
+  end_is = IsCharBoundary-start kept utf8;
+  whole = λ h. omega arith;
+}
 
-pub elements_begun : (source kept : List ℕ) (name : Span) (data_start : ℕ) (old new : Growing) → IsUtf8 kept → IsNameKept source kept name → HasBegun name data_start old new → All (IsElementKept source kept) old.elements.items → All (IsElementKept source kept) new.elements.items
+pub elements_begun : (source kept : List ℕ) (name : KeptSpan) (data_start : ℕ) (old new : Growing) → IsUtf8 kept
+    → IsNameKept source kept name → HasBegun name data_start old new → All (IsElementKept source kept) old.elements.items
+    → All (IsElementKept source kept) new.elements.items
 elements_begun source kept name data_start old new utf8 named begun all =
-    subst (All (IsElementKept source kept)) (sym begun.elements) (All-push (IsElementKept source kept) old.elements.items _ all (record { name = named; text = nothing_kept source kept utf8 }))
+    subst (All (IsElementKept source kept)) (sym begun.elements) (All-push (IsElementKept source kept) old.elements.items _ all
+    (record { name = named; text = nothing_kept source kept utf8 }))
 
-pub names_begun : (source kept : List ℕ) (name : Span) (data_start : ℕ) (old new : Growing) → IsNameKept source kept name → HasBegun name data_start old new → All (IsNameWithin (length source)) old.open.items → All (IsNameWithin (length source)) new.open.items
+pub names_begun : (source kept : List ℕ) (name : KeptSpan) (data_start : ℕ) (old new : Growing) → IsNameKept source kept name
+    → HasBegun name data_start old new → All (IsNameWithin (length source)) old.open.items
+    → All (IsNameWithin (length source)) new.open.items
 names_begun source kept name data_start old new named begun all =
-    subst (All (IsNameWithin (length source))) (sym begun.entries) (All-push (IsNameWithin (length source)) old.open.items _ all (record { ordered = named.kept_so.ordered; within = named.within }))
+    subst (All (IsNameWithin (length source))) (sym begun.entries)
+    (All-push (IsNameWithin (length source)) old.open.items _ all (record { ordered = named.kept_so.ordered; within = named.within }))
 
-pub data_begun : (loose : List ℕ) (name : Span) (data_start : ℕ) (old new : Growing) → data_start ≡ length loose → HasBegun name data_start old new → HaveData loose old.open.items → HaveData loose new.open.items
+pub data_begun : (loose : List ℕ) (name : KeptSpan) (data_start : ℕ) (old new : Growing) → data_start ≡ length loose
+    → HasBegun name data_start old new → HaveData loose old.open.items → HaveData loose new.open.items
 data_begun loose name data_start old new at_end begun have =
     subst (HaveData loose) (sym begun.entries) (λ k e is. elim (got_pushed old.open.items _ e k is) [
       | inl before ↦ have k e before
       | inr last ↦ subst (IsCharBoundary loose) (sym at_end ∙ ap (λ x. x.data_start) last.1) (IsCharBoundary-end loose)
     ])
 
-pub order_begun : (loose : List ℕ) (name : Span) (data_start : ℕ) (old new : Growing) → data_start ≡ length loose → HasBegun name data_start old new → HaveData loose old.open.items → HaveDataInOrder old.open.items → HaveDataInOrder new.open.items
+pub order_begun : (loose : List ℕ) (name : KeptSpan) (data_start : ℕ) (old new : Growing) → data_start ≡ length loose
+    → HasBegun name data_start old new → HaveData loose old.open.items → HaveDataInOrder old.open.items → HaveDataInOrder new.open.items
 order_begun loose name data_start old new at_end begun have ordered =
-    subst HaveDataInOrder (sym begun.entries) (λ j k outer inner outer_is inner_is after. elim (got_pushed old.open.items _ inner k inner_is) [
+    subst HaveDataInOrder (sym begun.entries) (λ j k outer inner outer_is inner_is after.
+    elim (got_pushed old.open.items _ inner k inner_is) [
       | inl inner_before ↦ elim (got_pushed old.open.items _ outer j outer_is) [
         | inl outer_before ↦ ordered j k outer inner outer_before inner_before after
         | inr last ↦ absurd (omega (arith, last.0, slice_get_within old.open.items k inner inner_before))
@@ -72,35 +88,50 @@ order_begun loose name data_start old new at_end begun have ordered =
     ])
 
 -- an attribute is added
-pub elements_added : (source kept : List ℕ) (name value : Span) (old new : Growing) → HasAdded name value old new → All (IsElementKept source kept) old.elements.items → All (IsElementKept source kept) new.elements.items
+pub elements_added : (source kept : List ℕ) (name value : KeptSpan) (old new : Growing) → HasAdded name value old new
+    → All (IsElementKept source kept) old.elements.items → All (IsElementKept source kept) new.elements.items
 elements_added source kept name value old new added all =
     let row = All-at (IsElementKept source kept) old.elements.items _ added.row all added.row_is in
-    subst (All (IsElementKept source kept)) (sym added.elements) (All-set (IsElementKept source kept) old.elements.items _ _ (record { name = row.name; text = row.text }) all)
+    subst (All (IsElementKept source kept)) (sym added.elements) (All-set (IsElementKept source kept) old.elements.items _ _
+    (record { name = row.name; text = row.text }) all)
 
-pub attributes_added : (source kept : List ℕ) (name value : Span) (old new : Growing) → IsNameKept source kept name → IsKept source kept value → HasAdded name value old new → All (IsAttributeKept source kept) old.attributes.items → All (IsAttributeKept source kept) new.attributes.items
+pub attributes_added : (source kept : List ℕ) (name value : KeptSpan) (old new : Growing) → IsNameKept source kept name
+    → IsKept source kept value → HasAdded name value old new → All (IsAttributeKept source kept) old.attributes.items
+    → All (IsAttributeKept source kept) new.attributes.items
 attributes_added source kept name value old new named valued added all =
-    subst (All (IsAttributeKept source kept)) (sym added.attributes) (All-push (IsAttributeKept source kept) old.attributes.items _ all (record { name = named; value = valued }))
+    subst (All (IsAttributeKept source kept)) (sym added.attributes)
+    (All-push (IsAttributeKept source kept) old.attributes.items _ all (record { name = named; value = valued }))
 
 -- the innermost open element ends
-pub elements_ended : (source kept : List ℕ) (text : Span) (old new : Growing) → IsKept source kept text → HasEnded text old new → All (IsElementKept source kept) old.elements.items → All (IsElementKept source kept) new.elements.items
+pub elements_ended : (source kept : List ℕ) (text : KeptSpan) (old new : Growing) → IsKept source kept text → HasEnded text old new
+    → All (IsElementKept source kept) old.elements.items → All (IsElementKept source kept) new.elements.items
 elements_ended source kept text old new texted ended all =
     let row = All-at (IsElementKept source kept) old.elements.items _ ended.row all ended.row_is in
-    subst (All (IsElementKept source kept)) (sym ended.elements) (All-set (IsElementKept source kept) old.elements.items _ _ (record { name = row.name; text = texted }) all)
+    subst (All (IsElementKept source kept)) (sym ended.elements) (All-set (IsElementKept source kept) old.elements.items _ _
+    (record { name = row.name; text = texted }) all)
 
-pub names_ended : (count : ℕ) (text : Span) (old new : Growing) → HasEnded text old new → All (IsNameWithin count) old.open.items → All (IsNameWithin count) new.open.items
-names_ended count text old new ended all = subst (All (IsNameWithin count)) (sym ended.entries) (All-take (IsNameWithin count) _ old.open.items all)
+pub names_ended : (count : ℕ) (text : KeptSpan) (old new : Growing) → HasEnded text old new → All (IsNameWithin count) old.open.items
+    → All (IsNameWithin count) new.open.items
+names_ended count text old new ended all = subst (All (IsNameWithin count)) (sym ended.entries)
+    (All-take (IsNameWithin count) _ old.open.items all)
 
-pub data_ended : (loose : List ℕ) (text : Span) (old new : Growing) → HasEnded text old new → HaveData loose old.open.items → HaveData loose new.open.items
-data_ended loose text old new ended have = subst (HaveData loose) (sym ended.entries) (λ k e is. have k e (got_taken _ old.open.items e k is).1)
+pub data_ended : (loose : List ℕ) (text : KeptSpan) (old new : Growing) → HasEnded text old new → HaveData loose old.open.items
+    → HaveData loose new.open.items
+data_ended loose text old new ended have = subst (HaveData loose) (sym ended.entries)
+    (λ k e is. have k e (got_taken _ old.open.items e k is).1)
 
-pub order_ended : (text : Span) (old new : Growing) → HasEnded text old new → HaveDataInOrder old.open.items → HaveDataInOrder new.open.items
-order_ended text old new ended ordered = subst HaveDataInOrder (sym ended.entries) (λ j k outer inner outer_is inner_is after. ordered j k outer inner (got_taken _ old.open.items outer j outer_is).1 (got_taken _ old.open.items inner k inner_is).1 after)
+pub order_ended : (text : KeptSpan) (old new : Growing) → HasEnded text old new → HaveDataInOrder old.open.items
+    → HaveDataInOrder new.open.items
+order_ended text old new ended ordered = subst HaveDataInOrder (sym ended.entries)
+    (λ j k outer inner outer_is inner_is after. ordered j k outer inner (got_taken _ old.open.items outer j outer_is).1
+    (got_taken _ old.open.items inner k inner_is).1 after)
 
 -- more is read
 pub kept_grown : (source old new : List ℕ) (more : Appends old new) → source ++ new ≡ (source ++ old) ++ more.more
 kept_grown source old new more = ap (λ l. source ++ l) more.new_is ∙ sym (append_assoc source old more.more)
 
-pub elements_grown : (source old new : List ℕ) (rows : List ElementRow) → Appends old new → All (IsElementKept source (source ++ old)) rows → All (IsElementKept source (source ++ new)) rows
+pub elements_grown : (source old new : List ℕ) (rows : List ElementRow) → Appends old new → All (IsElementKept source (source ++ old)) rows
+    → All (IsElementKept source (source ++ new)) rows
 elements_grown source old new rows more all =
     subst (λ l. All (IsElementKept source l) rows) (sym (kept_grown source old new more))
     (All-weaker (IsElementKept source (source ++ old)) (IsElementKept source ((source ++ old) ++ more.more)) (λ r h. record {
@@ -108,7 +139,8 @@ elements_grown source old new rows more all =
       text = kept_more source (source ++ old) more.more r.text more.utf8 h.text;
     }) rows all)
 
-pub attributes_grown : (source old new : List ℕ) (rows : List AttributeRow) → Appends old new → All (IsAttributeKept source (source ++ old)) rows → All (IsAttributeKept source (source ++ new)) rows
+pub attributes_grown : (source old new : List ℕ) (rows : List AttributeRow) → Appends old new
+    → All (IsAttributeKept source (source ++ old)) rows → All (IsAttributeKept source (source ++ new)) rows
 attributes_grown source old new rows more all =
     subst (λ l. All (IsAttributeKept source l) rows) (sym (kept_grown source old new more))
     (All-weaker (IsAttributeKept source (source ++ old)) (IsAttributeKept source ((source ++ old) ++ more.more)) (λ r h. record {
@@ -117,7 +149,8 @@ attributes_grown source old new rows more all =
     }) rows all)
 
 pub data_grown : (old new : List ℕ) (entries : List OpenElement) → Appends old new → HaveData old entries → HaveData new entries
-data_grown old new entries more have k e is = subst (λ l. IsCharBoundary l e.data_start) (sym more.new_is) (boundary_kept old more.more e.data_start more.utf8 (have k e is))
+data_grown old new entries more have k e is = subst (λ l. IsCharBoundary l e.data_start) (sym more.new_is)
+    (boundary_kept old more.more e.data_start more.utf8 (have k e is))
 
 -- loose text is cut
 boundary_cut : (text : List ℕ) (n i : ℕ) → n ≤ length text → i ≤ n → IsCharBoundary text i → IsCharBoundary (take n text) i
@@ -129,11 +162,14 @@ boundary_cut text n i within before cut =
           subst (λ b. 192 ≤ b) (sym same) (cut.1 (omega arith) (subst (λ b. 128 ≤ b) same high)),
     )
 
-pub data_cut : (loose : List ℕ) (n : ℕ) (entries : List OpenElement) → n ≤ length loose → ((k : ℕ) (e : OpenElement) → slice_get entries k ≡ Some e → e.data_start ≤ n) → HaveData loose entries → HaveData (take n loose) entries
+pub data_cut : (loose : List ℕ) (n : ℕ) (entries : List OpenElement) → n ≤ length loose
+    → ((k : ℕ) (e : OpenElement) → slice_get entries k ≡ Some e → e.data_start ≤ n) → HaveData loose entries
+    → HaveData (take n loose) entries
 data_cut loose n entries within before have k e is = boundary_cut loose n e.data_start within (before k e is) (have k e is)
 
 -- the last entry's data begin last
-pub data_before : (entries : List OpenElement) (last : OpenElement) → slice_get entries (length entries - 1) ≡ Some last → HaveDataInOrder entries → (k : ℕ) (e : OpenElement) → slice_get entries k ≡ Some e → e.data_start ≤ last.data_start
+pub data_before : (entries : List OpenElement) (last : OpenElement) → slice_get entries (length entries - 1) ≡ Some last
+    → HaveDataInOrder entries → (k : ℕ) (e : OpenElement) → slice_get entries k ≡ Some e → e.data_start ≤ last.data_start
 data_before entries last last_is ordered k e is =
     let within = slice_get_within entries k e is in
     elim (cases_lt k (length entries - 1)) [
@@ -150,27 +186,33 @@ no_entry = record { row = 0; name = record { start = 0; end = 0 }; data_start = 
 none_here : (o : Option OpenElement) (e : OpenElement) → o ≡ None → o ≡ Some e → ⊥
 none_here o e none some = cc
 
-pub last_entry : (entries : List OpenElement) (n from : ℕ) → n ≡ length entries → 0 < n → IfSome (slice_get entries (n - 1)) (λ e. e.data_start ≡ from) → (e : OpenElement) × (slice_get entries (length entries - 1) ≡ Some e) × (e.data_start ≡ from)
+pub last_entry : (entries : List OpenElement) (n from : ℕ) → n ≡ length entries → 0 < n
+    → IfSome (slice_get entries (n - 1)) (λ e. e.data_start ≡ from) → (e : OpenElement) × (slice_get entries (length entries - 1) ≡ Some e)
+    × (e.data_start ≡ from)
 last_entry entries n from count some last = found (slice_get entries (n - 1)) refl last
   where
-    found : (o : Option OpenElement) → slice_get entries (n - 1) ≡ o → IfSome o (λ e. e.data_start ≡ from) → (e : OpenElement) × (slice_get entries (length entries - 1) ≡ Some e) × (e.data_start ≡ from)
+    found : (o : Option OpenElement) → slice_get entries (n - 1) ≡ o → IfSome o (λ e. e.data_start ≡ from)
+        → (e : OpenElement) × (slice_get entries (length entries - 1) ≡ Some e) × (e.data_start ≡ from)
     found None is h = absurd (none_here (slice_get entries (n - 1)) _ is (slice_get-get_or entries (n - 1) no_entry (omega arith)))
     found (Some e) is h = (e, subst (λ k. slice_get entries (k - 1) ≡ Some e) count is, h)
 
 -- what has just been read
-pub span_behind : (text old new : List ℕ) (more : Appends old new) (span : Span) → span.start ≡ length text + length old → span.end ≡ length text + length new → IsKept text (text ++ new) span
+pub span_behind : (text old new : List ℕ) (more : Appends old new) (span : KeptSpan) → span.start ≡ length text + length old
+    → span.end ≡ length text + length new → IsKept text (text ++ new) span
 span_behind text old new more span start end =
     let seam : length text + length old ≡ length (text ++ old) = sym (length-append text old) in
     let all : length text + length new ≡ length (text ++ new) = sym (length-append text new) in
     let longer = ap length more.new_is ∙ length-append old more.more in
     record {
       ordered = omega (arith, start, end, longer);
-      start_is = subst (IsCharBoundary (text ++ new)) (sym (start ∙ seam)) (IsCharBoundary-at_seam (text ++ new) (text ++ old) more.more (kept_grown text old new more) more.utf8);
+      start_is = subst (IsCharBoundary (text ++ new)) (sym (start ∙ seam))
+          (IsCharBoundary-at_seam (text ++ new) (text ++ old) more.more (kept_grown text old new more) more.utf8);
       end_is = subst (IsCharBoundary (text ++ new)) (sym (end ∙ all)) (IsCharBoundary-end (text ++ new));
       whole = λ _. omega (arith, start);
     }
 
-pub bytes_behind : (text old new : List ℕ) (more : Appends old new) (span : Span) → span.start ≡ length text + length old → span.end ≡ length text + length new → bytes_of (text ++ new) span ≡ more.more
+pub bytes_behind : (text old new : List ℕ) (more : Appends old new) (span : KeptSpan) → span.start ≡ length text + length old
+    → span.end ≡ length text + length new → bytes_of (text ++ new) span ≡ more.more
 bytes_behind text old new more span start end =
     let seam : length (text ++ old) ≡ span.start = length-append text old ∙ sym start in
     let count : span.end - span.start ≡ length more.more = omega (arith, start, end, ap length more.new_is ∙ length-append old more.more) in
@@ -180,8 +222,14 @@ bytes_behind text old new more span start end =
     ∙ take_all (length more.more) more.more (omega arith)
 
 -- the loose text from there on has been added
-abbrev pub moved : (read new text tail loose : List ℕ) (from : ℕ) → IsUtf8 loose → IsCharBoundary loose from → new ≡ read ++ tail → tail ≡ drop from text → text ≡ loose → Appends read new
-moved read new text tail loose from utf8 cut new_is tail_is text_is = record { more = drop from loose; new_is = new_is ∙ ap (λ l. read ++ l) (tail_is ∙ ap (drop from) text_is); utf8 = IsUtf8-drop loose from utf8 cut }
+abbrev pub moved : (read new text tail loose : List ℕ) (from : ℕ) → IsUtf8 loose → IsCharBoundary loose from → new ≡ read ++ tail
+    → tail ≡ drop from text → text ≡ loose → Appends read new
+moved read new text tail loose from utf8 cut new_is tail_is text_is = record {
+  more = drop from loose;
+  new_is = new_is
+      ∙ ap (λ l. read ++ l) (tail_is ∙ ap (drop from) text_is);
+  utf8 = IsUtf8-drop loose from utf8 cut;
+}
 
 pub ok_then : {T E : Type 0} (r : Result T E) {P Q : T → Type 0} → IfOk r P → ((x : T) → P x → Q x) → IfOk r Q
 ok_then (Ok x) p then = then x p

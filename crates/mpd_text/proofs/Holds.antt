@@ -1,12 +1,18 @@
 -- What is known of the bytes that were read up to a position.
-use Rattle.std.proofs.Common.{◌≡◌, ◌≢◌, ℕ, suc, ◌-◌, ◌≤◌, Bool, true, false, IsTrue, not, List, [], ◌∷◌, ◌++◌, map, length, codes, nat_eq, Option, Some, None, option_map, if◌then◌else◌}
+use Rattle.std.proofs.Common.{◌≡◌, ◌≢◌, ℕ, suc, ◌-◌, ◌≤◌, Bool, true, false, IsTrue, not, List, [], ◌∷◌, ◌++◌, map, length, codes, nat_eq}
+use Rattle.std.proofs.Common.{Option, Some, None, option_map, if◌then◌else◌}
 use Rattle.std.specs.List.{starts_with}
+use Rattle.bridge_io.specs.Texts.{is_among}
 use Rattle.bridge_io.specs.declared.place.Place.{Place}
 use Rattle.mpd_text.specs.Characters.{all_white, is_white, is_name, has, has_byte}
 use Rattle.mpd_text.specs.References.{line_ends_after, replaced_within, is_front_of_reference}
 use Rattle.mpd_text.specs.Trees.{Attribute, Forest, Element, depth}
-use Rattle.mpd_text.specs.Grammar.{first_place, past, IsMark, IsMisc, IsProlog, IsContent, IsElement, IsStartTag, AreAttributes, AllDiffer, IsEquals, names_of, is_among, deepest}
-use Rattle.mpd_text.specs.Steps.{Opened, Outside, inside, behind, Tag, Named, Quoted, Dashes, no_dash, one_dash, two_dashes, three_dashes, Mode, at_beginning, at_mark_1, at_mark_2, at_mark_end, at_content, at_less_than, at_bang, at_question, at_declaration, at_comment, at_tag_name, at_tag, at_slash, at_attribute_name, at_equals, at_quote, at_value, at_value_reference, at_data_reference, at_end_name, at_end_white, followed_by, as_space, State}
+use Rattle.mpd_text.specs.Grammar.{first_place, past, IsMark, IsMisc, IsProlog, IsContent, IsElement, IsStartTag, AreAttributes, AllDiffer}
+use Rattle.mpd_text.specs.Grammar.{IsEquals, names_of, deepest}
+use Rattle.mpd_text.specs.Steps.{Opened, Outside, inside, behind, Tag, Named, Quoted, Dashes, no_dash, one_dash, two_dashes, three_dashes}
+use Rattle.mpd_text.specs.Steps.{Mode, at_beginning, at_mark_1, at_mark_2, at_mark_end, at_content, at_less_than, at_bang, at_question}
+use Rattle.mpd_text.specs.Steps.{at_declaration, at_comment, at_tag_name, at_tag, at_slash, at_attribute_name, at_equals, at_quote}
+use Rattle.mpd_text.specs.Steps.{at_value, at_value_reference, at_data_reference, at_end_name, at_end_white, followed_by, as_space, State}
 
 -- what the bytes read as so far, whatever follows: `name` is there within a reference
 abbrev pub Reads : (ℕ → ℕ) → List ℕ → List ℕ → Option (List ℕ) → Bool → Type 0
@@ -37,7 +43,8 @@ pub record IsInside (place : Place) (o : Opened) (name : Option (List ℕ)) (beh
   pub reads : Reads as_is chars chars_text name behind_cr
   pub no_less_than : IsTrue (not (has_byte 60 chars))
 
-pub record IsOpenedIn (IsOut : List ℕ → Type 0) (room : ℕ) (o : Opened) (name : Option (List ℕ)) (behind_cr : Bool) (bytes : List ℕ) : Type 0 where
+pub record IsOpenedIn (IsOut : List ℕ → Type 0) (room : ℕ) (o : Opened) (name : Option (List ℕ)) (behind_cr : Bool)
+    (bytes : List ℕ) : Type 0 where
   pub outside : List ℕ
   pub tag : List ℕ
   pub inner : List ℕ
@@ -109,7 +116,8 @@ pub record IsDeclarationSo (behind_question : Bool) (bytes : List ℕ) : Type 0 
   pub words : List ℕ
   pub bytes_are : bytes ≡ codes "<?xml" ++ white ∷ (words ++ question_of behind_question)
   pub is_white : IsTrue (is_white white)
-  pub free : (more : List ℕ) → has (codes "?>") ((words ++ question_of behind_question) ++ more) ≡ has (codes "?>") (question_of behind_question ++ more)
+  pub free : (more : List ℕ) → has (codes "?>") ((words ++ question_of behind_question) ++ more)
+      ≡ has (codes "?>") (question_of behind_question ++ more)
 
 pub record IsQuestionSo (so_far bytes : List ℕ) : Type 0 where
   pub bytes_are : bytes ≡ so_far
@@ -199,7 +207,8 @@ Holds at_mark_2 bytes = bytes ≡ 239 ∷ 187 ∷ []
 Holds at_mark_end bytes = bytes ≡ 239 ∷ 187 ∷ 191 ∷ []
 Holds (at_content out behind_cr) bytes = IsBetweenAt out behind_cr bytes
 Holds (at_less_than out first place) bytes =
-    IsPieceIn (λ behind_cr front. IsBetweenAt out behind_cr front × (first ≡ true → (out ≡ inside []) × IsMark front)) place (λ piece. piece ≡ codes "<") bytes
+    IsPieceIn (λ behind_cr front. IsBetweenAt out behind_cr front × (first ≡ true → (out ≡ inside []) × IsMark front)) place
+    (λ piece. piece ≡ codes "<") bytes
 Holds (at_bang out dash place) bytes = IsPieceBehind out place (λ piece. piece ≡ (if dash then codes "<!-" else codes "<!")) bytes
 Holds (at_question so_far place) bytes = IsDeclarationFront place (IsQuestionSo so_far) bytes
 Holds (at_declaration behind_question place) bytes = IsDeclarationFront place (IsDeclarationSo behind_question) bytes

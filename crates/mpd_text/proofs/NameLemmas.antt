@@ -1,12 +1,14 @@
 -- Bytes by their classes, and what a reference goes on with.
-use Rattle.std.proofs.Common.{◌≡◌, ℕ, Bool, true, false, IsTrue, ◌==◌, ◌&&◌, not, nat_lt, nat_eq, List, [], ◌∷◌, ◌++◌, codes, Some, refl, sym, subst, arith, inl, inr, ◌⊎◌}
+use Rattle.std.proofs.Common.{◌≡◌, ℕ, Bool, true, false, IsTrue, ◌==◌, ◌&&◌, not, nat_lt, nat_eq, List, [], ◌∷◌, ◌++◌, codes, Some, refl}
+use Rattle.std.proofs.Common.{sym, subst, arith, inl, inr, ◌⊎◌}
 use Rattle.std.specs.List.{list_all, list_any, starts_with}
 use Rattle.std.specs.Str.{bytes_eq}
 use Rattle.std.proofs.lemmas.List.Folds.{list_all-append}
-use Rattle.std.proofs.lemmas.Slice.Eq.{bytes_eq-Decides}
 use Rattle.std.proofs.lemmas.Bool.{cases_eq}
+use Rattle.bridge_io.proofs.Texts.{same_bytes}
 use Rattle.mpd_text.specs.Characters.{is_white, is_digit, starts_name, goes_on_name}
-use Rattle.mpd_text.specs.References.{is_hex_digit, named_by_number, named_by_digits, referred_to, is_front_of_digits, is_front_of_reference}
+use Rattle.mpd_text.specs.References.{is_hex_digit, named_by_number, named_by_digits, referred_to, is_front_of_digits}
+use Rattle.mpd_text.specs.References.{is_front_of_reference}
 
 pub tests : (b : Bool) → (b ≡ true) ⊎ (b ≡ false)
 tests true = inl refl
@@ -17,12 +19,6 @@ true_is_not_false e = cc
 
 pub not_true : (b : Bool) → IsTrue (not b) → b ≡ false
 not_true b e = grind arith
-
-pub same_bytes : (a b : List ℕ) → bytes_eq a b ≡ true → a ≡ b
-same_bytes a b e = (bytes_eq-Decides a b).0 e
-
-pub equals_itself : (a : List ℕ) → bytes_eq a a ≡ true
-equals_itself a = (bytes_eq-Decides a a).1 refl
 
 pub all_of_class : (p q : ℕ → Bool) → ((b : ℕ) → p b ≡ true → q b ≡ true) → (bs : List ℕ) → list_all p bs ≡ true → list_all q bs ≡ true
 all_of_class p q class [] all = refl
@@ -81,7 +77,8 @@ starts_front (m ∷ n) (a ∷ x) more e =
     let rest : starts_with nat_eq n (x ++ more) ≡ true = grind arith in
     rw first (starts_front n x more rest)
 
-some_starts_front : (names : List (List ℕ)) (x more : List ℕ) → list_any (λ n. starts_with nat_eq n (x ++ more)) names ≡ true → list_any (λ n. starts_with nat_eq n x) names ≡ true
+some_starts_front : (names : List (List ℕ)) (x more : List ℕ) → list_any (λ n. starts_with nat_eq n (x ++ more)) names ≡ true
+    → list_any (λ n. starts_with nat_eq n x) names ≡ true
 some_starts_front [] x more e = e
 some_starts_front (n ∷ names) x more e = elim (tests (starts_with nat_eq n (x ++ more))) [
   | inl holds ↦ let here = starts_front n x more holds in rw here refl
@@ -101,7 +98,8 @@ pub reference_front : (x more : List ℕ) → is_front_of_reference (x ++ more) 
 reference_front [] more e = refl
 reference_front (b ∷ bs) more e = elim (tests (b == 35)) [
   | inl holds ↦ rw holds (digits_front bs more (rw holds at e))
-  | inr fails ↦ rw fails (some_starts_front (codes "amp" ∷ codes "lt" ∷ codes "gt" ∷ codes "quot" ∷ codes "apos" ∷ []) (b ∷ bs) more (rw fails at e))
+  | inr fails ↦ rw fails (some_starts_front (codes "amp" ∷ codes "lt" ∷ codes "gt" ∷ codes "quot" ∷ codes "apos" ∷ []) (b ∷ bs) more
+      (rw fails at e))
 ]
 
 number_all : (base : ℕ) (q : ℕ → Bool) (ds : List ℕ) (c : ℕ) → named_by_number base q ds ≡ Some c → list_all q ds ≡ true
@@ -156,7 +154,8 @@ starts_plain (m ∷ n) (a ∷ x) e plain =
     let others : list_all is_plain n ≡ true = grind arith in
     rw first (starts_plain n x rest others)
 
-some_starts_plain : (names : List (List ℕ)) (x : List ℕ) → list_any (λ n. starts_with nat_eq n x) names ≡ true → list_all (λ n. list_all is_plain n) names ≡ true → list_all is_plain x ≡ true
+some_starts_plain : (names : List (List ℕ)) (x : List ℕ) → list_any (λ n. starts_with nat_eq n x) names ≡ true
+    → list_all (λ n. list_all is_plain n) names ≡ true → list_all is_plain x ≡ true
 some_starts_plain [] x e plain = absurd (true_is_not_false (sym e))
 some_starts_plain (n ∷ names) x e plain = elim (tests (starts_with nat_eq n x)) [
   | inl holds ↦ starts_plain n x holds (grind arith)

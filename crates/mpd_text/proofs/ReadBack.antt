@@ -1,5 +1,6 @@
 -- An escaped text reads back as a value in `"`.
-use Rattle.std.proofs.Common.{◌≡◌, ℕ, ◌≤◌, Bool, true, false, nat_le, ◌==◌, ◌&&◌, not, List, [], ◌∷◌, ◌++◌, map, Some, option_map, if◌then◌else◌, refl, sym, ◌∙◌, ap, subst, arith, inl, inr}
+use Rattle.std.proofs.Common.{◌≡◌, ℕ, ◌≤◌, Bool, true, false, nat_le, ◌==◌, ◌&&◌, not, List, [], ◌∷◌, ◌++◌, map, Some, option_map}
+use Rattle.std.proofs.Common.{if◌then◌else◌, refl, sym, ◌∙◌, ap, subst, arith, inl, inr}
 use Rattle.std.specs.List.{list_all}
 use Rattle.mpd_text.specs.Characters.{is_white, has_byte}
 use Rattle.mpd_text.specs.References.{line_ends_after, replaced, value_text}
@@ -79,7 +80,8 @@ harmless_high (b ∷ bs) h =
     let rest : list_all is_harmless bs ≡ true = grind arith in
     rw first (harmless_high bs rest)
 
-harmless_lacks : (q : ℕ) → ((b : ℕ) → is_harmless b ≡ true → (b == q) ≡ false) → (bytes : List ℕ) → list_all is_harmless bytes ≡ true → has_byte q bytes ≡ false
+harmless_lacks : (q : ℕ) → ((b : ℕ) → is_harmless b ≡ true → (b == q) ≡ false) → (bytes : List ℕ) → list_all is_harmless bytes ≡ true
+    → has_byte q bytes ≡ false
 harmless_lacks q differs [] h = refl
 harmless_lacks q differs (b ∷ bs) h =
     let first : is_harmless b ≡ true = grind arith in

@@ -1,5 +1,6 @@
 -- Each text has one reading: the tree that it spells, or the fault at which its reading stops.
-use Rattle.std.proofs.Common.{◌≡◌, ◌≢◌, ℕ, zero, suc, ◌<◌, Bool, true, false, ◌==◌, nat_eq, List, [], ◌∷◌, ◌++◌, length, take, Option, Some, None, Result, Ok, Err, refl, sym, ◌∙◌, ap, subst, if◌then◌else◌, arith, inl, inr, ◌⊎◌, IsUtf8, slice_get}
+use Rattle.std.proofs.Common.{◌≡◌, ◌≢◌, ℕ, zero, suc, ◌<◌, Bool, true, false, ◌==◌, nat_eq, List, [], ◌∷◌, ◌++◌, length, take, Option, Some}
+use Rattle.std.proofs.Common.{None, Result, Ok, Err, refl, sym, ◌∙◌, ap, subst, if◌then◌else◌, arith, inl, inr, ◌⊎◌, IsUtf8, slice_get}
 use Rattle.std.specs.List.{starts_with}
 use Rattle.std.specs.Option.{option_and_then}
 use Rattle.std.specs.Str.{is_utf8}
@@ -11,14 +12,17 @@ use Rattle.std.proofs.lemmas.Bool.{cases_lt}
 use Rattle.bridge_io.specs.declared.place.Place.{Place}
 use Rattle.bridge_io.specs.Places.{place_of}
 use Rattle.mpd_text.specs.declared.fault.TextFault.{TextFault}
-use Rattle.mpd_text.specs.declared.fault.TextFault.TheVariants.{BadChar, Cdata, Depth, Doctype, DoubleAttribute, Entity, Instruction, Memory, Syntax, TagMismatch}
+use Rattle.mpd_text.specs.declared.fault.TextFault.TheVariants.{BadChar, Cdata, Depth, Doctype, DoubleAttribute, Entity, Instruction}
+use Rattle.mpd_text.specs.declared.fault.TextFault.TheVariants.{Memory, Syntax, TagMismatch}
 use Rattle.mpd_text.specs.Characters.{first_bad_character}
 use Rattle.mpd_text.specs.Trees.{Element}
 use Rattle.mpd_text.specs.Grammar.{IsClean, Spells, past}
 use Rattle.mpd_text.specs.Fronts.{Kind, Context, IsOpen, before_root, after_root, undecided, in_attribute, in_reference, in_end_tag}
 use Rattle.mpd_text.specs.Faults.{IsLongestOpen, IsDecided, IsCut, HasFault, ReadsAs, fault_of, refusal}
 use Rattle.mpd_text.specs.Meaning.{IsOneReading, read_on, read_unless_bad, reading_of}
-use Rattle.mpd_text.specs.Steps.{inside, behind, Mode, at_mark_1, at_mark_2, at_mark_end, at_content, State, start, run, step, next_mode, state_at, context_at, context_of, context_of_mode, Reaches, IsStuckAt, HasBrokenMark, IsUnfinished, IsStuck, Finishes}
+use Rattle.mpd_text.specs.Steps.{inside, behind, Mode, at_mark_1, at_mark_2, at_mark_end, at_content, State, start, run, step, next_mode}
+use Rattle.mpd_text.specs.Steps.{state_at, context_at, context_of, context_of_mode, Reaches, IsStuckAt, HasBrokenMark, IsUnfinished}
+use Rattle.mpd_text.specs.Steps.{IsStuck, Finishes}
 use Rattle.mpd_text.proofs.Holds.{Holds}
 use Rattle.mpd_text.proofs.NameLemmas.{tests, true_is_not_false}
 use Rattle.mpd_text.proofs.ReadOn.{finished_is_read, stuck_is_read}
@@ -33,7 +37,8 @@ none_is_some x e = cc
 same_some : {A : Type 0} (x y : A) (o : Option A) → o ≡ Some x → o ≡ Some y → x ≡ y
 same_some x y o e f = cc
 
-split_at : (bytes : List ℕ) (at more byte : ℕ) → slice_get bytes at ≡ Some byte → at < more → (rest : List ℕ) × (take more bytes ≡ take at bytes ++ byte ∷ rest)
+split_at : (bytes : List ℕ) (at more byte : ℕ) → slice_get bytes at ≡ Some byte → at < more
+    → (rest : List ℕ) × (take more bytes ≡ take at bytes ++ byte ∷ rest)
 split_at [] at more byte e less = absurd (none_is_some byte e)
 split_at (b ∷ bs) at zero byte e less = absurd (omega arith)
 split_at (b ∷ bs) zero (suc more) byte e less = (take more bs, ap (λ c. c ∷ take more bs) (same_some b byte (Some b) refl e))
@@ -42,7 +47,8 @@ split_at (b ∷ bs) (suc at) (suc more) byte e less =
     (later.0, ap (λ s. b ∷ s) later.1)
 
 -- no front reaches beyond a byte that cannot follow
-stops : (bytes : List ℕ) (at more byte : ℕ) (s t : State) → Reaches bytes at s → slice_get bytes at ≡ Some byte → step s byte ≡ None → at < more → Reaches bytes more t → ⊥
+stops : (bytes : List ℕ) (at more byte : ℕ) (s t : State) → Reaches bytes at s → slice_get bytes at ≡ Some byte → step s byte ≡ None
+    → at < more → Reaches bytes more t → ⊥
 stops bytes at more byte s t reached e refused less further =
     let split = split_at bytes at more byte e less in
     let front = run_front start t (take at bytes) (byte ∷ split.0) (ap (run start) (sym split.1) ∙ further) in
@@ -69,7 +75,8 @@ stuck_is_decided bytes f h = record {
 no_context : (t s : State) → context_of t ≡ None → Some t ≡ Some s → context_of s ≡ None
 no_context t s none e = subst (λ u. context_of u ≡ None) (same_some t s (Some t) refl e) none
 
-broken_third : (cs : List ℕ) (more : ℕ) (s : State) → starts_with nat_eq (239 ∷ 187 ∷ cs) (239 ∷ 187 ∷ 191 ∷ []) ≡ false → run start (239 ∷ 187 ∷ take more cs) ≡ Some s → context_of s ≡ None
+broken_third : (cs : List ℕ) (more : ℕ) (s : State) → starts_with nat_eq (239 ∷ 187 ∷ cs) (239 ∷ 187 ∷ 191 ∷ []) ≡ false
+    → run start (239 ∷ 187 ∷ take more cs) ≡ Some s → context_of s ≡ None
 broken_third cs zero s broken e = no_context _ s refl e
 broken_third [] (suc more) s broken e = no_context _ s refl e
 broken_third (c ∷ cs) (suc more) s broken e = elim (tests (c == 191)) [
@@ -77,22 +84,26 @@ broken_third (c ∷ cs) (suc more) s broken e = elim (tests (c == 191)) [
   | inr other ↦ absurd (none_is_some s (rw other at e))
 ]
 
-broken_second : (cs : List ℕ) (more : ℕ) (s : State) → starts_with nat_eq (239 ∷ cs) (239 ∷ 187 ∷ 191 ∷ []) ≡ false → run start (239 ∷ take more cs) ≡ Some s → context_of s ≡ None
+broken_second : (cs : List ℕ) (more : ℕ) (s : State) → starts_with nat_eq (239 ∷ cs) (239 ∷ 187 ∷ 191 ∷ []) ≡ false
+    → run start (239 ∷ take more cs) ≡ Some s → context_of s ≡ None
 broken_second cs zero s broken e = no_context _ s refl e
 broken_second [] (suc more) s broken e = no_context _ s refl e
 broken_second (c ∷ cs) (suc more) s broken e = elim (tests (c == 187)) [
   | inl is ↦
       let there : c ≡ 187 = grind arith in
-      broken_third cs more s (subst (λ k. starts_with nat_eq (239 ∷ k ∷ cs) (239 ∷ 187 ∷ 191 ∷ []) ≡ false) there broken) (subst (λ k. run start (239 ∷ k ∷ take more cs) ≡ Some s) there e)
+      broken_third cs more s (subst (λ k. starts_with nat_eq (239 ∷ k ∷ cs) (239 ∷ 187 ∷ 191 ∷ []) ≡ false) there broken)
+      (subst (λ k. run start (239 ∷ k ∷ take more cs) ≡ Some s) there e)
   | inr other ↦ absurd (none_is_some s (rw other at e))
 ]
 
-broken_has_none : (bytes : List ℕ) (more : ℕ) (s : State) → slice_get bytes 0 ≡ Some 239 → starts_with nat_eq bytes (239 ∷ 187 ∷ 191 ∷ []) ≡ false → 0 < more → Reaches bytes more s → context_of s ≡ None
+broken_has_none : (bytes : List ℕ) (more : ℕ) (s : State) → slice_get bytes 0 ≡ Some 239
+    → starts_with nat_eq bytes (239 ∷ 187 ∷ 191 ∷ []) ≡ false → 0 < more → Reaches bytes more s → context_of s ≡ None
 broken_has_none [] more s begun broken less e = absurd (none_is_some 239 begun)
 broken_has_none (b ∷ bs) zero s begun broken less e = absurd (omega arith)
 broken_has_none (b ∷ bs) (suc more) s begun broken less e =
     let first : b ≡ 239 = same_some b 239 (Some b) refl begun in
-    broken_second bs more s (subst (λ c. starts_with nat_eq (c ∷ bs) (239 ∷ 187 ∷ 191 ∷ []) ≡ false) first broken) (subst (λ c. run start (c ∷ take more bs) ≡ Some s) first e)
+    broken_second bs more s (subst (λ c. starts_with nat_eq (c ∷ bs) (239 ∷ 187 ∷ 191 ∷ []) ≡ false) first broken)
+    (subst (λ c. run start (c ∷ take more bs) ≡ Some s) first e)
 
 broken_is_decided : (bytes : List ℕ) (f : TextFault) → HasBrokenMark bytes f → IsDecided bytes f
 broken_is_decided bytes f h = record {
@@ -127,7 +138,8 @@ finished_spells bytes root clean f = record { clean = clean; document = finished
 
 -- how far bytes can be read
 abbrev Stops : State → List ℕ → Type 0
-Stops s rest = (at : ℕ) × (t : State) × (byte : ℕ) × (run s (take at rest) ≡ Some t) × (slice_get rest at ≡ Some byte) × (step t byte ≡ None)
+Stops s rest = (at : ℕ) × (t : State) × (byte : ℕ) × (run s (take at rest) ≡ Some t) × (slice_get rest at ≡ Some byte)
+    × (step t byte ≡ None)
 
 abbrev Ends : State → List ℕ → Type 0
 Ends s rest = ((t : State) × (run s rest ≡ Some t)) ⊎ Stops s rest
@@ -143,7 +155,8 @@ reads : (s : State) (rest : List ℕ) → Ends s rest
 reads s [] = inl (s, refl)
 reads s (b ∷ bs) = reads_behind s b bs (λ u. reads u bs) (step s b) refl
 
-context_or_mark : (mode : Mode) (here : Place) → ((context : Context) × (context_of_mode mode here ≡ Some context)) ⊎ ((mode ≡ at_mark_1) ⊎ (mode ≡ at_mark_2))
+context_or_mark : (mode : Mode) (here : Place) → ((context : Context) × (context_of_mode mode here ≡ Some context))
+    ⊎ ((mode ≡ at_mark_1) ⊎ (mode ≡ at_mark_2))
 context_or_mark at_mark_1 here = inr (inl refl)
 context_or_mark at_mark_2 here = inr (inr refl)
 context_or_mark (at_content (behind root) cr) here = inl (_, refl)
@@ -172,13 +185,27 @@ stuck_reading bytes stop context is = inr (
   }),
 )
 
-unfinished_reading : (bytes : List ℕ) (t : State) (context : Context) → run start bytes ≡ Some t → context_of t ≡ Some context → context.kind ≢ after_root → Reading bytes
-unfinished_reading bytes t context reached is unfinished = inr (_, inr (inr (record { state = t; context = context; reached = reached; context_is = is; unfinished = unfinished; fault_is = refl })))
+unfinished_reading : (bytes : List ℕ) (t : State) (context : Context) → run start bytes ≡ Some t → context_of t ≡ Some context
+    → context.kind ≢ after_root → Reading bytes
+unfinished_reading bytes t context reached is unfinished =
+    inr (
+      _,
+      inr (inr (record {
+        state = t;
+        context = context;
+        reached = reached;
+        context_is = is;
+        unfinished = unfinished;
+        fault_is = refl;
+      })),
+    )
 
 kind_is : (names : List (List ℕ)) (kind : Kind) (at : ℕ) (context : Context) → context_at names kind at ≡ Some context → kind ≡ context.kind
-kind_is names kind at context e = ap (λ c. c.kind) (same_some (record { names = names; kind = kind; at = at }) context (context_at names kind at) refl e)
+kind_is names kind at context e = ap (λ c. c.kind) (same_some (record { names = names; kind = kind; at = at }) context
+    (context_at names kind at) refl e)
 
-behind_only : (mode : Mode) (here : Place) (context : Context) → ((root : Element) (cr : Bool) → mode ≢ at_content (behind root) cr) → context_of_mode mode here ≡ Some context → context.kind ≡ after_root → ⊥
+behind_only : (mode : Mode) (here : Place) (context : Context) → ((root : Element) (cr : Bool) → mode ≢ at_content (behind root) cr)
+    → context_of_mode mode here ≡ Some context → context.kind ≡ after_root → ⊥
 behind_only (at_content (behind root) cr) here context other is e = other root cr refl
 behind_only (at_content (inside []) cr) here context other is e = let same = kind_is _ _ _ context is ∙ e in cc
 behind_only (at_content (inside (o ∷ os)) cr) here context other is e = let same = kind_is _ _ _ context is ∙ e in cc
@@ -186,8 +213,10 @@ behind_only at_mark_1 here context other is e = none_is_some context is
 behind_only at_mark_2 here context other is e = none_is_some context is
 behind_only mode here context other is e = let same = kind_is _ _ _ context is ∙ e in cc
 
-ended_reading : (bytes : List ℕ) (mode : Mode) (here : Place) (context : Context) → run start bytes ≡ Some (record { here = here; mode = mode }) → context_of_mode mode here ≡ Some context → Reading bytes
-ended_reading bytes (at_content (behind root) cr) here context reached is = inl (root, record { here = here; behind_cr = cr; reached = reached })
+ended_reading : (bytes : List ℕ) (mode : Mode) (here : Place) (context : Context)
+    → run start bytes ≡ Some (record { here = here; mode = mode }) → context_of_mode mode here ≡ Some context → Reading bytes
+ended_reading bytes (at_content (behind root) cr) here context reached is =
+    inl (root, record { here = here; behind_cr = cr; reached = reached })
 ended_reading bytes mode here context reached is =
     unfinished_reading bytes (record { here = here; mode = mode }) context reached is (behind_only mode here context (λ root cr e. cc) is)
 
@@ -203,18 +232,21 @@ whole_is bytes at byte e =
 mark_is : (bytes : List ℕ) (s : State) (mode : Mode) → run start bytes ≡ Some s → s.mode ≡ mode → Holds mode bytes
 mark_is bytes s mode e is = let h = holds bytes s e in subst (λ m. Holds m bytes) is h.holds
 
-refused_is : (s : State) (mode : Mode) (byte k : ℕ) (next : Mode) → s.mode ≡ mode → next_mode mode s.here byte ≡ (if byte == k then Some next else None) → step s byte ≡ None → (byte == k) ≡ false
+refused_is : (s : State) (mode : Mode) (byte k : ℕ) (next : Mode) → s.mode ≡ mode
+    → next_mode mode s.here byte ≡ (if byte == k then Some next else None) → step s byte ≡ None → (byte == k) ≡ false
 refused_is s mode byte k next is shape refused = elim (tests (byte == k)) [
   | inl same ↦
       let some : next_mode s.mode s.here byte ≡ Some next = ap (λ m. next_mode m s.here byte) is ∙ shape ∙ rw same refl in
-      absurd (none_is_some (record { here = past s.here (byte ∷ []); mode = next }) (sym refused ∙ ap (state_at (past s.here (byte ∷ []))) some))
+      absurd (none_is_some (record { here = past s.here (byte ∷ []); mode = next }) (sym refused
+      ∙ ap (state_at (past s.here (byte ∷ []))) some))
   | inr other ↦ other
 ]
 
 second_differs : (byte : ℕ) (rest : List ℕ) → (byte == 187) ≡ false → starts_with nat_eq (239 ∷ byte ∷ rest) (239 ∷ 187 ∷ 191 ∷ []) ≡ false
 second_differs byte rest other = grind (arith, common_steps)
 
-third_differs : (byte : ℕ) (rest : List ℕ) → (byte == 191) ≡ false → starts_with nat_eq (239 ∷ 187 ∷ byte ∷ rest) (239 ∷ 187 ∷ 191 ∷ []) ≡ false
+third_differs : (byte : ℕ) (rest : List ℕ) → (byte == 191) ≡ false → starts_with nat_eq (239 ∷ 187 ∷ byte ∷ rest) (239 ∷ 187 ∷ 191 ∷ [])
+    ≡ false
 third_differs byte rest other = grind (arith, common_steps)
 
 ends_in_mark : (bytes : List ℕ) (s : State) → run start bytes ≡ Some s → (s.mode ≡ at_mark_1) ⊎ (s.mode ≡ at_mark_2) → Reading bytes
@@ -226,12 +258,14 @@ stops_in_mark bytes stop (inl is) =
     let whole = whole_is bytes stop.0 stop.2 stop.4 in
     let front : take stop.0 bytes ≡ 239 ∷ [] = mark_is (take stop.0 bytes) stop.1 at_mark_1 stop.3 is in
     let other = refused_is stop.1 at_mark_1 stop.2 187 at_mark_2 is refl stop.5 in
-    subst Reading (sym (whole.1 ∙ ap (λ s. s ++ stop.2 ∷ whole.0) front)) (broken_reading (239 ∷ stop.2 ∷ whole.0) refl (second_differs stop.2 whole.0 other))
+    subst Reading (sym (whole.1 ∙ ap (λ s. s ++ stop.2 ∷ whole.0) front))
+    (broken_reading (239 ∷ stop.2 ∷ whole.0) refl (second_differs stop.2 whole.0 other))
 stops_in_mark bytes stop (inr is) =
     let whole = whole_is bytes stop.0 stop.2 stop.4 in
     let front : take stop.0 bytes ≡ 239 ∷ 187 ∷ [] = mark_is (take stop.0 bytes) stop.1 at_mark_2 stop.3 is in
     let other = refused_is stop.1 at_mark_2 stop.2 191 at_mark_end is refl stop.5 in
-    subst Reading (sym (whole.1 ∙ ap (λ s. s ++ stop.2 ∷ whole.0) front)) (broken_reading (239 ∷ 187 ∷ stop.2 ∷ whole.0) refl (third_differs stop.2 whole.0 other))
+    subst Reading (sym (whole.1 ∙ ap (λ s. s ++ stop.2 ∷ whole.0) front))
+    (broken_reading (239 ∷ 187 ∷ stop.2 ∷ whole.0) refl (third_differs stop.2 whole.0 other))
 
 -- the reading of a text
 stops_or_ends : (bytes : List ℕ) → Reading bytes
@@ -248,7 +282,8 @@ stops_or_ends bytes = elim (reads start bytes) [
 
 -- a text has no two readings
 finished_once : (bytes : List ℕ) (a b : Element) → Finishes bytes a → Finishes bytes b → a ≡ b
-finished_once bytes a b f g = let same : ◌≡◌ {A = Result Element TextFault} (Ok a) (Ok b) = sym (finished_is_read bytes a f) ∙ finished_is_read bytes b g in cc
+finished_once bytes a b f g = let same : ◌≡◌ {A = Result Element TextFault} (Ok a) (Ok b) = sym (finished_is_read bytes a f)
+    ∙ finished_is_read bytes b g in cc
 
 longest_once : (bytes : List ℕ) (m n : ℕ) (c d : Context) → IsLongestOpen bytes m c → IsLongestOpen bytes n d → (m ≡ n) × (c ≡ d)
 longest_once bytes m n c d f g = elim (cases_lt m n) [
@@ -281,15 +316,19 @@ decided_once bytes f g a b =
 -- a byte is decided within the text, so the whole text is not open
 decided_not_open : (bytes : List ℕ) (f : TextFault) (context : Context) → IsDecided bytes f → IsOpen bytes context → ⊥
 decided_not_open bytes f context d is_open =
-    d.is_longest.longest (length bytes) context (slice_get_within bytes d.at d.byte d.byte_is) (omega arith) (subst (λ b. IsOpen b context) (sym (take_all (length bytes) bytes (omega arith))) is_open)
+    d.is_longest.longest (length bytes) context (slice_get_within bytes d.at d.byte d.byte_is) (omega arith)
+    (subst (λ b. IsOpen b context) (sym (take_all (length bytes) bytes (omega arith))) is_open)
 
-finished_open : (bytes : List ℕ) (root : Element) (f : Finishes bytes root) → IsOpen bytes (record { names = []; kind = after_root; at = f.here.at })
-finished_open bytes root f = read_is_open bytes (record { here = f.here; mode = at_content (behind root) f.behind_cr }) (record { names = []; kind = after_root; at = f.here.at }) f.reached refl
+finished_open : (bytes : List ℕ) (root : Element) (f : Finishes bytes root)
+    → IsOpen bytes (record { names = []; kind = after_root; at = f.here.at })
+finished_open bytes root f = read_is_open bytes (record { here = f.here; mode = at_content (behind root) f.behind_cr })
+    (record { names = []; kind = after_root; at = f.here.at }) f.reached refl
 
 cut_not_finished : (bytes : List ℕ) (root : Element) (f : TextFault) → IsCut bytes f → Finishes bytes root → ⊥
 cut_not_finished bytes root f cut fin =
     let r = open_is_read bytes cut.context cut.is_open in
-    let same = same_some r.0 (record { here = fin.here; mode = at_content (behind root) fin.behind_cr }) (run start bytes) r.1 fin.reached in
+    let same = same_some r.0 (record { here = fin.here; mode = at_content (behind root) fin.behind_cr })
+    (run start bytes) r.1 fin.reached in
     let there : Some (record { names = []; kind = after_root; at = fin.here.at }) ≡ Some cut.context = sym (ap context_of same) ∙ r.2 in
     cut.is_unfinished (sym (kind_is [] after_root fin.here.at cut.context there))
 
@@ -297,7 +336,8 @@ document_no_fault : (bytes : List ℕ) (root : Element) (f : TextFault) → Spel
 document_no_fault bytes root f s (inl h) = h.not_utf8 s.clean.utf8
 document_no_fault bytes root f s (inr (inl h)) = none_is_some h.at (sym s.clean.no_bad_character ∙ h.is_first)
 document_no_fault bytes root f s (inr (inr (clean, inl d))) =
-    let fin = spelled_is_read root bytes s.document in decided_not_open bytes f (record { names = []; kind = after_root; at = fin.here.at }) d (finished_open bytes root fin)
+    let fin = spelled_is_read root bytes s.document in
+    decided_not_open bytes f (record { names = []; kind = after_root; at = fin.here.at }) d (finished_open bytes root fin)
 document_no_fault bytes root f s (inr (inr (clean, inr c))) = cut_not_finished bytes root f c (spelled_is_read root bytes s.document)
 
 fault_once : (bytes : List ℕ) (f g : TextFault) → HasFault bytes f → HasFault bytes g → f ≡ g
@@ -317,7 +357,8 @@ fault_once bytes f g (inr (inr (clean, inr a))) (inr (inr (also, inl b))) = absu
 fault_once bytes f g (inr (inr (clean, inr a))) (inr (inr (also, inr b))) = a.fault_is ∙ sym b.fault_is
 
 reads_once : (bytes : List ℕ) (r s : Result Element TextFault) → ReadsAs bytes r → ReadsAs bytes s → r ≡ s
-reads_once bytes (Ok a) (Ok b) x y = ap Ok (finished_once bytes a b (spelled_is_read a bytes x.document) (spelled_is_read b bytes y.document))
+reads_once bytes (Ok a) (Ok b) x y = ap Ok (finished_once bytes a b (spelled_is_read a bytes x.document)
+    (spelled_is_read b bytes y.document))
 reads_once bytes (Ok a) (Err g) x y = absurd (document_no_fault bytes a g x y)
 reads_once bytes (Err f) (Ok b) x y = absurd (document_no_fault bytes b f y x)
 reads_once bytes (Err f) (Err g) x y = ap Err (fault_once bytes f g x y)
@@ -354,7 +395,9 @@ chosen false f g one other = other
 
 told_fault : (kind : Kind) (names : List (List ℕ)) (byte : ℕ) (first here : Place) → fault_of kind names byte first here ≢ Memory
 told_fault (undecided piece) names byte first here =
-    chosen _ _ _ (apart (Instruction first) refl) (chosen _ _ _ (apart (Depth first) refl) (chosen _ _ _ (apart (Doctype first) refl) (chosen _ _ _ (apart (Cdata first) refl) (chosen _ _ _ (apart (Instruction first) refl) (apart (Syntax here) refl)))))
+    chosen _ _ _ (apart (Instruction first) refl) (chosen _ _ _ (apart (Depth first) refl)
+    (chosen _ _ _ (apart (Doctype first) refl) (chosen _ _ _ (apart (Cdata first) refl)
+    (chosen _ _ _ (apart (Instruction first) refl) (apart (Syntax here) refl)))))
 told_fault (in_attribute others name) names byte first here = chosen _ _ _ (apart (DoubleAttribute first) refl) (apart (Syntax here) refl)
 told_fault in_reference names byte first here = apart (Entity first) refl
 told_fault (in_end_tag []) names byte first here = apart (Syntax here) refl

@@ -1,12 +1,14 @@
 -- How the fronts of a text between its pieces are read.
-use Rattle.std.proofs.Common.{◌≡◌, ℕ, suc, ◌+◌, ◌-◌, ◌<◌, ◌≤◌, Bool, true, false, IsTrue, nat_lt, List, [], ◌∷◌, length, refl, sym, ◌∙◌, ap, subst, arith, inl, inr}
+use Rattle.std.proofs.Common.{◌≡◌, ℕ, suc, ◌+◌, ◌-◌, ◌<◌, ◌≤◌, Bool, true, false, IsTrue, nat_lt, List, [], ◌∷◌, length, refl, sym, ◌∙◌, ap}
+use Rattle.std.proofs.Common.{subst, arith, inl, inr}
 use Rattle.std.proofs.lemmas.List.{length-map}
 use Rattle.bridge_io.specs.declared.place.Place.{Place}
 use Rattle.mpd_text.specs.Characters.{is_name}
 use Rattle.mpd_text.specs.Trees.{Element, depth}
 use Rattle.mpd_text.specs.Grammar.{first_place, past, IsProlog, deepest}
 use Rattle.mpd_text.specs.Fronts.{IsOpened, IsWithin, IsBehindRoot, IsBetween, HasRoom}
-use Rattle.mpd_text.specs.Steps.{Mode, Opened, Outside, inside, behind, at_beginning, at_content, opened_by, may_nest, open_names, names_outside}
+use Rattle.mpd_text.specs.Steps.{Mode, Opened, Outside, inside, behind, at_beginning, at_content, opened_by, may_nest, open_names}
+use Rattle.mpd_text.specs.Steps.{names_outside}
 use Rattle.mpd_text.proofs.RunLemmas.{Runs, runs_three, runs_to, runs_over}
 use Rattle.mpd_text.proofs.ReadsPieces.{TakesMarkup, prolog_is_read, misc_is_read, outer_takes, behind_it, content_rests}
 use Rattle.mpd_text.proofs.ReadsTags.{tag_of, start_tag_is_read}
@@ -61,7 +63,8 @@ room_nests os names are room = nests (length os) (length names) (as_many os name
     nests : (n k : ℕ) → n ≡ k → k < 32 → nat_lt n 32 ≡ true
     nests n k same below = grind arith
 
-opened_is_read : (name : List ℕ) (names : List (List ℕ)) (bytes : List ℕ) → suc (length names) ≤ deepest → ((outside : List ℕ) → IsWithin names outside → Before names outside)
+opened_is_read : (name : List ℕ) (names : List (List ℕ)) (bytes : List ℕ) → suc (length names) ≤ deepest
+    → ((outside : List ℕ) → IsWithin names outside → Before names outside)
     → IsOpened (IsWithin names) name (deepest - suc (length names)) bytes → Inside (name ∷ names) bytes
 opened_is_read name names bytes room read is =
     let outside = read is.outside is.is_outside in
@@ -71,7 +74,8 @@ opened_is_read name names bytes room read is =
     let begin = start_tag_is_read os outside.mode p name tag.0 is.tag outside.takes (room_nests os names outside.names_are room) tag.1 in
     let content = moved_content is.children is.within (past p is.tag) is.text is.inside is.is_inside in
     let opened : Opened = opened_by (tag_of name p tag.0) in
-    let shallow : suc (length os) + depth content.0 ≤ deepest = fits (length os) (length names) (depth content.0) (depth is.children) (as_many os names outside.names_are) content.2 room is.is_shallow in
+    let shallow : suc (length os) + depth content.0 ≤ deepest = fits (length os) (length names) (depth content.0) (depth is.children)
+    (as_many os names outside.names_are) content.2 room is.is_shallow in
     let rest = content_is_read content.0 os is.text shallow opened (past p is.tag) is.inside content.1 in
     record {
       innermost = with_content opened content.0 is.text;
@@ -87,25 +91,33 @@ opened_is_read name names bytes room read is =
 
 within_is_read : (names : List (List ℕ)) (bytes : List ℕ) → IsWithin names bytes → Before names bytes
 within_is_read [] bytes is = before_prolog bytes is
-within_is_read (name ∷ names) bytes is = before_inside (name ∷ names) bytes (opened_is_read name names bytes is.0 (λ outside h. within_is_read names outside h) is.1)
+within_is_read (name ∷ names) bytes is = before_inside (name ∷ names) bytes
+    (opened_is_read name names bytes is.0 (λ outside h. within_is_read names outside h) is.1)
 
 pub inside_is_read : (name : List ℕ) (names : List (List ℕ)) (bytes : List ℕ) → IsWithin (name ∷ names) bytes → Inside (name ∷ names) bytes
 inside_is_read name names bytes is = opened_is_read name names bytes is.0 (λ outside h. within_is_read names outside h) is.1
 
-pub room_is_read : (names : List (List ℕ)) (bytes : List ℕ) → HasRoom names bytes → (before : Before names bytes) × (may_nest before.elements ≡ true)
+pub room_is_read : (names : List (List ℕ)) (bytes : List ℕ) → HasRoom names bytes → (before : Before names bytes)
+    × (may_nest before.elements ≡ true)
 room_is_read names bytes has =
     let before = within_is_read names bytes has.0 in
     (before, room_nests before.elements names before.names_are has.1)
 
-pub behind_is_read : (bytes : List ℕ) → IsBehindRoot bytes → (root : Element) × Runs first_place at_beginning bytes (at_content (behind root) false)
+pub behind_is_read : (bytes : List ℕ) → IsBehindRoot bytes → (root : Element)
+    × Runs first_place at_beginning bytes (at_content (behind root) false)
 behind_is_read bytes is =
     let prolog = prolog_is_read first_place is.prolog is.is_prolog in
     let p : Place = past first_place is.prolog in
     let moved = moved_element is.root is.place p is.main is.is_main in
     let root : Element = moved.0 in
-    let main = root_is_read prolog.0 p root is.main prolog.2.takes.markup moved.1 (subst (λ n. suc n ≤ deepest) (sym moved.2) is.is_shallow) in
-    let misc = misc_is_read (behind root) (at_content (behind root) false) (past p is.main) is.misc (behind_it root) (outer_takes (behind root) false (behind_it root)) is.is_misc in
-    (root, runs_over bytes is.bytes_are (runs_three is.prolog is.main is.misc prolog.1 main (runs_to (at_content (behind root) false) (content_rests (behind root) misc.to misc.is_to) misc.runs)))
+    let main = root_is_read prolog.0 p root is.main prolog.2.takes.markup moved.1
+    (subst (λ n. suc n ≤ deepest) (sym moved.2) is.is_shallow) in
+    let misc = misc_is_read (behind root) (at_content (behind root) false) (past p is.main) is.misc (behind_it root)
+    (outer_takes (behind root) false (behind_it root)) is.is_misc in (
+      root,
+      runs_over bytes is.bytes_are (runs_three is.prolog is.main is.misc prolog.1 main
+          (runs_to (at_content (behind root) false) (content_rests (behind root) misc.to misc.is_to) misc.runs)),
+    )
 
 pub between_is_read : (names : List (List ℕ)) (bytes : List ℕ) → IsBetween names bytes → Between names bytes
 between_is_read names bytes is = elim is [

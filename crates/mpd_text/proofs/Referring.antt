@@ -1,8 +1,11 @@
 -- What references are found to be.
-use Rattle.std.proofs.Common.{◌≡◌, ◌≢◌, ℕ, suc, ◌+◌, ◌-◌, ◌*◌, ◌≤◌, ◌<◌, Bool, true, false, nat_le, nat_eq, min, if◌then◌else◌, ◌==◌, ◌&&◌, List, [], ◌∷◌, ◌++◌, length, take, drop, get_or, codes, slice_get, Option, Some, None, refl, sym, ◌∙◌, ap, subst, arith, inl, inr}
+use Rattle.std.proofs.Common.{◌≡◌, ◌≢◌, ℕ, suc, ◌+◌, ◌-◌, ◌*◌, ◌≤◌, ◌<◌, Bool, true, false, nat_le, nat_eq, min, if◌then◌else◌, ◌==◌, ◌&&◌}
+use Rattle.std.proofs.Common.{List, [], ◌∷◌, ◌++◌, length, take, drop, get_or, codes, slice_get, Option, Some, None, refl, sym, ◌∙◌, ap}
+use Rattle.std.proofs.Common.{subst, arith, inl, inr}
 use Rattle.std.specs.Char.{IsScalar}
 use Rattle.std.proofs.lemmas.Bool.Decides.{nat_tests}
-use Rattle.std.proofs.lemmas.List.{length-drop, length-take, length-append, take_all, take_at, get_or_at, append-nil, take_more, get_or-drop, drop_more, append_assoc, take-append-drop}
+use Rattle.std.proofs.lemmas.List.{length-drop, length-take, length-append, take_all, take_at, get_or_at, append-nil, take_more}
+use Rattle.std.proofs.lemmas.List.{get_or-drop, drop_more, append_assoc, take-append-drop}
 use Rattle.std.proofs.lemmas.List.Folds.{length-prefix_len}
 use Rattle.std.proofs.lemmas.Option.{slice_get_within, slice_get-get_or, get_or_from_slice_get}
 use Rattle.bridge_io.specs.Places.{place_of}
@@ -14,10 +17,12 @@ use Rattle.std.proofs.lemmas.List.Sums.{fold-append, prefix_len_stops}
 use Rattle.std.proofs.Math.Nat.{mul_comm}
 use Rattle.std.specs.List.{prefix_len, list_all, starts_with}
 use Rattle.std.specs.Str.{bytes_eq}
+use Rattle.bridge_io.proofs.Texts.{same_bytes}
 use Rattle.mpd_text.specs.Characters.{is_digit}
-use Rattle.mpd_text.specs.References.{is_hex_digit, value_of_digit, number_of, is_allowed_character, named_by_number, named_by_digits, referred_to, is_front_of_digits, is_front_of_reference}
+use Rattle.mpd_text.specs.References.{is_hex_digit, value_of_digit, number_of, is_allowed_character, named_by_number, named_by_digits}
+use Rattle.mpd_text.specs.References.{referred_to, is_front_of_digits, is_front_of_reference}
 use Rattle.mpd_text.specs.Decoded.{AreDigitsAt, base_of, is_digit_of, capped, begins_with_name, begins_name, IsNamed}
-use Rattle.mpd_text.proofs.NameLemmas.{tests, true_is_not_false, same_bytes}
+use Rattle.mpd_text.proofs.NameLemmas.{tests, true_is_not_false}
 
 -- a character that is named is one
 
@@ -47,7 +52,8 @@ digits_allowed (b ∷ bs) c e = elim (tests (b == 120)) [
 ]
 
 -- what a name names, where it isn't a number
-pub by_names : (P : List ℕ → ℕ → Type 0) → P (codes "amp") 38 → P (codes "lt") 60 → P (codes "gt") 62 → P (codes "quot") 34 → P (codes "apos") 39 →
+pub by_names : (P : List ℕ → ℕ → Type 0) → P (codes "amp") 38 → P (codes "lt") 60 → P (codes "gt") 62 → P (codes "quot") 34
+    → P (codes "apos") 39 →
     (b : ℕ) (bs : List ℕ) (c : ℕ) → (b == 35) ≡ false → referred_to (b ∷ bs) ≡ Some c → P (b ∷ bs) c
 by_names P amp lt gt quot apos b bs c no_number e = elim (tests (bytes_eq (b ∷ bs) (codes "amp"))) [
   | inl is ↦ at (codes "amp") 38 amp is (rw no_number (rw is refl))
@@ -101,7 +107,8 @@ behind_ascii bytes at byte e less =
 at_most : (k : ℕ) → min 1114112 k ≡ capped k
 at_most k = grind (arith, nat_tests)
 
-capped_more : (is_hexadecimal : Bool) (n d : ℕ) → min 1114112 (capped n * base_of is_hexadecimal + d) ≡ capped (base_of is_hexadecimal * n + d)
+capped_more : (is_hexadecimal : Bool) (n d : ℕ) → min 1114112 (capped n * base_of is_hexadecimal + d)
+    ≡ capped (base_of is_hexadecimal * n + d)
 capped_more is_hexadecimal n d = elim (tests (nat_le 1114112 n)) [
   | inl large ↦
       let much : 1114112 ≤ n = grind (arith, nat_tests) in
@@ -117,14 +124,16 @@ capped_more is_hexadecimal n d = elim (tests (nat_le 1114112 n)) [
         let more : nat_le 1114112 (10 * n + d) ≡ true = grind (arith, nat_tests) in
         rw more (omega arith)
 
-pub nothing_yet : (is_hexadecimal : Bool) (from : ℕ) (rest : List ℕ) → 0 ≡ capped (number_of (base_of is_hexadecimal) (take (from - from) rest))
+pub nothing_yet : (is_hexadecimal : Bool) (from : ℕ) (rest : List ℕ)
+    → 0 ≡ capped (number_of (base_of is_hexadecimal) (take (from - from) rest))
 nothing_yet is_hexadecimal from rest =
     let none : 0 ≡ from - from = omega arith in
     ap (λ k. capped (number_of (base_of is_hexadecimal) (take k rest))) none
 
 pub number_more : (is_hexadecimal : Bool) (bytes : List ℕ) (from at number digit : ℕ) → from ≤ at → at < length bytes →
     number ≡ capped (number_of (base_of is_hexadecimal) (take (at - from) (drop from bytes))) → digit ≡ value_of_digit (get_or bytes at 0) →
-    min 1114112 (number * base_of is_hexadecimal + digit) ≡ capped (number_of (base_of is_hexadecimal) (take (at + 1 - from) (drop from bytes)))
+    min 1114112 (number * base_of is_hexadecimal + digit)
+    ≡ capped (number_of (base_of is_hexadecimal) (take (at + 1 - from) (drop from bytes)))
 number_more is_hexadecimal bytes from at number digit forth within so_far is =
     let base = base_of is_hexadecimal in
     let before = take (at - from) (drop from bytes) in
@@ -141,13 +150,16 @@ number_more is_hexadecimal bytes from at number digit forth within so_far is =
     ∙ ap (λ k. capped k) (sym (fold-append (λ k d. base * k + value_of_digit d) 0 before (get_or bytes at 0 ∷ [])))
     ∙ ap (λ l. capped (number_of base l)) (sym longer)
 
-pub run_more : (p : ℕ → Bool) (bytes : List ℕ) (at whole : ℕ) → at < length bytes → p (get_or bytes at 0) ≡ true → at + prefix_len p (drop at bytes) ≡ whole →
+pub run_more : (p : ℕ → Bool) (bytes : List ℕ) (at whole : ℕ) → at < length bytes → p (get_or bytes at 0) ≡ true
+    → at + prefix_len p (drop at bytes) ≡ whole →
     at + 1 + prefix_len p (drop (at + 1) bytes) ≡ whole
 run_more p bytes at whole within passes is =
-    let split : prefix_len p (drop at bytes) ≡ 1 + prefix_len p (drop (at + 1) bytes) = ap (prefix_len p) (drop_more bytes at 0 within) ∙ rw passes refl in
+    let split : prefix_len p (drop at bytes) ≡ 1 + prefix_len p (drop (at + 1) bytes) = ap (prefix_len p) (drop_more bytes at 0 within)
+    ∙ rw passes refl in
     omega arith
 
-pub digit_is : (is_hexadecimal : Bool) (b digit : ℕ) (r : Option ℕ) → r ≡ (if is_digit_of is_hexadecimal b then Some (value_of_digit b) else None) → r ≡ Some digit →
+pub digit_is : (is_hexadecimal : Bool) (b digit : ℕ) (r : Option ℕ)
+    → r ≡ (if is_digit_of is_hexadecimal b then Some (value_of_digit b) else None) → r ≡ Some digit →
     (is_digit_of is_hexadecimal b ≡ true) × (digit ≡ value_of_digit b)
 digit_is is_hexadecimal b digit r is some = elim (tests (is_digit_of is_hexadecimal b)) [
   | inl holds ↦
@@ -161,7 +173,8 @@ digit_is is_hexadecimal b digit r is some = elim (tests (is_digit_of is_hexadeci
     none_is_some : (o : Option ℕ) (d : ℕ) → o ≡ None → o ≡ Some d → ⊥
     none_is_some o d e f = cc
 
-pub no_digit : (is_hexadecimal : Bool) (b : ℕ) (r : Option ℕ) → r ≡ (if is_digit_of is_hexadecimal b then Some (value_of_digit b) else None) → r ≡ None → is_digit_of is_hexadecimal b ≡ false
+pub no_digit : (is_hexadecimal : Bool) (b : ℕ) (r : Option ℕ)
+    → r ≡ (if is_digit_of is_hexadecimal b then Some (value_of_digit b) else None) → r ≡ None → is_digit_of is_hexadecimal b ≡ false
 no_digit is_hexadecimal b r is none = elim (tests (is_digit_of is_hexadecimal b)) [
   | inl holds ↦
       let there : r ≡ Some (value_of_digit b) = rw holds at is in
@@ -198,13 +211,16 @@ record IsNumber (bytes : List ℕ) (from : ℕ) (hex : Bool) (digits : ℕ) : Ty
   pre : List ℕ
   rest_is : drop (from + 1) bytes ≡ pre ++ drop digits bytes
   digits_is : digits ≡ from + 1 + length pre
-  refers : (ds : List ℕ) → list_all (is_digit_of hex) ds ≡ true → referred_to (pre ++ ds) ≡ named_by_number (base_of hex) (is_digit_of hex) ds
+  refers : (ds : List ℕ) → list_all (is_digit_of hex) ds ≡ true → referred_to (pre ++ ds)
+      ≡ named_by_number (base_of hex) (is_digit_of hex) ds
   front : (ds : List ℕ) → list_all (is_digit_of hex) ds ≡ true → is_front_of_reference (pre ++ ds) ≡ true
-  no_front : (ds : List ℕ) (b : ℕ) → list_all (is_digit_of hex) ds ≡ true → is_digit_of hex b ≡ false → (length ds ≡ 0 → slice_get bytes digits ≡ Some b) →
+  no_front : (ds : List ℕ) (b : ℕ) → list_all (is_digit_of hex) ds ≡ true → is_digit_of hex b ≡ false
+      → (length ds ≡ 0 → slice_get bytes digits ≡ Some b) →
       is_front_of_reference (pre ++ (ds ++ b ∷ [])) ≡ false
 
 rest_at : (bytes : List ℕ) (at byte : ℕ) → slice_get bytes at ≡ Some byte → drop at bytes ≡ byte ∷ drop (at + 1) bytes
-rest_at bytes at byte e = drop_more bytes at 0 (slice_get_within bytes at byte e) ∙ ap (λ b. b ∷ drop (at + 1) bytes) (get_or_from_slice_get bytes at byte 0 e)
+rest_at bytes at byte e = drop_more bytes at 0 (slice_get_within bytes at byte e)
+    ∙ ap (λ b. b ∷ drop (at + 1) bytes) (get_or_from_slice_get bytes at byte 0 e)
 
 digit_is_not_x : (d : ℕ) → is_digit d ≡ true → (d == 120) ≡ false
 digit_is_not_x d h = grind arith
@@ -212,10 +228,12 @@ digit_is_not_x d h = grind arith
 first_of_all : (p : ℕ → Bool) (d : ℕ) (ds : List ℕ) → list_all p (d ∷ ds) ≡ true → p d ≡ true
 first_of_all p d ds all = grind arith
 
-number_by : (bytes : List ℕ) (from : ℕ) (hex : Bool) (digits : ℕ) → slice_get bytes (from + 1) ≡ Some 35 → AreDigitsAt bytes from hex digits → IsNumber bytes from hex digits
+number_by : (bytes : List ℕ) (from : ℕ) (hex : Bool) (digits : ℕ) → slice_get bytes (from + 1) ≡ Some 35
+    → AreDigitsAt bytes from hex digits → IsNumber bytes from hex digits
 number_by bytes from true digits hash (x, is) = record {
   pre = 35 ∷ 120 ∷ [];
-  rest_is = rest_at bytes (from + 1) 35 hash ∙ ap (λ k. 35 ∷ drop k bytes) second ∙ ap (λ l. 35 ∷ l) (rest_at bytes (from + 2) 120 x) ∙ ap (λ k. 35 ∷ 120 ∷ drop k bytes) third;
+  rest_is = rest_at bytes (from + 1) 35 hash ∙ ap (λ k. 35 ∷ drop k bytes) second ∙ ap (λ l. 35 ∷ l) (rest_at bytes (from + 2) 120 x)
+      ∙ ap (λ k. 35 ∷ 120 ∷ drop k bytes) third;
   digits_is = omega (arith, is);
   refers = λ ds all. refl;
   front = λ ds all. all;
@@ -251,7 +269,8 @@ number_by bytes from false digits hash (no_x, is) = record {
         let other : (d == 120) ≡ false = digit_is_not_x d (first_of_all is_digit d ds all) in
         rw other all
 
-    no_front : (ds : List ℕ) (b : ℕ) → list_all is_digit ds ≡ true → is_digit b ≡ false → (length ds ≡ 0 → slice_get bytes digits ≡ Some b) → is_front_of_digits (ds ++ b ∷ []) ≡ false
+    no_front : (ds : List ℕ) (b : ℕ) → list_all is_digit ds ≡ true → is_digit b ≡ false → (length ds ≡ 0 → slice_get bytes digits ≡ Some b)
+        → is_front_of_digits (ds ++ b ∷ []) ≡ false
     no_front [] b all none first = elim (tests (b == 120)) [
       | inl holds ↦
           let same : b ≡ 120 = grind arith in
@@ -262,7 +281,8 @@ number_by bytes from false digits hash (no_x, is) = record {
         let other : (d == 120) ≡ false = digit_is_not_x d (first_of_all is_digit d ds all) in
         rw other (not_all is_digit (d ∷ ds) b none)
 
-capped_allowed : (n : ℕ) → (if is_allowed_character n then Some n else None) ≡ (if is_allowed_character (capped n) then Some (capped n) else None)
+capped_allowed : (n : ℕ) → (if is_allowed_character n then Some n else None) ≡ (if is_allowed_character (capped n) then Some (capped n)
+    else None)
 capped_allowed n = elim (tests (nat_le 1114112 n)) [
   | inl large ↦
       let not_allowed : is_allowed_character n ≡ false = grind (arith, nat_tests) in
@@ -291,8 +311,10 @@ stopped p bytes at b e =
     let here : get_or (drop at bytes) k 0 ≡ b = get_or-drop at bytes k 0 ∙ get_or_from_slice_get bytes (at + k) b 0 e in
     ap p (sym here) ∙ prefix_len_stops p (drop at bytes) 0 within
 
-counted : (bytes : List ℕ) (from : ℕ) (hex : Bool) (digits number end : ℕ) → slice_get bytes (from + 1) ≡ Some 35 → AreDigitsAt bytes from hex digits →
-    end ≡ digits + prefix_len (is_digit_of hex) (drop digits bytes) → number ≡ capped (number_of (base_of hex) (take (end - digits) (drop digits bytes))) → IsCounted bytes from number end
+counted : (bytes : List ℕ) (from : ℕ) (hex : Bool) (digits number end : ℕ) → slice_get bytes (from + 1) ≡ Some 35
+    → AreDigitsAt bytes from hex digits →
+    end ≡ digits + prefix_len (is_digit_of hex) (drop digits bytes)
+    → number ≡ capped (number_of (base_of hex) (take (end - digits) (drop digits bytes))) → IsCounted bytes from number end
 counted bytes from hex digits number end hash at end_is number_is =
     let n = number_by bytes from hex digits hash at in
     let rest = drop digits bytes in
@@ -308,7 +330,8 @@ counted bytes from hex digits number end hash at end_is number_is =
       end_is = omega (arith, end_is, n.digits_is, length-append n.pre ds, count);
       name_is = ap (take (length (n.pre ++ ds))) whole ∙ take_at (n.pre ++ ds) (drop k rest) (length (n.pre ++ ds)) refl;
       refers = n.refers ds all ∙ named_by_capped (base_of hex) (is_digit_of hex) ds all
-          ∙ ap (λ m. if is_allowed_character m then Some m else None) (sym (number_is ∙ ap (λ j. capped (number_of (base_of hex) (take j rest))) to));
+          ∙ ap (λ m. if is_allowed_character m then Some m else None)
+          (sym (number_is ∙ ap (λ j. capped (number_of (base_of hex) (take j rest))) to));
       front = n.front ds all;
       no_front = λ b e other. ap is_front_of_reference (append_assoc n.pre ds (b ∷ []))
           ∙ n.no_front ds b all (stopped (is_digit_of hex) bytes digits b (ap (slice_get bytes) (sym end_is) ∙ e))
@@ -317,9 +340,12 @@ counted bytes from hex digits number end hash at end_is number_is =
           ap (slice_get bytes) (sym same) ∙ e);
     }
 
-pub number_named : (bytes : List ℕ) (from : ℕ) (hex : Bool) (digits number end named : ℕ) → slice_get bytes (from + 1) ≡ Some 35 → AreDigitsAt bytes from hex digits →
-    end ≡ digits + prefix_len (is_digit_of hex) (drop digits bytes) → number ≡ capped (number_of (base_of hex) (take (end - digits) (drop digits bytes))) →
-    slice_get bytes end ≡ Some 59 → Some named ≡ (if is_allowed_character number then Some number else None) → IsReference bytes from named (end + 1)
+pub number_named : (bytes : List ℕ) (from : ℕ) (hex : Bool) (digits number end named : ℕ) → slice_get bytes (from + 1) ≡ Some 35
+    → AreDigitsAt bytes from hex digits →
+    end ≡ digits + prefix_len (is_digit_of hex) (drop digits bytes)
+    → number ≡ capped (number_of (base_of hex) (take (end - digits) (drop digits bytes))) →
+    slice_get bytes end ≡ Some 59 → Some named ≡ (if is_allowed_character number then Some number else None)
+    → IsReference bytes from named (end + 1)
 number_named bytes from hex digits number end named hash at end_is number_is closed allowed =
     let n = counted bytes from hex digits number end hash at end_is number_is in
     record {
@@ -330,17 +356,24 @@ number_named bytes from hex digits number end named hash at end_is number_is clo
       refers = n.refers ∙ sym allowed;
     }
 
-pub number_behind : (bytes : List ℕ) (from : ℕ) (hex : Bool) (digits end : ℕ) → AreDigitsAt bytes from hex digits → end ≡ digits + prefix_len (is_digit_of hex) (drop digits bytes) →
+pub number_behind : (bytes : List ℕ) (from : ℕ) (hex : Bool) (digits end : ℕ) → AreDigitsAt bytes from hex digits
+    → end ≡ digits + prefix_len (is_digit_of hex) (drop digits bytes) →
     slice_get bytes end ≡ Some 59 → (from < end + 1) × IsBehindAscii bytes (end + 1)
-number_behind bytes from hex digits end at end_is closed = (omega (arith, after hex at, end_is), behind_ascii bytes end 59 closed (omega arith))
+number_behind bytes from hex digits end at end_is closed = (
+  omega (arith, after hex at, end_is),
+  behind_ascii bytes end 59 closed (omega arith),
+)
   where
     after : (h : Bool) → AreDigitsAt bytes from h digits → from < digits
     after true (x, is) = omega (arith, is)
     after false (x, is) = omega (arith, is)
 
-pub number_unclosed : (bytes : List ℕ) (from : ℕ) (hex : Bool) (digits number end b : ℕ) (fault : TextFault) → slice_get bytes (from + 1) ≡ Some 35 → AreDigitsAt bytes from hex digits →
-    end ≡ digits + prefix_len (is_digit_of hex) (drop digits bytes) → number ≡ capped (number_of (base_of hex) (take (end - digits) (drop digits bytes))) →
-    slice_get bytes end ≡ Some b → (b ≡ 59 → None ≡ (if is_allowed_character number then Some number else None)) → fault ≡ Entity (place_of bytes from) → IsNoReference bytes from fault
+pub number_unclosed : (bytes : List ℕ) (from : ℕ) (hex : Bool) (digits number end b : ℕ) (fault : TextFault)
+    → slice_get bytes (from + 1) ≡ Some 35 → AreDigitsAt bytes from hex digits →
+    end ≡ digits + prefix_len (is_digit_of hex) (drop digits bytes)
+    → number ≡ capped (number_of (base_of hex) (take (end - digits) (drop digits bytes))) →
+    slice_get bytes end ≡ Some b → (b ≡ 59 → None ≡ (if is_allowed_character number then Some number else None))
+    → fault ≡ Entity (place_of bytes from) → IsNoReference bytes from fault
 number_unclosed bytes from hex digits number end b fault hash at end_is number_is e none fault_is =
     let n = counted bytes from hex digits number end hash at end_is number_is in
     record {
@@ -360,8 +393,10 @@ number_unclosed bytes from hex digits number end b fault hash at end_is number_i
     differs : (c : ℕ) → c ≢ 59 → (c == 59) ≡ false
     differs c h = grind arith
 
-pub number_cut : (bytes : List ℕ) (from : ℕ) (hex : Bool) (digits number end : ℕ) (fault : TextFault) → slice_get bytes (from + 1) ≡ Some 35 → AreDigitsAt bytes from hex digits →
-    end ≡ digits + prefix_len (is_digit_of hex) (drop digits bytes) → number ≡ capped (number_of (base_of hex) (take (end - digits) (drop digits bytes))) →
+pub number_cut : (bytes : List ℕ) (from : ℕ) (hex : Bool) (digits number end : ℕ) (fault : TextFault)
+    → slice_get bytes (from + 1) ≡ Some 35 → AreDigitsAt bytes from hex digits →
+    end ≡ digits + prefix_len (is_digit_of hex) (drop digits bytes)
+    → number ≡ capped (number_of (base_of hex) (take (end - digits) (drop digits bytes))) →
     end ≡ length bytes → fault ≡ Cut (place_of bytes (length bytes)) → IsNoReference bytes from fault
 number_cut bytes from hex digits number end fault hash at end_is number_is ends fault_is =
     let n = counted bytes from hex digits number end hash at end_is number_is in
@@ -412,9 +447,15 @@ name_found bytes from character count rest rest_is n = (
 
     closed : slice_get bytes (from + (length n.name + 1)) ≡ Some 59
     closed =
-        slice_get-get_or bytes (from + (length n.name + 1)) 0 (omega (arith, length-drop (from + 1) bytes, ap length whole, length-append n.name (59 ∷ more)))
+        slice_get-get_or bytes (from + (length n.name + 1)) 0 (omega (
+          arith,
+          length-drop (from + 1) bytes,
+          ap length whole,
+          length-append n.name (59 ∷ more),
+        ))
         ∙ ap (λ k. Some (get_or bytes k 0)) (sym there)
-        ∙ ap Some (sym (get_or-drop (from + 1) bytes (length n.name) 0) ∙ ap (λ l. get_or l (length n.name) 0) whole ∙ get_or_at n.name 59 more 0 (length n.name) refl)
+        ∙ ap Some (sym (get_or-drop (from + 1) bytes (length n.name) 0) ∙ ap (λ l. get_or l (length n.name) 0) whole
+        ∙ get_or_at n.name 59 more 0 (length n.name) refl)
 
 no_hash : (bytes : List ℕ) (at b : ℕ) (bs : List ℕ) → drop at bytes ≡ b ∷ bs → slice_get bytes at ≢ Some 35 → (b == 35) ≡ false
 no_hash bytes at b bs e other = elim (tests (b == 35)) [
@@ -422,7 +463,8 @@ no_hash bytes at b bs e other = elim (tests (b == 35)) [
       let same : b ≡ 35 = grind arith in
       let within : at < length bytes = omega (arith, length-drop at bytes, ap length e) in
       let none : at ≡ at + 0 = omega arith in
-      absurd (other (slice_get-get_or bytes at 0 within ∙ ap (λ k. Some (get_or bytes k 0)) none ∙ ap Some (sym (get_or-drop at bytes 0 0) ∙ ap (λ l. get_or l 0 0) e ∙ same)))
+      absurd (other (slice_get-get_or bytes at 0 within ∙ ap (λ k. Some (get_or bytes k 0)) none
+      ∙ ap Some (sym (get_or-drop at bytes 0 0) ∙ ap (λ l. get_or l 0 0) e ∙ same)))
   | inr fails ↦ fails
 ]
 
@@ -444,7 +486,8 @@ longest seen (r ∷ rest) front no_front = elim (tests (is_front_of_reference (s
         byte = more.byte;
         byte_is = more.byte_is;
         goes_on = ap is_front_of_reference (sym (append_assoc seen (r ∷ []) (take more.count rest))) ∙ more.goes_on;
-        stops = ap (λ l. is_front_of_reference (l ++ more.byte ∷ [])) (sym (append_assoc seen (r ∷ []) (take more.count rest))) ∙ more.stops;
+        stops = ap (λ l. is_front_of_reference (l ++ more.byte ∷ [])) (sym (append_assoc seen (r ∷ []) (take more.count rest)))
+            ∙ more.stops;
       }
   | inr fails ↦ record {
     count = 0;
@@ -455,18 +498,22 @@ longest seen (r ∷ rest) front no_front = elim (tests (is_front_of_reference (s
   }
 ]
 
-front_of_rest : (rest : List ℕ) → ((b : ℕ) (bs : List ℕ) → rest ≡ b ∷ bs → (b == 35) ≡ false) → is_front_of_reference rest ≡ begins_name rest
+front_of_rest : (rest : List ℕ) → ((b : ℕ) (bs : List ℕ) → rest ≡ b ∷ bs → (b == 35) ≡ false)
+    → is_front_of_reference rest ≡ begins_name rest
 front_of_rest [] other = refl
 front_of_rest (b ∷ bs) other =
     let no_number = other b bs refl in
     rw no_number refl
 
 -- a name that is closed begins the bytes
-begun_by_name : (name more : List ℕ) (c : ℕ) → ((b : ℕ) (bs : List ℕ) → name ≡ b ∷ bs → (b == 35) ≡ false) → referred_to name ≡ Some c → begins_with_name (name ++ 59 ∷ more) ≡ true
+begun_by_name : (name more : List ℕ) (c : ℕ) → ((b : ℕ) (bs : List ℕ) → name ≡ b ∷ bs → (b == 35) ≡ false) → referred_to name ≡ Some c
+    → begins_with_name (name ++ 59 ∷ more) ≡ true
 begun_by_name [] more c other e = cc
-begun_by_name (b ∷ bs) more c other e = by_names (λ name k. begins_with_name (name ++ 59 ∷ more) ≡ true) refl refl refl refl refl b bs c (other b bs refl) e
+begun_by_name (b ∷ bs) more c other e = by_names (λ name k. begins_with_name (name ++ 59 ∷ more) ≡ true) refl refl refl refl refl b bs c
+    (other b bs refl) e
 
-pub name_unknown : (bytes : List ℕ) (from : ℕ) (rest : List ℕ) (fault : TextFault) → from < length bytes → rest ≡ drop (from + 1) bytes → slice_get bytes (from + 1) ≢ Some 35 →
+pub name_unknown : (bytes : List ℕ) (from : ℕ) (rest : List ℕ) (fault : TextFault) → from < length bytes → rest ≡ drop (from + 1) bytes
+    → slice_get bytes (from + 1) ≢ Some 35 →
     begins_with_name rest ≡ false → begins_name rest ≡ false → fault ≡ Entity (place_of bytes from) → IsNoReference bytes from fault
 name_unknown bytes from rest fault within rest_is no_number no_name no_front fault_is = record {
   name = name;
@@ -502,10 +549,12 @@ name_unknown bytes from rest fault within rest_is no_number no_name no_front fau
         let at : from + (length name + 1) ≡ from + 1 + most.count = omega (arith, count) in
         ap (slice_get bytes) at
         ∙ slice_get-get_or bytes (from + 1 + most.count) 0 (omega (arith, there, ap length rest_is, length-drop (from + 1) bytes))
-        ∙ ap Some (sym (get_or-drop (from + 1) bytes most.count 0) ∙ ap (λ l. get_or l most.count 0) (sym rest_is) ∙ get_or_from_slice_get rest most.count most.byte 0 most.byte_is)
+        ∙ ap Some (sym (get_or-drop (from + 1) bytes most.count 0) ∙ ap (λ l. get_or l most.count 0) (sym rest_is)
+        ∙ get_or_from_slice_get rest most.count most.byte 0 most.byte_is)
 
     name_no_hash : (b : ℕ) (bs : List ℕ) → name ≡ b ∷ bs → (b == 35) ≡ false
-    name_no_hash b bs e = no_hash_first b (bs ++ drop most.count rest) (sym (take-append-drop most.count rest) ∙ ap (λ l. l ++ drop most.count rest) e)
+    name_no_hash b bs e = no_hash_first b (bs ++ drop most.count rest) (sym (take-append-drop most.count rest)
+        ∙ ap (λ l. l ++ drop most.count rest) e)
 
     none_is_some : (c : ℕ) (o : Option ℕ) → begins_with_name rest ≡ true → o ≡ Some c → o ≡ None
     none_is_some c o begins e = absurd (true_is_not_false (sym begins ∙ no_name))
@@ -514,10 +563,12 @@ name_unknown bytes from rest fault within rest_is no_number no_name no_front fau
     unnamed is None e = e
     unnamed is (Some c) e =
         let split : rest ≡ name ++ 59 ∷ drop (most.count + 1) rest =
-        sym (take-append-drop most.count rest) ∙ ap (λ l. name ++ l) (rest_at rest most.count most.byte most.byte_is) ∙ ap (λ b. name ++ b ∷ drop (most.count + 1) rest) is in
+        sym (take-append-drop most.count rest) ∙ ap (λ l. name ++ l) (rest_at rest most.count most.byte most.byte_is)
+        ∙ ap (λ b. name ++ b ∷ drop (most.count + 1) rest) is in
         none_is_some c (referred_to name) (ap begins_with_name split ∙ begun_by_name name (drop (most.count + 1) rest) c name_no_hash e) e
 
-pub name_cut : (bytes : List ℕ) (from : ℕ) (rest : List ℕ) (fault : TextFault) → from < length bytes → rest ≡ drop (from + 1) bytes → slice_get bytes (from + 1) ≢ Some 35 →
+pub name_cut : (bytes : List ℕ) (from : ℕ) (rest : List ℕ) (fault : TextFault) → from < length bytes → rest ≡ drop (from + 1) bytes
+    → slice_get bytes (from + 1) ≢ Some 35 →
     begins_name rest ≡ true → fault ≡ Cut (place_of bytes (length bytes)) → IsNoReference bytes from fault
 name_cut bytes from rest fault within rest_is no_number front fault_is =
     let whole : from + (length rest + 1) ≡ length bytes = omega (arith, ap length rest_is, length-drop (from + 1) bytes) in

@@ -1,5 +1,6 @@
 -- How bytes are read one after another.
-use Rattle.std.proofs.Common.{◌≡◌, ℕ, Bool, true, IsTrue, ◌==◌, cond, List, [], ◌∷◌, ◌++◌, Option, Some, None, refl, sym, ◌∙◌, ap, subst, arith, append_assoc}
+use Rattle.std.proofs.Common.{◌≡◌, ℕ, Bool, true, IsTrue, ◌==◌, cond, List, [], ◌∷◌, ◌++◌, Option, Some, None, refl, sym, ◌∙◌, ap, subst}
+use Rattle.std.proofs.Common.{arith, append_assoc}
 use Rattle.std.specs.Option.{option_and_then}
 use Rattle.std.specs.List.{list_all}
 use Rattle.std.proofs.lemmas.List.{length-append, append-nil}
@@ -77,13 +78,16 @@ here_is s t (x ∷ a) e = here_behind s t x a (λ u h. here_is u t a h) (next_mo
 pub runs_none : (place : Place) (m : Mode) → Runs place m [] m
 runs_none place m = record { reaches = ap (λ q. Some (standing q m)) (sym (past_none place)) }
 
-pub runs_then : {place : Place} {from via to : Mode} (a b : List ℕ) → Runs place from a via → Runs (past place a) via b to → Runs place from (a ++ b) to
+pub runs_then : {place : Place} {from via to : Mode} (a b : List ℕ) → Runs place from a via → Runs (past place a) via b to
+    → Runs place from (a ++ b) to
 runs_then {place = place} {from = from} {via = via} {to = to} a b first then = record {
-  reaches = run_then (standing place from) (standing (past place a) via) (standing (past (past place a) b) to) a b first.reaches then.reaches
+  reaches = run_then (standing place from) (standing (past place a) via)
+      (standing (past (past place a) b) to) a b first.reaches then.reaches
       ∙ ap (λ q. Some (standing q to)) (past_more place a b);
 }
 
-pub runs_step : {place : Place} {from via to : Mode} (b : ℕ) (bs : List ℕ) → next_mode from place b ≡ Some via → Runs (past place (b ∷ [])) via bs to → Runs place from (b ∷ bs) to
+pub runs_step : {place : Place} {from via to : Mode} (b : ℕ) (bs : List ℕ) → next_mode from place b ≡ Some via
+    → Runs (past place (b ∷ [])) via bs to → Runs place from (b ∷ bs) to
 runs_step {place = place} {from = from} {via = via} {to = to} b bs one rest = record {
   reaches = ap (λ o. option_and_then (λ t. run t bs) (state_at (past place (b ∷ [])) o)) one ∙ rest.reaches
       ∙ ap (λ q. Some (standing q to)) (past_more place (b ∷ []) bs);
@@ -92,15 +96,19 @@ runs_step {place = place} {from = from} {via = via} {to = to} b bs one rest = re
 pub runs_one : {place : Place} {from to : Mode} (b : ℕ) → next_mode from place b ≡ Some to → Runs place from (b ∷ []) to
 runs_one {place = place} {to = to} b one = runs_step b [] one (runs_none (past place (b ∷ [])) to)
 
-pub runs_to : {place : Place} {from to : Mode} {bytes : List ℕ} (other : Mode) → to ≡ other → Runs place from bytes to → Runs place from bytes other
+pub runs_to : {place : Place} {from to : Mode} {bytes : List ℕ} (other : Mode) → to ≡ other → Runs place from bytes to
+    → Runs place from bytes other
 runs_to {place = place} {from = from} {bytes = bytes} other e r = subst (λ m. Runs place from bytes m) e r
 
-pub runs_over : {place : Place} {from to : Mode} {bytes : List ℕ} (other : List ℕ) → other ≡ bytes → Runs place from bytes to → Runs place from other to
+pub runs_over : {place : Place} {from to : Mode} {bytes : List ℕ} (other : List ℕ) → other ≡ bytes → Runs place from bytes to
+    → Runs place from other to
 runs_over {place = place} {from = from} {to = to} other e r = subst (λ l. Runs place from l to) (sym e) r
 
-pub runs_three : {place : Place} {from one two to : Mode} (a b c : List ℕ) → Runs place from a one → Runs (past place a) one b two → Runs (past (past place a) b) two c to
+pub runs_three : {place : Place} {from one two to : Mode} (a b c : List ℕ) → Runs place from a one → Runs (past place a) one b two
+    → Runs (past (past place a) b) two c to
     → Runs place from (a ++ b ++ c) to
-runs_three {place = place} a b c first second third = runs_over (a ++ b ++ c) (append_assoc a b c) (runs_then a (b ++ c) first (runs_then b c second third))
+runs_three {place = place} a b c first second third = runs_over (a ++ b ++ c) (append_assoc a b c)
+    (runs_then a (b ++ c) first (runs_then b c second third))
 
 pub runs_four : {place : Place} {from one two three to : Mode} (a b c d : List ℕ) → Runs place from a one → Runs (past place a) one b two
     → Runs (past (past place a) b) two c three → Runs (past (past (past place a) b) c) three d to → Runs place from (a ++ b ++ c ++ d) to
@@ -117,10 +125,12 @@ runs_along m q stays place (b ∷ bs) all =
     runs_step b bs (stays place b first) (runs_along m q stays (past place (b ∷ [])) bs rest)
 
 -- bytes of a kind that are kept
-pub runs_kept : (m : List ℕ → Mode) (q : ℕ → Bool) → ((seen : List ℕ) (p : Place) (b : ℕ) → q b ≡ true → next_mode (m seen) p b ≡ Some (m (seen ++ b ∷ [])))
+pub runs_kept : (m : List ℕ → Mode) (q : ℕ → Bool) → ((seen : List ℕ) (p : Place) (b : ℕ) → q b ≡ true
+    → next_mode (m seen) p b ≡ Some (m (seen ++ b ∷ [])))
     → (seen : List ℕ) (place : Place) (bs : List ℕ) → IsTrue (list_all q bs) → Runs place (m seen) bs (m (seen ++ bs))
 runs_kept m q goes seen place [] all = runs_to (m (seen ++ [])) (ap m (sym (append-nil seen))) (runs_none place (m seen))
 runs_kept m q goes seen place (b ∷ bs) all =
     let first : q b ≡ true = grind arith in
     let rest : list_all q bs ≡ true = grind arith in
-    runs_to (m (seen ++ b ∷ bs)) (ap m (append_assoc seen (b ∷ []) bs)) (runs_step b bs (goes seen place b first) (runs_kept m q goes (seen ++ b ∷ []) (past place (b ∷ [])) bs rest))
+    runs_to (m (seen ++ b ∷ bs)) (ap m (append_assoc seen (b ∷ []) bs))
+    (runs_step b bs (goes seen place b first) (runs_kept m q goes (seen ++ b ∷ []) (past place (b ∷ [])) bs rest))

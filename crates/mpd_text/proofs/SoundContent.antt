@@ -1,11 +1,13 @@
 -- How what is known of read bytes goes on through white space, comments, character data and ends of elements.
-use Rattle.std.proofs.Common.{◌≡◌, ℕ, suc, ◌-◌, ◌≤◌, max, Bool, true, false, IsTrue, ◌==◌, not, List, [], ◌∷◌, ◌++◌, length, Option, None, refl, sym, ◌∙◌, ap, subst, arith, inl, inr}
+use Rattle.std.proofs.Common.{◌≡◌, ℕ, suc, ◌-◌, ◌≤◌, max, Bool, true, false, IsTrue, ◌==◌, not, List, [], ◌∷◌, ◌++◌, length, Option, None}
+use Rattle.std.proofs.Common.{refl, sym, ◌∙◌, ap, subst, arith, inl, inr}
 use Rattle.std.proofs.lemmas.List.{append_assoc, append-nil}
 use Rattle.std.proofs.lemmas.List.Folds.{list_any-append}
 use Rattle.bridge_io.specs.declared.place.Place.{Place}
 use Rattle.mpd_text.specs.Characters.{is_white, has_byte}
 use Rattle.mpd_text.specs.Trees.{Head, Forest, nothing, element, depth}
-use Rattle.mpd_text.specs.Grammar.{first_place, past, IsMark, IsBeginning, IsDeclaration, IsComment, IsMisc, IsWhiteRun, IsDataRun, AreRunsRound, IsProlog, IsContent, IsElement, IsElementRound, deepest}
+use Rattle.mpd_text.specs.Grammar.{first_place, past, IsMark, IsBeginning, IsDeclaration, IsComment, IsMisc, IsWhiteRun, IsDataRun}
+use Rattle.mpd_text.specs.Grammar.{AreRunsRound, IsProlog, IsContent, IsElement, IsElementRound, deepest}
 use Rattle.mpd_text.specs.Steps.{Opened, Outside, inside, behind, followed_by, head_of_opened, behind_end}
 use Rattle.mpd_text.proofs.Holds.{Reads, as_is, IsPrologFront, IsInside, IsNested, IsBetweenAt}
 use Rattle.mpd_text.proofs.RunLemmas.{past_more}
@@ -15,7 +17,8 @@ use Rattle.mpd_text.proofs.SoundText.{reads_nothing, reads_content}
 abbrev pub Leads : (List ℕ → Type 0) → List ℕ → Type 0
 Leads P bytes = (more : List ℕ) → IsMisc more → P (bytes ++ more)
 
-white_runs : (b : ℕ) (comments : List (List ℕ)) (more : List ℕ) → is_white b ≡ true → AreRunsRound IsWhiteRun comments [] more → AreRunsRound IsWhiteRun comments [] (b ∷ more)
+white_runs : (b : ℕ) (comments : List (List ℕ)) (more : List ℕ) → is_white b ≡ true → AreRunsRound IsWhiteRun comments [] more
+    → AreRunsRound IsWhiteRun comments [] (b ∷ more)
 white_runs b [] more white runs = (refl, rw white runs.1)
 white_runs b (comment ∷ comments) more white runs = record {
   run = b ∷ runs.run;
@@ -59,10 +62,22 @@ pub begins : (bytes : List ℕ) → IsBeginning bytes → IsPrologFront bytes
 begins bytes is = λ more misc. record { beginning = bytes; misc = more; bytes_are = refl; is_beginning = is; is_misc = misc }
 
 pub begins_mark : (bytes : List ℕ) → IsMark bytes → IsPrologFront bytes
-begins_mark bytes is = begins bytes (record { mark = bytes; declaration = []; bytes_are = sym (append-nil bytes); is_mark = is; is_declaration = inl refl })
+begins_mark bytes is = begins bytes (record {
+  mark = bytes;
+  declaration = [];
+  bytes_are = sym (append-nil bytes);
+  is_mark = is;
+  is_declaration = inl refl;
+})
 
 pub begins_declared : (mark piece : List ℕ) → IsMark mark → IsDeclaration piece → IsPrologFront (mark ++ piece)
-begins_declared mark piece is declared = begins (mark ++ piece) (record { mark = mark; declaration = piece; bytes_are = refl; is_mark = is; is_declaration = inr declared })
+begins_declared mark piece is declared = begins (mark ++ piece) (record {
+  mark = mark;
+  declaration = piece;
+  bytes_are = refl;
+  is_mark = is;
+  is_declaration = inr declared;
+})
 
 -- a comment in content
 content_comment : (f : Forest) (p : Place) (chars chars_text comment text more : List ℕ) → IsDataRun chars_text chars → IsComment comment →
@@ -103,13 +118,15 @@ content_comment (element h inner others) p chars chars_text comment text more ru
       is_rest = c.is_front.1;
     },
   );
-  is_first = subst (λ q. IsElementRound (λ within. IsContent inner within h.text) q h c.first) (past_more p (chars ++ comment) c.front) c.is_first;
+  is_first = subst (λ q. IsElementRound (λ within. IsContent inner within h.text) q h c.first)
+      (past_more p (chars ++ comment) c.front) c.is_first;
   is_rest = subst (λ q. IsContent others q c.rest_text c.rest)
       (past_more p (chars ++ comment) (c.front ++ c.first) ∙ ap (past p) (sym (append_assoc (chars ++ comment) c.front c.first))) c.is_rest;
 }
 
 -- an element in content
-content_element : (f : Forest) (h : Head) (inner : Forest) (p : Place) (chars chars_text main text more : List ℕ) → IsDataRun chars_text chars →
+content_element : (f : Forest) (h : Head) (inner : Forest) (p : Place) (chars chars_text main text more : List ℕ)
+    → IsDataRun chars_text chars →
     IsElementRound (λ within. IsContent inner within h.text) (past p chars) h main →
     IsContent f (past p (chars ++ main)) text more → IsContent (element h inner f) p (chars_text ++ text) ((chars ++ main) ++ more)
 content_element f h inner p chars chars_text main text more run is c = record {
@@ -135,7 +152,8 @@ followed_by_both (element head c others) g h = ap (element head c) (followed_by_
 
 depth_of_both : (f g : Forest) → depth (followed_by f g) ≡ max (depth f) (depth g)
 depth_of_both nothing g = omega arith
-depth_of_both (element h c others) g = let rest : depth (followed_by others g) ≡ max (depth others) (depth g) = depth_of_both others g in omega arith
+depth_of_both (element h c others) g = let rest : depth (followed_by others g) ≡ max (depth others) (depth g) = depth_of_both others g in
+    omega arith
 
 data_of : (chars text : List ℕ) (cr : Bool) → Reads as_is chars text None cr → IsTrue (not (has_byte 60 chars)) → IsDataRun text chars
 data_of chars text cr reads no_less = (reads_content chars text cr reads, no_less)
@@ -148,12 +166,15 @@ content_of p o cr inner i =
     (subst (λ t. IsContent (followed_by o.children nothing) p t inner) (sym i.text_is)
     (subst (λ b. IsContent (followed_by o.children nothing) p (i.closed_text ++ i.chars_text) b) (sym i.bytes_are) whole))
 
-pub lacks_more : (q b : ℕ) (bytes : List ℕ) → (b == q) ≡ false → IsTrue (not (has_byte q bytes)) → IsTrue (not (has_byte q (bytes ++ b ∷ [])))
+pub lacks_more : (q b : ℕ) (bytes : List ℕ) → (b == q) ≡ false → IsTrue (not (has_byte q bytes))
+    → IsTrue (not (has_byte q (bytes ++ b ∷ [])))
 lacks_more q b bytes other lacks = rw (list_any-append (λ c. c == q) bytes (b ∷ [])) (grind arith)
 
 -- one byte more in content
-pub inside_next : (p : Place) (o : Opened) (name next : Option (List ℕ)) (cr next_cr : Bool) (inner : List ℕ) (b : ℕ) (text new_text : List ℕ)
-    (i : IsInside p o name cr inner) → text ≡ i.closed_text ++ new_text → Reads as_is (i.chars ++ b ∷ []) new_text next next_cr → (b == 60) ≡ false →
+pub inside_next : (p : Place) (o : Opened) (name next : Option (List ℕ)) (cr next_cr : Bool) (inner : List ℕ) (b : ℕ)
+    (text new_text : List ℕ)
+    (i : IsInside p o name cr inner) → text ≡ i.closed_text ++ new_text → Reads as_is (i.chars ++ b ∷ []) new_text next next_cr
+    → (b == 60) ≡ false →
     IsInside p (record o { text = text }) next next_cr (inner ++ b ∷ [])
 inside_next p o name next cr next_cr inner b text new_text i text_is reads other = record {
   closed = i.closed;
@@ -168,7 +189,8 @@ inside_next p o name next cr next_cr inner b text new_text i text_is reads other
 }
 
 -- a comment more in content
-inside_comment : (p : Place) (o : Opened) (cr : Bool) (inner comment : List ℕ) → IsComment comment → IsInside p o None cr inner → IsInside p o None false (inner ++ comment)
+inside_comment : (p : Place) (o : Opened) (cr : Bool) (inner comment : List ℕ) → IsComment comment → IsInside p o None cr inner
+    → IsInside p o None false (inner ++ comment)
 inside_comment p o cr inner comment is i = record {
   closed = (i.closed ++ i.chars) ++ comment;
   chars = [];
@@ -180,16 +202,20 @@ inside_comment p o cr inner comment is i = record {
       let at = past_more p i.closed (i.chars ++ comment) ∙ ap (past p) (sym (append_assoc i.closed i.chars comment)) in
       let placed = subst (λ q. IsContent f q text more) (sym at) c in
       let whole = i.goes_on f (i.chars_text ++ text) ((i.chars ++ comment) ++ more)
-      (content_comment f (past p i.closed) i.chars i.chars_text comment text more (data_of i.chars i.chars_text cr i.reads i.no_less_than) is placed) in
-      subst (λ t. IsContent (followed_by o.children f) p t ((((i.closed ++ i.chars) ++ comment)) ++ more)) (sym (append_assoc i.closed_text i.chars_text text))
+      (content_comment f (past p i.closed) i.chars i.chars_text comment text more
+      (data_of i.chars i.chars_text cr i.reads i.no_less_than) is placed) in
+      subst (λ t. IsContent (followed_by o.children f) p t ((((i.closed ++ i.chars) ++ comment)) ++ more))
+      (sym (append_assoc i.closed_text i.chars_text text))
       (subst (λ b. IsContent (followed_by o.children f) p (i.closed_text ++ (i.chars_text ++ text)) b) (simp append_assoc) whole);
   reads = reads_nothing as_is;
   no_less_than = refl;
 }
 
 -- an element more in content
-inside_element : (p : Place) (o : Opened) (cr : Bool) (inner : List ℕ) (h : Head) (children : Forest) (main : List ℕ) → IsElement (past p inner) (record { head = h; children = children }) main →
-    IsInside p o None cr inner → IsInside p (record o { children = followed_by o.children (element h children nothing) }) None false (inner ++ main)
+inside_element : (p : Place) (o : Opened) (cr : Bool) (inner : List ℕ) (h : Head) (children : Forest) (main : List ℕ)
+    → IsElement (past p inner) (record { head = h; children = children }) main →
+    IsInside p o None cr inner → IsInside p (record o { children = followed_by o.children (element h children nothing) }) None false
+    (inner ++ main)
 inside_element p o cr inner h children main is i = record {
   closed = (i.closed ++ i.chars) ++ main;
   chars = [];
@@ -203,17 +229,23 @@ inside_element p o cr inner h children main is i = record {
       let here = ap (past p) i.bytes_are ∙ sym (past_more p i.closed i.chars) in
       let is_there = subst (λ q. IsElement q (record { head = h; children = children }) main) here is in
       let whole = i.goes_on (element h children f) (i.chars_text ++ text) ((i.chars ++ main) ++ more)
-      (content_element f h children (past p i.closed) i.chars i.chars_text main text more (data_of i.chars i.chars_text cr i.reads i.no_less_than) is_there placed) in
-      subst (λ g. IsContent g p ((i.closed_text ++ i.chars_text) ++ text) (((i.closed ++ i.chars) ++ main) ++ more)) (sym (followed_by_both o.children (element h children nothing) f))
-      (subst (λ t. IsContent (followed_by o.children (element h children f)) p t ((((i.closed ++ i.chars) ++ main)) ++ more)) (sym (append_assoc i.closed_text i.chars_text text))
-      (subst (λ b. IsContent (followed_by o.children (element h children f)) p (i.closed_text ++ (i.chars_text ++ text)) b) (simp append_assoc) whole));
+      (content_element f h children (past p i.closed) i.chars i.chars_text main text more
+      (data_of i.chars i.chars_text cr i.reads i.no_less_than) is_there placed) in
+      subst (λ g. IsContent g p ((i.closed_text ++ i.chars_text) ++ text) (((i.closed ++ i.chars) ++ main) ++ more))
+      (sym (followed_by_both o.children (element h children nothing) f))
+      (subst (λ t. IsContent (followed_by o.children (element h children f)) p t ((((i.closed ++ i.chars) ++ main)) ++ more))
+      (sym (append_assoc i.closed_text i.chars_text text))
+      (subst (λ b. IsContent (followed_by o.children (element h children f)) p (i.closed_text ++ (i.chars_text ++ text)) b)
+      (simp append_assoc) whole));
   reads = reads_nothing as_is;
   no_less_than = refl;
 }
 
 -- the same in the innermost open element
-pub nested_next : (o : Opened) (os : List Opened) (text : List ℕ) (name next : Option (List ℕ)) (cr next_cr : Bool) (bytes more : List ℕ) (n : IsNested (o ∷ os) name cr bytes) →
-    IsInside (past o.place n.1.tag) (record o { text = text }) next next_cr (n.1.inner ++ more) → IsNested (record o { text = text } ∷ os) next next_cr (bytes ++ more)
+pub nested_next : (o : Opened) (os : List Opened) (text : List ℕ) (name next : Option (List ℕ)) (cr next_cr : Bool) (bytes more : List ℕ)
+    (n : IsNested (o ∷ os) name cr bytes) →
+    IsInside (past o.place n.1.tag) (record o { text = text }) next next_cr (n.1.inner ++ more)
+    → IsNested (record o { text = text } ∷ os) next next_cr (bytes ++ more)
 nested_next o os text name next cr next_cr bytes more n i = (
   n.0,
   record {
@@ -229,10 +261,12 @@ nested_next o os text name next cr next_cr bytes more n i = (
   },
 )
 
-pub between_comment : (out : Outside) (cr : Bool) (bytes comment : List ℕ) → IsComment comment → IsBetweenAt out cr bytes → IsBetweenAt out false (bytes ++ comment)
+pub between_comment : (out : Outside) (cr : Bool) (bytes comment : List ℕ) → IsComment comment → IsBetweenAt out cr bytes
+    → IsBetweenAt out false (bytes ++ comment)
 between_comment (inside []) cr bytes comment is h = leads_comment IsProlog bytes comment is h
 between_comment (inside (o ∷ os)) cr bytes comment is h =
-    nested_next o os o.text None None cr false bytes comment h (inside_comment (past o.place h.1.tag) o cr h.1.inner comment is h.1.is_inner)
+    nested_next o os o.text None None cr false bytes comment h
+    (inside_comment (past o.place h.1.tag) o cr h.1.inner comment is h.1.is_inner)
 between_comment (behind root) cr bytes comment is h = record {
   prolog = h.prolog;
   main = h.main;
@@ -245,8 +279,10 @@ between_comment (behind root) cr bytes comment is h = record {
 }
 
 -- the innermost element, which stands behind the others, is whole
-pub element_ends : (o : Opened) (os : List Opened) (cr : Bool) (outside main : List ℕ) → suc (length os) ≤ deepest → IsNested os None cr outside → o.place ≡ past first_place outside →
-    IsElement o.place (record { head = head_of_opened o; children = o.children }) main → depth o.children ≤ deepest - suc (length os) → IsBetweenAt (behind_end o os) false (outside ++ main)
+pub element_ends : (o : Opened) (os : List Opened) (cr : Bool) (outside main : List ℕ) → suc (length os) ≤ deepest
+    → IsNested os None cr outside → o.place ≡ past first_place outside →
+    IsElement o.place (record { head = head_of_opened o; children = o.children }) main → depth o.children ≤ deepest - suc (length os)
+    → IsBetweenAt (behind_end o os) false (outside ++ main)
 element_ends o [] cr outside main room out place_is is shallow = record {
   prolog = outside;
   main = main;

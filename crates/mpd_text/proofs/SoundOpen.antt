@@ -1,13 +1,20 @@
 -- What was read is open, and a document where it ends behind the root.
-use Rattle.std.proofs.Common.{◌≡◌, ◌≢◌, ℕ, suc, ◌+◌, Bool, true, false, IsTrue, not, List, [], ◌∷◌, ◌++◌, length, codes, Option, Some, None, refl, sym, ◌∙◌, ap, subst, arith, inl, inr, ◌⊎◌}
+use Rattle.std.proofs.Common.{◌≡◌, ◌≢◌, ℕ, suc, ◌+◌, Bool, true, false, IsTrue, not, List, [], ◌∷◌, ◌++◌, length, codes, Option, Some, None}
+use Rattle.std.proofs.Common.{refl, sym, ◌∙◌, ap, subst, arith, inl, inr, ◌⊎◌}
 use Rattle.std.proofs.lemmas.List.{append_assoc, append-nil, length-append}
 use Rattle.bridge_io.specs.declared.place.Place.{Place}
 use Rattle.mpd_text.specs.Characters.{all_white, has}
 use Rattle.mpd_text.specs.Trees.{Element}
 use Rattle.mpd_text.specs.Grammar.{first_place, past, IsMisc, IsProlog, IsDocument, OpensDeclaration, names_of}
-use Rattle.mpd_text.specs.Fronts.{Kind, Context, IsOpen, IsOpenAt, IsWithin, IsBetween, IsBehindRoot, HasRoom, IsUndecided, IsFrontThen, IsStartTagFront, IsTagBefore, IsBehindName, IsValueFront, IsEndTagFront, IsCommentFront, IsContentFront}
-use Rattle.mpd_text.specs.Steps.{Opened, Outside, inside, behind, Tag, Named, Quoted, Dashes, no_dash, one_dash, two_dashes, three_dashes, Mode, at_beginning, at_mark_1, at_mark_2, at_mark_end, at_content, at_less_than, at_bang, at_question, at_declaration, at_comment, at_tag_name, at_tag, at_slash, at_attribute_name, at_equals, at_quote, at_value, at_value_reference, at_data_reference, at_end_name, at_end_white, State, start, run, open_names, names_outside, context_of, context_of_mode, Finishes}
-use Rattle.mpd_text.proofs.Holds.{IsNested, IsBehind, IsBetweenAt, IsCommentSo, IsDeclarationSo, IsNamedThen, IsNew, IsBehindEquals, IsQuotedSo, HasRoomFor, IsTagIn, IsEndNameSo, Holds, question_of}
+use Rattle.mpd_text.specs.Fronts.{Kind, Context, IsOpen, IsOpenAt, IsWithin, IsBetween, IsBehindRoot, HasRoom, IsUndecided, IsFrontThen}
+use Rattle.mpd_text.specs.Fronts.{IsStartTagFront, IsTagBefore, IsBehindName, IsValueFront, IsEndTagFront, IsCommentFront, IsContentFront}
+use Rattle.mpd_text.specs.Steps.{Opened, Outside, inside, behind, Tag, Named, Quoted, Dashes, no_dash, one_dash, two_dashes, three_dashes}
+use Rattle.mpd_text.specs.Steps.{Mode, at_beginning, at_mark_1, at_mark_2, at_mark_end, at_content, at_less_than, at_bang, at_question}
+use Rattle.mpd_text.specs.Steps.{at_declaration, at_comment, at_tag_name, at_tag, at_slash, at_attribute_name, at_equals, at_quote}
+use Rattle.mpd_text.specs.Steps.{at_value, at_value_reference, at_data_reference, at_end_name, at_end_white, State, start, run, open_names}
+use Rattle.mpd_text.specs.Steps.{names_outside, context_of, context_of_mode, Finishes}
+use Rattle.mpd_text.proofs.Holds.{IsNested, IsBehind, IsBetweenAt, IsCommentSo, IsDeclarationSo, IsNamedThen, IsNew, IsBehindEquals}
+use Rattle.mpd_text.proofs.Holds.{IsQuotedSo, HasRoomFor, IsTagIn, IsEndNameSo, Holds, question_of}
 use Rattle.mpd_text.proofs.RunLemmas.{past_more}
 use Rattle.mpd_text.proofs.SoundText.{reads_value}
 use Rattle.mpd_text.proofs.SoundContent.{leads_to, begins_mark, content_of}
@@ -74,7 +81,15 @@ comment_front no_dash bytes h = (
   record { inside = h.words; bytes_are = refl; no_dashes = free_is (codes "--") h.words h.free refl },
   inl (h.bytes_are ∙ ap (λ s. codes "<!--" ++ s) (append-nil h.words)),
 )
-comment_front one_dash bytes h = (codes "<!--" ++ (h.words ++ 45 ∷ []), record { inside = h.words ++ 45 ∷ []; bytes_are = refl; no_dashes = ends h.words (h.free (45 ∷ [])) }, inl h.bytes_are)
+comment_front one_dash bytes h = (
+  codes "<!--" ++ (h.words ++ 45 ∷ []),
+  record {
+    inside = h.words ++ 45 ∷ [];
+    bytes_are = refl;
+    no_dashes = ends h.words (h.free (45 ∷ []));
+  },
+  inl h.bytes_are,
+)
   where
     ends : (words : List ℕ) → has (codes "--") (words ++ 45 ∷ []) ≡ false → IsTrue (not (has (codes "--") (words ++ 45 ∷ [])))
     ends words e = rw e refl
@@ -101,10 +116,18 @@ lone_question true = refl
 
 declaration_front : (q : Bool) (bytes : List ℕ) → IsDeclarationSo q bytes → OpensDeclaration bytes
 declaration_front q bytes h =
-    let lacks : has (codes "?>") (h.words ++ question_of q) ≡ false = has_front 63 62 (h.words ++ question_of q) [] (h.free [] ∙ lone_question q) in
-    record { white = h.white; inside = h.words ++ question_of q; bytes_are = h.bytes_are; is_white = h.is_white; ends_later = rw lacks refl }
+    let lacks : has (codes "?>") (h.words ++ question_of q) ≡ false = has_front 63 62 (h.words ++ question_of q) [] (h.free []
+    ∙ lone_question q) in
+    record {
+      white = h.white;
+      inside = h.words ++ question_of q;
+      bytes_are = h.bytes_are;
+      is_white = h.is_white;
+      ends_later = rw lacks refl;
+    }
 
-start_front : (os : List Opened) (t : Tag) (R : List ℕ → List ℕ → List ℕ → Type 0) (bytes : List ℕ) (h : IsTagIn os t R bytes) → (h.is_piece.rest ≡ []) ⊎ (h.is_piece.rest ≡ codes "/") →
+start_front : (os : List Opened) (t : Tag) (R : List ℕ → List ℕ → List ℕ → Type 0) (bytes : List ℕ) (h : IsTagIn os t R bytes)
+    → (h.is_piece.rest ≡ []) ⊎ (h.is_piece.rest ≡ codes "/") →
     IsFrontThen t.place.at (HasRoom (open_names os)) (IsStartTagFront (names_of t.attributes)) bytes
 start_front os t R bytes h slash = record {
   front = h.front;
@@ -128,7 +151,8 @@ start_front os t R bytes h slash = record {
 }
 
 -- the front of a tag up to an attribute's name
-tag_before : (os : List Opened) (t : Tag) (named : Named) (R : List ℕ → List ℕ → Type 0) (bytes : List ℕ) (h : IsTagIn os t (IsNamedThen named t.place R) bytes) → IsTagBefore (names_of t.attributes) (h.is_piece.tag ++ h.is_piece.white)
+tag_before : (os : List Opened) (t : Tag) (named : Named) (R : List ℕ → List ℕ → Type 0) (bytes : List ℕ)
+    (h : IsTagIn os t (IsNamedThen named t.place R) bytes) → IsTagBefore (names_of t.attributes) (h.is_piece.tag ++ h.is_piece.white)
 tag_before os t named R bytes h = record {
   place = t.place;
   name = t.name;
@@ -142,8 +166,10 @@ tag_before os t named R bytes h = record {
   some = h.is_piece.is_rest.some;
 }
 
-attribute_front : (os : List Opened) (t : Tag) (named : Named) (R : List ℕ → List ℕ → Type 0) (bytes : List ℕ) (h : IsTagIn os t (IsNamedThen named t.place R) bytes) →
-    IsBehindName (names_of t.attributes) named.name h.is_piece.is_rest.rest → IsOpenAt (Rattle.mpd_text.specs.Fronts.in_attribute (names_of t.attributes) named.name) (open_names os) named.place.at bytes
+attribute_front : (os : List Opened) (t : Tag) (named : Named) (R : List ℕ → List ℕ → Type 0) (bytes : List ℕ)
+    (h : IsTagIn os t (IsNamedThen named t.place R) bytes) →
+    IsBehindName (names_of t.attributes) named.name h.is_piece.is_rest.rest
+    → IsOpenAt (Rattle.mpd_text.specs.Fronts.in_attribute (names_of t.attributes) named.name) (open_names os) named.place.at bytes
 attribute_front os t named R bytes h is_behind =
     let p = h.is_piece in
     let n = p.is_rest in
@@ -151,7 +177,8 @@ attribute_front os t named R bytes h is_behind =
       front = h.front ++ (p.tag ++ p.white);
       rest = p.rest;
       bytes_are = h.bytes_are ∙ ap (λ s. h.front ++ s) p.bytes_are ∙ sym (append_assoc h.front (p.tag ++ p.white) p.rest);
-      at_is = at_is named.place (h.front ++ (p.tag ++ p.white)) (n.place_is ∙ ap (λ q. past q (p.tag ++ p.white)) h.place_is ∙ past_more first_place h.front (p.tag ++ p.white));
+      at_is = at_is named.place (h.front ++ (p.tag ++ p.white)) (n.place_is ∙ ap (λ q. past q (p.tag ++ p.white)) h.place_is
+          ∙ past_more first_place h.front (p.tag ++ p.white));
       is_front = (
         length h.front,
         record {
@@ -166,21 +193,25 @@ attribute_front os t named R bytes h is_behind =
       is_rest = record { rest = n.rest; bytes_are = n.bytes_are; is_name = n.is_name; is_rest = is_behind };
     }
 
-value_front : (os : List Opened) (t : Tag) (named : Named) (q : Quoted) (bytes : List ℕ) → Holds (at_value os t named q) bytes → IsValueFront (open_names os) q.place.at bytes
+value_front : (os : List Opened) (t : Tag) (named : Named) (q : Quoted) (bytes : List ℕ) → Holds (at_value os t named q) bytes
+    → IsValueFront (open_names os) q.place.at bytes
 value_front os t named q bytes h =
     let p = h.is_piece in
     let n = p.is_rest in
     let v = n.is_rest.1 in
     let tag = ((p.tag ++ p.white) ++ named.name) ++ (v.equals ++ q.quote ∷ []) in
-    let moved : h.front ++ ((p.tag ++ p.white) ++ (named.name ++ (v.equals ++ q.quote ∷ v.value))) ≡ (h.front ++ tag) ++ v.value = simp append_assoc in
+    let moved : h.front ++ ((p.tag ++ p.white) ++ (named.name ++ (v.equals ++ q.quote ∷ v.value))) ≡ (h.front ++ tag) ++ v.value =
+    simp append_assoc in
     let placed : q.place.at ≡ length (h.front ++ (((p.tag ++ p.white) ++ named.name) ++ v.equals)) =
     at_is q.place (h.front ++ (((p.tag ++ p.white) ++ named.name) ++ v.equals))
-    (v.place_is ∙ ap (λ r. past r (((p.tag ++ p.white) ++ named.name) ++ v.equals)) h.place_is ∙ past_more first_place h.front (((p.tag ++ p.white) ++ named.name) ++ v.equals)) in
+    (v.place_is ∙ ap (λ r. past r (((p.tag ++ p.white) ++ named.name) ++ v.equals)) h.place_is
+    ∙ past_more first_place h.front (((p.tag ++ p.white) ++ named.name) ++ v.equals)) in
     record {
       outside = h.front;
       tag = tag;
       value = v.value;
-      bytes_are = h.bytes_are ∙ ap (λ s. h.front ++ s) (p.bytes_are ∙ ap (λ s. (p.tag ++ p.white) ++ s) (n.bytes_are ∙ ap (λ s. named.name ++ s) v.bytes_are)) ∙ moved;
+      bytes_are = h.bytes_are ∙ ap (λ s. h.front ++ s) (p.bytes_are
+          ∙ ap (λ s. (p.tag ++ p.white) ++ s) (n.bytes_are ∙ ap (λ s. named.name ++ s) v.bytes_are)) ∙ moved;
       has_room = room_of os h.behind_cr h.front h.is_front;
       quote = q.quote;
       text = q.text;
@@ -199,21 +230,31 @@ value_front os t named q bytes h =
       at_is = measured h.front ((p.tag ++ p.white) ++ named.name) v.equals q.quote q.place.at placed;
     }
   where
-    measured : (front middle equals : List ℕ) (quote at : ℕ) → at ≡ length (front ++ (middle ++ equals)) → at + 1 ≡ length front + length (middle ++ (equals ++ quote ∷ []))
+    measured : (front middle equals : List ℕ) (quote at : ℕ) → at ≡ length (front ++ (middle ++ equals))
+        → at + 1 ≡ length front + length (middle ++ (equals ++ quote ∷ []))
     measured front middle equals quote at e =
-        omega (arith, length-append front (middle ++ equals), length-append middle equals, length-append middle (equals ++ quote ∷ []), length-append equals (quote ∷ []))
+        omega (
+          arith,
+          length-append front (middle ++ equals),
+          length-append middle equals,
+          length-append middle (equals ++ quote ∷ []),
+          length-append equals (quote ∷ []),
+        )
 
 not_none : (name : List ℕ) (names : List (List ℕ)) → ◌≡◌ {A = List (List ℕ)} (name ∷ names) [] → ⊥
 not_none name names e = cc
 
-content_front : (o : Opened) (os : List Opened) (cr : Bool) (bytes : List ℕ) → IsNested (o ∷ os) None cr bytes → IsContentFront (open_names (o ∷ os)) bytes
+content_front : (o : Opened) (os : List Opened) (cr : Bool) (bytes : List ℕ) → IsNested (o ∷ os) None cr bytes
+    → IsContentFront (open_names (o ∷ os)) bytes
 content_front o os cr bytes h = (λ e. not_none o.name (open_names os) e, within_of (o ∷ os) cr bytes h)
 
-end_front : (o : Opened) (os : List Opened) (name : List ℕ) (bytes : List ℕ) → IsEndNameSo name bytes → IsEndTagFront (open_names (o ∷ os)) name bytes
+end_front : (o : Opened) (os : List Opened) (name : List ℕ) (bytes : List ℕ) → IsEndNameSo name bytes
+    → IsEndTagFront (open_names (o ∷ os)) name bytes
 end_front o os [] bytes h = inl (refl, h)
 end_front o os (c ∷ cs) bytes h = inr (inl (h.1, h.0))
 
-mode_open : (mode : Mode) (here : Place) (bytes : List ℕ) → here ≡ past first_place bytes → Holds mode bytes → OpenSome (context_of_mode mode here) bytes
+mode_open : (mode : Mode) (here : Place) (bytes : List ℕ) → here ≡ past first_place bytes → Holds mode bytes
+    → OpenSome (context_of_mode mode here) bytes
 mode_open at_beginning here bytes is h = (refl, leads_to IsProlog bytes (begins_mark bytes (inl h)), at_is here bytes is)
 mode_open at_mark_1 here bytes is h = tt
 mode_open at_mark_2 here bytes is h = tt
@@ -284,15 +325,18 @@ mode_open (at_tag_name os name place) here bytes is h = record {
     is_slash = inl refl;
   };
 }
-mode_open (at_tag os t white) here bytes is h = start_front os t (λ tag space rest. (rest ≡ []) × (white ≡ true → space ≢ [])) bytes h (inl h.is_piece.is_rest.0)
+mode_open (at_tag os t white) here bytes is h = start_front os t (λ tag space rest. (rest ≡ []) × (white ≡ true → space ≢ [])) bytes h
+    (inl h.is_piece.is_rest.0)
 mode_open (at_slash os t) here bytes is h = start_front os t (λ tag space rest. rest ≡ codes "/") bytes h (inr h.is_piece.is_rest)
-mode_open (at_attribute_name os t named) here bytes is h = attribute_front os t named (λ front rest. rest ≡ []) bytes h (inl h.is_piece.is_rest.is_rest)
+mode_open (at_attribute_name os t named) here bytes is h = attribute_front os t named (λ front rest. rest ≡ []) bytes h
+    (inl h.is_piece.is_rest.is_rest)
 mode_open (at_equals os t named) here bytes is h =
     let r = h.is_piece.is_rest.is_rest in
     attribute_front os t named (λ front rest. IsNew t named × IsTrue (all_white rest)) bytes h (inr (r.0, inl r.1))
 mode_open (at_quote os t named) here bytes is h =
     let r = h.is_piece.is_rest.is_rest in
-    attribute_front os t named (λ front rest. IsNew t named × IsBehindEquals rest) bytes h (inr (r.0, inr (r.1.before, r.1.after, r.1.bytes_are, r.1.white_before, r.1.white_after)))
+    attribute_front os t named (λ front rest. IsNew t named × IsBehindEquals rest) bytes h
+    (inr (r.0, inr (r.1.before, r.1.after, r.1.bytes_are, r.1.white_before, r.1.white_after)))
 mode_open (at_value os t named q) here bytes is h = value_front os t named q bytes h
 mode_open (at_value_reference os t named q name place) here bytes is h = record {
   front = h.front;
@@ -331,7 +375,8 @@ open_some : (o : Option Context) (bytes : List ℕ) (context : Context) → Open
 open_some o bytes context h e = subst (λ p. OpenSome p bytes) e h
 
 -- what was read up to a position with a context is open in it
-pub read_is_open : (bytes : List ℕ) (s : State) (context : Context) → run start bytes ≡ Some s → context_of s ≡ Some context → IsOpen bytes context
+pub read_is_open : (bytes : List ℕ) (s : State) (context : Context) → run start bytes ≡ Some s → context_of s ≡ Some context
+    → IsOpen bytes context
 read_is_open bytes s context e is =
     let h = holds bytes s e in
     open_some (context_of s) bytes context (mode_open s.mode s.here bytes h.here_is h.holds) is

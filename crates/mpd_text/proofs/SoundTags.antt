@@ -1,14 +1,16 @@
 -- How what is known of read bytes goes on through tags.
-use Rattle.std.proofs.Common.{◌≡◌, ◌≢◌, ℕ, suc, ◌≤◌, Bool, true, false, IsTrue, not, List, [], ◌∷◌, ◌++◌, length, codes, None, refl, sym, ◌∙◌, ap, subst, arith, inl, inr, bytes_eq}
+use Rattle.std.proofs.Common.{◌≡◌, ◌≢◌, ℕ, suc, ◌≤◌, Bool, true, false, IsTrue, not, List, [], ◌∷◌, ◌++◌, length, codes, None, refl, sym}
+use Rattle.std.proofs.Common.{◌∙◌, ap, subst, arith, inl, inr}
 use Rattle.std.proofs.lemmas.List.{append_assoc, append-nil, map-append}
-use Rattle.std.proofs.lemmas.List.Folds.{list_any-append, list_all-append}
+use Rattle.std.proofs.lemmas.List.Folds.{list_all-append}
+use Rattle.bridge_io.proofs.Texts.{bytes_eq_sym, among_more}
+use Rattle.bridge_io.specs.Texts.{is_among}
 use Rattle.bridge_io.specs.declared.place.Place.{Place}
 use Rattle.mpd_text.specs.Characters.{all_white, is_white, is_name, goes_on_name}
 use Rattle.mpd_text.specs.Trees.{Attribute}
-use Rattle.mpd_text.specs.Grammar.{first_place, past, is_among, AllDiffer, names_of, AreAttributes, IsContent, OpensTag, deepest}
+use Rattle.mpd_text.specs.Grammar.{first_place, past, AllDiffer, names_of, AreAttributes, IsContent, OpensTag, deepest}
 use Rattle.mpd_text.specs.Steps.{Opened, Tag, Named, Quoted, opened_by, behind_end, with_attribute}
 use Rattle.mpd_text.proofs.Holds.{as_is, IsNested, IsBetweenAt, IsTagSo, IsNew, IsQuotedSo}
-use Rattle.mpd_text.proofs.NameLemmas.{tests, same_bytes}
 use Rattle.mpd_text.proofs.RunLemmas.{past_none, past_more}
 use Rattle.mpd_text.proofs.SoundText.{reads_nothing, reads_value}
 use Rattle.mpd_text.proofs.SoundContent.{content_of, element_ends}
@@ -25,22 +27,15 @@ pub some_more : (xs : List ℕ) (b : ℕ) → xs ++ b ∷ [] ≢ []
 some_more [] b e = cc
 some_more (x ∷ xs) b e = cc
 
-pub bytes_eq_sym : (a b : List ℕ) → bytes_eq a b ≡ bytes_eq b a
-bytes_eq_sym a b = elim (tests (bytes_eq a b)) [
-  | inl same ↦ subst (λ c. bytes_eq a c ≡ bytes_eq c a) (same_bytes a b same) refl
-  | inr other ↦ elim (tests (bytes_eq b a)) [
-    | inl same ↦ subst (λ c. bytes_eq c b ≡ bytes_eq b c) (same_bytes b a same) refl
-    | inr different ↦ other ∙ sym different
-  ]
-]
-
-differ_more : (names : List (List ℕ)) (name : List ℕ) → AllDiffer names → IsTrue (not (is_among name names)) → AllDiffer (names ++ name ∷ [])
+differ_more : (names : List (List ℕ)) (name : List ℕ) → AllDiffer names → IsTrue (not (is_among name names))
+    → AllDiffer (names ++ name ∷ [])
 differ_more [] name differ new = (refl, tt)
 differ_more (n ∷ ns) name differ new =
-    (rw (list_any-append (λ other. bytes_eq other n) ns (name ∷ [])) (rw (bytes_eq_sym name n) (grind arith)), differ_more ns name differ.1 (grind arith))
+    (rw (among_more n name ns) (rw (bytes_eq_sym n name) (grind arith)), differ_more ns name differ.1 (grind arith))
 
 -- a tag of its name alone
-pub tag_named : (name : List ℕ) (place : Place) → IsTrue (is_name name) → IsTagSo (record { name = name; place = place; attributes = [] }) (60 ∷ name)
+pub tag_named : (name : List ℕ) (place : Place) → IsTrue (is_name name)
+    → IsTagSo (record { name = name; place = place; attributes = [] }) (60 ∷ name)
 tag_named name place is = record {
   rest = [];
   bytes_are = ap (λ s. 60 ∷ s) (sym (append-nil name));
@@ -61,7 +56,8 @@ opens_of t tag is = record {
 }
 
 -- an element begins
-pub start_ends : (os : List Opened) (t : Tag) (cr : Bool) (front tag white : List ℕ) → suc (length os) ≤ deepest → IsNested os None cr front → t.place ≡ past first_place front → IsTagSo t tag → IsTrue (all_white white) →
+pub start_ends : (os : List Opened) (t : Tag) (cr : Bool) (front tag white : List ℕ) → suc (length os) ≤ deepest
+    → IsNested os None cr front → t.place ≡ past first_place front → IsTagSo t tag → IsTrue (all_white white) →
     IsNested (opened_by t ∷ os) None false (front ++ (tag ++ white ++ 62 ∷ []))
 start_ends os t cr front tag white room out place_is is all = (
   room,
@@ -89,18 +85,21 @@ start_ends os t cr front tag white room out place_is is all = (
 )
 
 -- an empty element
-pub empty_ends : (os : List Opened) (t : Tag) (cr : Bool) (front tag white : List ℕ) → suc (length os) ≤ deepest → IsNested os None cr front → t.place ≡ past first_place front → IsTagSo t tag → IsTrue (all_white white) →
+pub empty_ends : (os : List Opened) (t : Tag) (cr : Bool) (front tag white : List ℕ) → suc (length os) ≤ deepest
+    → IsNested os None cr front → t.place ≡ past first_place front → IsTagSo t tag → IsTrue (all_white white) →
     IsBetweenAt (behind_end (opened_by t) os) false (front ++ (tag ++ white ++ 47 ∷ 62 ∷ []))
-empty_ends os t cr front tag white room out place_is is all = element_ends (opened_by t) os cr front (tag ++ white ++ 47 ∷ 62 ∷ []) room out place_is (
-  refl,
-  inr (record {
-    is_empty_tag = record { front = tag; white = white; bytes_are = refl; opens = opens_of t tag is; is_white = all };
-    is_inside = ([], (refl, refl));
-  }),
-) (omega arith)
+empty_ends os t cr front tag white room out place_is is all = element_ends (opened_by t) os cr front
+    (tag ++ white ++ 47 ∷ 62 ∷ []) room out place_is (
+      refl,
+      inr (record {
+        is_empty_tag = record { front = tag; white = white; bytes_are = refl; opens = opens_of t tag is; is_white = all };
+        is_inside = ([], (refl, refl));
+      }),
+    ) (omega arith)
 
 -- the innermost element's end tag
-pub end_ends : (o : Opened) (os : List Opened) (cr : Bool) (bytes white : List ℕ) → IsTrue (all_white white) → IsNested (o ∷ os) None cr bytes →
+pub end_ends : (o : Opened) (os : List Opened) (cr : Bool) (bytes white : List ℕ) → IsTrue (all_white white)
+    → IsNested (o ∷ os) None cr bytes →
     IsBetweenAt (behind_end o os) false (bytes ++ (codes "</" ++ o.name ++ white ++ 62 ∷ []))
 end_ends o os cr bytes white all n =
     let end_tag = codes "</" ++ o.name ++ white ++ 62 ∷ [] in
@@ -125,7 +124,8 @@ some_white [] some = absurd (some refl)
 some_white (b ∷ bs) some = (b, bs, refl)
 
 -- an attribute more
-pub attribute_ends : (t : Tag) (named : Named) (q : Quoted) (tag white front rest : List ℕ) → IsTagSo t tag → IsTrue (all_white white) → white ≢ [] → IsTrue (is_name named.name) →
+pub attribute_ends : (t : Tag) (named : Named) (q : Quoted) (tag white front rest : List ℕ) → IsTagSo t tag → IsTrue (all_white white)
+    → white ≢ [] → IsTrue (is_name named.name) →
     named.place ≡ past t.place (tag ++ white) → IsNew t named → IsQuotedSo q t.place None front rest →
     IsTagSo (with_attribute t named q.text) (tag ++ (white ++ named.name ++ rest ++ q.quote ∷ []))
 attribute_ends t named q tag white front rest is all some is_word place_is new quoted =
@@ -135,7 +135,8 @@ attribute_ends t named q tag white front rest is all some is_word place_is new q
       rest = is.rest ++ piece;
       bytes_are = ap (λ s. s ++ piece) is.bytes_are ∙ append_assoc (60 ∷ t.name) is.rest piece;
       is_name = is.is_name;
-      differ = subst AllDiffer (sym (map-append (λ (a : Attribute). a.name) t.attributes (attribute ∷ []))) (differ_more (names_of t.attributes) named.name is.differ new);
+      differ = subst AllDiffer (sym (map-append (λ (a : Attribute). a.name) t.attributes (attribute ∷ [])))
+          (differ_more (names_of t.attributes) named.name is.differ new);
       goes_on = λ attributes more a.
           let at = past_more (past t.place (60 ∷ t.name)) is.rest piece in
           let whole = is.goes_on (attribute ∷ attributes) (piece ++ more) (record {
@@ -150,12 +151,19 @@ attribute_ends t named q tag white front rest is all some is_word place_is new q
               bytes_are = ap (λ s. white ++ named.name ++ s ++ q.quote ∷ []) quoted.bytes_are ∙ simp append_assoc;
               opens = record { is_name = is_word; is_white = all; some = some_white white some };
               place_is = place_is ∙ ap (λ s. past t.place (s ++ white)) is.bytes_are
-                  ∙ sym (past_more t.place (60 ∷ t.name ++ is.rest) white) ∙ ap (λ p. past p white) (sym (past_more t.place (60 ∷ t.name) is.rest));
+                  ∙ sym (past_more t.place (60 ∷ t.name ++ is.rest) white)
+                  ∙ ap (λ p. past p white) (sym (past_more t.place (60 ∷ t.name) is.rest));
               is_equals = quoted.is_equals;
-              is_quoted = record { spells = reads_value quoted.value q.text q.behind_cr quoted.reads; no_quote = quoted.no_quote; no_less_than = quoted.no_less_than };
+              is_quoted = record {
+                spells = reads_value quoted.value q.text q.behind_cr quoted.reads;
+                no_quote = quoted.no_quote;
+                no_less_than = quoted.no_less_than;
+              };
             };
             are_more = subst (λ p. AreAttributes attributes p more) (sym at) a;
           }) in
-          subst (λ l. AreAttributes l (past t.place (60 ∷ t.name)) ((is.rest ++ piece) ++ more)) (sym (append_assoc t.attributes (attribute ∷ []) attributes))
-          (subst (λ b. AreAttributes (t.attributes ++ (attribute ∷ attributes)) (past t.place (60 ∷ t.name)) b) (sym (append_assoc is.rest piece more)) whole);
+          subst (λ l. AreAttributes l (past t.place (60 ∷ t.name)) ((is.rest ++ piece) ++ more))
+          (sym (append_assoc t.attributes (attribute ∷ []) attributes))
+          (subst (λ b. AreAttributes (t.attributes ++ (attribute ∷ attributes)) (past t.place (60 ∷ t.name)) b)
+          (sym (append_assoc is.rest piece more)) whole);
     }

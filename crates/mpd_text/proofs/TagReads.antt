@@ -1,12 +1,13 @@
 -- What has been read of a start tag.
-use Rattle.std.proofs.Common.{◌≡◌, ◌≢◌, ℕ, ◌+◌, ◌-◌, ◌≤◌, ◌<◌, Bool, true, false, ◌==◌, List, [], ◌∷◌, ◌++◌, length, take, drop, Some, refl, sym, ◌∙◌, ap, subst, arith, slice_get, get_or, ◌⊎◌, inl, inr}
+use Rattle.std.proofs.Common.{◌≡◌, ◌≢◌, ℕ, ◌+◌, ◌-◌, ◌≤◌, ◌<◌, Bool, true, false, ◌==◌, List, [], ◌∷◌, ◌++◌, length, take, drop, Some, refl}
+use Rattle.std.proofs.Common.{sym, ◌∙◌, ap, subst, arith, slice_get, get_or, ◌⊎◌, inl, inr}
 use Rattle.std.specs.List.{prefix_len, slice_range}
 use Rattle.std.specs.String.{string_bytes}
 use Rattle.std.proofs.lemmas.Bool.Decides.{nat_tests}
 use Rattle.std.proofs.lemmas.Option.{slice_get_within, get_or_from_slice_get}
 use Rattle.bridge_io.specs.Places.{place_of}
 use Rattle.mpd_text.specs.declared.reader.Reader.{Reader}
-use Rattle.mpd_text.specs.declared.tree.Span.{Span}
+use Rattle.mpd_text.specs.declared.tree.KeptSpan.{KeptSpan}
 use Rattle.mpd_text.specs.Characters.{goes_on_name, starts_name}
 use Rattle.mpd_text.specs.Growth.{HasBegun}
 use Rattle.mpd_text.specs.Positions.{IsAt, IsReady}
@@ -34,11 +35,15 @@ pub record IsTagBegun (text : List ℕ) (end : ℕ) (os : List Opened) (r : Read
   pub no_name : (byte : ℕ) → slice_get text end ≡ Some byte → goes_on_name byte ≡ false
   pub shows : TagShown (view_of r) tag os
 
-pub tag_read : (old new : Reader) (text bytes : List ℕ) (from end byte : ℕ) (os : List Opened) → bytes ≡ text → old.text.now ≡ text → end ≡ from + 2 + prefix_len goes_on_name (drop (from + 2) bytes) → end ≤ length bytes
-    → IsReady text from (inside os) → slice_get text from ≡ Some 60 → slice_get text (from + 1) ≡ Some byte → starts_name byte ≡ true → length os < 32 → OpenShown (view_of old) os
+pub tag_read : (old new : Reader) (text bytes : List ℕ) (from end byte : ℕ) (os : List Opened) → bytes ≡ text → old.text.now ≡ text
+    → end ≡ from + 2 + prefix_len goes_on_name (drop (from + 2) bytes) → end ≤ length bytes
+    → IsReady text from (inside os) → slice_get text from ≡ Some 60 → slice_get text (from + 1) ≡ Some byte → starts_name byte ≡ true
+    → length os < 32 → OpenShown (view_of old) os
     → new.text.now ≡ old.text.now → string_bytes new.read ≡ string_bytes old.read → string_bytes new.loose ≡ string_bytes old.loose
-    → (name : Span) × (name.start ≡ from + 1) × (name.end ≡ end) × HasBegun name old.loose.bytes.len old.growing new.growing → IsTagBegun text end os new
-tag_read old new text bytes from end byte os same text_is run within ready less byte_is starts below shown new_text new_read new_loose begun =
+    → (name : KeptSpan) × (name.start ≡ from + 1) × (name.end ≡ end) × HasBegun name old.loose.bytes.len old.growing new.growing
+    → IsTagBegun text end os new
+tag_read old new text bytes from end byte os same text_is run within ready less byte_is starts below shown new_text new_read new_loose
+    begun =
     let count = prefix_len goes_on_name (drop (from + 2) text) in
     let run_in : end ≡ from + 2 + count = run ∙ ap (λ l. from + 2 + prefix_len goes_on_name (drop (from + 2) l)) same in
     let within_in : end ≤ length text = subst (λ l. end ≤ length l) same within in
@@ -54,19 +59,23 @@ tag_read old new text bytes from end byte os same text_is run within ready less 
     ∙ name_bytes text (from + 1) byte count byte_is
     ∙ ap (λ n. byte ∷ take count (drop n text)) two in
     let start_is : span.start - 1 ≡ from = omega (arith, begun.1) in
-    let place_is : place_of old.text.now (span.start - 1) ≡ place_of text from = ap (λ l. place_of l (span.start - 1)) text_is ∙ ap (place_of text) start_is in
+    let place_is : place_of old.text.now (span.start - 1) ≡ place_of text from = ap (λ l. place_of l (span.start - 1)) text_is
+    ∙ ap (place_of text) start_is in
     let there = tag_name_read text from byte os ready less byte_is starts below in
     record {
       tag = record { name = bytes_of (old.text.now ++ read) span; place = place_of old.text.now (span.start - 1); attributes = [] };
       none = refl;
-      is_at = subst (λ k. IsAt text k (at_tag_name os (bytes_of (old.text.now ++ read) span) (place_of old.text.now (span.start - 1)))) (sym run_in)
+      is_at = subst (λ k. IsAt text k (at_tag_name os (bytes_of (old.text.now ++ read) span) (place_of old.text.now (span.start - 1))))
+          (sym run_in)
           (subst (λ n. IsAt text (from + 2 + count) (at_tag_name os n (place_of old.text.now (span.start - 1)))) (sym name_is)
           (subst (λ p. IsAt text (from + 2 + count) (at_tag_name os (byte ∷ take count (drop (from + 2) text)) p)) (sym place_is) there));
-      no_name = λ b e. subst (λ x. goes_on_name x ≡ false) (get_or_from_slice_get text end b 0 e) (run_stops goes_on_name text (from + 2) end run_in (slice_get_within text end b e));
+      no_name = λ b e. subst (λ x. goes_on_name x ≡ false) (get_or_from_slice_get text end b 0 e)
+          (run_stops goes_on_name text (from + 2) end run_in (slice_get_within text end b e));
       shows = begin_shows old new span os new_text new_read new_loose begun.3 shown;
     }
 
-pub slash_there : (text : List ℕ) (k : ℕ) → (slice_get text k ≡ Some 62) ⊎ (slice_get text k ≡ Some 47) → slice_get text k ≢ Some 62 → slice_get text k ≡ Some 47
+pub slash_there : (text : List ℕ) (k : ℕ) → (slice_get text k ≡ Some 62) ⊎ (slice_get text k ≡ Some 47) → slice_get text k ≢ Some 62
+    → slice_get text k ≡ Some 47
 slash_there text k (inl e) other = absurd (other e)
 slash_there text k (inr e) other = e
 

@@ -28,35 +28,45 @@ clean_is_read text clean =
     rw (utf8, none) refl
 
 -- a fault that is passed on
-passed_on : (r : Result Tree TextFault) (f : TextFault) (meaning : Result Element TextFault) → IsErrAnd r (λ g. g ≡ f) → IfSome (refusal f) (λ g. meaning ≡ Err g) → Gives root_of refusal r meaning
+passed_on : (r : Result Tree TextFault) (f : TextFault) (meaning : Result Element TextFault) → IsErrAnd r (λ g. g ≡ f)
+    → IfSome (refusal f) (λ g. meaning ≡ Err g) → Gives root_of refusal r meaning
 passed_on (Ok tree) f meaning e is = absurd e
 passed_on (Err g) f meaning e is = subst (λ h. IfSome (refusal h) (λ k. meaning ≡ Err k)) (sym e) is
 
 -- the reading stops
-pub stopped : (text bytes : List ℕ) (r : Result Tree TextFault) (f : TextFault) → IsClean text → bytes ≡ text → IsErrAnd r (λ g. g ≡ f) → IfSome (refusal f) (IsStuck bytes) → Gives root_of refusal r (reading_of text)
+pub stopped : (text bytes : List ℕ) (r : Result Tree TextFault) (f : TextFault) → IsClean text → bytes ≡ text → IsErrAnd r (λ g. g ≡ f)
+    → IfSome (refusal f) (IsStuck bytes) → Gives root_of refusal r (reading_of text)
 stopped text bytes r f clean same e stuck =
     passed_on r f (reading_of text) e
-    (mapped (refusal f) (IsStuck text) (λ g. reading_of text ≡ Err g) (λ g s. clean_is_read text clean ∙ stuck_is_read text g s) (subst (λ b. IfSome (refusal f) (IsStuck b)) same stuck))
+    (mapped (refusal f) (IsStuck text) (λ g. reading_of text ≡ Err g) (λ g s. clean_is_read text clean
+    ∙ stuck_is_read text g s) (subst (λ b. IfSome (refusal f) (IsStuck b)) same stuck))
 
 -- the reading comes to its end
-pub ended_with : (text bytes : List ℕ) (root : Element) (r : Result Tree TextFault) → IsClean text → bytes ≡ text → Finishes bytes root → IfOk r (λ tree. root_of tree ≡ root) → IfErr r (λ f. f ≡ Memory) → Gives root_of refusal r (reading_of text)
+pub ended_with : (text bytes : List ℕ) (root : Element) (r : Result Tree TextFault) → IsClean text → bytes ≡ text → Finishes bytes root
+    → IfOk r (λ tree. root_of tree ≡ root) → IfErr r (λ f. f ≡ Memory) → Gives root_of refusal r (reading_of text)
 ended_with text bytes root (Ok tree) clean same f shown memory =
     clean_is_read text clean ∙ finished_is_read text root (subst (λ b. Finishes b root) same f) ∙ ap Ok (sym shown)
-ended_with text bytes root (Err g) clean same f shown memory = subst (λ h. IfSome (refusal h) (λ k. reading_of text ≡ Err k)) (sym memory) tt
+ended_with text bytes root (Err g) clean same f shown memory = subst (λ h. IfSome (refusal h) (λ k. reading_of text ≡ Err k))
+    (sym memory) tt
 
 -- bytes that are no text
-pub refused_before : (bytes : List ℕ) (r : Result Tree TextFault) (f : TextFault) → IsErrAnd r (λ g. g ≡ f) → IsNotUtf8 bytes f ⊎ HasBadCharacter bytes f → Gives root_of refusal r (reading_of bytes)
-refused_before bytes r f e h = passed_on r f (reading_of bytes) e (told_as (λ g. reading_of bytes ≡ Err g) f (sym ((one_reading bytes).only (Err f) (fault h))))
+pub refused_before : (bytes : List ℕ) (r : Result Tree TextFault) (f : TextFault) → IsErrAnd r (λ g. g ≡ f)
+    → IsNotUtf8 bytes f ⊎ HasBadCharacter bytes f → Gives root_of refusal r (reading_of bytes)
+refused_before bytes r f e h = passed_on r f (reading_of bytes) e
+    (told_as (λ g. reading_of bytes ≡ Err g) f (sym ((one_reading bytes).only (Err f) (fault h))))
   where
     fault : IsNotUtf8 bytes f ⊎ HasBadCharacter bytes f → HasFault bytes f
     fault (inl other) = inl other
     fault (inr bad) = inr (inl bad)
 
 -- the answer is that of the grammar
-pub given_tree : (bytes : List ℕ) (r : Result Tree TextFault) → Gives root_of refusal r (reading_of bytes) → IfOk r (λ tree. Spells (root_of tree) bytes)
+pub given_tree : (bytes : List ℕ) (r : Result Tree TextFault) → Gives root_of refusal r (reading_of bytes)
+    → IfOk r (λ tree. Spells (root_of tree) bytes)
 given_tree bytes (Ok tree) is = subst (ReadsAs bytes) is (one_reading bytes).is_read
 given_tree bytes (Err f) is = tt
 
-pub given_fault : (bytes : List ℕ) (r : Result Tree TextFault) → Gives root_of refusal r (reading_of bytes) → IfErr r (λ fault. IfSome (refusal fault) (HasFault bytes))
+pub given_fault : (bytes : List ℕ) (r : Result Tree TextFault) → Gives root_of refusal r (reading_of bytes)
+    → IfErr r (λ fault. IfSome (refusal fault) (HasFault bytes))
 given_fault bytes (Ok tree) is = tt
-given_fault bytes (Err f) is = mapped (refusal f) (λ g. reading_of bytes ≡ Err g) (HasFault bytes) (λ g e. subst (ReadsAs bytes) e (one_reading bytes).is_read) is
+given_fault bytes (Err f) is = mapped (refusal f) (λ g. reading_of bytes ≡ Err g) (HasFault bytes)
+    (λ g e. subst (ReadsAs bytes) e (one_reading bytes).is_read) is

@@ -1,6 +1,7 @@
 -- The bytes of an XML text by their parts in the grammar. All bytes from 128 on stand alike in it, so a character
 -- outside of ASCII is taken as its bytes.
-use Rattle.std.specs.Prelude.{◌≡◌, ◌<◌, length, drop, ℕ, Bool, true, false, ◌==◌, ◌&&◌, ◌||◌, nat_le, List, [], ◌∷◌, if◌then◌else◌, Option, Some, None, option_map, suc, nat_eq}
+use Rattle.std.specs.Prelude.{◌≡◌, ◌<◌, length, drop, ℕ, Bool, true, false, ◌==◌, ◌&&◌, ◌||◌, nat_le, List, [], ◌∷◌, if◌then◌else◌, Option}
+use Rattle.std.specs.Prelude.{Some, None, option_map, suc, nat_eq}
 use Rattle.std.specs.List.{list_all, list_any, starts_with}
 use Rattle.byte_scan.specs.Class.{is_low_control}
 
@@ -55,4 +56,5 @@ first_bad_character (b ∷ bs) = if begins_with_bad_character (b ∷ bs) then So
 -- where a noncharacter begins for the first time, or never
 abbrev pub IsFirstNoncharacter : List ℕ → Option ℕ → Type 0
 IsFirstNoncharacter bytes None = (j : ℕ) → begins_with_noncharacter (drop j bytes) ≡ false
-IsFirstNoncharacter bytes (Some k) = (k < length bytes) × (begins_with_noncharacter (drop k bytes) ≡ true) × ((j : ℕ) → j < k → begins_with_noncharacter (drop j bytes) ≡ false)
+IsFirstNoncharacter bytes (Some k) = (k < length bytes) × (begins_with_noncharacter (drop k bytes) ≡ true)
+    × ((j : ℕ) → j < k → begins_with_noncharacter (drop j bytes) ≡ false)

@@ -1,5 +1,6 @@
 -- What the parts of a reference, of character data and of a value are found to be.
-use Rattle.std.specs.Prelude.{◌≡◌, ◌≢◌, ℕ, ◌+◌, Bool, true, false, ◌⊎◌, nat_le, nat_eq, List, [], ◌∷◌, ◌++◌, length, codes, if◌then◌else◌, slice_get, Some, encode_utf8}
+use Rattle.std.specs.Prelude.{◌≡◌, ◌≢◌, ℕ, ◌+◌, Bool, true, false, ◌⊎◌, nat_le, nat_eq, List, [], ◌∷◌, ◌++◌, length, codes, if◌then◌else◌}
+use Rattle.std.specs.Prelude.{slice_get, Some, encode_utf8}
 use Rattle.std.specs.List.{list_any, starts_with}
 use Rattle.bridge_io.specs.declared.place.Place.{Place}
 use Rattle.mpd_text.specs.Characters.{is_digit}

@@ -4,8 +4,9 @@
 -- It takes some texts that XML 1.0 does not: `]]>` in content (2.4), a comment that ends in `--->` (2.5), names with any
 -- character from U+0080 on at any place (2.3), and any declaration (2.8): its content isn't read, and an encoding that is
 -- declared there changes nothing.
-use Rattle.std.specs.Prelude.{◌≡◌, ◌≤◌, ℕ, suc, ◌+◌, ◌==◌, Bool, IsTrue, not, ◌⊎◌, List, [], ◌∷◌, ◌++◌, map, length, count_by, codes, Some, None, IsUtf8, bytes_eq, ⊤}
-use Rattle.std.specs.List.{list_any}
+use Rattle.std.specs.Prelude.{◌≡◌, ◌≤◌, ℕ, suc, ◌+◌, ◌==◌, IsTrue, not, ◌⊎◌, List, [], ◌∷◌, ◌++◌, map, length, count_by, codes, Some, None}
+use Rattle.std.specs.Prelude.{IsUtf8, ⊤}
+use Rattle.bridge_io.specs.Texts.{is_among}
 use Rattle.bridge_io.specs.declared.place.Place.{Place}
 use Rattle.mpd_text.specs.Characters.{all_white, is_white, is_name, has, has_byte, first_bad_character}
 use Rattle.mpd_text.specs.References.{content_text, value_text}
@@ -18,10 +19,6 @@ first_place = record { at = 0; line = 1 }
 -- the place behind some bytes
 abbrev pub past : Place → List ℕ → Place
 past place bytes = record { at = place.at + length bytes; line = place.line + count_by (λ b. b == 10) bytes }
-
--- the list has the name
-abbrev pub is_among : List ℕ → List (List ℕ) → Bool
-is_among name names = list_any (λ other. bytes_eq other name) names
 
 abbrev pub AllDiffer : List (List ℕ) → Type 0
 AllDiffer [] = ⊤
@@ -184,7 +181,8 @@ IsElementRound IsInside place head bytes =
     (head.place ≡ place) × (IsPair place head IsInside bytes ⊎ IsEmptyElement place head IsInside bytes)
 
 -- character data, an element, and more content
-pub record IsDataThen (place : Place) (IsFirst : Place → List ℕ → Type 0) (IsRest : Place → List ℕ → List ℕ → Type 0) (text bytes : List ℕ) : Type 0 where
+pub record IsDataThen (place : Place) (IsFirst : Place → List ℕ → Type 0) (IsRest : Place → List ℕ → List ℕ
+    → Type 0) (text bytes : List ℕ) : Type 0 where
   pub front : List ℕ
   pub first : List ℕ
   pub rest : List ℕ

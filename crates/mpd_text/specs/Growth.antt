@@ -2,7 +2,7 @@
 use Rattle.std.specs.Prelude.{◌≡◌, ℕ, ◌+◌, ◌-◌, [], ◌∷◌, ◌++◌, Some, set, take, slice_get, vec_len}
 use Rattle.mpd_text.specs.declared.growing.Growing.{Growing}
 use Rattle.mpd_text.specs.declared.growing.OpenElement.{OpenElement}
-use Rattle.mpd_text.specs.declared.tree.Span.{Span}
+use Rattle.mpd_text.specs.declared.tree.KeptSpan.{KeptSpan}
 use Rattle.mpd_text.specs.declared.tree.ElementRow.{ElementRow}
 use Rattle.mpd_text.specs.Opening.{new_row, ended_row, with_attributes_end}
 
@@ -12,21 +12,22 @@ pub record HasStayed (old new : Growing) : Type 0 where
   pub entries : new.open.items ≡ old.open.items
 
 -- an element has begun
-pub record HasBegun (name : Span) (data_start : ℕ) (old new : Growing) : Type 0 where
+pub record HasBegun (name : KeptSpan) (data_start : ℕ) (old new : Growing) : Type 0 where
   pub elements : new.elements.items ≡ old.elements.items ++ new_row name (vec_len old.elements) (vec_len old.attributes) ∷ []
   pub attributes : new.attributes.items ≡ old.attributes.items
   pub entries : new.open.items ≡ old.open.items ++ record { row = vec_len old.elements; name = name; data_start = data_start } ∷ []
 
 -- the element that began last has one more attribute
-pub record HasAdded (name value : Span) (old new : Growing) : Type 0 where
+pub record HasAdded (name value : KeptSpan) (old new : Growing) : Type 0 where
   pub row : ElementRow
   pub row_is : slice_get old.elements.items (vec_len old.elements - 1) ≡ Some row
-  pub elements : new.elements.items ≡ set old.elements.items (vec_len old.elements - 1) (with_attributes_end row (vec_len old.attributes + 1))
+  pub elements : new.elements.items ≡ set old.elements.items (vec_len old.elements - 1)
+      (with_attributes_end row (vec_len old.attributes + 1))
   pub attributes : new.attributes.items ≡ old.attributes.items ++ record { name = name; value = value } ∷ []
   pub entries : new.open.items ≡ old.open.items
 
 -- the innermost open element has ended
-pub record HasEnded (text : Span) (old new : Growing) : Type 0 where
+pub record HasEnded (text : KeptSpan) (old new : Growing) : Type 0 where
   pub entry : OpenElement
   pub entry_is : slice_get old.open.items (vec_len old.open - 1) ≡ Some entry
   pub row : ElementRow

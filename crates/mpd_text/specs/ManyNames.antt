@@ -1,12 +1,11 @@
 -- Sets of names.
-use Rattle.std.specs.Prelude.{◌≡◌, ◌<◌, ◌≤◌, ℕ, Bool, List, [], length, bytes_eq}
-use Rattle.std.specs.List.{list_any}
-use Rattle.mpd_text.specs.Grammar.{is_among}
+use Rattle.std.specs.Prelude.{◌≡◌, ◌<◌, ◌≤◌, ℕ, Bool, List, [], length, map}
+use Rattle.bridge_io.specs.Texts.{is_among}
 use Rattle.mpd_text.specs.declared.many_names.ManyNames.{ManyNames}
 
 -- a name is in the set
 abbrev pub has_name : ManyNames → List ℕ → Bool
-has_name many name = list_any (λ key. bytes_eq key.now name) many.names.keys
+has_name many name = is_among name (map (λ key. key.now) many.names.keys)
 
 -- the set has these names
 abbrev pub HasNames : ManyNames → List (List ℕ) → Type 0

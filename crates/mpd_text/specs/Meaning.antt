@@ -38,7 +38,8 @@ read_unless_bad bytes (Some at) = Err (BadChar (place_of bytes at))
 
 -- and bytes that are not UTF-8 before these
 unfoldable pub reading_of : List ℕ → Result Element TextFault
-reading_of bytes = if is_utf8 bytes then read_unless_bad bytes (first_bad_character bytes) else Err (NotUtf8 (place_of bytes (utf8_valid_len bytes)))
+reading_of bytes = if is_utf8 bytes then read_unless_bad bytes (first_bad_character bytes)
+    else Err (NotUtf8 (place_of bytes (utf8_valid_len bytes)))
 
 -- The bytes read so, and as nothing else: they are spelled by exactly this tree and have no fault, or are spelled by none
 -- and have exactly this fault.

@@ -1,5 +1,6 @@
 -- Where the reader stands in a text, and how its parts bring it on.
-use Rattle.std.specs.Prelude.{◌≡◌, ◌≢◌, ◌≤◌, ℕ, ◌+◌, Bool, false, IsTrue, ◌⊎◌, ⊤, List, [], ◌∷◌, ◌++◌, length, take, drop, slice_get, slice_range, nat_eq, Some, None}
+use Rattle.std.specs.Prelude.{◌≡◌, ◌≢◌, ◌≤◌, ℕ, ◌+◌, Bool, false, IsTrue, ◌⊎◌, ⊤, List, [], ◌∷◌, ◌++◌, length, take, drop, slice_get}
+use Rattle.std.specs.Prelude.{slice_range, nat_eq, Some, None}
 use Rattle.std.specs.List.{starts_with}
 use Rattle.bridge_io.specs.Places.{place_of}
 use Rattle.mpd_text.specs.declared.fault.TextFault.{TextFault}
@@ -8,7 +9,8 @@ use Rattle.mpd_text.specs.declared.decode.Value.{Value}
 use Rattle.mpd_text.specs.declared.decode.Value.TheVariants.{AsItStands, Read}
 use Rattle.mpd_text.specs.Characters.{is_white}
 use Rattle.mpd_text.specs.References.{referred_to, is_front_of_reference}
-use Rattle.mpd_text.specs.Steps.{Dashes, no_dash, one_dash, two_dashes, three_dashes, Outside, inside, behind, Opened, Tag, Named, Mode, at_beginning, at_mark_end, at_content, at_tag, Reaches, with_text, with_attribute}
+use Rattle.mpd_text.specs.Steps.{Dashes, no_dash, one_dash, two_dashes, three_dashes, Outside, inside, behind, Opened, Tag, Named, Mode}
+use Rattle.mpd_text.specs.Steps.{at_beginning, at_mark_end, at_content, at_tag, Reaches, with_text, with_attribute}
 
 -- the bytes before are read, up to that position
 pub record IsAt (bytes : List ℕ) (at : ℕ) (mode : Mode) : Type 0 where
@@ -93,7 +95,8 @@ IsKeptAs bytes quote_at text AsItStands end old new = (text ≡ slice_range byte
 IsKeptAs bytes quote_at text Read end old new = Grows text old new
 
 -- a value is read up to its closing quote
-pub record IsValueRead (bytes : List ℕ) (quote_at : ℕ) (os : List Opened) (t : Tag) (named : Named) (value : Value) (end : ℕ) (old new : List ℕ) : Type 0 where
+pub record IsValueRead (bytes : List ℕ) (quote_at : ℕ) (os : List Opened) (t : Tag) (named : Named) (value : Value) (end : ℕ)
+    (old new : List ℕ) : Type 0 where
   pub text : List ℕ
   pub kept : IsKeptAs bytes quote_at text value end old new
   pub is_at : IsAt bytes (end + 1) (at_tag os (with_attribute t named text) false)

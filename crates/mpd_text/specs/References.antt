@@ -1,5 +1,6 @@
 -- What the characters of content and of values stand for: line ends, and references (XML 1.0, 2.11, 3.3.3 and 4.1).
-use Rattle.std.specs.Prelude.{ℕ, ◌+◌, ◌*◌, ◌-◌, Bool, true, false, ◌==◌, ◌&&◌, ◌||◌, nat_le, nat_lt, nat_eq, List, [], ◌∷◌, ◌++◌, map, codes, if◌then◌else◌, Option, Some, None, option_map, option_and_then, encode_utf8, fold, bytes_eq}
+use Rattle.std.specs.Prelude.{ℕ, ◌+◌, ◌*◌, ◌-◌, Bool, true, false, ◌==◌, ◌&&◌, ◌||◌, nat_le, nat_lt, nat_eq, List, [], ◌∷◌, ◌++◌, map}
+use Rattle.std.specs.Prelude.{codes, if◌then◌else◌, Option, Some, None, option_map, option_and_then, encode_utf8, fold, bytes_eq}
 use Rattle.std.specs.List.{list_all, list_any, starts_with}
 use Rattle.mpd_text.specs.Characters.{is_digit, is_white}
 
@@ -25,7 +26,8 @@ number_of base digits = fold (λ number digit. base * number + value_of_digit di
 
 -- tab, LF, CR, or at or above U+0020 and not a surrogate, U+FFFE, U+FFFF or above U+10FFFF
 abbrev pub is_allowed_character : ℕ → Bool
-is_allowed_character c = c == 9 || c == 10 || c == 13 || (nat_le 32 c && nat_lt c 55296) || (nat_le 57344 c && nat_lt c 65534) || (nat_le 65536 c && nat_le c 1114111)
+is_allowed_character c = c == 9 || c == 10 || c == 13 || (nat_le 32 c && nat_lt c 55296) || (nat_le 57344 c && nat_lt c 65534)
+    || (nat_le 65536 c && nat_le c 1114111)
 
 -- the character that a number names, where there is at least one digit and it is allowed
 abbrev pub named_by_number : ℕ → (ℕ → Bool) → List ℕ → Option ℕ

@@ -1,19 +1,19 @@
 -- Where the texts of rows lie, and how rows stand inside one another.
 use Rattle.std.specs.Prelude.{◌≡◌, ℕ, ◌<◌, ◌≤◌, List, length, Some, slice_get}
 use Rattle.std.specs.Str.{IsCharBoundary}
-use Rattle.mpd_text.specs.declared.tree.Span.{Span}
+use Rattle.mpd_text.specs.declared.tree.KeptSpan.{KeptSpan}
 use Rattle.mpd_text.specs.declared.tree.ElementRow.{ElementRow}
 use Rattle.mpd_text.specs.declared.tree.AttributeRow.{AttributeRow}
 
 -- whole characters of what is kept, all in the source or all behind it
-pub record IsKept (source kept : List ℕ) (span : Span) : Type 0 where
+pub record IsKept (source kept : List ℕ) (span : KeptSpan) : Type 0 where
   pub ordered : span.start ≤ span.end
   pub start_is : IsCharBoundary kept span.start
   pub end_is : IsCharBoundary kept span.end
   pub whole : length source < span.end → length source ≤ span.start
 
 -- a name stands in the source, and not at its front
-pub record IsNameKept (source kept : List ℕ) (span : Span) : Type 0 where
+pub record IsNameKept (source kept : List ℕ) (span : KeptSpan) : Type 0 where
   pub kept_so : IsKept source kept span
   pub some_before : 0 < span.start
   pub within : span.end ≤ length source
@@ -37,7 +37,8 @@ AreFollowed rows = (k : ℕ) (row : ElementRow) → slice_get rows k ≡ Some ro
 
 -- an element that begins inside of another ends inside of it
 abbrev pub AreNested : List ElementRow → Type 0
-AreNested rows = (k j : ℕ) (row inner : ElementRow) → slice_get rows k ≡ Some row → slice_get rows j ≡ Some inner → k < j → j < row.next → inner.next ≤ row.next
+AreNested rows = (k j : ℕ) (row inner : ElementRow) → slice_get rows k ≡ Some row → slice_get rows j ≡ Some inner → k < j → j < row.next
+    → inner.next ≤ row.next
 
 -- all elements are inside of the first
 pub record AreRooted (rows : List ElementRow) : Type 0 where

@@ -1,16 +1,19 @@
 -- How a text is read byte by byte, from the left and without looking ahead. What a text reads as is a function by it, and
 -- the clauses of the reader's parts say where they stand in it.
-use Rattle.std.specs.Prelude.{◌≡◌, ◌≢◌, ◌≤◌, ℕ, ◌==◌, ◌&&◌, Bool, true, false, ◌⊎◌, List, [], ◌∷◌, ◌++◌, map, length, take, codes, slice_get, nat_eq, nat_lt, if◌then◌else◌, Option, Some, None, option_and_then, bytes_eq, encode_utf8}
+use Rattle.std.specs.Prelude.{◌≡◌, ◌≢◌, ◌≤◌, ℕ, ◌==◌, ◌&&◌, Bool, true, false, ◌⊎◌, List, [], ◌∷◌, ◌++◌, map, length, take, codes}
+use Rattle.std.specs.Prelude.{slice_get, nat_eq, nat_lt, if◌then◌else◌, Option, Some, None, option_and_then, bytes_eq, encode_utf8}
 use Rattle.std.specs.List.{starts_with}
 use Rattle.bridge_io.specs.declared.place.Place.{Place}
 use Rattle.bridge_io.specs.Places.{place_of}
+use Rattle.bridge_io.specs.Texts.{is_among}
 use Rattle.mpd_text.specs.declared.fault.TextFault.{TextFault}
 use Rattle.mpd_text.specs.declared.fault.TextFault.TheVariants.{Cut, Syntax}
 use Rattle.mpd_text.specs.Characters.{is_white, starts_name, goes_on_name}
 use Rattle.mpd_text.specs.References.{referred_to, is_front_of_reference}
 use Rattle.mpd_text.specs.Trees.{Attribute, Head, Forest, nothing, element, Element}
-use Rattle.mpd_text.specs.Grammar.{first_place, past, names_of, is_among, deepest}
-use Rattle.mpd_text.specs.Fronts.{Kind, Context, before_root, in_declaration, undecided, in_start_tag, in_attribute, in_value, in_reference, in_end_tag, in_comment, in_content, after_root}
+use Rattle.mpd_text.specs.Grammar.{first_place, past, names_of, deepest}
+use Rattle.mpd_text.specs.Fronts.{Kind, Context, before_root, in_declaration, undecided, in_start_tag, in_attribute, in_value, in_reference}
+use Rattle.mpd_text.specs.Fronts.{in_end_tag, in_comment, in_content, after_root}
 use Rattle.mpd_text.specs.Faults.{fault_of}
 
 -- an element whose end tag has not come yet, with what has been read of its content
@@ -329,15 +332,18 @@ context_of_mode at_mark_2 here = None
 context_of_mode at_mark_end here = context_at [] before_root here.at
 context_of_mode (at_content out behind_cr) here = context_at (names_outside out) (kind_between out) here.at
 context_of_mode (at_less_than out first place) here = context_at (names_outside out) (undecided (codes "<")) place.at
-context_of_mode (at_bang out dash place) here = context_at (names_outside out) (undecided (if dash then codes "<!-" else codes "<!")) place.at
+context_of_mode (at_bang out dash place) here = context_at (names_outside out)
+    (undecided (if dash then codes "<!-" else codes "<!")) place.at
 context_of_mode (at_question piece place) here = context_at [] (undecided piece) place.at
 context_of_mode (at_declaration behind_question place) here = context_at [] in_declaration place.at
 context_of_mode (at_comment out dashes place) here = context_at (names_outside out) in_comment place.at
 context_of_mode (at_tag_name os name place) here = context_at (open_names os) (in_start_tag []) place.at
 context_of_mode (at_tag os tag white) here = context_at (open_names os) (in_start_tag (names_of tag.attributes)) tag.place.at
 context_of_mode (at_slash os tag) here = context_at (open_names os) (in_start_tag (names_of tag.attributes)) tag.place.at
-context_of_mode (at_attribute_name os tag named) here = context_at (open_names os) (in_attribute (names_of tag.attributes) named.name) named.place.at
-context_of_mode (at_equals os tag named) here = context_at (open_names os) (in_attribute (names_of tag.attributes) named.name) named.place.at
+context_of_mode (at_attribute_name os tag named) here = context_at (open_names os)
+    (in_attribute (names_of tag.attributes) named.name) named.place.at
+context_of_mode (at_equals os tag named) here = context_at (open_names os)
+    (in_attribute (names_of tag.attributes) named.name) named.place.at
 context_of_mode (at_quote os tag named) here = context_at (open_names os) (in_attribute (names_of tag.attributes) named.name) named.place.at
 context_of_mode (at_value os tag named q) here = context_at (open_names os) in_value q.place.at
 context_of_mode (at_value_reference os tag named q name place) here = context_at (open_names os) in_reference place.at

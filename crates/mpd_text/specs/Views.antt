@@ -1,19 +1,24 @@
 -- The tree that rows show.
-use Rattle.std.specs.Prelude.{ℕ, ◌+◌, ◌-◌, nat_lt, List, [], ◌∷◌, ◌++◌, map, length, slice_range, slice_index_or, if◌then◌else◌, Option, bytes_eq, find}
+use Rattle.std.specs.Prelude.{ℕ, ◌+◌, ◌-◌, nat_lt, List, [], ◌∷◌, ◌++◌, map, length, slice_range, slice_index_or, if◌then◌else◌, Option}
+use Rattle.std.specs.Prelude.{bytes_eq, find}
 use Rattle.std.specs.String.{string_bytes}
 use Rattle.bridge_io.specs.Places.{place_of}
-use Rattle.mpd_text.specs.declared.tree.Span.{Span}
+use Rattle.mpd_text.specs.declared.tree.KeptSpan.{KeptSpan}
 use Rattle.mpd_text.specs.declared.tree.ElementRow.{ElementRow}
 use Rattle.mpd_text.specs.declared.tree.AttributeRow.{AttributeRow}
 use Rattle.mpd_text.specs.declared.attr.Attr.{Attr}
 use Rattle.mpd_text.specs.Trees.{Attribute, Head, Forest, nothing, element, Element}
 
 -- what is kept: the source, and behind it what was read otherwise than it stands there
-abbrev pub bytes_of : List ℕ → Span → List ℕ
+abbrev pub bytes_of : List ℕ → KeptSpan → List ℕ
 bytes_of kept span = slice_range kept span.start span.end
 
 abbrev pub attribute_of : (source kept : List ℕ) → AttributeRow → Attribute
-attribute_of source kept row = record { name = bytes_of kept row.name; value = bytes_of kept row.value; place = place_of source row.name.start }
+attribute_of source kept row = record {
+  name = bytes_of kept row.name;
+  value = bytes_of kept row.value;
+  place = place_of source row.name.start;
+}
 
 abbrev pub head_of : (source kept : List ℕ) → List AttributeRow → ElementRow → Head
 head_of source kept attributes row = record {
@@ -29,7 +34,8 @@ abbrev pub forest_of : (ElementRow → Head) → List ElementRow → (at from en
 forest_of head [] at from end = nothing
 forest_of head (row ∷ rows) at from end =
     if nat_lt at from then forest_of head rows (at + 1) from end
-    else if nat_lt at end then element (head row) (forest_of head rows (at + 1) (at + 1) row.next) (forest_of head rows (at + 1) row.next end)
+    else if nat_lt at end then element (head row) (forest_of head rows (at + 1) (at + 1) row.next)
+    (forest_of head rows (at + 1) row.next end)
     else nothing
 
 -- the first of them

@@ -25,7 +25,8 @@ const LEAD: u8 = 0xef;
 fn next_lead(bytes: &[u8], from: usize) -> Option<usize>
     requires { from ≤ length bytes.now }
     ensures { MatchOption result ((j : ℕ) → from ≤ j → begins_with_noncharacter (drop j bytes.now) ≡ false)
-        (λ at. (from ≤ at) × (at < length bytes.now) × ((j : ℕ) → from ≤ j → j < at → begins_with_noncharacter (drop j bytes.now) ≡ false)) }
+        (λ at. (from ≤ at) × (at < length bytes.now) × ((j : ℕ) → from ≤ j → j < at
+        → begins_with_noncharacter (drop j bytes.now) ≡ false)) }
 {
     match memchr(LEAD, &bytes[from..]) {
         Some(found) => Some(from + found),

@@ -1,5 +1,6 @@
 // What characters of content and of values stand for.
-ghost use Rattle.std.specs.Prelude.{◌≡◌, ◌≢◌, ◌≤◌, ◌<◌, ◌+◌, ◌⊎◌, ℕ, List, [], ◌∷◌, length, slice_get, slice_index, IfOk, IfSome, IsTrue, MatchResult, Some, None, true, false, IsUtf8, IsCharBoundary};
+ghost use Rattle.std.specs.Prelude.{◌≡◌, ◌≢◌, ◌≤◌, ◌<◌, ◌+◌, ◌⊎◌, ℕ, List, [], ◌∷◌, length, slice_get, slice_index, IfOk, IfSome, IsTrue};
+ghost use Rattle.std.specs.Prelude.{MatchResult, Some, None, true, false, IsUtf8, IsCharBoundary};
 ghost use Rattle.std.specs.String.{string_bytes};
 ghost use Rattle.bridge_io.specs.declared.place.Place.{Place};
 ghost use Rattle.byte_scan.specs.ByteSet.{all_ascii, is_member};
@@ -55,7 +56,8 @@ pub(crate) fn read_data(
     read: &mut String,
 ) -> Result<usize, TextFault>
     requires { IsCharBoundary text.now from }
-    ensures bounds { IfOk result (λ end. (from ≤ end) × (end ≤ length text.now) × ((byte : ℕ) → slice_get text.now end ≡ Some byte → byte ≡ 60)) }
+    ensures bounds { IfOk result (λ end. (from ≤ end) × (end ≤ length text.now)
+        × ((byte : ℕ) → slice_get text.now end ≡ Some byte → byte ≡ 60)) }
     ensures appends { Appends (string_bytes read.old) (string_bytes read.new) }
     ensures data { (o : Opened) (os : List Opened) → IsAt text.now from (at_content (inside (o ∷ os)) false) →
         MatchResult result

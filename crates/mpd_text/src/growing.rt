@@ -1,11 +1,12 @@
 // The rows of a tree while its text is read.
-ghost use Rattle.std.specs.Prelude.{◌≡◌, ◌≤◌, ◌<◌, ◌-◌, ◌==◌, [], All, length, MatchOption, OnErr, IfErr, Some, drop, slice_get, vec_len, IfOk, IfSome, OnOk};
+ghost use Rattle.std.specs.Prelude.{◌≡◌, ◌≤◌, ◌<◌, ◌-◌, ◌==◌, [], All, length, MatchOption, OnErr, IfErr, Some, drop, slice_get, vec_len};
+ghost use Rattle.std.specs.Prelude.{IfOk, IfSome, OnOk};
 ghost use Rattle.mpd_text.specs.Opening.{AreBegun, AreRising, BeginWithRoot};
 ghost use Rattle.mpd_text.specs.Rows.{AreFollowed, AreNested, AreRooted, HasAttributesWithin};
 ghost use Rattle.mpd_text.specs.declared.fault.TextFault.TheVariants.{Memory};
 
 use crate::TextFault;
-use crate::tree::{AttributeRow, ElementRow, Span};
+use crate::tree::{AttributeRow, ElementRow, KeptSpan};
 use std::alloc::Global;
 
 /// Elements stand inside one another to this depth at most.
@@ -15,7 +16,7 @@ const DEEPEST: usize = 32;
 #[derive(Clone, Copy, Debug)]
 pub(crate) struct OpenElement {
     row: usize,
-    pub(crate) name: Span,
+    pub(crate) name: KeptSpan,
     /// Where its character data begins among that of the open elements.
     pub(crate) data_start: usize,
 }
@@ -69,13 +70,14 @@ impl Growing {
 
     /// The innermost open element.
     pub(crate) fn innermost(&self) -> Option<OpenElement>
-        ensures { MatchOption result (vec_len self.now.open ≡ 0) (λ element. (0 < vec_len self.now.open) × (slice_get self.now.open.items (vec_len self.now.open - 1) ≡ Some element)) }
+        ensures { MatchOption result (vec_len self.now.open ≡ 0) (λ element. (0 < vec_len self.now.open)
+            × (slice_get self.now.open.items (vec_len self.now.open - 1) ≡ Some element)) }
     {
         self.open.last().copied()
     }
 
     /// Begins an element, whose attributes are to come, and whose character data will begin there.
-    pub(crate) fn begin(&mut self, name: Span, data_start: usize) -> Result<(), TextFault>
+    pub(crate) fn begin(&mut self, name: KeptSpan, data_start: usize) -> Result<(), TextFault>
         requires fresh { vec_len self.old.open ≡ 0 → vec_len self.old.elements ≡ 0 }
         requires room { vec_len self.old.open < 32 }
         ensures ok { OnOk result (HasBegun name data_start self.old self.new) }
@@ -88,7 +90,7 @@ impl Growing {
         self.open.reserve(1)?;
         self.elements.push(ElementRow {
             name,
-            text: Span::NOTHING,
+            text: KeptSpan::NOTHING,
             attributes,
             attributes_end: attributes,
             next,
@@ -104,7 +106,8 @@ impl Growing {
     /// The attributes so far of the element that began last.
     pub(crate) fn own_attributes(&self) -> &[AttributeRow]
         requires { 0 < vec_len self.now.elements }
-        ensures { IfSome (slice_get self.now.elements.items (vec_len self.now.elements - 1)) (λ row. result.now ≡ drop row.attributes self.now.attributes.items) }
+        ensures { IfSome (slice_get self.now.elements.items (vec_len self.now.elements - 1))
+            (λ row. result.now ≡ drop row.attributes self.now.attributes.items) }
     {
         match self.elements.last() {
             None => &[],
@@ -113,7 +116,7 @@ impl Growing {
     }
 
     /// Adds an attribute to the element that began last.
-    pub(crate) fn add_attribute(&mut self, name: Span, value: Span) -> Result<(), TextFault>
+    pub(crate) fn add_attribute(&mut self, name: KeptSpan, value: KeptSpan) -> Result<(), TextFault>
         requires { 0 < vec_len self.old.elements }
         ensures ok { OnOk result (HasAdded name value self.old self.new) }
         ensures stays { OnErr result (HasStayed self.old self.new) }
@@ -127,7 +130,7 @@ impl Growing {
     }
 
     /// Ends the innermost open element.
-    pub(crate) fn end(&mut self, text: Span) -> Result<(), TextFault>
+    pub(crate) fn end(&mut self, text: KeptSpan) -> Result<(), TextFault>
         requires { 0 < vec_len self.old.open }
         ensures ok { OnOk result (HasEnded text self.old self.new) }
         ensures whole { OnOk result (vec_len self.new.open ≡ 0 → AreRooted self.new.elements.items) }

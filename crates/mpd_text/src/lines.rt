@@ -13,12 +13,12 @@ const BLOCK: usize = 64;
 
 /// How many LF bytes stand before each block of a text.
 #[derive(Debug, Drop)]
-pub(crate) struct Lines {
+pub(crate) struct LineCounts {
     before: Vec<u64>,
 }
 
-impl Lines {
-    pub(crate) fn new(alloc: Global, bytes: &[u8]) -> Result<Lines, TextFault>
+impl LineCounts {
+    pub(crate) fn new(alloc: Global, bytes: &[u8]) -> Result<LineCounts, TextFault>
         ensures counted { IfOk result (λ lines. AreCounted bytes.now (length bytes.now / block_size) lines.before.items) }
         ensures fault { IfErr result (λ fault. fault ≡ Memory) }
     {
@@ -29,7 +29,7 @@ impl Lines {
             count += count_lf(&bytes[block * BLOCK..(block + 1) * BLOCK]);
             before.push(count)?;
         }
-        Ok(Lines { before })
+        Ok(LineCounts { before })
     }
 
     /// The place of a byte, or of the end.

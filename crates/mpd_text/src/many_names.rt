@@ -17,7 +17,7 @@ pub(crate) struct ManyNames<'a> {
 }
 
 impl<'a> ManyNames<'a> {
-    ghost use Rattle.mpd_text.specs.Grammar.{is_among};
+    ghost use Rattle.bridge_io.specs.Texts.{is_among};
     ghost use Rattle.mpd_text.specs.ManyNames.{HasNames, IsPrepared};
     ghost use Rattle.mpd_text.specs.Names.{names_in};
 

@@ -6,7 +6,8 @@ ghost use Rattle.mpd_text.specs.Pairs.{IsPair, HasNoPair, IsFirstPair};
 ghost use Rattle.std.specs.Bool.{Decides};
 ghost use Rattle.bridge_io.specs.declared.place.Place.{Place};
 ghost use Rattle.mpd_text.specs.Positions.{MustEnd, IsAt, IsFront, IsOuter, IsPastMisc, IsReady};
-ghost use Rattle.mpd_text.specs.Steps.{Dashes, Outside, IsStuck, Finishes, inside, behind, at_bang, at_question, at_comment, at_declaration, at_content, no_dash, two_dashes};
+ghost use Rattle.mpd_text.specs.Steps.{Dashes, Outside, IsStuck, Finishes, inside, behind, at_bang, at_question, at_comment};
+ghost use Rattle.mpd_text.specs.Steps.{at_declaration, at_content, no_dash, two_dashes};
 ghost use Rattle.mpd_text.specs.Trees.{Element};
 
 use crate::TextFault;
@@ -43,7 +44,8 @@ fn first_pair(bytes: &[u8], from: usize, first: u8, second: u8) -> Option<usize>
 pub(crate) fn comment_end(bytes: &[u8], from: usize) -> Result<usize, TextFault>
     requires opened { slice_get bytes.now from ≡ Some 60 }
     requires bang { slice_get bytes.now (from + 1) ≡ Some 33 }
-    ensures read { (out : Outside) → IsReady bytes.now from out → MatchResult result (λ end. IsAt bytes.now end (at_content out false)) (IsStuck bytes.now) }
+    ensures read { (out : Outside) → IsReady bytes.now from out
+        → MatchResult result (λ end. IsAt bytes.now end (at_content out false)) (IsStuck bytes.now) }
     ensures bound { IfOk result (λ end. (from + 7 ≤ end) × IsBehindAscii bytes.now end) }
 {
     match byte_at(bytes, from + 2) {
@@ -99,7 +101,8 @@ fn dashes_end(bytes: &[u8], at: usize) -> Result<usize, TextFault>
 /// Where the comment ends whose last dashes end there.
 fn closed_end(bytes: &[u8], at: usize) -> Result<usize, TextFault>
     requires { at ≤ length bytes.now }
-    ensures read { (out : Outside) (dashes : Dashes) (place : Place) → IsAt bytes.now at (at_comment out dashes place) → MustEnd bytes.now at dashes →
+    ensures read { (out : Outside) (dashes : Dashes) (place : Place) → IsAt bytes.now at (at_comment out dashes place)
+        → MustEnd bytes.now at dashes →
         MatchResult result (λ end. IsAt bytes.now end (at_content out false)) (IsStuck bytes.now) }
     ensures bound { IfOk result (λ end. (end ≡ at + 1) × IsBehindAscii bytes.now end) }
 {
@@ -165,7 +168,8 @@ fn words_end(bytes: &[u8], from: usize) -> Result<usize, TextFault>
 /// The `<?` that stands there has to go on as `<?xml`.
 fn expect_word(bytes: &[u8], from: usize) -> Result<(), TextFault>
     requires { IsAt bytes.now (from + 2) (at_question (codes "<?") (place_of bytes.now from)) }
-    ensures { MatchResult result (λ _. IsAt bytes.now (from + 5) (at_question (codes "<?xml") (place_of bytes.now from))) (IsStuck bytes.now) }
+    ensures { MatchResult result (λ _. IsAt bytes.now (from + 5) (at_question (codes "<?xml") (place_of bytes.now from)))
+        (IsStuck bytes.now) }
 {
     for at in 2..DECLARATION.len() {
         match byte_at(bytes, from + at) {
@@ -196,7 +200,8 @@ pub(crate) fn misc_end(bytes: &[u8], from: usize) -> Result<usize, TextFault>
 /// Nothing may follow the white space and the comments behind the root.
 pub(crate) fn expect_end(bytes: &[u8], from: usize) -> Result<(), TextFault>
     requires { from ≤ length bytes.now }
-    ensures { (root : Element) → IsReady bytes.now from (behind root) → MatchResult result (λ _. Finishes bytes.now root) (IsStuck bytes.now) }
+    ensures { (root : Element) → IsReady bytes.now from (behind root)
+        → MatchResult result (λ _. Finishes bytes.now root) (IsStuck bytes.now) }
 {
     let at = misc_end(bytes, from)?;
     match byte_at(bytes, at) {

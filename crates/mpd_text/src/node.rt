@@ -21,7 +21,8 @@ pub struct Node<'a> {
 pub struct AttrWalk<'a> {
     tree: &'a Tree,
     rest: &'a [AttributeRow],
-    ghost kept: { All (IsAttributeKept (string_bytes tree.now.source) (string_bytes tree.now.source ++ string_bytes tree.now.read)) rest.now },
+    ghost kept: { All (IsAttributeKept (string_bytes tree.now.source) (string_bytes tree.now.source ++ string_bytes tree.now.read))
+        rest.now },
 }
 
 /// The children of an element, in document order.
@@ -75,7 +76,8 @@ impl<'a> Node<'a> {
 
     fn attribute_rows(&self) -> &'a [AttributeRow]
         ensures shown { map (attribute_in self.now.tree.now) result.now ≡ (element_of self.now).head.attributes }
-        ensures kept { All (IsAttributeKept (string_bytes self.now.tree.now.source) (string_bytes self.now.tree.now.source ++ string_bytes self.now.tree.now.read)) result.now }
+        ensures kept { All (IsAttributeKept (string_bytes self.now.tree.now.source)
+            (string_bytes self.now.tree.now.source ++ string_bytes self.now.tree.now.read)) result.now }
     {
         let row = self.row();
         &self.tree.attributes[row.attributes as usize..row.attributes_end as usize]

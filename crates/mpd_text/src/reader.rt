@@ -32,8 +32,9 @@ ghost use Rattle.std.specs.Prelude.{
   IsCharBoundary,
 };
 ghost use Rattle.std.specs.String.{string_bytes, string_len};
+ghost use Rattle.bridge_io.specs.Texts.{is_among};
 ghost use Rattle.mpd_text.specs.Characters.{goes_on_name};
-ghost use Rattle.mpd_text.specs.Grammar.{is_among, names_of};
+ghost use Rattle.mpd_text.specs.Grammar.{names_of};
 ghost use Rattle.mpd_text.specs.Positions.{IsAt};
 ghost use Rattle.mpd_text.specs.Steps.{IsStuck, Named, Opened, Tag, at_attribute_name, at_quote};
 ghost use Rattle.mpd_text.specs.Names.{HasNameWithin, names_in};
@@ -45,13 +46,13 @@ use crate::class::starts_name;
 use crate::clean::clean;
 use crate::decode::{Value, read_data, read_value};
 use crate::growing::Growing;
-use crate::lines::Lines;
+use crate::lines::LineCounts;
 use crate::many_names::{FEW, ManyNames, name_of};
 use crate::marked::Marked;
 use crate::markup::{beginning_end, comment_end, expect_end, misc_end};
 use crate::places::{byte_at, cut, place_at, syntax};
 use crate::runs::{name_end, white_end};
-use crate::tree::{AttributeRow, Span, Tree};
+use crate::tree::{AttributeRow, KeptSpan, Tree};
 use std::alloc::Global;
 
 #[derive(Drop)]
@@ -96,7 +97,7 @@ impl<'a> Reader<'a> {
     };
     ghost use Rattle.mpd_text.specs.Trees.{Element};
     ghost use Rattle.mpd_text.specs.Views.{bytes_of};
-    ghost use Rattle.mpd_text.specs.declared.tree.Span.{Span};
+    ghost use Rattle.mpd_text.specs.declared.tree.KeptSpan.{KeptSpan};
     ghost use Rattle.mpd_text.specs.declared.fault.TextFault.TheVariants.{Memory};
 
     pub(crate) fn new(alloc: Global, text: &'a str) -> Reader<'a>
@@ -171,8 +172,10 @@ impl<'a> Reader<'a> {
         ensures text { self.new.text.now ≡ self.old.text.now }
         ensures bound { IfOk result (λ end. (from < end) × IsBehindAscii self.old.text.now end) }
         ensures whole { OnOk result (IsWholeIfClosed self.new) }
-        ensures read { (o : Opened) (os : List Opened) → IsAt self.old.text.now from (at_content (inside (o ∷ os)) false) → OpenShown (view_of self.old) (o ∷ os) →
-            MatchResult result (λ end. IsRead self.old.text.now end self.new) (λ fault. IfSome (refusal fault) (IsStuck self.old.text.now)) }
+        ensures read { (o : Opened) (os : List Opened) → IsAt self.old.text.now from (at_content (inside (o ∷ os)) false)
+            → OpenShown (view_of self.old) (o ∷ os) →
+            MatchResult result (λ end. IsRead self.old.text.now end self.new)
+            (λ fault. IfSome (refusal fault) (IsStuck self.old.text.now)) }
     {
         let bytes = self.text.as_bytes();
         let at = self.add_data(from)?;
@@ -194,9 +197,12 @@ impl<'a> Reader<'a> {
         requires boundary { IsCharBoundary self.old.text.now from }
         ensures text { self.new.text.now ≡ self.old.text.now }
         ensures growing { self.new.growing ≡ self.old.growing }
-        ensures bound { IfOk result (λ at. (from ≤ at) × (at ≤ length self.old.text.now) × ((byte : ℕ) → slice_get self.old.text.now at ≡ Some byte → byte ≡ 60)) }
-        ensures read { (o : Opened) (os : List Opened) → IsAt self.old.text.now from (at_content (inside (o ∷ os)) false) → OpenShown (view_of self.old) (o ∷ os) →
-            MatchResult result (λ at. IsDataShown self.old.text.now at os self.new) (λ fault. IfSome (refusal fault) (IsStuck self.old.text.now)) }
+        ensures bound { IfOk result (λ at. (from ≤ at) × (at ≤ length self.old.text.now)
+            × ((byte : ℕ) → slice_get self.old.text.now at ≡ Some byte → byte ≡ 60)) }
+        ensures read { (o : Opened) (os : List Opened) → IsAt self.old.text.now from (at_content (inside (o ∷ os)) false)
+            → OpenShown (view_of self.old) (o ∷ os) →
+            MatchResult result (λ at. IsDataShown self.old.text.now at os self.new)
+            (λ fault. IfSome (refusal fault) (IsStuck self.old.text.now)) }
     {
         read_data(self.text, from, &self.marked, &mut self.loose)
     }
@@ -210,8 +216,10 @@ impl<'a> Reader<'a> {
         ensures text { self.new.text.now ≡ self.old.text.now }
         ensures bound { IfOk result (λ end. (from < end) × IsBehindAscii self.old.text.now end) }
         ensures whole { OnOk result (IsWholeIfClosed self.new) }
-        ensures read { (os : List Opened) → slice_get self.old.text.now from ≡ Some 60 → IsReady self.old.text.now from (inside os) → OpenShown (view_of self.old) os →
-            MatchResult result (λ end. IsRead self.old.text.now end self.new) (λ fault. IfSome (refusal fault) (IsStuck self.old.text.now)) }
+        ensures read { (os : List Opened) → slice_get self.old.text.now from ≡ Some 60 → IsReady self.old.text.now from (inside os)
+            → OpenShown (view_of self.old) os →
+            MatchResult result (λ end. IsRead self.old.text.now end self.new)
+            (λ fault. IfSome (refusal fault) (IsStuck self.old.text.now)) }
     {
         let bytes = self.text.as_bytes();
         if self.growing.is_full() {
@@ -235,16 +243,17 @@ impl<'a> Reader<'a> {
 
     /// Begins the element whose name stands there.
     fn begin_element(&mut self, start: usize, end: usize) -> Result<(), TextFault>
-        requires name { (span : Span) → span.start ≡ start → span.end ≡ end → IsNameKept self.old.text.now self.old.text.now span }
+        requires name { (span : KeptSpan) → span.start ≡ start → span.end ≡ end → IsNameKept self.old.text.now self.old.text.now span }
         requires fresh { vec_len self.old.growing.open ≡ 0 → vec_len self.old.growing.elements ≡ 0 }
         requires room { vec_len self.old.growing.open < 32 }
         ensures text { self.new.text.now ≡ self.old.text.now }
         ensures kept { string_bytes self.new.read ≡ string_bytes self.old.read }
         ensures loose { string_bytes self.new.loose ≡ string_bytes self.old.loose }
-        ensures begun { OnOk result ((name : Span) × (name.start ≡ start) × (name.end ≡ end) × HasBegun name (string_len self.old.loose) self.old.growing self.new.growing) }
+        ensures begun { OnOk result ((name : KeptSpan) × (name.start ≡ start) × (name.end ≡ end)
+            × HasBegun name (string_len self.old.loose) self.old.growing self.new.growing) }
         ensures fault { IfErr result (λ fault. fault ≡ Memory) }
     {
-        let name = Span::between(start, end)?;
+        let name = KeptSpan::between(start, end)?;
         let data_start = self.loose.len();
         self.growing.begin(name, data_start)
     }
@@ -256,9 +265,12 @@ impl<'a> Reader<'a> {
         ensures text { self.new.text.now ≡ self.old.text.now }
         ensures elements { vec_len self.new.growing.elements ≡ vec_len self.old.growing.elements }
         ensures opened { vec_len self.new.growing.open ≡ vec_len self.old.growing.open }
-        ensures bound { IfOk result (λ close. (from ≤ close) × ((slice_get self.old.text.now close ≡ Some 62) ⊎ (slice_get self.old.text.now close ≡ Some 47))) }
-        ensures read { (os : List Opened) (t : Tag) (m : Mode) → t.attributes ≡ [] → IsInTag os t m → IsAt self.old.text.now from m → ((byte : ℕ) → slice_get self.old.text.now from ≡ Some byte → goes_on_name byte ≡ false) → TagShown (view_of self.old) t os →
-            MatchResult result (λ close. IsTagRead self.old.text.now os close self.new) (λ fault. IfSome (refusal fault) (IsStuck self.old.text.now)) }
+        ensures bound { IfOk result (λ close. (from ≤ close) × ((slice_get self.old.text.now close ≡ Some 62)
+            ⊎ (slice_get self.old.text.now close ≡ Some 47))) }
+        ensures read { (os : List Opened) (t : Tag) (m : Mode) → t.attributes ≡ [] → IsInTag os t m → IsAt self.old.text.now from m
+            → ((byte : ℕ) → slice_get self.old.text.now from ≡ Some byte → goes_on_name byte ≡ false) → TagShown (view_of self.old) t os →
+            MatchResult result (λ close. IsTagRead self.old.text.now os close self.new)
+            (λ fault. IfSome (refusal fault) (IsStuck self.old.text.now)) }
     {
         let bytes = self.text.as_bytes();
         let mut many = ManyNames::new(self.alloc);
@@ -287,8 +299,10 @@ impl<'a> Reader<'a> {
         ensures elements { vec_len self.new.growing.elements ≡ vec_len self.old.growing.elements }
         ensures opened { vec_len self.new.growing.open ≡ vec_len self.old.growing.open }
         ensures bound { IfOk result (λ end. (from < end) × (end ≤ length self.old.text.now)) }
-        ensures read { (os : List Opened) (t : Tag) → IsAt self.old.text.now from (at_tag os t true) → TagShown (view_of self.old) t os → IsPrepared many.old (names_of t.attributes) →
-            MatchResult result (λ end. IsAttributeRead self.old.text.now os end self.new many.new) (λ fault. IfSome (refusal fault) (IsStuck self.old.text.now)) }
+        ensures read { (os : List Opened) (t : Tag) → IsAt self.old.text.now from (at_tag os t true) → TagShown (view_of self.old) t os
+            → IsPrepared many.old (names_of t.attributes) →
+            MatchResult result (λ end. IsAttributeRead self.old.text.now os end self.new many.new)
+            (λ fault. IfSome (refusal fault) (IsStuck self.old.text.now)) }
     {
         let bytes = self.text.as_bytes();
         let end = name_end(bytes, from + 1);
@@ -305,7 +319,7 @@ impl<'a> Reader<'a> {
     }
 
     /// Keeps the value whose opening quote stands there, and answers where its closing quote stands.
-    fn keep_value(&mut self, quote: usize) -> Result<(Span, usize), TextFault>
+    fn keep_value(&mut self, quote: usize) -> Result<(KeptSpan, usize), TextFault>
         requires place { quote < length self.old.text.now }
         requires ascii { slice_index self.old.text.now quote < 128 }
         ensures text { self.new.text.now ≡ self.old.text.now }
@@ -314,34 +328,37 @@ impl<'a> Reader<'a> {
         ensures grows { Appends (string_bytes self.old.read) (string_bytes self.new.read) }
         ensures bound { IfOk result (λ found. (quote < found.1) × (found.1 < length self.old.text.now)) }
         ensures kept { IfOk result (λ found. IsKept self.old.text.now (self.old.text.now ++ string_bytes self.new.read) found.0) }
-        ensures read { (os : List Opened) (t : Tag) (named : Named) → IsAt self.old.text.now quote (at_quote os t named) → (slice_get self.old.text.now quote ≡ Some 34) ⊎ (slice_get self.old.text.now quote ≡ Some 39) →
+        ensures read { (os : List Opened) (t : Tag) (named : Named) → IsAt self.old.text.now quote (at_quote os t named)
+            → (slice_get self.old.text.now quote ≡ Some 34) ⊎ (slice_get self.old.text.now quote ≡ Some 39) →
             MatchResult result
-            (λ found. IsAt self.old.text.now (found.1 + 1) (at_tag os (with_attribute t named (bytes_of (self.old.text.now ++ string_bytes self.new.read) found.0)) false))
+            (λ found. IsAt self.old.text.now (found.1 + 1)
+            (at_tag os (with_attribute t named (bytes_of (self.old.text.now ++ string_bytes self.new.read) found.0)) false))
             (λ fault. IfSome (refusal fault) (IsStuck self.old.text.now)) }
     {
         let start = self.kept_end();
         let (value, close) = read_value(self.text, quote, &self.marked, &mut self.read)?;
         let span = match value {
-            Value::AsItStands => Span::between(quote + 1, close)?,
-            Value::Read => Span::between(start, self.kept_end())?,
+            Value::AsItStands => KeptSpan::between(quote + 1, close)?,
+            Value::Read => KeptSpan::between(start, self.kept_end())?,
         };
         Ok((span, close))
     }
 
     /// Adds the attribute whose name stands there to the element that began last.
-    fn add_attribute(&mut self, start: usize, end: usize, value: Span) -> Result<(), TextFault>
-        requires name { (span : Span) → span.start ≡ start → span.end ≡ end → IsNameKept self.old.text.now self.old.text.now span }
+    fn add_attribute(&mut self, start: usize, end: usize, value: KeptSpan) -> Result<(), TextFault>
+        requires name { (span : KeptSpan) → span.start ≡ start → span.end ≡ end → IsNameKept self.old.text.now self.old.text.now span }
         requires value { IsKept self.old.text.now (self.old.text.now ++ string_bytes self.old.read) value }
         requires elements { 0 < vec_len self.old.growing.elements }
         ensures text { self.new.text.now ≡ self.old.text.now }
         ensures kept { string_bytes self.new.read ≡ string_bytes self.old.read }
         ensures loose { string_bytes self.new.loose ≡ string_bytes self.old.loose }
-        ensures added { OnOk result ((name : Span) × (name.start ≡ start) × (name.end ≡ end) × HasAdded name value self.old.growing self.new.growing) }
+        ensures added { OnOk result ((name : KeptSpan) × (name.start ≡ start) × (name.end ≡ end)
+            × HasAdded name value self.old.growing self.new.growing) }
         ensures elements { vec_len self.new.growing.elements ≡ vec_len self.old.growing.elements }
         ensures opened { vec_len self.new.growing.open ≡ vec_len self.old.growing.open }
         ensures fault { IfErr result (λ fault. fault ≡ Memory) }
     {
-        let name = Span::between(start, end)?;
+        let name = KeptSpan::between(start, end)?;
         self.growing.add_attribute(name, value)
     }
 
@@ -352,7 +369,8 @@ impl<'a> Reader<'a> {
             IsPrepared many.old (names_in self.now.text.now (drop row.attributes self.now.growing.attributes.items)) →
             IfOk result (λ repeated.
             (repeated ≡ is_among name.now (names_in self.now.text.now (drop row.attributes self.now.growing.attributes.items))) ×
-            (repeated ≡ false → IsPrepared many.new (names_in self.now.text.now (drop row.attributes self.now.growing.attributes.items) ++ name.now ∷ [])))) }
+            (repeated ≡ false → IsPrepared many.new (names_in self.now.text.now (drop row.attributes self.now.growing.attributes.items)
+            ++ name.now ∷ [])))) }
         ensures fault { IfErr result (λ fault. fault ≡ Memory) }
     {
         let bytes = self.text.as_bytes();
@@ -369,8 +387,11 @@ impl<'a> Reader<'a> {
         ensures text { self.new.text.now ≡ self.old.text.now }
         ensures bound { IfOk result (λ end. (from < end) × IsBehindAscii self.old.text.now end) }
         ensures whole { OnOk result (IsWholeIfClosed self.new) }
-        ensures read { (o : Opened) (os : List Opened) → slice_get self.old.text.now from ≡ Some 60 → slice_get self.old.text.now (from + 1) ≡ Some 47 → IsReady self.old.text.now from (inside (o ∷ os)) → OpenShown (view_of self.old) (o ∷ os) →
-            MatchResult result (λ end. IsRead self.old.text.now end self.new) (λ fault. IfSome (refusal fault) (IsStuck self.old.text.now)) }
+        ensures read { (o : Opened) (os : List Opened) → slice_get self.old.text.now from ≡ Some 60
+            → slice_get self.old.text.now (from + 1) ≡ Some 47 → IsReady self.old.text.now from (inside (o ∷ os))
+            → OpenShown (view_of self.old) (o ∷ os) →
+            MatchResult result (λ end. IsRead self.old.text.now end self.new)
+            (λ fault. IfSome (refusal fault) (IsStuck self.old.text.now)) }
     {
         let bytes = self.text.as_bytes();
         match byte_at(bytes, from + 2) {
@@ -399,7 +420,8 @@ impl<'a> Reader<'a> {
     /// Whether the innermost open element has that name.
     fn ends_innermost(&self, name: &[u8]) -> bool
         ensures some { result ≡ true → 0 < vec_len self.now.growing.open }
-        ensures same { IfSome (slice_get self.now.growing.open.items (vec_len self.now.growing.open - 1)) (λ entry. result ≡ bytes_eq name.now (slice_range self.now.text.now entry.name.start entry.name.end)) }
+        ensures same { IfSome (slice_get self.now.growing.open.items (vec_len self.now.growing.open - 1))
+            (λ entry. result ≡ bytes_eq name.now (slice_range self.now.text.now entry.name.start entry.name.end)) }
     {
         match self.growing.innermost() {
             None => false,
@@ -421,7 +443,8 @@ impl<'a> Reader<'a> {
     fn end_element(&mut self) -> Result<(), TextFault>
         requires { 0 < vec_len self.old.growing.open }
         ensures text { self.new.text.now ≡ self.old.text.now }
-        ensures shown { (o : Opened) (os : List Opened) → OpenShown (view_of self.old) (o ∷ os) → OnOk result (Shows (view_of self.new) (behind_end o os)) }
+        ensures shown { (o : Opened) (os : List Opened) → OpenShown (view_of self.old) (o ∷ os)
+            → OnOk result (Shows (view_of self.new) (behind_end o os)) }
         ensures whole { OnOk result (IsWholeIfClosed self.new) }
         ensures fault { IfErr result (λ fault. fault ≡ Memory) }
     {
@@ -433,7 +456,7 @@ impl<'a> Reader<'a> {
     }
 
     /// Ends the innermost open element with that text.
-    fn end_with(&mut self, text: Span) -> Result<(), TextFault>
+    fn end_with(&mut self, text: KeptSpan) -> Result<(), TextFault>
         requires some { 0 < vec_len self.old.growing.open }
         requires kept { IsKept self.old.text.now (self.old.text.now ++ string_bytes self.old.read) text }
         ensures text { self.new.text.now ≡ self.old.text.now }
@@ -447,24 +470,26 @@ impl<'a> Reader<'a> {
     }
 
     /// Moves the character data of the innermost open element, which begins there, to what is kept.
-    fn keep_data(&mut self, from: usize) -> Result<Span, TextFault>
-        requires last { IfSome (slice_get self.old.growing.open.items (vec_len self.old.growing.open - 1)) (λ entry. entry.data_start ≡ from) }
+    fn keep_data(&mut self, from: usize) -> Result<KeptSpan, TextFault>
+        requires last { IfSome (slice_get self.old.growing.open.items (vec_len self.old.growing.open - 1))
+            (λ entry. entry.data_start ≡ from) }
         requires some { 0 < vec_len self.old.growing.open }
         ensures text { self.new.text.now ≡ self.old.text.now }
         ensures growing { self.new.growing ≡ self.old.growing }
         ensures loose { OnOk result (string_bytes self.new.loose ≡ take from (string_bytes self.old.loose)) }
         ensures grows { Appends (string_bytes self.old.read) (string_bytes self.new.read) }
         ensures kept { IfOk result (λ span. IsKept self.old.text.now (self.old.text.now ++ string_bytes self.new.read) span) }
-        ensures moved { IfOk result (λ span. bytes_of (self.old.text.now ++ string_bytes self.new.read) span ≡ drop from (string_bytes self.old.loose)) }
+        ensures moved { IfOk result (λ span. bytes_of (self.old.text.now ++ string_bytes self.new.read) span
+            ≡ drop from (string_bytes self.old.loose)) }
         ensures fault { IfErr result (λ fault. fault ≡ Memory) }
     {
         if self.loose.len() == from {
-            return Ok(Span::NOTHING);
+            return Ok(KeptSpan::NOTHING);
         }
         let start = self.kept_end();
         self.read.push_str(&self.loose.as_str()[from..])?;
         self.loose.truncate(from);
-        Span::between(start, self.kept_end())
+        KeptSpan::between(start, self.kept_end())
     }
 
     pub(crate) fn finish(self) -> Result<Tree, TextFault>
@@ -480,7 +505,7 @@ impl<'a> Reader<'a> {
             ..
         } = self;
         let source = String::from_str(alloc, text)?;
-        let lines = Lines::new(alloc, text.as_bytes())?;
+        let lines = LineCounts::new(alloc, text.as_bytes())?;
         let (elements, attributes) = growing.finish();
         Ok(Tree {
             source,
@@ -498,7 +523,7 @@ fn is_name_of_any(bytes: &[u8], rows: &[AttributeRow], name: &[u8]) -> bool
     ensures { result ≡ is_among name.now (names_in bytes.now rows.now) }
 {
     for row in rows {
-        if name_of(bytes, row) == name {
+        if name == name_of(bytes, row) {
             return true;
         }
     }
@@ -509,9 +534,12 @@ fn is_name_of_any(bytes: &[u8], rows: &[AttributeRow], name: &[u8]) -> bool
 fn quote_at(bytes: &[u8], from: usize) -> Result<usize, TextFault>
     requires { from ≤ length bytes.now }
     ensures bound { IfOk result (λ quote. (from < quote) × (quote < length bytes.now) × (slice_index bytes.now quote < 128)) }
-    ensures read { (os : List Opened) (t : Tag) (named : Named) → IsAt bytes.now from (at_attribute_name os t named) → is_among named.name (names_of t.attributes) ≡ false → ((byte : ℕ) → slice_get bytes.now from ≡ Some byte → goes_on_name byte ≡ false) →
+    ensures read { (os : List Opened) (t : Tag) (named : Named) → IsAt bytes.now from (at_attribute_name os t named)
+        → is_among named.name (names_of t.attributes) ≡ false → ((byte : ℕ) → slice_get bytes.now from ≡ Some byte
+        → goes_on_name byte ≡ false) →
         MatchResult result
-        (λ quote. IsAt bytes.now quote (at_quote os t named) × ((slice_get bytes.now quote ≡ Some 34) ⊎ (slice_get bytes.now quote ≡ Some 39)))
+        (λ quote. IsAt bytes.now quote (at_quote os t named) × ((slice_get bytes.now quote ≡ Some 34)
+        ⊎ (slice_get bytes.now quote ≡ Some 39)))
         (IsStuck bytes.now) }
 {
     let equals = white_end(bytes, from);

@@ -1,5 +1,6 @@
 // References to characters, XML 1.0 4.1.
-ghost use Rattle.std.specs.Prelude.{◌≡◌, ◌≤◌, ◌<◌, ◌+◌, ◌-◌, length, take, drop, slice_get, IfOk, IfErr, MatchOption, if◌then◌else◌, Some, None, true, false};
+ghost use Rattle.std.specs.Prelude.{◌≡◌, ◌≤◌, ◌<◌, ◌+◌, ◌-◌, length, take, drop, slice_get, IfOk, IfErr, MatchOption, if◌then◌else◌, Some};
+ghost use Rattle.std.specs.Prelude.{None, true, false};
 ghost use Rattle.std.specs.List.{prefix_len};
 ghost use Rattle.bridge_io.specs.Places.{place_of};
 ghost use Rattle.mpd_text.specs.Bounds.{IsBehindAscii};

@@ -14,31 +14,31 @@ ghost use Rattle.mpd_text.specs.Rows.{
 
 use crate::TextFault;
 use crate::attr::Attr;
-use crate::lines::Lines;
+use crate::lines::LineCounts;
 use crate::node::Node;
 use bridge_io::Place;
 
 /// Bytes of the kept text: of the source, or, counted on from its end, of what was read otherwise than it stands
 /// there.
 #[derive(Clone, Copy, Debug)]
-pub(crate) struct Span {
+pub(crate) struct KeptSpan {
     start: u32,
     end: u32,
 }
 
-impl Span {
+impl KeptSpan {
     ghost use Rattle.std.specs.Prelude.{IfErr, IfOk};
     ghost use Rattle.mpd_text.specs.declared.fault.TextFault.TheVariants.{Memory};
 
-    pub(crate) const NOTHING: Span = Span { start: 0, end: 0 };
+    pub(crate) const NOTHING: KeptSpan = KeptSpan { start: 0, end: 0 };
 
     /// The bytes between two places. There is no number for a place from 4 GiB on.
-    pub(crate) fn between(start: usize, end: usize) -> Result<Span, TextFault>
+    pub(crate) fn between(start: usize, end: usize) -> Result<KeptSpan, TextFault>
         ensures span { IfOk result (λ span. (span.start ≡ start) × (span.end ≡ end)) }
         ensures fault { IfErr result (λ fault. fault ≡ Memory) }
     {
         match (u32::try_from(start), u32::try_from(end)) {
-            (Ok(start), Ok(end)) => Ok(Span { start, end }),
+            (Ok(start), Ok(end)) => Ok(KeptSpan { start, end }),
             _ => Err(TextFault::Memory),
         }
     }
@@ -60,8 +60,8 @@ impl Span {
 /// up to `next`.
 #[derive(Clone, Copy, Debug)]
 pub(crate) struct ElementRow {
-    pub(crate) name: Span,
-    pub(crate) text: Span,
+    pub(crate) name: KeptSpan,
+    pub(crate) text: KeptSpan,
     pub(crate) attributes: u32,
     pub(crate) attributes_end: u32,
     pub(crate) next: u32,
@@ -69,8 +69,8 @@ pub(crate) struct ElementRow {
 
 #[derive(Clone, Copy, Debug)]
 pub(crate) struct AttributeRow {
-    pub(crate) name: Span,
-    pub(crate) value: Span,
+    pub(crate) name: KeptSpan,
+    pub(crate) value: KeptSpan,
 }
 
 /// The elements of a text, from the root on.
@@ -79,7 +79,7 @@ pub struct Tree {
     pub(crate) source: String,
     // What is read otherwise than it stands in the source: texts of elements, and values with references.
     pub(crate) read: String,
-    pub(crate) lines: Lines,
+    pub(crate) lines: LineCounts,
     pub(crate) elements: Vec<ElementRow>,
     pub(crate) attributes: Vec<AttributeRow>,
     ghost counted: { AreCounted (string_bytes source) (length (string_bytes source) / block_size) lines.before.items },
@@ -103,7 +103,7 @@ impl Tree {
         Node::at(self, 0)
     }
 
-    pub(crate) fn text_of(&self, span: Span) -> &str
+    pub(crate) fn text_of(&self, span: KeptSpan) -> &str
         requires { IsKept (string_bytes self.now.source) (kept_of self.now) span }
         ensures { result.now ≡ bytes_of (kept_of self.now) span }
     {

@@ -13,14 +13,16 @@ is_blank-ascii : (blank : Blank) (b : ℕ) → is_blank blank b ≡ true → b <
 is_blank-ascii Space b h = grind (arith, nat_tests)
 is_blank-ascii SpaceOrLineEnd b h = grind (arith, nat_tests)
 
-pub behind_front : (blank : Blank) (text : List ℕ) (n : ℕ) → n ≡ prefix_len (is_blank blank) text → 0 < n → IsUtf8 text → IsCharBoundary text n
+pub behind_front : (blank : Blank) (text : List ℕ) (n : ℕ) → n ≡ prefix_len (is_blank blank) text → 0 < n → IsUtf8 text
+    → IsCharBoundary text n
 behind_front blank text n is above utf8 =
     let within = prefix_len-le-length (is_blank blank) text in
     let ascii = is_blank-ascii blank (get_or text (n - 1) 0) (prefix_len_passes (is_blank blank) text (n - 1) 0 (omega arith)) in
     let same : (n - 1) + 1 ≡ n = omega arith in
     rw same at (IsCharBoundary-after_ascii text (n - 1) utf8 (omega arith) ascii)
 
-pub before_end : (blank : Blank) (text : List ℕ) (n : ℕ) → n ≡ suffix_len (is_blank blank) text → 0 < n → IsCharBoundary text (length text - n)
+pub before_end : (blank : Blank) (text : List ℕ) (n : ℕ) → n ≡ suffix_len (is_blank blank) text → 0 < n
+    → IsCharBoundary text (length text - n)
 before_end blank text n is above =
     let within = suffix_len-le-length (is_blank blank) text in
     let passes = prefix_len_passes (is_blank blank) (reverse text) (n - 1) 0 (omega arith) in

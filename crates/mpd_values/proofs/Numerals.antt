@@ -12,11 +12,13 @@ use Rattle.mpd_values.specs.Numbers.{numeral_of, kept_if, is_between}
 model : IsNumeralModel (λ ds. all_ascii_digits ds ≡ true) (digits_value 10)
 model = numerals_by_value _ tells_all_ascii_digits
 
-pub parsed_is : (E : Type 0) (digits : List ℕ) (r : Result ℕ E) → list_all is_ascii_digit digits ≡ true → ParsesUnsigned 64 10 digits r → result_ok r ≡ kept_if (is_between 0 (2 ^ 64)) (numeral_of digits)
+pub parsed_is : (E : Type 0) (digits : List ℕ) (r : Result ℕ E) → list_all is_ascii_digit digits ≡ true → ParsesUnsigned 64 10 digits r
+    → result_ok r ≡ kept_if (is_between 0 (2 ^ 64)) (numeral_of digits)
 parsed_is E digits (Ok n) all parsed = let inside = parse_digits model {E = E} 64 digits (Ok n) parsed all in grind (arith, nat_tests)
 parsed_is E digits (Err e) all refused = let outside = parse_digits model {E = E} 64 digits (Err e) refused all in grind (arith, nat_tests)
 
 -- a number past 64 bits is past any lower bound too
-pub none_below : (bound : ℕ) (number : Option ℕ) → bound ≤ 2 ^ 64 → kept_if (is_between 0 (2 ^ 64)) number ≡ None → kept_if (is_between 0 bound) number ≡ None
+pub none_below : (bound : ℕ) (number : Option ℕ) → bound ≤ 2 ^ 64 → kept_if (is_between 0 (2 ^ 64)) number ≡ None
+    → kept_if (is_between 0 bound) number ≡ None
 none_below bound (Some n) low none = grind (arith, nat_tests)
 none_below bound None low none = refl

@@ -1,5 +1,6 @@
 -- Numbers as an MPD writes them: xs:unsignedInt, xs:unsignedLong and xs:integer of XML Schema part 2.
-use Rattle.std.specs.Prelude.{ℕ, ℤ, pos, ◌-ℤ◌, ◌+◌, ◌^◌, ◌&&◌, ◌==◌, nat_lt, nat_le, Bool, true, List, length, drop, slice_index, if◌then◌else◌, Option, Some, None, option_map}
+use Rattle.std.specs.Prelude.{ℕ, ℤ, pos, ◌-ℤ◌, ◌+◌, ◌^◌, ◌&&◌, ◌==◌, nat_lt, nat_le, Bool, true, List, length, drop, slice_index}
+use Rattle.std.specs.Prelude.{if◌then◌else◌, Option, Some, None, option_map}
 use Rattle.std.specs.List.{list_all}
 use Rattle.std.specs.Char.{is_ascii_digit}
 use Rattle.std.specs.Str.Parse.{digits_value}

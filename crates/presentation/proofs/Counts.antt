@@ -1,5 +1,6 @@
 -- Faults and counts over places in order.
-use Rattle.std.proofs.Common.{◌≡◌, ℕ, suc, ◌+◌, ◌-◌, ◌^◌, ◌<◌, min, List, [], ◌∷◌, ◌++◌, flat_map, sum_by, Bool, true, false, ◌||◌, nat_lt, Ok, refl, ap, ◌∙◌, sym, arith}
+use Rattle.std.proofs.Common.{◌≡◌, ℕ, suc, ◌+◌, ◌-◌, ◌^◌, ◌<◌, min, List, [], ◌∷◌, ◌++◌, flat_map, sum_by, Bool, true, false, ◌||◌, nat_lt}
+use Rattle.std.proofs.Common.{Ok, refl, ap, ◌∙◌, sym, arith}
 use Rattle.std.specs.List.{range_with_len, list_any}
 use Rattle.std.proofs.lemmas.List.Sums.{sum_by-cons}
 use Rattle.std.proofs.lemmas.Bool.Decides.{nat_tests}
@@ -26,15 +27,19 @@ module _ (faults : ℕ → List PresentationFault) (count : ℕ → ℕ) (i n : 
   pub no_fault_here : faults i ≡ [] → flat_map faults (from_on i n) ≡ flat_map faults (from_on (i + 1) n)
   no_fault_here none = faults_here ∙ ap (λ first. first ++ flat_map faults (from_on (i + 1) n)) none
 
-  pub one_more : (total more : ℕ) → more ≡ min (2 ^ 64 - 1) (total + count i) → capped (more + sum_by count (from_on (i + 1) n)) ≡ capped (total + sum_by count (from_on i n))
-  one_more total more is = let sum : sum_by count (from_on i n) ≡ count i + sum_by count (from_on (i + 1) n) = ap (sum_by count) (from_on-first i n within) ∙ sum_by-cons count i (from_on (i + 1) n) in rw (sum, is) (omega arith)
+  pub one_more : (total more : ℕ) → more ≡ min (2 ^ 64 - 1) (total + count i)
+      → capped (more + sum_by count (from_on (i + 1) n)) ≡ capped (total + sum_by count (from_on i n))
+  one_more total more is = let sum : sum_by count (from_on i n) ≡ count i + sum_by count (from_on (i + 1) n) =
+      ap (sum_by count) (from_on-first i n within) ∙ sum_by-cons count i (from_on (i + 1) n) in rw (sum, is) (omega arith)
 
 or_regroup : (a b c : Bool) → ((a || b) || c) ≡ (a || (b || c))
 or_regroup true b c = refl
 or_regroup false b c = refl
 
-pub over_here : (is_long : ℕ → Bool) (over here : Bool) (i n : ℕ) → i < n → here ≡ is_long i → ((over || here) || list_any is_long (from_on (i + 1) n)) ≡ (over || list_any is_long (from_on i n))
-over_here is_long over here i n within is = rw is (or_regroup over (is_long i) (list_any is_long (from_on (i + 1) n)) ∙ sym (ap (λ xs. over || list_any is_long xs) (from_on-first i n within)))
+pub over_here : (is_long : ℕ → Bool) (over here : Bool) (i n : ℕ) → i < n → here ≡ is_long i
+    → ((over || here) || list_any is_long (from_on (i + 1) n)) ≡ (over || list_any is_long (from_on i n))
+over_here is_long over here i n within is = rw is (or_regroup over (is_long i) (list_any is_long (from_on (i + 1) n))
+    ∙ sym (ap (λ xs. over || list_any is_long xs) (from_on-first i n within)))
 
 -- a count that stops at the last value of a counter is as much over a limit
 pub long_as : (n limit : ℕ) → limit < 2 ^ 64 - 1 → nat_lt limit (capped n) ≡ nat_lt limit n
@@ -52,7 +57,9 @@ exact : (total all : ℕ) → total ≡ capped all → nat_lt 500000 all ≡ fal
 exact total all is small = grind (arith, nat_tests)
 
 -- whether the whole is told as it is
-pub all_told : (over long : Bool) (total all : ℕ) → over ≡ long → total ≡ capped all → unless_over (over || nat_lt 500000 total) total ≡ unless_over (long || nat_lt 500000 all) all
+pub all_told : (over long : Bool) (total all : ℕ) → over ≡ long → total ≡ capped all
+    → unless_over (over || nat_lt 500000 total) total ≡ unless_over (long || nat_lt 500000 all) all
 all_told over long total all same is =
     let as_long : nat_lt 500000 total ≡ nat_lt 500000 all = rw is (long_as all 500000 (omega arith)) in
-    rw (same, as_long) (told_by (long || nat_lt 500000 all) total all (λ within. exact total all is (not_over long (nat_lt 500000 all) within)))
+    rw (same, as_long) (told_by (long || nat_lt 500000 all) total all
+    (λ within. exact total all is (not_over long (nat_lt 500000 all) within)))

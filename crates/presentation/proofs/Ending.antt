@@ -1,10 +1,13 @@
 -- What is told of an MPD fills the sections, and ends where it isn't followed.
-use Rattle.std.proofs.Common.{◌≡◌, ℕ, suc, ◌*◌, Bool, true, false, ◌&&◌, List, [], ◌∷◌, ◌++◌, map, flat_map, length, get_or, All, Option, Some, None, Result, Ok, Err, ℤ, refl, sym, ◌∙◌, ap, subst, arith}
+use Rattle.std.proofs.Common.{◌≡◌, ℕ, suc, ◌*◌, Bool, true, false, ◌&&◌, List, [], ◌∷◌, ◌++◌, map, flat_map, length, get_or, All, Option}
+use Rattle.std.proofs.Common.{Some, None, Result, Ok, Err, ℤ, refl, sym, ◌∙◌, ap, subst, arith}
 use Rattle.std.specs.Prelude.{if◌then◌else◌, is_some, IfSome}
 use Rattle.mpd_rules.specs.Typed.{TypedMpd}
 use Rattle.presentation.specs.Counting.{refusal, unless_any}
 use Rattle.presentation.proofs.Printing.{if_some}
 use Rattle.std.proofs.lemmas.List.Elements.{All-map, All-nil, All-cons}
+use Rattle.bridge_io.proofs.AndThen.{steps_of}
+use Rattle.bridge_io.specs.Answer.{and_then}
 use Rattle.url_parts.specs.declared.address.Part.{Part}
 use Rattle.timeline.specs.declared.entry.End.{End}
 use Rattle.timeline.specs.declared.names.Names.{Names}
@@ -22,13 +25,15 @@ use Rattle.mpd_rules.specs.Typed.{period_with, track_with}
 use Rattle.presentation.specs.declared.fault.PresentationFault.{PresentationFault}
 use Rattle.presentation.specs.declared.parts.Content.{Content}
 use Rattle.presentation.specs.declared.shared.Shared.{Shared}
-use Rattle.presentation.specs.declared.told.Told.{Told}
+use Rattle.presentation.specs.declared.told.PeriodContent.{PeriodContent}
 use Rattle.presentation.specs.Presented.{IsEnded}
 use Rattle.presentation.specs.Rows.{Row, Period, are_alike, in_order, is_alike, first_rows}
 use Rattle.presentation.specs.Scales.{scale_of}
 use Rattle.presentation.specs.Shared.{AreOf, AreOfAll, IsShared}
-use Rattle.presentation.specs.Told.{all_told, and_then, content_of, differ_told, differs_told, end_of, entries_of, gathered, one_told, over_told, period_told, presented_if_told, presented_of, needs_now, segments_in, timeline_by, told_before, told_in_order, told_of, base_of, init_of, initialization_of, media_of, runs_of}
-use Rattle.presentation.proofs.Filling.{all_gathered, all_in_order, length_gathered, length_in_order, ok_under, steps_of}
+use Rattle.presentation.specs.Told.{all_told, content_of, differ_told, differs_told, end_of, entries_of, gathered, one_told, over_told}
+use Rattle.presentation.specs.Told.{period_told, presented_if_told, presented_of, needs_now, segments_in, timeline_by, told_before}
+use Rattle.presentation.specs.Told.{told_in_order, told_of, base_of, init_of, initialization_of, media_of, runs_of}
+use Rattle.presentation.proofs.Filling.{all_gathered, all_in_order, length_gathered, length_in_order, ok_under}
 
 -- ---- keys
 
@@ -82,13 +87,13 @@ all_as_long (first ∷ later) is =
     (λ k d within. as_long (in_order first.tracks) later is k d within ∙ length_in_order _ first.tracks)
 
 module _ (url : List ℕ) (live : Bool) where
-  one_long : (end : End) (row : Row) (ys : List Told) → one_told url live end row ≡ Ok ys → length ys ≡ 1
+  one_long : (end : End) (row : Row) (ys : List PeriodContent) → one_told url live end row ≡ Ok ys → length ys ≡ 1
   one_long end row ys is =
       let s = steps_of (told_of url live end row) _ ys is in
       let same : s.value ∷ [] ≡ ys = (let h = s.then in cc) in
       ap length (sym same)
 
-  period_long : (period : Period) (ys : List Told) → period_told url live period ≡ Ok ys → length ys ≡ length period.tracks
+  period_long : (period : Period) (ys : List PeriodContent) → period_told url live period ≡ Ok ys → length ys ≡ length period.tracks
   period_long period ys is =
       let s = steps_of (gathered (one_told url live (end_of period)) period.tracks) _ ys is in
       let same : told_in_order s.value ≡ ys = (let h = s.then in cc) in
@@ -96,7 +101,7 @@ module _ (url : List ℕ) (live : Bool) where
       (λ k d within. one_long (end_of period) (get_or period.tracks k d)) s.value s.first in
       ap length (sym same) ∙ length_in_order _ s.value ∙ omega (arith, rows)
 
-  pub all_filled : (has_now : Bool) (periods : List Period) (tolds : List Told) → told_before live has_now periods ≡ []
+  pub all_filled : (has_now : Bool) (periods : List Period) (tolds : List PeriodContent) → told_before live has_now periods ≡ []
       → all_told url live periods ≡ Ok tolds
       → length tolds ≡ length periods * length (first_rows periods)
   all_filled has_now periods tolds none is =
@@ -113,7 +118,7 @@ with_runs initialization runs = Ok (record { initialization = initialization; ru
 module _ (P : SegmentTimeline → Type 0) (live : Bool)
     (each : (timeline : Option (List SView)) (s : Segments) (end : End) (names : Names) (runs : SegmentTimeline)
     → timeline_by timeline s live end names ≡ Ok runs → P runs) (url : List ℕ) where
-  abbrev Has : Told → Type 0
+  abbrev Has : PeriodContent → Type 0
   Has told = P told.content.runs
 
   abbrev with_initialization : End → Description → Segments → (media base : List ℕ) → Part → Result Content PresentationFault
@@ -140,7 +145,7 @@ module _ (P : SegmentTimeline → Type 0) (live : Bool)
       let same : runs.value ≡ content.runs = (let h = runs.then in cc) in
       subst P same (each s.timeline s end _ runs.value (ok_under _ _ runs.value runs.first))
 
-  one_has : (end : End) (row : Row) (ys : List Told) → one_told url live end row ≡ Ok ys → All Has ys
+  one_has : (end : End) (row : Row) (ys : List PeriodContent) → one_told url live end row ≡ Ok ys → All Has ys
   one_has end row ys is =
       let s = steps_of (told_of url live end row) _ ys is in
       let t = steps_of (content_of url live end row.description (segments_in row)) _ s.value s.first in
@@ -149,17 +154,17 @@ module _ (P : SegmentTimeline → Type 0) (live : Bool)
       subst (All Has) same (All-cons Has s.value []
       (subst (λ (c : Content). P c.runs) content (content_has end row.description (segments_in row) t.value t.first)) (All-nil Has))
 
-  period_has : (period : Period) (ys : List Told) → period_told url live period ≡ Ok ys → All Has ys
+  period_has : (period : Period) (ys : List PeriodContent) → period_told url live period ≡ Ok ys → All Has ys
   period_has period ys is =
       let s = steps_of (gathered (one_told url live (end_of period)) period.tracks) _ ys is in
       let same : told_in_order s.value ≡ ys = (let h = s.then in cc) in
       subst (All Has) same (all_in_order _ Has s.value
       (all_gathered (one_told url live (end_of period)) Has (one_has (end_of period)) period.tracks s.value s.first))
 
-  pub all_have : (periods : List Period) (tolds : List Told) → all_told url live periods ≡ Ok tolds
-      → All (λ (content : Content). P content.runs) (map (λ (told : Told). told.content) tolds)
+  pub all_have : (periods : List Period) (tolds : List PeriodContent) → all_told url live periods ≡ Ok tolds
+      → All (λ (content : Content). P content.runs) (map (λ (told : PeriodContent). told.content) tolds)
   all_have periods tolds is =
-      All-map (λ (content : Content). P content.runs) (λ (told : Told). told.content) tolds
+      All-map (λ (content : Content). P content.runs) (λ (told : PeriodContent). told.content) tolds
       (all_gathered (period_told url live) Has period_has periods tolds is)
 
 -- ---- ends
@@ -170,8 +175,8 @@ module _ (timelines : TimelinesEnd) (durations : DurationsEnd) where
   timeline_ended (Some timeline) s end names runs is = timelines (entries_of timeline) end false (scale_of s) names runs is refl
   timeline_ended None s end names runs is = durations _ end false (scale_of s) names runs is refl
 
-  pub all_ended : (url : List ℕ) (live : Bool) (periods : List Period) (tolds : List Told) → all_told url live periods ≡ Ok tolds
-      → live ≡ false → All IsEnded (map (λ (told : Told). told.content) tolds)
+  pub all_ended : (url : List ℕ) (live : Bool) (periods : List Period) (tolds : List PeriodContent) → all_told url live periods ≡ Ok tolds
+      → live ≡ false → All IsEnded (map (λ (told : PeriodContent). told.content) tolds)
   all_ended url true periods tolds is off = absurd (cc)
   all_ended url false periods tolds is off = all_have (λ runs. is_open runs.members ≡ false) false timeline_ended url periods tolds is
 

@@ -1,21 +1,12 @@
 -- That each Representation of each Period is told, and ends where nothing is followed.
-use Rattle.std.proofs.Common.{◌≡◌, ℕ, suc, ◌+◌, ◌*◌, cond, List, [], ◌∷◌, ◌++◌, filter, length, All, Result, Ok, Err, refl, sym, ◌∙◌, ap, subst, arith, length-append}
+use Rattle.std.proofs.Common.{◌≡◌, ℕ, suc, ◌+◌, ◌*◌, cond, List, [], ◌∷◌, ◌++◌, filter, length, All, Result, Ok, Err, refl, sym, ◌∙◌, ap}
+use Rattle.std.proofs.Common.{subst, arith, length-append}
 use Rattle.std.proofs.lemmas.List.Elements.{All-append, All-filter, All-nil, All-head, All-rest}
+use Rattle.bridge_io.proofs.AndThen.{steps_of}
 use Rattle.bridge_io.specs.declared.media.Kind.{Kind}
 use Rattle.bridge_io.specs.declared.media.Kind.TheVariants.{Video, Audio, Text}
 use Rattle.presentation.specs.Rows.{is_of, by_kind}
-use Rattle.presentation.specs.Told.{and_then, told_as, gathered}
-
--- ---- what an answer of steps says of each step
-
-pub record Steps {X Y E : Type 0} (r : Result X E) (next : X → Result Y E) (y : Y) : Type 0 where
-  pub value : X
-  pub first : r ≡ Ok value
-  pub then : next value ≡ Ok y
-
-pub steps_of : {X Y E : Type 0} (r : Result X E) (next : X → Result Y E) (y : Y) → and_then r next ≡ Ok y → Steps r next y
-steps_of (Ok x) next y is = record { value = x; first = refl; then = is }
-steps_of (Err e) next y is = absurd (cc)
+use Rattle.presentation.specs.Told.{told_as, gathered}
 
 pub ok_under : {X E F : Type 0} (tell : E → F) (r : Result X E) (x : X) → told_as tell r ≡ Ok x → r ≡ Ok x
 ok_under tell (Ok y) x is = (let same : y ≡ x = cc in ap Ok same)
@@ -24,7 +15,8 @@ ok_under tell (Err e) x is = absurd (cc)
 -- ---- gathered members
 
 module _ {X Y E : Type 0} (give : X → Result (List Y) E) where
-  pub all_gathered : (P : Y → Type 0) → ((x : X) (ys : List Y) → give x ≡ Ok ys → All P ys) → (xs : List X) (zs : List Y) → gathered give xs ≡ Ok zs → All P zs
+  pub all_gathered : (P : Y → Type 0) → ((x : X) (ys : List Y) → give x ≡ Ok ys → All P ys) → (xs : List X) (zs : List Y)
+      → gathered give xs ≡ Ok zs → All P zs
   all_gathered P each [] zs is = (let none : [] ≡ zs = cc in subst (All P) none (All-nil P))
   all_gathered P each (x ∷ xs) zs is =
       let s = steps_of (give x) _ zs is in
@@ -36,14 +28,17 @@ module _ {X Y E : Type 0} (give : X → Result (List Y) E) where
   abbrev pub Gives-length : ℕ → X → Type 0
   Gives-length k x = (ys : List Y) → give x ≡ Ok ys → length ys ≡ k
 
-  pub length_gathered : (k : ℕ) (xs : List X) → All (Gives-length k) xs → (zs : List Y) → gathered give xs ≡ Ok zs → length zs ≡ length xs * k
-  length_gathered k [] each zs is = (let none : [] ≡ zs = cc in let nothing : length zs ≡ 0 = ap length (sym none) in omega (arith, nothing))
+  pub length_gathered : (k : ℕ) (xs : List X) → All (Gives-length k) xs → (zs : List Y) → gathered give xs ≡ Ok zs
+      → length zs ≡ length xs * k
+  length_gathered k [] each zs is = (let none : [] ≡ zs = cc in let nothing : length zs ≡ 0 = ap length (sym none) in
+      omega (arith, nothing))
   length_gathered k (x ∷ xs) each zs is =
       let s = steps_of (give x) _ zs is in
       let t = steps_of (gathered give xs) _ zs s.then in
       let same : s.value ++ t.value ≡ zs = (let h = t.then in cc) in
       let here : length s.value ≡ k = All-head (Gives-length k) x xs each s.value s.first in
-      let later : length t.value ≡ length xs * k = length_gathered k xs (All-rest (Gives-length k) x xs (x ∷ xs) refl each) t.value t.first in
+      let later : length t.value ≡ length xs * k =
+      length_gathered k xs (All-rest (Gives-length k) x xs (x ∷ xs) refl each) t.value t.first in
       ap length (sym same) ∙ length-append s.value t.value ∙ omega (arith, here, later)
 
 -- ---- in the order of kinds
@@ -55,14 +50,16 @@ module _ {X : Type 0} where
   one_counted Audio x v a t n is = omega arith
   one_counted Text x v a t n is = omega arith
 
-  counted : (kind : X → Kind) (xs : List X) → length (filter (λ x. is_of Video (kind x)) xs) + (length (filter (λ x. is_of Audio (kind x)) xs) + length (filter (λ x. is_of Text (kind x)) xs)) ≡ length xs
+  counted : (kind : X → Kind) (xs : List X) → length (filter (λ x. is_of Video (kind x)) xs) +
+      (length (filter (λ x. is_of Audio (kind x)) xs) + length (filter (λ x. is_of Text (kind x)) xs)) ≡ length xs
   counted kind [] = refl
   counted kind (x ∷ xs) = one_counted (kind x) x _ _ _ (length xs) (counted kind xs)
 
   pub length_in_order : (kind : X → Kind) (xs : List X) → length (by_kind kind xs) ≡ length xs
   length_in_order kind xs =
       length-append (filter (λ x. is_of Video (kind x)) xs) _
-      ∙ ap (λ n. length (filter (λ x. is_of Video (kind x)) xs) + n) (length-append (filter (λ x. is_of Audio (kind x)) xs) (filter (λ x. is_of Text (kind x)) xs))
+      ∙ ap (λ n. length (filter (λ x. is_of Video (kind x)) xs) + n)
+      (length-append (filter (λ x. is_of Audio (kind x)) xs) (filter (λ x. is_of Text (kind x)) xs))
       ∙ counted kind xs
 
   pub all_in_order : (kind : X → Kind) (P : X → Type 0) (xs : List X) → All P xs → All P (by_kind kind xs)

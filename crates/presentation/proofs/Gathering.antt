@@ -1,8 +1,9 @@
 -- What some things give one after another.
 use Rattle.std.proofs.Common.{◌≡◌, List, [], ◌∷◌, ◌++◌, Result, Ok, Err, IfSome, refl, sym, ◌∙◌, ap, append_assoc}
+use Rattle.bridge_io.specs.Answer.{and_then}
 use Rattle.presentation.specs.declared.fault.PresentationFault.{PresentationFault}
 use Rattle.presentation.specs.Counting.{refusal}
-use Rattle.presentation.specs.Told.{and_then, gathered}
+use Rattle.presentation.specs.Told.{gathered}
 use Rattle.presentation.proofs.Printing.{if_some}
 
 -- the same behind what was there
@@ -13,7 +14,8 @@ pub behind_nothing : {Y E : Type 0} (r : Result (List Y) E) → behind [] r ≡ 
 behind_nothing (Ok ys) = refl
 behind_nothing (Err e) = refl
 
-behind_twice : {Y E : Type 0} (before ys : List Y) (r : Result (List Y) E) → behind before (and_then r (λ later. Ok (ys ++ later))) ≡ behind (before ++ ys) r
+behind_twice : {Y E : Type 0} (before ys : List Y) (r : Result (List Y) E) → behind before (and_then r (λ later. Ok (ys ++ later)))
+    ≡ behind (before ++ ys) r
 behind_twice before ys (Ok later) = ap Ok (sym (append_assoc before ys later))
 behind_twice before ys (Err e) = refl
 

@@ -1,5 +1,6 @@
 -- The segments that are listed behind a time.
-use Rattle.std.proofs.Common.{◌≡◌, ℕ, ◌*◌, ℤ, pos, negsuc, ◌≤ℤ◌, arith, true, false, not, List, [], ◌∷◌, ◌++◌, take, drop, map, All, refl, sym, ◌∙◌, ap, inl, inr}
+use Rattle.std.proofs.Common.{◌≡◌, ℕ, ◌*◌, ℤ, pos, negsuc, ◌≤ℤ◌, arith, true, false, not, List, [], ◌∷◌, ◌++◌, take, drop, map, All, refl}
+use Rattle.std.proofs.Common.{sym, ◌∙◌, ap, inl, inr}
 use Rattle.std.specs.Prelude.{IfSome, Option, None, Some, unsigned_abs}
 use Rattle.std.proofs.lemmas.Int.{ints}
 use Rattle.std.proofs.lemmas.Bool.{cases_Bool}

@@ -1,5 +1,6 @@
 -- Members of lists by their places.
-use Rattle.std.proofs.Common.{◌≡◌, ℕ, zero, suc, ◌+◌, ◌*◌, ◌<◌, cond, Bool, true, false, List, [], ◌∷◌, ◌++◌, filter, flat_map, length, map, slice_get, All, Some, refl, sym, ◌∙◌, ap, subst, arith, zero-add}
+use Rattle.std.proofs.Common.{◌≡◌, ℕ, zero, suc, ◌+◌, ◌*◌, ◌<◌, cond, Bool, true, false, List, [], ◌∷◌, ◌++◌, filter, flat_map, length, map}
+use Rattle.std.proofs.Common.{slice_get, All, Some, refl, sym, ◌∙◌, ap, subst, arith, zero-add}
 use Rattle.std.proofs.lemmas.List.{map-append}
 use Rattle.std.proofs.lemmas.List.Elements.{All-head, All-rest}
 use Rattle.std.proofs.lemmas.Option.{get_or_from_slice_get, slice_get_within}
@@ -7,7 +8,8 @@ use Rattle.bridge_io.specs.declared.media.Kind.{Kind}
 use Rattle.bridge_io.specs.declared.media.Kind.TheVariants.{Video, Audio, Text}
 use Rattle.presentation.specs.Rows.{by_kind, is_of}
 
-pub same_members : {X : Type 0} (xs ys : List X) → length xs ≡ length ys → ((k : ℕ) → k < length xs → slice_get xs k ≡ slice_get ys k) → xs ≡ ys
+pub same_members : {X : Type 0} (xs ys : List X) → length xs ≡ length ys → ((k : ℕ) → k < length xs → slice_get xs k ≡ slice_get ys k)
+    → xs ≡ ys
 same_members [] [] same each = refl
 same_members [] (y ∷ ys) same each = absurd (omega (arith, same))
 same_members (x ∷ xs) [] same each = absurd (omega (arith, same))
@@ -23,7 +25,8 @@ get_left (x ∷ xs) ys (suc k) below = get_left xs ys k (omega (arith, below))
 
 get_right : {X : Type 0} (xs ys : List X) (k : ℕ) → slice_get (xs ++ ys) (length xs + k) ≡ slice_get ys k
 get_right [] ys k = ap (slice_get ys) (zero-add k)
-get_right (x ∷ xs) ys k = (let same : suc (length xs) + k ≡ suc (length xs + k) = omega arith in ap (slice_get (x ∷ (xs ++ ys))) same ∙ get_right xs ys k)
+get_right (x ∷ xs) ys k = (let same : suc (length xs) + k ≡ suc (length xs + k) = omega arith in
+    ap (slice_get (x ∷ (xs ++ ys))) same ∙ get_right xs ys k)
 
 pub found : {X : Type 0} (xs : List X) (k : ℕ) → k < length xs → (x : X) × (slice_get xs k ≡ Some x)
 found [] k below = absurd (omega (arith, below))
@@ -35,13 +38,15 @@ All-at P xs k x all is = subst P (get_or_from_slice_get xs k x x is) (all k x (s
 
 -- of lists of one length, one after another
 module _ {X Y : Type 0} (g : X → List Y) (n : ℕ) where
-  pub in_row : (xs : List X) (s t : ℕ) (x : X) → All (λ x. length (g x) ≡ n) xs → slice_get xs s ≡ Some x → t < n → slice_get (flat_map g xs) (s * n + t) ≡ slice_get (g x) t
+  pub in_row : (xs : List X) (s t : ℕ) (x : X) → All (λ x. length (g x) ≡ n) xs → slice_get xs s ≡ Some x → t < n
+      → slice_get (flat_map g xs) (s * n + t) ≡ slice_get (g x) t
   in_row [] s t x each is within = absurd (cc)
   in_row (x ∷ xs) zero t y each is within =
       let same : x ≡ y = cc in
       let here : length (g x) ≡ n = All-head (λ x. length (g x) ≡ n) x xs each in
       let place : 0 * n + t ≡ t = omega arith in
-      ap (slice_get (g x ++ flat_map g xs)) place ∙ get_left (g x) (flat_map g xs) t (omega (arith, here, within)) ∙ ap (λ z. slice_get (g z) t) same
+      ap (slice_get (g x ++ flat_map g xs)) place ∙ get_left (g x) (flat_map g xs) t (omega (arith, here, within))
+      ∙ ap (λ z. slice_get (g z) t) same
   in_row (x ∷ xs) (suc s) t y each is within =
       let here : length (g x) ≡ n = All-head (λ x. length (g x) ≡ n) x xs each in
       let place : suc s * n + t ≡ length (g x) + (s * n + t) = omega (arith, here) in
@@ -62,7 +67,8 @@ module _ {X Y : Type 0} (f : X → Y) where
   pub by_kind_made : (kind : Y → Kind) (xs : List X) → by_kind kind (map f xs) ≡ map f (by_kind (λ x. kind (f x)) xs)
   by_kind_made kind xs =
       let of : Kind → List X = λ k. filter (λ x. is_of k (kind (f x))) xs in
-      ap (λ ys. ys ++ (filter (λ y. is_of Audio (kind y)) (map f xs) ++ filter (λ y. is_of Text (kind y)) (map f xs))) (filter_made (λ y. is_of Video (kind y)) xs)
+      ap (λ ys. ys ++ (filter (λ y. is_of Audio (kind y)) (map f xs) ++ filter (λ y. is_of Text (kind y)) (map f xs)))
+      (filter_made (λ y. is_of Video (kind y)) xs)
       ∙ ap (λ ys. map f (of Video) ++ (ys ++ filter (λ y. is_of Text (kind y)) (map f xs))) (filter_made (λ y. is_of Audio (kind y)) xs)
       ∙ ap (λ ys. map f (of Video) ++ (map f (of Audio) ++ ys)) (filter_made (λ y. is_of Text (kind y)) xs)
       ∙ ap (λ ys. map f (of Video) ++ ys) (sym (map-append f (of Audio) (of Text)))
@@ -77,4 +83,5 @@ kept_on false x xs ys is same = absurd (cc)
 pub all_kept : {X : Type 0} (test : X → Bool) (xs : List X) → All (λ x. test x ≡ true) xs → filter test xs ≡ xs
 all_kept test [] all = refl
 all_kept test (x ∷ xs) all =
-    kept_on (test x) x (filter test xs) xs (All-head (λ x. test x ≡ true) x xs all) (all_kept test xs (All-rest (λ x. test x ≡ true) x xs (x ∷ xs) refl all))
+    kept_on (test x) x (filter test xs) xs (All-head (λ x. test x ≡ true) x xs all)
+    (all_kept test xs (All-rest (λ x. test x ≡ true) x xs (x ∷ xs) refl all))

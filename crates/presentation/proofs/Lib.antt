@@ -17,6 +17,7 @@ pub mod GoingOn
 pub mod NextRun
 pub mod Firsts
 pub mod FirstFault
+pub mod FirstSome
 pub mod Counts
 pub mod Extents
 pub mod Tracks
@@ -27,6 +28,7 @@ pub mod MeantParts
 pub mod Grids
 pub mod Telling
 pub mod Whole
+pub mod WholeWindow
 pub mod Static
 pub mod OwnListed
 pub mod Listable

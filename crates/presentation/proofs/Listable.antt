@@ -3,6 +3,7 @@ use Rattle.std.proofs.Common.{◌≡◌, ℕ, ◌+◌, ◌*◌, List, [], length
 use Rattle.std.specs.Option.{option_map_or}
 use Rattle.std.specs.Prelude.{is_some}
 use Rattle.std.proofs.lemmas.List.Elements.{All-weaker}
+use Rattle.bridge_io.proofs.AndThen.{steps_of}
 use Rattle.timeline.specs.OpenEnds.{DurationsEnd, TimelinesEnd}
 use Rattle.presentation.specs.declared.parts.Content.{Content}
 use Rattle.presentation.specs.Laws.{HasAddress}
@@ -14,16 +15,18 @@ use Rattle.presentation.specs.Verifying.{url_faults}
 use Rattle.presentation.proofs.Addressed.{all_addressed}
 use Rattle.presentation.proofs.Allowed.{none_unaddressed}
 use Rattle.presentation.proofs.Ending.{all_ended}
-use Rattle.presentation.proofs.Filling.{steps_of}
 use Rattle.presentation.specs.Listable.{PlaylistsAreListable, VerifiedAreListable}
 use Rattle.presentation.proofs.OwnListed.{addressed_at, have_addresses}
 
-own_addressed : (p : Presented) (s t : ℕ) (o : Option Content) → content_at p s t ≡ o → All (λ (content : Content). IsAddressed content.runs) p.contents
+own_addressed : (p : Presented) (s t : ℕ) (o : Option Content) → content_at p s t ≡ o
+    → All (λ (content : Content). IsAddressed content.runs) p.contents
     → IfSome o (λ content. All (HasAddress content.runs) (listed_at p s t))
 own_addressed p s t None is all = tt
 own_addressed p s t (Some content) is all =
-    let here = addressed_at p.contents (s * length p.tracks + t) content.runs all (ap (option_map (λ (content : Content). content.runs)) is) in
-    subst (λ (o : Option Content). All (HasAddress content.runs) (option_map_or (λ content. listed_in (window_of p s) content.runs) o [])) (sym is)
+    let here = addressed_at p.contents (s * length p.tracks + t) content.runs all
+    (ap (option_map (λ (content : Content). content.runs)) is) in
+    subst (λ (o : Option Content). All (HasAddress content.runs) (option_map_or (λ content. listed_in (window_of p s) content.runs) o []))
+    (sym is)
     (have_addresses content.runs (window_of p s) here)
 
 pub playlists_are_listable : PlaylistsAreListable
@@ -36,7 +39,8 @@ pub verified_are_listable : TimelinesEnd → DurationsEnd → VerifiedAreListabl
 unfolding presented_of
 verified_are_listable timelines durations p unit longest from verified =
     let mpd = from.mpd in
-    let before = steps_of (unless_any {X = Unit {0}} (told_before mpd.facts.live (is_some from.now) mpd.periods) tt) (λ _. presented_if_told mpd from.url from.now) p from.presented in
+    let before = steps_of (unless_any {X = Unit {0}} (told_before mpd.facts.live (is_some from.now) mpd.periods) tt)
+    (λ _. presented_if_told mpd from.url from.now) p from.presented in
     let tolds = steps_of (all_told from.url mpd.facts.live mpd.periods) (λ tolds. Ok (presented_with mpd from.now tolds)) p before.then in
     let same : presented_with mpd from.now tolds.value ≡ p = (let h = tolds.then in cc) in
     let none : url_faults p ≡ [] = none_unaddressed p unit longest verified in

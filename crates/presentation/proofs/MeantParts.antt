@@ -21,7 +21,8 @@ module _ (timeline : SegmentTimeline) where
   all_meant : (xs : List Timing) → All (HasAddress timeline) xs → All (IsMeant timeline) xs
   all_meant xs all k d within = is_meant _ (all k d within)
 
-meant_in : (o : Option Content) (xs : List Timing) → IfSome o (λ content. All (HasAddress content.runs) xs) → IfSome o (λ content. All (IsMeant content.runs) xs)
+meant_in : (o : Option Content) (xs : List Timing) → IfSome o (λ content. All (HasAddress content.runs) xs)
+    → IfSome o (λ content. All (IsMeant content.runs) xs)
 meant_in None xs has = tt
 meant_in (Some content) xs has = all_meant content.runs xs has
 

@@ -1,5 +1,6 @@
 -- What a presentation from playlists lists: each segment is counted, and has an address of its own.
-use Rattle.std.proofs.Common.{◌≡◌, ℕ, zero, suc, ◌+◌, ◌-◌, ◌<◌, ◌≤◌, false, List, [], ◌∷◌, length, get_or, All, Option, Some, option_map, refl, ap, ◌∙◌, arith}
+use Rattle.std.proofs.Common.{◌≡◌, ℕ, zero, suc, ◌+◌, ◌-◌, ◌<◌, ◌≤◌, false, List, [], ◌∷◌, length, get_or, All, Option, Some, option_map}
+use Rattle.std.proofs.Common.{refl, ap, ◌∙◌, arith}
 use Rattle.std.specs.Prelude.{slice_get}
 use Rattle.std.specs.List.{list_any}
 use Rattle.std.specs.Result.{result_unwrap_or}
@@ -20,18 +21,22 @@ some_at (x ∷ xs) zero within = (x, refl)
 some_at (x ∷ xs) (suc place) within = some_at xs place (omega (arith, within))
 
 -- the content of a place has addresses of its own
-pub addressed_at : (contents : List Content) (place : ℕ) (runs : SegmentTimeline) → All (λ (content : Content). IsAddressed content.runs) contents
+pub addressed_at : (contents : List Content) (place : ℕ) (runs : SegmentTimeline)
+    → All (λ (content : Content). IsAddressed content.runs) contents
     → option_map (λ content. content.runs) (slice_get contents place) ≡ Some runs → IsAddressed runs
 addressed_at [] place runs all is = absurd (cc)
-addressed_at (content ∷ contents) zero runs all is = let same : content.runs ≡ runs = cc in rw (← same) (All-head (λ (c : Content). IsAddressed c.runs) content contents all)
-addressed_at (content ∷ contents) (suc place) runs all is = addressed_at contents place runs (All-tail (λ (c : Content). IsAddressed c.runs) content contents all) is
+addressed_at (content ∷ contents) zero runs all is = let same : content.runs ≡ runs = cc in
+    rw (← same) (All-head (λ (c : Content). IsAddressed c.runs) content contents all)
+addressed_at (content ∷ contents) (suc place) runs all is = addressed_at contents place runs
+    (All-tail (λ (c : Content). IsAddressed c.runs) content contents all) is
 
 -- ---- segments up to an end
 
 pub fits : (timeline : SegmentTimeline) (window : Window) → is_open timeline.members ≡ false → IsWindowOf timeline window
 fits timeline window ended goes = absurd (cc)
 
-none_reached : (timeline : SegmentTimeline) (window : Window) (members : List Member) → is_open members ≡ false → list_any (reaches_fault timeline window) members ≡ false
+none_reached : (timeline : SegmentTimeline) (window : Window) (members : List Member) → is_open members ≡ false
+    → list_any (reaches_fault timeline window) members ≡ false
 none_reached timeline window [] ended = refl
 none_reached timeline window (Closed x ∷ members) ended = none_reached timeline window members ended
 none_reached timeline window (Short x ∷ members) ended = none_reached timeline window members ended
@@ -40,7 +45,8 @@ none_reached timeline window (Endless x ∷ members) ended = absurd (cc)
 pub reached : (timeline : SegmentTimeline) (window : Window) → is_open timeline.members ≡ false → IsReached timeline window
 reached timeline window ended = none_reached timeline window timeline.members ended
 
-pub counted : (timeline : SegmentTimeline) (window : Window) → IsReached timeline window → result_unwrap_or (answered_count timeline window) 0 ≡ length (listed_in window timeline)
+pub counted : (timeline : SegmentTimeline) (window : Window) → IsReached timeline window
+    → result_unwrap_or (answered_count timeline window) 0 ≡ length (listed_in window timeline)
 counted timeline window within = rw within refl
 
 extents_short : (instant : Time) (members : List Member) → is_open members ≡ false → length (extents instant members) ≤ length members
@@ -53,21 +59,29 @@ extents_short instant (Endless x ∷ members) ended = absurd (cc)
 abbrev IsPlaced : (first count : ℕ) → Timing → Type 0
 IsPlaced first count x = x.number - first < count
 
-placed : (first count from : ℕ) (xs : List Extent) → first ≤ from → from - first + length xs ≤ count → All (IsPlaced first count) (numbered from xs)
+placed : (first count from : ℕ) (xs : List Extent) → first ≤ from → from - first + length xs ≤ count
+    → All (IsPlaced first count) (numbered from xs)
 placed first count from [] behind within = All-nil (IsPlaced first count)
 placed first count from (x ∷ xs) behind within =
-    All-cons (IsPlaced first count) _ (numbered (from + 1) xs) (omega (arith, within)) (placed first count (from + 1) xs (omega (arith, behind)) (omega (arith, behind, within)))
+    All-cons (IsPlaced first count) _ (numbered (from + 1) xs) (omega (arith, within))
+    (placed first count (from + 1) xs (omega (arith, behind)) (omega (arith, behind, within)))
 
-has_address : (timeline : SegmentTimeline) (x : Timing) (is : IsAddressed timeline) → IsPlaced timeline.first_number (length is.parts) x → HasAddress timeline x
-has_address timeline x is within = let found = some_at is.parts (x.number - timeline.first_number) within in
-    (found.0, ap (λ names. part_of names (x.number - timeline.first_number) x.number (media_time timeline x)) is.named ∙ ap own_part found.1)
+has_address : (timeline : SegmentTimeline) (x : Timing) (is : IsAddressed timeline) → IsPlaced timeline.first_number (length is.parts) x
+    → HasAddress timeline x
+has_address timeline x is within = let found = some_at is.parts (x.number - timeline.first_number) within in (
+  found.0,
+  ap (λ names. part_of names (x.number - timeline.first_number) x.number (media_time timeline x)) is.named
+      ∙ ap own_part found.1,
+)
 
 -- each listed segment has an address
-pub have_addresses : (timeline : SegmentTimeline) (window : Window) → IsAddressed timeline → All (HasAddress timeline) (listed_in window timeline)
+pub have_addresses : (timeline : SegmentTimeline) (window : Window) → IsAddressed timeline
+    → All (HasAddress timeline) (listed_in window timeline)
 have_addresses timeline window is =
     let first = timeline.first_number in let count = length is.parts in
     let xs = extents (instant_of window) timeline.members in
     let short = extents_short (instant_of window) timeline.members is.ended in
-    let all : All (IsPlaced first count) (numbered first xs) = placed first count first xs (omega arith) (omega (arith, short, is.paired)) in
+    let all : All (IsPlaced first count) (numbered first xs) = placed first count first xs (omega arith)
+    (omega (arith, short, is.paired)) in
     let each = All-filter (is_listed window) (IsPlaced first count) (numbered first xs) all in
     λ k d within. has_address timeline (get_or (listed_in window timeline) k d) is (each k d within)

@@ -1,5 +1,6 @@
 -- The listed segments of an MPD's presentation begin at a time, from which on the ends don't fall and lie near one another.
-use Rattle.std.proofs.Common.{◌≡◌, ℕ, zero, suc, ◌+◌, ◌*◌, ◌<◌, ◌==◌, ◌&&◌, Bool, true, false, not, List, [], ◌∷◌, drop, length, All, Option, None, Some, IfSome, unwrap_or, ℤ, Ok, refl, sym, ◌∙◌, ap, subst, inl, inr, arith}
+use Rattle.std.proofs.Common.{◌≡◌, ℕ, zero, suc, ◌+◌, ◌*◌, ◌<◌, ◌==◌, ◌&&◌, Bool, true, false, not, List, [], ◌∷◌, drop, length, All}
+use Rattle.std.proofs.Common.{Option, None, Some, IfSome, unwrap_or, ℤ, Ok, refl, sym, ◌∙◌, ap, subst, inl, inr, arith}
 use Rattle.std.specs.Option.{option_map_or}
 use Rattle.std.specs.List.{AllByRecursion, list_any}
 use Rattle.std.proofs.lemmas.Bool.{cases_Bool}
@@ -17,13 +18,15 @@ use Rattle.timeline.specs.declared.entry.SEntry.{SEntry}
 use Rattle.timeline.specs.declared.fault.TimeFault.TheVariants.{ListLength, NoEnd, Range, TimeWithoutTimeline, ZeroDuration}
 use Rattle.timeline.specs.declared.names.Names.{Names}
 use Rattle.timeline.specs.declared.window.Window.{Window}
-use Rattle.timeline.specs.Expansions.{Closed, Endless, Extent, Member, SegmentTimeline, Short, Timing, ended_by, extents, numbered, repeat_of, repeated}
-use Rattle.timeline.specs.Faults.{duration_fault, ends_open, extents_break, fault_if, is_unbounded, lacks_end, members_by, segment_fault, timeline_fault}
+use Rattle.timeline.specs.Expansions.{Closed, Endless, Extent, Member, SegmentTimeline, Short, Timing, ended_by, extents, numbered}
+use Rattle.timeline.specs.Expansions.{repeat_of, repeated}
+use Rattle.timeline.specs.Faults.{duration_fault, ends_open, extents_break, fault_if, is_unbounded, lacks_end, members_by, segment_fault}
+use Rattle.timeline.specs.Faults.{timeline_fault}
 use Rattle.timeline.specs.Limits.{breaks_limits, too_long}
 use Rattle.timeline.specs.Listed.{IsReached, expansion, instant_of, is_after, is_listed, is_until, listed}
 use Rattle.timeline.specs.Names.{asks_for_time, count_of}
 use Rattle.timeline.specs.SegmentTimelines.{timeline_from, timeline_of_duration, timeline_of_entries}
-use Rattle.timeline.specs.Steady.{AreLasting, ArePaced, IsSteady, LastsTicks}
+use Rattle.timeline.specs.Steady.{AreLasting, ArePaced, IsSteady, Lasts, LastsTicks}
 use Rattle.timeline.specs.Timelines.{expansion_of_timeline}
 use Rattle.timeline.proofs.ExpansionsRise.{durations_row, entries_last, row_lasting, row_steady}
 use Rattle.timeline.proofs.Judged.{not_long}
@@ -120,25 +123,34 @@ pub record IsSound (members : List Member) : Type 0 where
   pub lasting : AreLasting members
   pub steady : IsSteady members
 
-abbrev Begins : Extent → Type 0
-Begins x = IsTime x.start
+-- what each extent that lasts has, each listed or not
+module _ (Has : Time → Time → Type 0) (each : (x : Extent) → Lasts x → Has x.start x.end) where
+  abbrev HasExtent : Extent → Type 0
+  HasExtent x = Has x.start x.end
 
-repeated_begin : (count : ℕ) (x : Extent) → LastsTicks x → AllByRecursion Begins (repeated count x)
-unfolding repeated
-repeated_begin zero x is = tt
-repeated_begin (suc count) x is = ((Lasts-from_ticks x is).start_is, repeated_begin count (repeat_of x) (LastsTicks-repeat x is))
+  repeated_have : (count : ℕ) (x : Extent) → LastsTicks x → AllByRecursion HasExtent (repeated count x)
+  unfolding repeated
+  repeated_have zero x is = tt
+  repeated_have (suc count) x is = (each x (Lasts-from_ticks x is), repeated_have count (repeat_of x) (LastsTicks-repeat x is))
 
-extents_begin : (instant : Time) (members : List Member) → AreLasting members → AllByRecursion Begins (extents instant members)
-extents_begin instant [] lasting = tt
-extents_begin instant (Closed x ∷ later) lasting = (lasting.0.start_is, extents_begin instant later lasting.1)
-extents_begin instant (Short x ∷ later) lasting = extents_begin instant later lasting
-extents_begin instant (Endless x ∷ later) lasting =
-    all_append Begins (repeated (ended_by instant x) x) (extents instant later) (repeated_begin (ended_by instant x) x lasting.0)
-    (extents_begin instant later (subst AreLasting (sym lasting.1) tt))
+  extents_have : (instant : Time) (members : List Member) → AreLasting members → AllByRecursion HasExtent (extents instant members)
+  extents_have instant [] lasting = tt
+  extents_have instant (Closed x ∷ later) lasting = (each x lasting.0, extents_have instant later lasting.1)
+  extents_have instant (Short x ∷ later) lasting = extents_have instant later lasting
+  extents_have instant (Endless x ∷ later) lasting =
+      all_append HasExtent (repeated (ended_by instant x) x) (extents instant later) (repeated_have (ended_by instant x) x lasting.0)
+      (extents_have instant later (subst AreLasting (sym lasting.1) tt))
 
-numbered_begin : (n : ℕ) (xs : List Extent) → AllByRecursion Begins xs → AllByRecursion (λ (x : Timing). IsTime x.start) (numbered n xs)
-numbered_begin n [] all = tt
-numbered_begin n (x ∷ xs) all = (all.0, numbered_begin (n + 1) xs all.1)
+  numbered_have : (n : ℕ) (xs : List Extent) → AllByRecursion HasExtent xs
+      → AllByRecursion (λ (x : Timing). Has x.start x.end) (numbered n xs)
+  numbered_have n [] all = tt
+  numbered_have n (x ∷ xs) all = (all.0, numbered_have (n + 1) xs all.1)
+
+  pub expansion_has : (timeline : SegmentTimeline) (window : Window) → AreLasting timeline.members
+      → AllByRecursion (λ (x : Timing). Has x.start x.end) (expansion timeline window)
+  expansion_has timeline window lasting =
+      numbered_have timeline.first_number (extents (instant_of window) timeline.members)
+      (extents_have (instant_of window) timeline.members lasting)
 
 module _ (timeline : SegmentTimeline) (window : Window) (sound : IsSound timeline.members) (reached : IsReached timeline window) where
   paced_from : (k : ℕ) → ArePaced (drop k (expansion timeline window))
@@ -151,8 +163,7 @@ module _ (timeline : SegmentTimeline) (window : Window) (sound : IsSound timelin
 
   pub in_pace : IsInPace (listed_in window timeline)
   in_pace = listed_in_pace window (expansion timeline window)
-      (numbered_begin timeline.first_number (extents (instant_of window) timeline.members)
-      (extents_begin (instant_of window) timeline.members sound.lasting)) paced_from
+      (expansion_has (λ start end. IsTime start) (λ x lasts. lasts.start_is) timeline window sound.lasting) paced_from
 
 -- ---- a timeline of which nothing is refused
 

@@ -1,5 +1,6 @@
 -- The presentation of an MPD means what the MPD means.
-use Rattle.std.proofs.Common.{◌≡◌, ℕ, ◌+◌, ◌*◌, ◌<◌, ℤ, Bool, List, [], ◌∷◌, ◌++◌, flat_map, length, map, slice_get, get_or, All, Option, Some, option_map, Result, Ok, refl, sym, ◌∙◌, ap, subst, zero-add}
+use Rattle.std.proofs.Common.{◌≡◌, ℕ, ◌+◌, ◌*◌, ◌<◌, ℤ, Bool, List, [], ◌∷◌, ◌++◌, flat_map, length, map, slice_get, get_or, All, Option}
+use Rattle.std.proofs.Common.{Some, option_map, Result, Ok, refl, sym, ◌∙◌, ap, subst, zero-add}
 use Rattle.std.specs.Prelude.{is_some, option_and_then}
 use Rattle.std.specs.Option.{option_map_or}
 use Rattle.std.specs.Result.{result_ok}
@@ -7,31 +8,34 @@ use Rattle.std.proofs.lemmas.List.{length-map}
 use Rattle.std.proofs.lemmas.List.Concat.{flat_map_single, flat_map-cons}
 use Rattle.std.proofs.lemmas.List.FromFn.{length-map-range_with_len}
 use Rattle.std.proofs.lemmas.Option.{slice_get-map}
+use Rattle.bridge_io.proofs.AndThen.{steps_of}
 use Rattle.meaning.specs.Meanings.{Entry}
 use Rattle.timeline.specs.declared.entry.End.{End}
 use Rattle.mpd_levels.specs.Segments.{Segments}
 use Rattle.mpd_profile.specs.declared.fault.RuleFault.{RuleFault}
 use Rattle.mpd_rules.specs.Rules.{all_refusals, dash_values, typed_mpd_of, unless_refused}
 use Rattle.mpd_rules.specs.Typed.{TypedMpd}
-use Rattle.presentation.specs.declared.told.Told.{Told}
+use Rattle.presentation.specs.declared.told.PeriodContent.{PeriodContent}
 use Rattle.presentation.specs.Presented.{Presented, content_at, start_of, window_at, window_of, whole_window}
 use Rattle.presentation.specs.Rows.{Row, Period, first_rows, in_order, section_of, track_of}
-use Rattle.presentation.specs.Told.{all_told, content_of, differ_told, end_of, following_of, gathered, needs_now, one_told, over_told, period_told, presented_with, segments_in, told_in_order, told_of}
-use Rattle.presentation.specs.Meanings.{content_of_row, entry_at, entry_of, head_of, head_of_row, meaning_of, meaning_with, dash_meaning, mpd_meaning, row_at, row_meant, rows_of, window_in}
+use Rattle.presentation.specs.Told.{all_told, content_of, differ_told, end_of, following_of, gathered, needs_now, one_told, over_told}
+use Rattle.presentation.specs.Told.{period_told, presented_with, segments_in, told_in_order, told_of}
+use Rattle.presentation.specs.Meanings.{content_of_row, entry_at, entry_of, head_of, head_of_row, meaning_of, meaning_with, dash_meaning}
+use Rattle.presentation.specs.Meanings.{mpd_meaning, row_at, row_meant, rows_of, window_in}
 use Rattle.presentation.specs.MeaningLaws.{PresentedAreMeant, TextsAreMeant}
 use Rattle.presentation.proofs.Allowed.{each_at}
 use Rattle.presentation.proofs.Ending.{all_as_long, none_behind}
-use Rattle.presentation.proofs.Filling.{length_in_order, steps_of}
+use Rattle.presentation.proofs.Filling.{length_in_order}
 use Rattle.presentation.proofs.FromMpd.{is_told}
 use Rattle.presentation.proofs.Grids.{All-at, by_kind_made, found, in_row, same_members}
 use Rattle.presentation.proofs.Meant.{content_is}
 
 -- ---- what is told, Representation by Representation
 
-abbrev told_meant : (url : List ℕ) → End → Row → Told
+abbrev told_meant : (url : List ℕ) → End → Row → PeriodContent
 told_meant url end row = record { kind = row.description.kind; content = content_of_row url end row; place = row.description.place }
 
-abbrev period_meant : (url : List ℕ) → Period → List Told
+abbrev period_meant : (url : List ℕ) → Period → List PeriodContent
 period_meant url period = map (told_meant url (end_of period)) (in_order period.tracks)
 
 gathered_is : {X Y E : Type 0} (give : X → Result (List Y) E) (meant : X → List Y) → ((x : X) (ys : List Y) → give x ≡ Ok ys → ys ≡ meant x)
@@ -41,32 +45,37 @@ gathered_is give meant each (x ∷ xs) zs is =
     let s = steps_of (give x) _ zs is in
     let t = steps_of (gathered give xs) _ zs s.then in
     let same : s.value ++ t.value ≡ zs = (let h = t.then in cc) in
-    sym same ∙ ap (λ ys. ys ++ t.value) (each x s.value s.first) ∙ ap (λ ys. meant x ++ ys) (gathered_is give meant each xs t.value t.first) ∙ sym (flat_map-cons meant x xs)
+    sym same ∙ ap (λ ys. ys ++ t.value) (each x s.value s.first)
+    ∙ ap (λ ys. meant x ++ ys) (gathered_is give meant each xs t.value t.first) ∙ sym (flat_map-cons meant x xs)
 
 module _ (url : List ℕ) (live : Bool) where
-  told_is : (end : End) (row : Row) (told : Told) → told_of url live end row ≡ Ok told → told ≡ told_meant url end row
+  told_is : (end : End) (row : Row) (told : PeriodContent) → told_of url live end row ≡ Ok told → told ≡ told_meant url end row
   told_is end row told is =
       let d = row.description in
-      let s = steps_of (content_of url live end d (segments_in row)) (λ content. Ok (record { kind = d.kind; content = content; place = d.place })) told is in
+      let s = steps_of (content_of url live end d (segments_in row))
+      (λ content. Ok (record { kind = d.kind; content = content; place = d.place })) told is in
       let same : record { kind = d.kind; content = s.value; place = d.place } ≡ told = (let h = s.then in cc) in
-      sym same ∙ ap (λ content. record { kind = d.kind; content = content; place = d.place }) (content_is url live end d (segments_in row) s.value s.first)
+      sym same ∙ ap (λ content. record { kind = d.kind; content = content; place = d.place })
+      (content_is url live end d (segments_in row) s.value s.first)
 
-  one_is : (end : End) (row : Row) (ys : List Told) → one_told url live end row ≡ Ok ys → ys ≡ told_meant url end row ∷ []
+  one_is : (end : End) (row : Row) (ys : List PeriodContent) → one_told url live end row ≡ Ok ys → ys ≡ told_meant url end row ∷ []
   one_is end row ys is =
       let s = steps_of (told_of url live end row) (λ told. Ok (told ∷ [])) ys is in
       let same : s.value ∷ [] ≡ ys = (let h = s.then in cc) in
       sym same ∙ ap (λ told. told ∷ []) (told_is end row s.value s.first)
 
-  period_is : (period : Period) (ys : List Told) → period_told url live period ≡ Ok ys → ys ≡ period_meant url period
+  period_is : (period : Period) (ys : List PeriodContent) → period_told url live period ≡ Ok ys → ys ≡ period_meant url period
   period_is period ys is =
       let meant = told_meant url (end_of period) in
       let s = steps_of (gathered (one_told url live (end_of period)) period.tracks) (λ tolds. Ok (told_in_order tolds)) ys is in
       let same : told_in_order s.value ≡ ys = (let h = s.then in cc) in
       sym same
-      ∙ ap told_in_order (gathered_is (one_told url live (end_of period)) (λ row. meant row ∷ []) (one_is (end_of period)) period.tracks s.value s.first ∙ flat_map_single meant period.tracks)
-      ∙ by_kind_made meant (λ (told : Told). told.kind) period.tracks
+      ∙ ap told_in_order (gathered_is (one_told url live (end_of period)) (λ row. meant row ∷ [])
+      (one_is (end_of period)) period.tracks s.value s.first ∙ flat_map_single meant period.tracks)
+      ∙ by_kind_made meant (λ (told : PeriodContent). told.kind) period.tracks
 
-  all_is : (periods : List Period) (tolds : List Told) → all_told url live periods ≡ Ok tolds → tolds ≡ flat_map (period_meant url) periods
+  all_is : (periods : List Period) (tolds : List PeriodContent) → all_told url live periods ≡ Ok tolds
+      → tolds ≡ flat_map (period_meant url) periods
   all_is periods tolds is = gathered_is (period_told url live) (period_meant url) period_is periods tolds is
 
 -- ---- section by section, track by track
@@ -79,30 +88,35 @@ values_are : {X : Type 0} (faults : List RuleFault) (x y : X) → unless_refused
 values_are [] x y is = cc
 values_are (fault ∷ faults) x y is = absurd (cc)
 
-module _ (mpd : TypedMpd (Option Segments)) (url : List ℕ) (now : Option ℤ) (tolds : List Told) (told : tolds ≡ flat_map (period_meant url) mpd.periods)
+module _ (mpd : TypedMpd (Option Segments)) (url : List ℕ) (now : Option ℤ) (tolds : List PeriodContent)
+    (told : tolds ≡ flat_map (period_meant url) mpd.periods)
     (alike : All (λ (period : Period). length period.tracks ≡ length (first_rows mpd.periods)) mpd.periods) where
   abbrev p : Presented
   p = presented_with mpd now tolds
 
   as_many : (period : Period) → length period.tracks ≡ length (first_rows mpd.periods) → length (in_order period.tracks) ≡ length p.tracks
-  as_many period same = length_in_order _ period.tracks ∙ same ∙ sym (length-map (in_order (first_rows mpd.periods)) track_of ∙ length_in_order _ (first_rows mpd.periods))
+  as_many period same = length_in_order _ period.tracks ∙ same ∙ sym (length-map (in_order (first_rows mpd.periods)) track_of
+      ∙ length_in_order _ (first_rows mpd.periods))
 
   long_rows : All (λ period. length (period_meant url period) ≡ length p.tracks) mpd.periods
   long_rows k d within = let period = get_or mpd.periods k d in length-map (in_order period.tracks) _ ∙ as_many period (alike k d within)
 
-  module _ (s : ℕ) (period : Period) (is : slice_get mpd.periods s ≡ Some period) (same : length period.tracks ≡ length (first_rows mpd.periods)) where
+  module _ (s : ℕ) (period : Period) (is : slice_get mpd.periods s ≡ Some period) (same : length period.tracks
+      ≡ length (first_rows mpd.periods)) where
     starts : start_of p s ≡ period.bounds.start
     starts = ap (λ o. option_map_or (λ section. section.start) o 0) (slice_get-map section_of mpd.periods s ∙ ap (option_map section_of) is)
 
     looked : window_of p s ≡ window_in mpd.facts now period
     looked = ap (λ start. option_map_or (λ f. window_at f start) (following_of mpd.facts now) whole_window) starts
 
-    content_there : (t : ℕ) (row : Row) → t < length p.tracks → slice_get (in_order period.tracks) t ≡ Some row → content_at p s t ≡ Some (content_of_row url (end_of period) row)
+    content_there : (t : ℕ) (row : Row) → t < length p.tracks → slice_get (in_order period.tracks) t ≡ Some row
+        → content_at p s t ≡ Some (content_of_row url (end_of period) row)
     content_there t row within there =
-        slice_get-map (λ (told : Told). told.content) tolds (s * length p.tracks + t)
-        ∙ ap (λ ts. option_map (λ (told : Told). told.content) (slice_get ts (s * length p.tracks + t))) told
-        ∙ ap (option_map (λ (told : Told). told.content))
-        (in_row (period_meant url) (length p.tracks) mpd.periods s t period long_rows is within ∙ slice_get-map (told_meant url (end_of period)) (in_order period.tracks) t
+        slice_get-map (λ (told : PeriodContent). told.content) tolds (s * length p.tracks + t)
+        ∙ ap (λ ts. option_map (λ (told : PeriodContent). told.content) (slice_get ts (s * length p.tracks + t))) told
+        ∙ ap (option_map (λ (told : PeriodContent). told.content))
+        (in_row (period_meant url) (length p.tracks) mpd.periods s t period long_rows is within
+        ∙ slice_get-map (told_meant url (end_of period)) (in_order period.tracks) t
         ∙ ap (option_map (told_meant url (end_of period))) there)
 
     entry_there : (t : ℕ) (row : Row) → t < length p.tracks → slice_get (in_order period.tracks) t ≡ Some row
@@ -120,7 +134,8 @@ module _ (mpd : TypedMpd (Option Segments)) (url : List ℕ) (now : Option ℤ) 
         (λ t below.
         let within : t < length p.tracks = subst (λ n. t < n) long below in
         let row = found rows t (subst (λ n. t < n) (sym (as_many period same)) within) in
-        each_at (entry_at p s) 0 (length p.tracks) t within ∙ ap (λ k. Some (entry_at p s k)) (zero-add t) ∙ ap Some (entry_there t row.0 within row.1)
+        each_at (entry_at p s) 0 (length p.tracks) t within ∙ ap (λ k. Some (entry_at p s k)) (zero-add t)
+        ∙ ap Some (entry_there t row.0 within row.1)
         ∙ sym (slice_get-map meant rows t ∙ ap (option_map meant) row.1))
 
   rows_there : rows_of p ≡ map (row_meant url mpd.facts now) mpd.periods
@@ -133,7 +148,8 @@ module _ (mpd : TypedMpd (Option Segments)) (url : List ℕ) (now : Option ℤ) 
       let within : s < length p.sections = subst (λ n. s < n) long below in
       let period = found mpd.periods s (subst (λ n. s < n) sections within) in
       each_at (row_at p) 0 (length p.sections) s within ∙ ap (λ k. Some (row_at p k)) (zero-add s)
-      ∙ ap Some (row_there s period.0 period.1 (All-at (λ (period : Period). length period.tracks ≡ length (first_rows mpd.periods)) mpd.periods s period.0 alike period.1))
+      ∙ ap Some (row_there s period.0 period.1 (All-at (λ (period : Period). length period.tracks
+      ≡ length (first_rows mpd.periods)) mpd.periods s period.0 alike period.1))
       ∙ sym (slice_get-map meant mpd.periods s ∙ ap (option_map meant) period.1))
 
   heads_there : map head_of p.tracks ≡ map head_of_row (in_order (first_rows mpd.periods))
@@ -141,13 +157,16 @@ module _ (mpd : TypedMpd (Option Segments)) (url : List ℕ) (now : Option ℤ) 
 
   pub means_that : mpd_meaning mpd url now ≡ meaning_of p
   unfolding mpd_meaning meaning_of
-  means_that = sym (ap (λ rows. meaning_with (map head_of p.tracks) rows) rows_there ∙ ap (λ heads. meaning_with heads (map (row_meant url mpd.facts now) mpd.periods)) heads_there)
+  means_that = sym (ap (λ rows. meaning_with (map head_of p.tracks) rows) rows_there
+      ∙ ap (λ heads. meaning_with heads (map (row_meant url mpd.facts now) mpd.periods)) heads_there)
 
 pub presented_are_meant : PresentedAreMeant
 presented_are_meant mpd url now p is =
     let told = is_told mpd url now p is in
-    let differ : differ_told mpd.periods ≡ [] = none_behind (over_told mpd.periods) _ (none_behind (needs_now mpd.facts.live (is_some now)) _ told.none) in
-    means_that mpd url now told.tolds (all_is url mpd.facts.live mpd.periods told.tolds told.told) (all_as_long mpd.periods differ) ∙ ap meaning_of told.is
+    let differ : differ_told mpd.periods ≡ [] = none_behind (over_told mpd.periods) _
+    (none_behind (needs_now mpd.facts.live (is_some now)) _ told.none) in
+    means_that mpd url now told.tolds (all_is url mpd.facts.live mpd.periods told.tolds told.told) (all_as_long mpd.periods differ)
+    ∙ ap meaning_of told.is
 
 pub texts_are_meant : TextsAreMeant
 unfolding typed_mpd_of dash_meaning

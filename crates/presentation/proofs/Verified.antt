@@ -1,5 +1,6 @@
 -- Whether segments that are made one by one have addresses.
-use Rattle.std.proofs.Common.{◌≡◌, ℕ, suc, List, [], ◌∷◌, ◌++◌, length, map, slice_get, Some, Err, IsSome, IfSome, refl, sym, ◌∙◌, ap, subst, arith}
+use Rattle.std.proofs.Common.{◌≡◌, ℕ, suc, List, [], ◌∷◌, ◌++◌, length, map, slice_get, Some, Err, IsSome, IfSome, refl, sym, ◌∙◌, ap}
+use Rattle.std.proofs.Common.{subst, arith}
 use Rattle.std.specs.Option.{option_map_or}
 use Rattle.std.proofs.lemmas.List.{length-map}
 use Rattle.exact_time.specs.Rounding.{differences}
@@ -11,8 +12,10 @@ use Rattle.timeline.specs.Listed.{part_of_timing}
 use Rattle.presentation.specs.declared.parts.Content.{Content}
 use Rattle.presentation.specs.Presented.{Presented, content_at, listed_at}
 use Rattle.presentation.specs.Counting.{refusal, unless_any, counted, count_faults, count_of_all, tracks_of}
-use Rattle.presentation.specs.Printing.{PrintedTiming, PrintedRest, with_durations, durations_of, ends_of, printed_timings, rest_of, IsPrintedOf}
-use Rattle.presentation.specs.Verifying.{fault_at, part_faults, times_of, longest_left, greatest, verified_rest, verified_at, longest_at, verified, url_faults, longest_of}
+use Rattle.presentation.specs.Printing.{PrintedTiming, PrintedRest, with_durations, durations_of, ends_of, printed_timings, rest_of}
+use Rattle.presentation.specs.Printing.{IsPrintedOf}
+use Rattle.presentation.specs.Verifying.{fault_at, part_faults, times_of, longest_left, greatest, verified_rest, verified_at, longest_at}
+use Rattle.presentation.specs.Verifying.{verified, url_faults, longest_of}
 
 -- ---- the definitions of whole answers, opened
 
@@ -20,12 +23,14 @@ pub counted_is : (p : Presented) → counted p ≡ unless_any (count_faults p) (
 unfolding counted
 counted_is p = refl
 
-pub verified_is : (p : Presented) (unit : ℕ) → verified p unit ≡ unless_any (count_faults p ++ url_faults p) (map (longest_of p unit) (tracks_of p))
+pub verified_is : (p : Presented) (unit : ℕ) → verified p unit ≡ unless_any (count_faults p ++ url_faults p)
+    (map (longest_of p unit) (tracks_of p))
 unfolding verified
 verified_is p unit = refl
 
 -- the first segment that is left has no address, or memory was wanting
-pub fault_first : (timeline : SegmentTimeline) (s t k longest : ℕ) (left : List PrintedTiming) (fault : ListFault) → IsSome (slice_get left 0)
+pub fault_first : (timeline : SegmentTimeline) (s t k longest : ℕ) (left : List PrintedTiming) (fault : ListFault)
+    → IsSome (slice_get left 0)
     → IfSome (list_refusal fault) (λ f. IfSome (slice_get left 0) (λ x. part_of_timing timeline x.times ≡ Err f))
     → IfSome (refusal (fault_at s t k fault)) (λ f. unless_any (part_faults timeline s t k (times_of left)) longest ≡ Err f)
 fault_first timeline s t k longest left list_fault.Memory some refused = tt
@@ -60,7 +65,8 @@ with_as_many (x ∷ xs) (d ∷ ds) same = ap suc (with_as_many xs ds (omega arit
 pub length-printed : (unit : ℕ) (xs : List Timing) → length (printed_timings unit xs) ≡ length xs
 length-printed unit xs = with_as_many xs (durations_of unit xs) (as_many unit xs)
 
-module _ (p : Presented) (s t unit : ℕ) (rest : PrintedRest) (content : Content) (is : content_at p s t ≡ Some content) (made : IsPrintedOf p s t unit rest) where
+module _ (p : Presented) (s t unit : ℕ) (rest : PrintedRest) (content : Content) (is : content_at p s t ≡ Some content)
+    (made : IsPrintedOf p s t unit rest) where
   rest_is : rest ≡ rest_of content.runs (listed_at p s t) unit
   rest_is = subst (λ o. IfSome o (λ content. rest ≡ rest_of content.runs (listed_at p s t) unit)) is made
 
@@ -70,6 +76,8 @@ module _ (p : Presented) (s t unit : ℕ) (rest : PrintedRest) (content : Conten
   pub verified_as : verified_rest rest s t ≡ verified_at p unit t s
   verified_as = let xs = listed_at p s t in
       ap (λ r. verified_rest r s t) rest_is
-      ∙ ap (λ ys. unless_any (part_faults content.runs s t 0 ys) (longest_left (printed_timings unit xs))) (times_apart xs (durations_of unit xs) (as_many unit xs))
-      ∙ ap (λ ds. unless_any (part_faults content.runs s t 0 xs) (greatest ds)) (durations_apart xs (durations_of unit xs) (as_many unit xs))
+      ∙ ap (λ ys. unless_any (part_faults content.runs s t 0 ys) (longest_left (printed_timings unit xs)))
+      (times_apart xs (durations_of unit xs) (as_many unit xs))
+      ∙ ap (λ ds. unless_any (part_faults content.runs s t 0 xs) (greatest ds))
+      (durations_apart xs (durations_of unit xs) (as_many unit xs))
       ∙ sym (ap (λ o. unless_any (option_map_or (λ content. part_faults content.runs s t 0 xs) o []) (longest_at p unit t s)) is)

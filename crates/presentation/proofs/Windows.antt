@@ -7,7 +7,8 @@ use Rattle.timeline.specs.Listed.{IsWindowOf}
 use Rattle.presentation.specs.declared.parts.Content.{Content}
 use Rattle.presentation.specs.declared.presentation.Following.{Following as Kept}
 use Rattle.presentation.specs.declared.presentation.Presentation.TheInside.{Inside}
-use Rattle.presentation.specs.Presented.{at_instant, following_of, looked_at, window_at, window_from, whole_window, window_of, start_of, IsEnded}
+use Rattle.presentation.specs.Presented.{at_instant, following_of, looked_at, window_at, window_from, whole_window, window_of, start_of}
+use Rattle.presentation.specs.Presented.{IsEnded}
 use Rattle.presentation.specs.Kept.{presented, IsKept}
 
 fits : (following : Option Kept) (start : ℕ) (timeline : SegmentTimeline) → (following ≡ None → is_open timeline.members ≡ false)
@@ -15,12 +16,15 @@ fits : (following : Option Kept) (start : ℕ) (timeline : SegmentTimeline) → 
 fits None start timeline ended goes_on = absurd (let closed = ended refl in cc)
 fits (Some f) start timeline ended goes_on = refl
 
-fits_at : (following : Option Kept) (now : ℤ) (start : ℕ) (timeline : SegmentTimeline) → (following ≡ None → is_open timeline.members ≡ false)
-    → IsWindowOf timeline (option_map_or (λ f. window_at f start) (option_map (at_instant now) (option_map following_of following)) whole_window)
+fits_at : (following : Option Kept) (now : ℤ) (start : ℕ) (timeline : SegmentTimeline)
+    → (following ≡ None → is_open timeline.members ≡ false)
+    → IsWindowOf timeline (option_map_or (λ f. window_at f start)
+    (option_map (at_instant now) (option_map following_of following)) whole_window)
 fits_at None now start timeline ended goes_on = absurd (let closed = ended refl in cc)
 fits_at (Some f) now start timeline ended goes_on = refl
 
-module _ (p : Inside) (place : ℕ) (content : Content) (kept : IsKept p) (within : place < length p.contents) (is : content ≡ get_or p.contents place content) where
+module _ (p : Inside) (place : ℕ) (content : Content) (kept : IsKept p) (within : place < length p.contents)
+    (is : content ≡ get_or p.contents place content) where
   ends : p.following ≡ None → is_open content.runs.members ≡ false
   ends none = rw is (All-get_or IsEnded p.contents place content within (kept.ended none))
 

@@ -1,5 +1,6 @@
 -- Audio groups (RFC 8216 4.3.4.1.1): which audio tracks a player may take beside a variant.
-use Rattle.std.specs.Prelude.{ℕ, ◌+◌, ◌==◌, ◌&&◌, Bool, true, false, List, [], ◌∷◌, ◌++◌, map, take, position, count_by, bytes_eq, if◌then◌else◌, Option, Some, None, unwrap_or}
+use Rattle.std.specs.Prelude.{ℕ, ◌+◌, ◌==◌, ◌&&◌, Bool, true, false, List, [], ◌∷◌, ◌++◌, map, take, position, count_by, bytes_eq}
+use Rattle.std.specs.Prelude.{if◌then◌else◌, Option, Some, None, unwrap_or}
 use Rattle.std.specs.Option.{option_eq}
 use Rattle.std.specs.List.{list_any}
 use Rattle.bridge_io.specs.declared.media.Kind.{Kind}
@@ -70,12 +71,12 @@ abbrev pub is_of_key : (key set : Rendition) → Rendition → Bool
 is_of_key key set other = set.set == other.set && is_same Key key other
 
 -- the place of the first one of a set that has a key
-abbrev pub first_of : (Rendition → Bool) → List Rendition → Option ℕ
-first_of test [] = None
-first_of test (one ∷ later) = if test one then Some one.place else first_of test later
+abbrev pub first_place : (Rendition → Bool) → List Rendition → Option ℕ
+first_place test [] = None
+first_place test (one ∷ later) = if test one then Some one.place else first_place test later
 
 abbrev pub first_with_key : List Rendition → (key set : Rendition) → Option ℕ
-first_with_key renditions key set = first_of (is_of_key key set) renditions
+first_with_key renditions key set = first_place (is_of_key key set) renditions
 
 abbrev pub place_or : Option ℕ → ℕ → ℕ
 place_or (Some place) other = place

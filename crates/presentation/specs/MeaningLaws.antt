@@ -20,7 +20,8 @@ MadeAreMeant = (timeline : SegmentTimeline) (x : Timing) (part : Part) → part_
 
 -- each listed segment of a verified presentation is made as the part that is meant
 abbrev pub VerifiedAreMeant : Type 0
-VerifiedAreMeant = (p : Presented) (unit s t : ℕ) (longest : List ℕ) → verified p unit ≡ Ok longest → s < length p.sections → t < length p.tracks
+VerifiedAreMeant = (p : Presented) (unit s t : ℕ) (longest : List ℕ) → verified p unit ≡ Ok longest → s < length p.sections
+    → t < length p.tracks
     → IfSome (content_at p s t) (λ content. All (λ x. part_of_timing content.runs x ≡ Ok (part_meant content.runs x)) (listed_at p s t))
 
 -- a finished presentation of which the segments are counted has something of each track in each section
@@ -30,9 +31,11 @@ FinishedAreWhole = (p : Presented) (n : ℕ) → is_finished p ≡ true → coun
 
 -- the presentation of an MPD means what the MPD means
 abbrev pub PresentedAreMeant : Type 0
-PresentedAreMeant = (mpd : TypedMpd (Option Segments)) (url : List ℕ) (now : Option ℤ) (p : Presented) → presented_of mpd url now ≡ Ok p → mpd_meaning mpd url now ≡ meaning_of p
+PresentedAreMeant = (mpd : TypedMpd (Option Segments)) (url : List ℕ) (now : Option ℤ) (p : Presented) → presented_of mpd url now ≡ Ok p
+    → mpd_meaning mpd url now ≡ meaning_of p
 
 -- and that is what its text means
 abbrev pub TextsAreMeant : Type 0
 TextsAreMeant = (bytes url : List ℕ) (now : Option ℤ) (tree : Element) (mpd : TypedMpd (Option Segments)) (p : Presented)
-    → reading_of bytes ≡ Ok tree → typed_mpd_of tree ≡ Ok mpd → presented_of mpd url now ≡ Ok p → dash_meaning bytes url now ≡ Some (meaning_of p)
+    → reading_of bytes ≡ Ok tree → typed_mpd_of tree ≡ Ok mpd → presented_of mpd url now ≡ Ok p
+    → dash_meaning bytes url now ≡ Some (meaning_of p)

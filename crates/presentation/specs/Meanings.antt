@@ -1,6 +1,7 @@
 -- What a presentation means (ISO/IEC 23009-1, 5.3), and what an MPD means at its URL and an instant, without any limit,
 -- and without bounds on numbers and on the length of addresses.
-use Rattle.std.specs.Prelude.{ℕ, ℤ, ◌+◌, ◌-◌, max, Bool, List, [], ◌∷◌, map, filter, length, slice_get, is_some, Option, Some, None, option_and_then, option_map, unwrap_or, Ok, Err, if◌then◌else◌}
+use Rattle.std.specs.Prelude.{ℕ, ℤ, ◌+◌, ◌-◌, max, Bool, List, [], ◌∷◌, map, filter, length, slice_get, is_some, Option, Some, None}
+use Rattle.std.specs.Prelude.{option_and_then, option_map, unwrap_or, Ok, Err, if◌then◌else◌}
 use Rattle.std.specs.List.{list_any}
 use Rattle.std.specs.Result.{result_ok}
 use Rattle.std.specs.Option.{option_map_or}
@@ -48,7 +49,8 @@ written (Err fault) = []
 
 -- the URL that a reference gives against a base, whatever its length, its scheme and its bytes (URL Standard, 4.4)
 unfoldable pub address_of : (base reference : List ℕ) → List ℕ
-address_of base reference = if is_absolute reference then written (parse_url None reference) else written (parse_url (url_of base) reference)
+address_of base reference = if is_absolute reference then written (parse_url None reference)
+    else written (parse_url (url_of base) reference)
 
 -- an absent reference is the base itself
 abbrev pub address_by : (base : List ℕ) → Option (List ℕ) → List ℕ
@@ -155,8 +157,10 @@ meaning_of p = meaning_with (map head_of p.tracks) (rows_of p)
 -- A timeline wins over a duration (5.3.9.2). No rule of an MPD lets through a timescale of 0 or a number of 2^63 or more,
 -- which count as 1 and 2^63 - 1.
 abbrev pub timeline_by : Option (List SView) → Segments → End → Names → SegmentTimeline
-timeline_by (Some timeline) s end names = timeline_from (scale_of s) s.time_offset names (expansion_of_timeline (scale_of s) end (entries_of timeline))
-timeline_by None s end names = timeline_from (scale_of s) 0 names (members_by (max 1 s.timescale) end (unwrap_or s.duration 0) (count_of names))
+timeline_by (Some timeline) s end names = timeline_from (scale_of s) s.time_offset names
+    (expansion_of_timeline (scale_of s) end (entries_of timeline))
+timeline_by None s end names = timeline_from (scale_of s) 0 names
+    (members_by (max 1 s.timescale) end (unwrap_or s.duration 0) (count_of names))
 
 abbrev pub content_with : Description → Segments → End → (base : List ℕ) → Content
 content_with d s end base = record {
@@ -176,7 +180,8 @@ abbrev pub window_in : Facts → (now : Option ℤ) → Period → Window
 window_in facts now period = option_map_or (λ f. window_at f period.bounds.start) (following_of facts now) whole_window
 
 abbrev pub row_meant : (url : List ℕ) → Facts → (now : Option ℤ) → Period → List (Option Entry)
-row_meant url facts now period = map (λ row. entry_of (window_in facts now period) (content_of_row url (end_of period) row)) (in_order period.tracks)
+row_meant url facts now period = map (λ row. entry_of (window_in facts now period) (content_of_row url (end_of period) row))
+    (in_order period.tracks)
 
 abbrev pub head_of_row : Row → Head
 head_of_row row = head_with row.description.kind row.description.language

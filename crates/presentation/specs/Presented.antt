@@ -1,5 +1,6 @@
 -- What a presentation is.
-use Rattle.std.specs.Prelude.{◌≡◌, ℕ, ◌+◌, ◌*◌, ℤ, pos, ◌-ℤ◌, Bool, false, List, [], length, slice_get, Option, Some, None, option_map, is_none}
+use Rattle.std.specs.Prelude.{◌≡◌, ℕ, ◌+◌, ◌*◌, ℤ, pos, ◌-ℤ◌, Bool, false, List, [], length, slice_get, Option, Some, None, option_map}
+use Rattle.std.specs.Prelude.{is_none}
 use Rattle.std.specs.Option.{option_map_or}
 use Rattle.bridge_io.specs.declared.place.Place.{Place}
 use Rattle.timeline.specs.declared.window.Window.{Window}
@@ -30,7 +31,14 @@ pub record Presented : Type 0 where
 
 -- what parts make
 abbrev pub of_parts : Parts → Presented
-of_parts parts = record { tracks = parts.tracks; sections = parts.sections; contents = parts.contents; left_out = parts.left_out; following = None; places = [] }
+of_parts parts = record {
+  tracks = parts.tracks;
+  sections = parts.sections;
+  contents = parts.contents;
+  left_out = parts.left_out;
+  following = None;
+  places = [];
+}
 
 -- the same of what the code keeps
 abbrev pub following_of : Kept → Following

@@ -1,5 +1,6 @@
 -- Segments with the durations that are printed of them.
-use Rattle.std.specs.Prelude.{◌≡◌, ℕ, ◌<◌, ◌^◌, List, [], ◌∷◌, map, filter, drop, ◌++◌, All, false, ◌+◌, ◌≤◌, Option, Some, None, Result, Ok, Err, IsSome, IfSome, slice_get}
+use Rattle.std.specs.Prelude.{◌≡◌, ℕ, ◌<◌, ◌^◌, List, [], ◌∷◌, map, filter, drop, ◌++◌, All, false, ◌+◌, ◌≤◌, Option, Some, None, Result}
+use Rattle.std.specs.Prelude.{Ok, Err, IsSome, IfSome, slice_get}
 use Rattle.exact_time.specs.Time.{Time, IsAtMost, before, seconds}
 use Rattle.exact_time.specs.Tick.{time_of}
 use Rattle.exact_time.specs.Rounding.{printed}

@@ -1,5 +1,7 @@
 -- What a presentation an MPD gives, or the first refusal: ISO/IEC 23009-1, 5.3.
-use Rattle.std.specs.Prelude.{ℕ, ℤ, pos, ◌-◌, ◌&&◌, ◌||◌, nat_lt, not, is_some, Bool, false, List, [], ◌∷◌, ◌++◌, length, map, flat_map, if◌then◌else◌, Option, Some, None, option_map, unwrap_or, Result, Ok, Err}
+use Rattle.std.specs.Prelude.{ℕ, ℤ, pos, ◌-◌, ◌&&◌, ◌||◌, nat_lt, not, is_some, Bool, false, List, [], ◌∷◌, ◌++◌, length, map, flat_map}
+use Rattle.std.specs.Prelude.{if◌then◌else◌, Option, Some, None, option_map, unwrap_or, Result, Ok, Err}
+use Rattle.bridge_io.specs.Answer.{and_then}
 use Rattle.bridge_io.specs.declared.place.Place.{Place}
 use Rattle.template_ids.specs.declared.fault.TemplateFault.{TemplateFault}
 use Rattle.template_ids.specs.declared.fault.TemplateFault.TheVariants.{Unknown}
@@ -31,16 +33,11 @@ use Rattle.presentation.specs.declared.fault.Spot.TheVariants.{At as Standing}
 use Rattle.presentation.specs.declared.fault.PresentationFault.{PresentationFault}
 use Rattle.presentation.specs.declared.fault.PresentationFault.TheVariants.{PeriodsDiffer, Limit, Url, Template, Timeline, NeedsNow, Memory}
 use Rattle.presentation.specs.declared.parts.Content.{Content}
-use Rattle.presentation.specs.declared.told.Told.{Told}
+use Rattle.presentation.specs.declared.told.PeriodContent.{PeriodContent}
 use Rattle.presentation.specs.Presented.{Presented, Following}
 use Rattle.presentation.specs.Counting.{unless_any}
 use Rattle.presentation.specs.Rows.{Row, Period, by_kind, in_order, are_alike, track_of, section_of, first_rows}
 use Rattle.presentation.specs.Scales.{scale_of}
-
--- one step after another, until one is refused
-abbrev pub and_then : {X Y E : Type 0} → Result X E → (X → Result Y E) → Result Y E
-and_then (Ok x) next = next x
-and_then (Err fault) next = Err fault
 
 -- a refusal told in other words
 abbrev pub told_as : {X E F : Type 0} → (E → F) → Result X E → Result X F
@@ -144,7 +141,8 @@ abbrev pub names_in : List SegmentUrl → List RefPart
 names_in urls = map name_of urls
 
 abbrev pub names_of : Description → Segments → (media base : List ℕ) → Names
-names_of d s media base = if s.is_list then names.Shared (names_in (unwrap_or s.urls [])) base else names.Template media d.id d.bandwidth base
+names_of d s media base = if s.is_list then names.Shared (names_in (unwrap_or s.urls [])) base
+    else names.Template media d.id d.bandwidth base
 
 -- a timeline wins over a duration
 abbrev pub timeline_by : Option (List SView) → Segments → (live : Bool) → End → Names → Result SegmentTimeline TimeFault
@@ -164,7 +162,7 @@ content_of url live end d s =
     and_then (initialization_of d s template base) (λ initialization.
     and_then (runs_of live end d s media base) (λ runs. Ok (record { initialization = initialization; runs = runs }))))))
 
-abbrev pub told_of : (url : List ℕ) → (live : Bool) → End → Row → Result Told PresentationFault
+abbrev pub told_of : (url : List ℕ) → (live : Bool) → End → Row → Result PeriodContent PresentationFault
 told_of url live end row =
     and_then (content_of url live end row.description (segments_in row))
     (λ content. Ok (record { kind = row.description.kind; content = content; place = row.description.place }))
@@ -174,21 +172,21 @@ abbrev pub gathered : {X Y E : Type 0} → (X → Result (List Y) E) → List X 
 gathered give [] = Ok []
 gathered give (x ∷ xs) = and_then (give x) (λ ys. and_then (gathered give xs) (λ later. Ok (ys ++ later)))
 
-abbrev pub one_told : (url : List ℕ) → (live : Bool) → End → Row → Result (List Told) PresentationFault
+abbrev pub one_told : (url : List ℕ) → (live : Bool) → End → Row → Result (List PeriodContent) PresentationFault
 one_told url live end row = and_then (told_of url live end row) (λ told. Ok (told ∷ []))
 
 -- how long a Period lasts
 abbrev pub end_of : Period → End
 end_of period = unwrap_or (option_map (λ end. At (end - period.bounds.start)) period.bounds.end) Unbounded
 
-abbrev pub told_in_order : List Told → List Told
-told_in_order tolds = by_kind (λ (told : Told). told.kind) tolds
+abbrev pub told_in_order : List PeriodContent → List PeriodContent
+told_in_order tolds = by_kind (λ (told : PeriodContent). told.kind) tolds
 
 -- refusals are told in document order, and what is told stands in the order of the tracks
-abbrev pub period_told : (url : List ℕ) → (live : Bool) → Period → Result (List Told) PresentationFault
+abbrev pub period_told : (url : List ℕ) → (live : Bool) → Period → Result (List PeriodContent) PresentationFault
 period_told url live period = and_then (gathered (one_told url live (end_of period)) period.tracks) (λ tolds. Ok (told_in_order tolds))
 
-abbrev pub all_told : (url : List ℕ) → (live : Bool) → List Period → Result (List Told) PresentationFault
+abbrev pub all_told : (url : List ℕ) → (live : Bool) → List Period → Result (List PeriodContent) PresentationFault
 all_told url live periods = gathered (period_told url live) periods
 
 -- ---- what is judged before: an instant where one is needed, the limits, and each Period's tracks
@@ -218,17 +216,21 @@ told_before live has_now periods = needs_now live has_now ++ (over_told periods 
 -- a dynamic MPD is followed; no rule lets one through that doesn't say when it begins to be available
 abbrev pub following_of : Facts → (now : Option ℤ) → Option Following
 following_of facts now = if facts.live
-    then Some (record { instant = unwrap_or now (pos 0); availability_start = unwrap_or facts.availability_start (pos 0); depth = facts.depth })
+    then Some (record {
+      instant = unwrap_or now (pos 0);
+      availability_start = unwrap_or facts.availability_start (pos 0);
+      depth = facts.depth;
+    })
     else None
 
-abbrev pub presented_with : TypedMpd (Option Segments) → (now : Option ℤ) → List Told → Presented
+abbrev pub presented_with : TypedMpd (Option Segments) → (now : Option ℤ) → List PeriodContent → Presented
 presented_with mpd now tolds = record {
   tracks = map track_of (in_order (first_rows mpd.periods));
   sections = map section_of mpd.periods;
-  contents = map (λ (told : Told). told.content) tolds;
+  contents = map (λ (told : PeriodContent). told.content) tolds;
   left_out = mpd.left_out;
   following = following_of mpd.facts now;
-  places = map (λ (told : Told). told.place) tolds;
+  places = map (λ (told : PeriodContent). told.place) tolds;
 }
 
 -- what Representations have, or the first refusal of one of them

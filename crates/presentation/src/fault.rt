@@ -2,7 +2,6 @@
 ghost use Rattle.presentation.specs.declared.fault.PresentationFault.TheVariants.{Memory};
 
 use bridge_io::{NoMemory, Place};
-use std::alloc::{AllocError, AllocFailed};
 use template_ids::TemplateFault;
 use thiserror::Error;
 use timeline::TimeFault;
@@ -58,32 +57,16 @@ pub enum PresentationFault {
     Memory,
 }
 
-impl From<NoMemory> for PresentationFault {
+/// Every error that tells want of memory alone.
+impl<E: Drop> From<E> for PresentationFault
+where
+    NoMemory: From<E>,
+{
     ghost use Rattle.std.specs.Prelude.{◌≡◌};
 
     ghost from_gives = { λ _ fault. fault ≡ Memory };
 
-    fn from(_: NoMemory) -> PresentationFault {
-        PresentationFault::Memory
-    }
-}
-
-impl From<AllocError> for PresentationFault {
-    ghost use Rattle.std.specs.Prelude.{◌≡◌};
-
-    ghost from_gives = { λ _ fault. fault ≡ Memory };
-
-    fn from(_: AllocError) -> PresentationFault {
-        PresentationFault::Memory
-    }
-}
-
-impl<T: Drop> From<AllocFailed<T>> for PresentationFault {
-    ghost use Rattle.std.specs.Prelude.{◌≡◌};
-
-    ghost from_gives = { λ _ fault. fault ≡ Memory };
-
-    fn from(_: AllocFailed<T>) -> PresentationFault {
+    fn from(_: E) -> PresentationFault {
         PresentationFault::Memory
     }
 }

@@ -14,7 +14,7 @@ use crate::groups::groups_of;
 use crate::lineup::rows_in_order;
 use crate::presentation::Following;
 use crate::shared::Shared;
-use crate::told::{Setting, Told};
+use crate::told::{PeriodContent, Setting};
 use crate::{ContentList, Presentation, PresentationFault};
 use bridge_io::{Kind, NoMemory, Place};
 use iso_time::Instant;
@@ -74,7 +74,7 @@ fn present(
     alloc: Global,
     mpd: &Mpd,
     now: Option<Instant>,
-    tolds: Vec<Told>,
+    tolds: Vec<PeriodContent>,
 ) -> Result<Presentation, NoMemory>
     requires filled { length tolds.items ≡ length mpd.now.values.periods * length (first_rows (segments_mpd mpd.now).periods) }
     requires ended { mpd.now.values.facts.live ≡ false → All IsEnded (map (λ told. told.content) tolds.items) }
@@ -129,7 +129,7 @@ struct Parted {
     places: Vec<Place>,
 }
 
-fn part_all(alloc: Global, tolds: Vec<Told>) -> Result<Parted, NoMemory>
+fn part_all(alloc: Global, tolds: Vec<PeriodContent>) -> Result<Parted, NoMemory>
     ensures contents { IfOk result (λ parted. parted.contents ≡ map (λ told. told.content) tolds.items) }
     ensures places { IfOk result (λ parted. parted.places.items ≡ map (λ told. told.place) tolds.items) }
 {
@@ -148,7 +148,7 @@ impl Setting<'_> {
         &self,
         alloc: Global,
         periods: PeriodWalk<'_, SegmentRow>,
-    ) -> Result<Vec<Told>, PresentationFault>
+    ) -> Result<Vec<PeriodContent>, PresentationFault>
         requires { AreOfAll self.now.shared.now (periods_left periods) }
         ensures { Gives (λ tolds. tolds.items) refusal result (spec.all_told self.now.base.now self.now.live (all_left periods.entry)) }
     {
@@ -181,7 +181,7 @@ impl Setting<'_> {
         alloc: Global,
         rows: RepWalk<'_, SegmentRow>,
         end: &End,
-    ) -> Result<Vec<Told>, PresentationFault>
+    ) -> Result<Vec<PeriodContent>, PresentationFault>
         requires { AreOf self.now.shared.now (tracks_left rows) }
         ensures { Gives (λ tolds. tolds.items) refusal result
             (spec.gathered (spec.one_told self.now.base.now self.now.live end.now) (rows_left rows.entry)) }
@@ -201,14 +201,14 @@ impl Setting<'_> {
 /// What Representations of a Period have, by their kinds.
 #[derive(Debug, Drop)]
 struct ByKind {
-    video: Vec<Told>,
-    audio: Vec<Told>,
-    text: Vec<Told>,
+    video: Vec<PeriodContent>,
+    audio: Vec<PeriodContent>,
+    text: Vec<PeriodContent>,
 }
 
 impl ByKind {
     /// Adds them behind others in the order of the tracks.
-    fn add_to(self, tolds: &mut Vec<Told>) -> Result<(), NoMemory>
+    fn add_to(self, tolds: &mut Vec<PeriodContent>) -> Result<(), NoMemory>
         ensures { OnOk result (tolds.new.items ≡ tolds.old.items ++ (self.video.items ++ (self.audio.items ++ self.text.items))) }
     {
         add_all(tolds, self.video)?;
@@ -217,7 +217,7 @@ impl ByKind {
     }
 }
 
-fn by_kind(alloc: Global, tolds: Vec<Told>) -> Result<ByKind, NoMemory>
+fn by_kind(alloc: Global, tolds: Vec<PeriodContent>) -> Result<ByKind, NoMemory>
     ensures { IfOk result (λ told. told.video.items ++ (told.audio.items ++ told.text.items) ≡ spec.told_in_order tolds.items) }
 {
     let mut video = Vec::new(alloc);
@@ -233,7 +233,7 @@ fn by_kind(alloc: Global, tolds: Vec<Told>) -> Result<ByKind, NoMemory>
     Ok(ByKind { video, audio, text })
 }
 
-fn add_all(tolds: &mut Vec<Told>, more: Vec<Told>) -> Result<(), NoMemory>
+fn add_all(tolds: &mut Vec<PeriodContent>, more: Vec<PeriodContent>) -> Result<(), NoMemory>
     ensures { OnOk result (tolds.new.items ≡ tolds.old.items ++ more.items) }
 {
     for told in more {

@@ -184,7 +184,8 @@ impl<'a> PrintedSegments<'a> {
     /// the last decimal. There is none exactly at the end.
     #[inline(always)]
     pub fn pass<L: Ledger>(&mut self, steps: &mut Steps<L>) -> Option<(Span, u64)>
-        ensures segment { MatchOption result (spec.IsAtEnd self.old self.new) (λ passed. spec.IsPassed self.old (timing_of passed.0) passed.1 self.new) }
+        ensures segment { MatchOption result (spec.IsAtEnd self.old self.new)
+            (λ passed. spec.IsPassed self.old (timing_of passed.0) passed.1 self.new) }
         ensures counted { steps.new ≡ steps.old + spec.passed_count result }
     {
         let span = self.listing.pass(steps)?;

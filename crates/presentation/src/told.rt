@@ -26,7 +26,7 @@ use url_parts::{Address, Base, Part, UrlFault};
 
 /// What a Representation has in its Period.
 #[derive(Debug, Drop)]
-pub(crate) struct Told {
+pub(crate) struct PeriodContent {
     pub(crate) kind: Kind,
     pub(crate) content: Content,
     /// Where the Representation stands.
@@ -49,12 +49,12 @@ impl Setting<'_> {
         row: &RepView<'_>,
         end: &End,
         former: &mut Base,
-    ) -> Result<Told, PresentationFault>
+    ) -> Result<PeriodContent, PresentationFault>
         requires { IsShared (track_in row.now).segments.tables self.now.shared.now }
         ensures { Gives (λ told. told) refusal result (spec.told_of self.now.base.now self.now.live end.now (row_of row.now)) }
     {
         let content = self.content(alloc, row, &row.addressing(), *end, former)?;
-        Ok(Told {
+        Ok(PeriodContent {
             kind: row.kind(),
             content,
             place: row.place(),
@@ -128,7 +128,8 @@ impl Setting<'_> {
     ) -> Result<Runs, PresentationFault>
         requires { IsShared (tables_of told.now) self.now.shared.now }
         ensures { Gives (λ runs. runs) refusal result
-            (spec.told_as (spec.at_times place) (spec.timeline_by (addressed told.now).timeline (addressed told.now) self.now.live end names)) }
+            (spec.told_as (spec.at_times place) (spec.timeline_by (addressed told.now).timeline
+            (addressed told.now) self.now.live end names)) }
     {
         match self.timeline_by(alloc, told, end, names) {
             Ok(runs) => Ok(runs),
@@ -144,7 +145,8 @@ impl Setting<'_> {
         names: Names,
     ) -> Result<Runs, TimeFault>
         requires { IsShared (tables_of told.now) self.now.shared.now }
-        ensures { Gives (λ runs. runs) time_refusal result (spec.timeline_by (addressed told.now).timeline (addressed told.now) self.now.live end names) }
+        ensures { Gives (λ runs. runs) time_refusal result (spec.timeline_by (addressed told.now).timeline
+            (addressed told.now) self.now.live end names) }
     {
         let scale = scale_of(told);
         match self.shared.timeline(told.timeline_key()) {

@@ -1,5 +1,7 @@
 -- The rules of reloads in sentences.
-use Rattle.std.proofs.Common.{◌≡◌, ℕ, zero, suc, ◌+◌, ◌-◌, ◌*◌, ◌^◌, ◌<◌, ◌≤◌, ◌↔◌, Bool, true, false, ◌&&◌, ◌||◌, not, List, [], ◌∷◌, drop, slice_get, option_map, cond, leb, Option, Some, None, Result, Ok, Err, refl, sym, ◌∙◌, ap, subst, inl, inr, ◌⊎◌, arith, zero-add, bytes_eq, eqb, ltb}
+use Rattle.std.proofs.Common.{◌≡◌, ℕ, zero, suc, ◌+◌, ◌-◌, ◌*◌, ◌^◌, ◌≤◌, Bool, true, false, ◌&&◌, ◌||◌, not, List, [], ◌∷◌, drop}
+use Rattle.std.proofs.Common.{slice_get, option_map, leb, Option, Some, None, Ok, refl, sym, ◌∙◌, ap, subst, inl, inr, arith, zero-add, eqb}
+use Rattle.std.proofs.Common.{ltb}
 use Rattle.std.specs.Option.{option_eq}
 use Rattle.std.proofs.lemmas.Bool.{cases_Bool, leb-true, le-leb, eq-eqb, eqb-true, ltb-true, lt-ltb}
 use Rattle.std.proofs.lemmas.Bool.Decides.{nat_tests}
@@ -8,10 +10,13 @@ use Rattle.hls_media.specs.declared.media.MediaSegment.{MediaSegment}
 use Rattle.reload_law.specs.declared.unlawful.Unlawful.{Unlawful}
 use Rattle.url_parts.specs.declared.address.Part.{Part}
 use Rattle.url_parts.specs.declared.range.Range.{Range}
-use Rattle.std.proofs.lemmas.Slice.Eq.{bytes_eq-Decides}
-use Rattle.reload_law.specs.declared.unlawful.Unlawful.TheVariants.{Target, Sequence, Segment, Discontinuity, Shrunk, AfterEnd, ThreeTargets}
-use Rattle.reload_law.specs.Rules.{broken_if, discontinuity_rule, end_of, end_rule, ended_rule, first_broken, first_other, lawful, length_rule, nanos_of, same_part, same_range, same_section, same_segment, segment_rule, sequence_rule, target_rule}
-use Rattle.reload_law.specs.Laws.{IsInBoth, IsLawful, RulesAreSentences, ReloadsItself, segment_at}
+use Rattle.bridge_io.proofs.Texts.{equals_itself}
+use Rattle.reload_law.specs.declared.unlawful.Unlawful.TheVariants.{Target, Sequence, Segment, Discontinuity, Shrunk, AfterEnd}
+use Rattle.reload_law.specs.declared.unlawful.Unlawful.TheVariants.{ThreeTargets}
+use Rattle.reload_law.specs.Rules.{broken_if, discontinuity_rule, end_of, end_rule, ended_rule, first_broken, first_other, lawful}
+use Rattle.reload_law.specs.Rules.{length_rule, nanos_of, same_part, same_range, same_section, same_segment, segment_rule, sequence_rule}
+use Rattle.reload_law.specs.Rules.{target_rule}
+use Rattle.reload_law.specs.Laws.{IsInBoth, IsLawful, ReloadsItself, segment_at}
 
 first_is_none : (r : Option Unlawful) (rs : List (Option Unlawful)) → first_broken (r ∷ rs) ≡ Ok tt → (r ≡ None) × (first_broken rs ≡ Ok tt)
 first_is_none None rs e = (refl, e)
@@ -47,19 +52,23 @@ get_drop (suc m) [] k = refl
 get_drop (suc m) (x ∷ xs) k = let more : suc m + k ≡ suc (m + k) = omega arith in rw more (get_drop m xs k)
 
 module _ (same : MediaSegment → MediaSegment → Bool) where
-  first_two : (first : ℕ) (o n : MediaSegment) (os ns : List MediaSegment) → first_other same first (o ∷ os) (n ∷ ns) ≡ None → (same o n ≡ true) × (first_other same (first + 1) os ns ≡ None)
+  first_two : (first : ℕ) (o n : MediaSegment) (os ns : List MediaSegment) → first_other same first (o ∷ os) (n ∷ ns) ≡ None
+      → (same o n ≡ true) × (first_other same (first + 1) os ns ≡ None)
   first_two first o n os ns e = elim (cases_Bool (same o n)) [
     | inr other ↦ let never : Some first ≡ None = rw other at e in absurd (cc)
     | inl is ↦ (is, rw is at e)
   ]
 
-  none_other : (first : ℕ) (olds news : List MediaSegment) → first_other same first olds news ≡ None → (k : ℕ) (a b : MediaSegment) → slice_get olds k ≡ Some a → slice_get news k ≡ Some b → same a b ≡ true
+  none_other : (first : ℕ) (olds news : List MediaSegment) → first_other same first olds news ≡ None → (k : ℕ) (a b : MediaSegment)
+      → slice_get olds k ≡ Some a → slice_get news k ≡ Some b → same a b ≡ true
   none_other first [] news e k a b in_old in_new = absurd (cc)
   none_other first (o ∷ os) [] e k a b in_old in_new = absurd (cc)
   none_other first (o ∷ os) (n ∷ ns) e zero a b in_old in_new = cc ((first_two first o n os ns e).0)
-  none_other first (o ∷ os) (n ∷ ns) e (suc k) a b in_old in_new = none_other (first + 1) os ns ((first_two first o n os ns e).1) k a b in_old in_new
+  none_other first (o ∷ os) (n ∷ ns) e (suc k) a b in_old in_new = none_other (first + 1) os ns
+      ((first_two first o n os ns e).1) k a b in_old in_new
 
-  no_other : (first : ℕ) (olds news : List MediaSegment) → ((k : ℕ) (a b : MediaSegment) → slice_get olds k ≡ Some a → slice_get news k ≡ Some b → same a b ≡ true) → first_other same first olds news ≡ None
+  no_other : (first : ℕ) (olds news : List MediaSegment) → ((k : ℕ) (a b : MediaSegment) → slice_get olds k ≡ Some a
+      → slice_get news k ≡ Some b → same a b ≡ true) → first_other same first olds news ≡ None
   no_other first [] news all = refl
   no_other first (o ∷ os) [] all = refl
   no_other first (o ∷ os) (n ∷ ns) all = rw (all 0 o n refl refl) (no_other (first + 1) os ns (λ k a b. all (suc k) a b))
@@ -67,29 +76,39 @@ module _ (same : MediaSegment → MediaSegment → Bool) where
 -- ---- segments by their numbers
 
 module _ (same : MediaSegment → MediaSegment → Bool) (old new : Media) (rising : old.sequence ≤ new.sequence) where
-  place : (media : Media) (number : ℕ) (x : MediaSegment) → segment_at number media ≡ Some x → (media.sequence ≤ number) × (slice_get media.segments (number - media.sequence) ≡ Some x)
+  place : (media : Media) (number : ℕ) (x : MediaSegment) → segment_at number media ≡ Some x
+      → (media.sequence ≤ number) × (slice_get media.segments (number - media.sequence) ≡ Some x)
   place media number x e = elim (cases_Bool (leb media.sequence number)) [
     | inl is ↦ (leb-true _ _ is, rw is at e)
     | inr other ↦ let never : None ≡ Some x = rw other at e in absurd (cc)
   ]
 
-  in_kept : (number : ℕ) → new.sequence ≤ number → slice_get (drop (new.sequence - old.sequence) old.segments) (number - new.sequence) ≡ slice_get old.segments (number - old.sequence)
-  in_kept number le = let there : new.sequence - old.sequence + (number - new.sequence) ≡ number - old.sequence = omega arith in get_drop (new.sequence - old.sequence) old.segments (number - new.sequence) ∙ ap (λ n. slice_get old.segments n) there
+  in_kept : (number : ℕ) → new.sequence ≤ number → slice_get (drop (new.sequence - old.sequence) old.segments) (number - new.sequence)
+      ≡ slice_get old.segments (number - old.sequence)
+  in_kept number le = let there : new.sequence - old.sequence + (number - new.sequence) ≡ number - old.sequence = omega arith in
+      get_drop (new.sequence - old.sequence) old.segments (number - new.sequence) ∙ ap (λ n. slice_get old.segments n) there
 
-  pub both_same : first_other same new.sequence (drop (new.sequence - old.sequence) old.segments) new.segments ≡ None → (number : ℕ) (a b : MediaSegment) → IsInBoth old new number a b → same a b ≡ true
+  pub both_same : first_other same new.sequence (drop (new.sequence - old.sequence) old.segments) new.segments ≡ None
+      → (number : ℕ) (a b : MediaSegment) → IsInBoth old new number a b → same a b ≡ true
   both_same e number a b both =
       let in_old = place old number a both.in_old in
       let in_new = place new number b both.in_new in
-      none_other same new.sequence (drop (new.sequence - old.sequence) old.segments) new.segments e (number - new.sequence) a b (in_kept number in_new.0 ∙ in_old.1) in_new.1
+      none_other same new.sequence (drop (new.sequence - old.sequence) old.segments) new.segments e (number - new.sequence) a b
+      (in_kept number in_new.0 ∙ in_old.1) in_new.1
 
-  at_number : (media : Media) (k : ℕ) (x : MediaSegment) (number : ℕ) → media.sequence ≤ number → slice_get media.segments (number - media.sequence) ≡ Some x → segment_at number media ≡ Some x
+  at_number : (media : Media) (k : ℕ) (x : MediaSegment) (number : ℕ) → media.sequence ≤ number
+      → slice_get media.segments (number - media.sequence) ≡ Some x → segment_at number media ≡ Some x
   at_number media k x number le e = rw (le-leb _ _ le) e
 
-  pub none_differs : ((number : ℕ) (a b : MediaSegment) → IsInBoth old new number a b → same a b ≡ true) → first_other same new.sequence (drop (new.sequence - old.sequence) old.segments) new.segments ≡ None
+  pub none_differs : ((number : ℕ) (a b : MediaSegment) → IsInBoth old new number a b → same a b ≡ true)
+      → first_other same new.sequence (drop (new.sequence - old.sequence) old.segments) new.segments ≡ None
   none_differs all = no_other same new.sequence (drop (new.sequence - old.sequence) old.segments) new.segments (λ k a b in_old in_new.
       all (new.sequence + k) a b (record {
-        in_old = at_number old k a (new.sequence + k) (omega arith) (let back : new.sequence + k - old.sequence ≡ new.sequence - old.sequence + k = omega arith in ap (λ n. slice_get old.segments n) back ∙ sym (get_drop (new.sequence - old.sequence) old.segments k) ∙ in_old);
-        in_new = at_number new k b (new.sequence + k) (omega arith) (let back : new.sequence + k - new.sequence ≡ k = omega arith in ap (λ n. slice_get new.segments n) back ∙ in_new);
+        in_old = at_number old k a (new.sequence + k) (omega arith) (let back : new.sequence + k - old.sequence
+            ≡ new.sequence - old.sequence + k = omega arith in ap (λ n. slice_get old.segments n) back
+            ∙ sym (get_drop (new.sequence - old.sequence) old.segments k) ∙ in_old);
+        in_new = at_number new k b (new.sequence + k) (omega arith) (let back : new.sequence + k - new.sequence ≡ k = omega arith in
+            ap (λ n. slice_get new.segments n) back ∙ in_new);
       }))
 
 -- ---- the rules
@@ -113,7 +132,8 @@ long_enough true more short e n m = absurd (cc)
 pub sentences : (old new : Media) → lawful old new ≡ Ok tt → IsLawful old new
 unfolding lawful
 sentences old new e =
-    let rules = all_none (target_rule old new) (sequence_rule old new) (segment_rule old new) (discontinuity_rule old new) (end_rule old new) (ended_rule old new) (length_rule old new) e in
+    let rules = all_none (target_rule old new) (sequence_rule old new) (segment_rule old new) (discontinuity_rule old new)
+    (end_rule old new) (ended_rule old new) (length_rule old new) e in
     let other : not (eqb old.target new.target) ≡ false = holds_not _ Target rules.a_is in
     let falls : ltb new.sequence old.sequence ≡ false = holds_not _ Sequence rules.b_is in
     let shrinks : ltb (end_of new) (end_of old) ≡ false = holds_not _ Shrunk rules.e_is in
@@ -124,9 +144,11 @@ sentences old new e =
       segments = both_same same_segment old new rising (number_none Segment _ rules.c_is);
       sections = both_same same_section old new rising (number_none Discontinuity _ rules.d_is);
       ends = grind (arith, nat_tests);
-      ended = λ was. let both = after_end old.ended new.ended (eqb (end_of new) (end_of old)) (holds_not _ AfterEnd rules.f_is) was in (both.0, eqb-true _ _ both.1);
+      ended = λ was. let both = after_end old.ended new.ended (eqb (end_of new) (end_of old)) (holds_not _ AfterEnd rules.f_is) was in
+          (both.0, eqb-true _ _ both.1);
       three_targets = λ goes_on more.
-          let long : ltb (nanos_of new) (3 * 10 ^ 9 * new.target) ≡ false = long_enough new.ended (ltb old.sequence new.sequence) _ (holds_not _ ThreeTargets rules.g_is) goes_on (lt-ltb _ _ more) in
+          let long : ltb (nanos_of new) (3 * 10 ^ 9 * new.target) ≡ false = long_enough new.ended (ltb old.sequence new.sequence) _
+          (holds_not _ ThreeTargets rules.g_is) goes_on (lt-ltb _ _ more) in
           grind (arith, nat_tests);
     }
 
@@ -148,7 +170,8 @@ as_a_rule old new is =
     let sections = none_differs same_section old new is.sequence is.sections in
     let ends : ltb (end_of new) (end_of old) ≡ false = grind (arith, nat_tests, is.ends) in
     let ended = stays_ended old.ended new.ended (eqb (end_of new) (end_of old)) (λ was. let h = is.ended was in (h.0, eq-eqb _ _ h.1)) in
-    let three = lasts new.ended (ltb old.sequence new.sequence) (ltb (nanos_of new) (3 * 10 ^ 9 * new.target)) (λ goes_on more. grind (arith, nat_tests, is.three_targets goes_on (ltb-true _ _ more))) in
+    let three = lasts new.ended (ltb old.sequence new.sequence) (ltb (nanos_of new) (3 * 10 ^ 9 * new.target))
+    (λ goes_on more. grind (arith, nat_tests, is.three_targets goes_on (ltb-true _ _ more))) in
     rw (target, sequence, segments, sections, ends, ended, three) refl
 
 -- ---- a playlist and itself
@@ -157,22 +180,20 @@ same_ranges : (r : Option Range) → option_eq same_range r r ≡ true
 same_ranges None = refl
 same_ranges (Some r) = rw (eq-eqb r.first r.first refl, eq-eqb r.count r.count refl) refl
 
-same_text : (text : List ℕ) → bytes_eq text text ≡ true
-same_text text = (bytes_eq-Decides text text).1 refl
-
 same_map : (p : Option Part) → option_eq same_part p p ≡ true
 same_map None = refl
-same_map (Some p) = rw (same_text p.address, same_ranges p.range) refl
+same_map (Some p) = rw (equals_itself p.address, same_ranges p.range) refl
 
 same_itself : (a : MediaSegment) → same_segment a a ≡ true
-same_itself a = rw (same_text a.address, same_ranges a.range, eq-eqb a.duration a.duration refl, same_map a.map) refl
+same_itself a = rw (equals_itself a.address, same_ranges a.range, eq-eqb a.duration a.duration refl, same_map a.map) refl
 
 pub reloads_itself : ReloadsItself
 reloads_itself media = as_a_rule media media (record {
   target = refl;
   sequence = omega arith;
   segments = λ number a b both. let is : a ≡ b = cc in subst (λ (x : MediaSegment). same_segment a x ≡ true) is (same_itself a);
-  sections = λ number a b both. let is : a ≡ b = cc in subst (λ (x : MediaSegment). same_section a x ≡ true) is (eq-eqb a.section a.section refl);
+  sections = λ number a b both. let is : a ≡ b = cc in
+      subst (λ (x : MediaSegment). same_section a x ≡ true) is (eq-eqb a.section a.section refl);
   ends = omega arith;
   ended = λ was. (was, refl);
   three_targets = λ goes_on more. absurd (omega arith);

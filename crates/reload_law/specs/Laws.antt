@@ -1,5 +1,6 @@
 -- What the rules say in sentences over segments by their numbers.
-use Rattle.std.specs.Prelude.{◌≡◌, ℕ, ◌-◌, ◌*◌, ◌^◌, ◌<◌, ◌≤◌, ◌↔◌, nat_le, true, false, List, slice_get, if◌then◌else◌, Option, Some, None, Ok, Err}
+use Rattle.std.specs.Prelude.{◌≡◌, ℕ, ◌-◌, ◌*◌, ◌^◌, ◌<◌, ◌≤◌, ◌↔◌, nat_le, true, false, List, slice_get, if◌then◌else◌, Option, Some, None}
+use Rattle.std.specs.Prelude.{Ok, Err}
 use Rattle.hls_media.specs.declared.media.Media.{Media}
 use Rattle.hls_media.specs.declared.media.MediaSegment.{MediaSegment}
 use Rattle.reload_law.specs.declared.unlawful.Unlawful.TheVariants.{Segment, Discontinuity}

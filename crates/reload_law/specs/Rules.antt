@@ -1,12 +1,14 @@
 -- When a media playlist may take the place of an older one: seven rules after RFC 8216 6.2.
-use Rattle.std.specs.Prelude.{ℕ, ◌+◌, ◌-◌, ◌*◌, ◌^◌, ◌==◌, ◌&&◌, ◌||◌, not, nat_lt, nat_eq, Bool, true, false, List, [], ◌∷◌, length, drop, sum_by, bytes_eq, if◌then◌else◌, Option, Some, None, option_map, Result, Ok, Err}
+use Rattle.std.specs.Prelude.{ℕ, ◌+◌, ◌-◌, ◌*◌, ◌^◌, ◌==◌, ◌&&◌, ◌||◌, not, nat_lt, nat_eq, Bool, true, false, List, [], ◌∷◌, length, drop}
+use Rattle.std.specs.Prelude.{sum_by, bytes_eq, if◌then◌else◌, Option, Some, None, option_map, Result, Ok, Err}
 use Rattle.std.specs.Option.{option_eq}
 use Rattle.url_parts.specs.declared.address.Part.{Part}
 use Rattle.url_parts.specs.declared.range.Range.{Range}
 use Rattle.hls_media.specs.declared.media.Media.{Media}
 use Rattle.hls_media.specs.declared.media.MediaSegment.{MediaSegment}
 use Rattle.reload_law.specs.declared.unlawful.Unlawful.{Unlawful}
-use Rattle.reload_law.specs.declared.unlawful.Unlawful.TheVariants.{Target, Sequence, Segment, Discontinuity, Shrunk, AfterEnd, ThreeTargets}
+use Rattle.reload_law.specs.declared.unlawful.Unlawful.TheVariants.{Target, Sequence, Segment, Discontinuity, Shrunk, AfterEnd}
+use Rattle.reload_law.specs.declared.unlawful.Unlawful.TheVariants.{ThreeTargets}
 
 -- ---- segments
 
@@ -18,7 +20,8 @@ same_part a b = bytes_eq a.address b.address && option_eq same_range a.range b.r
 
 -- address, range, duration and map are the same
 abbrev pub same_segment : MediaSegment → MediaSegment → Bool
-same_segment a b = bytes_eq a.address b.address && option_eq same_range a.range b.range && a.duration == b.duration && option_eq same_part a.map b.map
+same_segment a b = bytes_eq a.address b.address && option_eq same_range a.range b.range && a.duration == b.duration
+    && option_eq same_part a.map b.map
 
 abbrev pub same_section : MediaSegment → MediaSegment → Bool
 same_section a b = a.section == b.section
@@ -82,11 +85,13 @@ abbrev pub ended_rule : Media → Media → Option Unlawful
 ended_rule old new = broken_if (old.ended && (not new.ended || not (end_of new == end_of old))) AfterEnd
 
 abbrev pub length_rule : Media → Media → Option Unlawful
-length_rule old new = broken_if (not new.ended && nat_lt old.sequence new.sequence && nat_lt (nanos_of new) (3 * 10 ^ 9 * new.target)) ThreeTargets
+length_rule old new = broken_if (not new.ended && nat_lt old.sequence new.sequence && nat_lt (nanos_of new)
+    (3 * 10 ^ 9 * new.target)) ThreeTargets
 
 -- the same of some segments with those that had their numbers before, the first of which has a number
 abbrev pub compared : List MediaSegment → List MediaSegment → ℕ → Result (Unit {0}) Unlawful
-compared olds news first = first_broken (option_map Segment (first_other same_segment first olds news) ∷ option_map Discontinuity (first_other same_section first olds news) ∷ [])
+compared olds news first = first_broken (option_map Segment (first_other same_segment first olds news)
+    ∷ option_map Discontinuity (first_other same_section first olds news) ∷ [])
 
 abbrev pub ends_judged : Media → Media → Result (Unit {0}) Unlawful
 ends_judged old new = first_broken (end_rule old new ∷ ended_rule old new ∷ [])
@@ -95,7 +100,8 @@ abbrev pub length_judged : Media → Media → Result (Unit {0}) Unlawful
 length_judged old new = first_broken (length_rule old new ∷ [])
 
 abbrev pub rules_of : Media → Media → List (Option Unlawful)
-rules_of old new = target_rule old new ∷ sequence_rule old new ∷ segment_rule old new ∷ discontinuity_rule old new ∷ end_rule old new ∷ ended_rule old new ∷ length_rule old new ∷ []
+rules_of old new = target_rule old new ∷ sequence_rule old new ∷ segment_rule old new ∷ discontinuity_rule old new ∷ end_rule old new
+    ∷ ended_rule old new ∷ length_rule old new ∷ []
 
 -- The new playlist may take the old one's place, or the first rule that is broken.
 unfoldable pub lawful : Media → Media → Result (Unit {0}) Unlawful

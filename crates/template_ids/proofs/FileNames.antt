@@ -1,5 +1,7 @@
 -- Where the greatest number and time give the name of a file, each number and each time do.
-use Rattle.std.proofs.Common.{◌≡◌, ◌⊎◌, ℕ, zero, suc, ◌-◌, ◌<◌, ◌≤◌, ◌^◌, ◌==◌, Bool, true, false, List, [], ◌∷◌, ◌++◌, length, replicate, Result, Ok, Err, arith, sym, refl, ap, ◌∙◌, subst, inl, inr, ⊎_elim, append_assoc, append-nil, length-append, lit<}
+use Rattle.std.proofs.Common.{◌≡◌, ◌⊎◌, ℕ, zero, suc, ◌-◌, ◌<◌, ◌≤◌, ◌^◌, ◌==◌, Bool, true, false, List, [], ◌∷◌, ◌++◌, length, replicate}
+use Rattle.std.proofs.Common.{Result, Ok, Err, arith, sym, refl, ap, ◌∙◌, subst, inl, inr, ⊎_elim, append_assoc, append-nil, length-append}
+use Rattle.std.proofs.Common.{lit<}
 use Rattle.std.specs.Prelude.{codes, decimal, nat_le}
 use Rattle.std.specs.List.{list_all}
 use Rattle.std.specs.Char.{is_ascii_digit}
@@ -67,15 +69,18 @@ digits_are_no_dots [] front some are = absurd (omega arith)
 digits_are_no_dots (d ∷ ds) front some are = let both = and_parts (is_ascii_digit d) (all_ascii_digits ds) are in
     list_all-append is_dot front (d ∷ ds) ∙ and_right _ _ (and_left _ _ (digit_is d both.0).1)
 
-parts_behind_digits : (ds front text : List ℕ) → all_ascii_digits ds ≡ true → parts_after front (ds ++ text) ≡ parts_after (front ++ ds) text
+parts_behind_digits : (ds front text : List ℕ) → all_ascii_digits ds ≡ true → parts_after front (ds ++ text)
+    ≡ parts_after (front ++ ds) text
 parts_behind_digits [] front text are = ap (λ f. parts_after f text) (sym (append-nil front))
 parts_behind_digits (d ∷ ds) front text are = let both = and_parts (is_ascii_digit d) (all_ascii_digits ds) are in
-    rw (digit_is d both.0).2 (parts_behind_digits ds (front ++ d ∷ []) text both.1 ∙ ap (λ f. parts_after f text) (append_assoc front (d ∷ []) ds))
+    rw (digit_is d both.0).2 (parts_behind_digits ds (front ++ d ∷ []) text both.1
+    ∙ ap (λ f. parts_after f text) (append_assoc front (d ∷ []) ds))
 
 -- ---- behind the same bytes, or digits
 
 module _ (great small : List ℕ) (rest : Follows great small) where
-  proper_behind_byte : (b : ℕ) (front other : List ℕ) → IsLike front other → HasProperParts front (b ∷ great) → HasProperParts other (b ∷ small)
+  proper_behind_byte : (b : ℕ) (front other : List ℕ) → IsLike front other → HasProperParts front (b ∷ great)
+      → HasProperParts other (b ∷ small)
   proper_behind_byte b front other like h = ⊎_elim
       (λ slash. let both = and_parts (is_proper_part front) (list_all is_proper_part (parts_after [] great)) (rw slash at h) in
       rw slash (and_from (is_proper_part other) _ (like_is_proper front other like both.0) (rest.proper [] [] (inl refl) both.1)))
@@ -84,18 +89,21 @@ module _ (great small : List ℕ) (rest : Follows great small) where
 
   behind_byte : (b : ℕ) → Follows (b ∷ great) (b ∷ small)
   behind_byte b = record {
-    bytes = λ h. let both = and_parts (is_name_byte b) (list_all is_name_byte great) h in and_from (is_name_byte b) _ both.0 (rest.bytes both.1);
+    bytes = λ h. let both = and_parts (is_name_byte b) (list_all is_name_byte great) h in
+        and_from (is_name_byte b) _ both.0 (rest.bytes both.1);
     short = let shorter = rest.short in omega arith;
     proper = proper_behind_byte b;
   }
 
-  behind_digits : (more ds : List ℕ) → all_ascii_digits more ≡ true → all_ascii_digits ds ≡ true → 0 < length ds → length ds ≤ length more → Follows (more ++ great) (ds ++ small)
+  behind_digits : (more ds : List ℕ) → all_ascii_digits more ≡ true → all_ascii_digits ds ≡ true → 0 < length ds → length ds ≤ length more
+      → Follows (more ++ great) (ds ++ small)
   behind_digits more ds more_are are some fewer = record {
     bytes = λ h. let both = and_parts _ _ (sym (list_all-append is_name_byte more great) ∙ h) in
         list_all-append is_name_byte ds small ∙ rw (digits_are_named ds are) (rest.bytes both.1);
     short = omega (arith, rest.short, length-append more great, length-append ds small);
     proper = λ front other like h. let here = rw (parts_behind_digits more front great more_are) at h in
-        rw (parts_behind_digits ds other small are) (rest.proper (front ++ more) (other ++ ds) (inr (digits_are_no_dots ds other some are)) here);
+        rw (parts_behind_digits ds other small are) (rest.proper (front ++ more) (other ++ ds)
+        (inr (digits_are_no_dots ds other some are)) here);
   }
 
 behind : (text great small : List ℕ) → Follows great small → Follows (text ++ great) (text ++ small)
@@ -134,7 +142,8 @@ module _ (ids : Ids) (number : ids.number < 2 ^ 64) (time : ids.time < 2 ^ 64) w
   replaced_follows : (parts : List (List ℕ)) → Follows (replaced (with_greatest ids) parts) (replaced ids parts)
   replaced_follows [] = follows_nothing
   replaced_follows (literal ∷ []) = subst (λ text. Follows text text) (append-nil literal) (behind literal [] [] follows_nothing)
-  replaced_follows (literal ∷ identifier ∷ parts) = behind literal _ _ (behind_value (identifier_of identifier) _ _ (replaced_follows parts))
+  replaced_follows (literal ∷ identifier ∷ parts) =
+      behind literal _ _ (behind_value (identifier_of identifier) _ _ (replaced_follows parts))
 
 -- an empty text has an empty part
 nonempty : (text : List ℕ) → HasProperParts [] text → nat_le 1 (length text) ≡ true

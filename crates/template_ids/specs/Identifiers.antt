@@ -1,5 +1,6 @@
 -- What the identifiers of a segment template are: ISO/IEC 23009-1, 5.3.9.4.4.
-use Rattle.std.specs.Prelude.{⊤, ℕ, ◌≤◌, ◌+◌, ◌-◌, ◌==◌, ◌&&◌, nat_le, Bool, List, [], ◌++◌, length, take, drop, position, codes, bytes_eq, if◌then◌else◌, Result, Ok, Err, Option, Some, None}
+use Rattle.std.specs.Prelude.{⊤, ℕ, ◌≤◌, ◌+◌, ◌-◌, ◌==◌, ◌&&◌, nat_le, Bool, List, [], ◌++◌, length, take, drop, position, codes, bytes_eq}
+use Rattle.std.specs.Prelude.{if◌then◌else◌, Result, Ok, Err, Option, Some, None}
 use Rattle.std.specs.Str.{all_ascii_digits}
 use Rattle.std.specs.Str.Parse.{digits_value}
 use Rattle.template_ids.specs.declared.identifier.Identifier.{Identifier}

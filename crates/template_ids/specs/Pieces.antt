@@ -36,4 +36,5 @@ PiecesOf text pieces = AreOf text pieces × ((later : Option TemplateFault) → 
 
 -- the fault of the first identifier at fault, whatever fault is tried later, or want of memory
 abbrev pub IsFirstFault : List ℕ → TemplateFault → Type 0
-IsFirstFault text fault = IfSome (refusal fault) (λ f. (later : Option TemplateFault) → identifier_fault (identifiers_of text) later ≡ Some f)
+IsFirstFault text fault = IfSome (refusal fault) (λ f. (later : Option TemplateFault)
+    → identifier_fault (identifiers_of text) later ≡ Some f)

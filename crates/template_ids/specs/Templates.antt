@@ -1,5 +1,6 @@
 -- Which texts are segment templates, and what each names: ISO/IEC 23009-1, 5.3.9.4.4.
-use Rattle.std.specs.Prelude.{ℕ, ◌-◌, ◌%◌, ◌==◌, ◌&&◌, Bool, true, false, List, [], ◌∷◌, ◌++◌, length, replicate, count_by, codes, decimal, if◌then◌else◌, Result, Ok, Err, Option, Some, None}
+use Rattle.std.specs.Prelude.{ℕ, ◌-◌, ◌%◌, ◌==◌, ◌&&◌, Bool, true, false, List, [], ◌∷◌, ◌++◌, length, replicate, count_by, codes, decimal}
+use Rattle.std.specs.Prelude.{if◌then◌else◌, Result, Ok, Err, Option, Some, None}
 use Rattle.std.specs.List.{list_any, slice_split}
 use Rattle.template_ids.specs.declared.identifier.Identifier.{Identifier}
 use Rattle.template_ids.specs.declared.identifier.Identifier.TheVariants.{Dollar, RepresentationId, Padded}
@@ -28,14 +29,14 @@ abbrev pub identifiers_of : List ℕ → List (List ℕ)
 identifiers_of text = odd_parts (parts_of text)
 
 -- the first fault of two
-abbrev pub first_fault : Result Identifier TemplateFault → Option TemplateFault → Option TemplateFault
-first_fault (Ok identifier) later = later
-first_fault (Err fault) later = Some fault
+abbrev pub earlier_fault : Result Identifier TemplateFault → Option TemplateFault → Option TemplateFault
+earlier_fault (Ok identifier) later = later
+earlier_fault (Err fault) later = Some fault
 
 -- the fault of the first identifier at fault, or else a later fault
 abbrev pub identifier_fault : List (List ℕ) → Option TemplateFault → Option TemplateFault
 identifier_fault [] later = later
-identifier_fault (identifier ∷ identifiers) later = first_fault (identifier_of identifier) (identifier_fault identifiers later)
+identifier_fault (identifier ∷ identifiers) later = earlier_fault (identifier_of identifier) (identifier_fault identifiers later)
 
 abbrev pub same_quantity : Quantity → Quantity → Bool
 same_quantity Number Number = true

@@ -1,7 +1,8 @@
 // What stands between two `$` of a template.
 ghost use Rattle.std.specs.Prelude.{◌≡◌, ◌≤◌, if◌then◌else◌, IfOk, IfSome};
 ghost use Rattle.std.specs.Str.Parse.{digits_value};
-ghost use Rattle.template_ids.specs.Identifiers.{identifier_of, plain_identifier, formatted_identifier, quantity_of, width_of, is_width, HasWidth};
+ghost use Rattle.template_ids.specs.Identifiers.{identifier_of, plain_identifier, formatted_identifier, quantity_of, width_of, is_width};
+ghost use Rattle.template_ids.specs.Identifiers.{HasWidth};
 
 use crate::TemplateFault;
 

@@ -1,14 +1,12 @@
 -- Lists of texts, and what stands in some of them, each text once.
-use Rattle.std.specs.Prelude.{ℕ, ◌==◌, Bool, List, [], ◌∷◌, ◌++◌, map, slice_get, bytes_eq, if◌then◌else◌, Option, unwrap_or}
-use Rattle.std.specs.List.{list_any, slice_split}
+use Rattle.std.specs.Prelude.{ℕ, ◌==◌, List, [], ◌∷◌, ◌++◌, map, slice_get, if◌then◌else◌, Option, unwrap_or}
+use Rattle.std.specs.List.{slice_split}
 use Rattle.std.specs.Option.{option_map_or}
 use Rattle.std.specs.Borrow.{Bor}
+use Rattle.bridge_io.specs.Texts.{is_among}
 
 abbrev pub texts_of : List (Bor (List ℕ)) → List (List ℕ)
 texts_of texts = map (λ text. text.now) texts
-
-abbrev pub is_among : List ℕ → List (List ℕ) → Bool
-is_among text texts = list_any (bytes_eq text) texts
 
 -- a text behind those that were found before, if it isn't among them
 abbrev pub with_text : List (List ℕ) → List ℕ → List (List ℕ)

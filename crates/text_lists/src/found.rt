@@ -50,7 +50,8 @@ impl<'a> Found<'a> {
         requires once { IsOnce (texts_of texts.now) }
         requires below { AreBelow (texts_of texts.now) numbers.now }
         requires marked { IsMarked (texts_of texts.now) self.old.seen.items (texts_of self.old.texts.items) }
-        ensures found { OnOk result (texts_of self.new.texts.items ≡ with_texts (texts_of self.old.texts.items) (texts_by (texts_of texts.now) numbers.now)) }
+        ensures found { OnOk result (texts_of self.new.texts.items ≡ with_texts (texts_of self.old.texts.items)
+            (texts_by (texts_of texts.now) numbers.now)) }
         ensures marked { OnOk result (IsMarked (texts_of texts.now) self.new.seen.items (texts_of self.new.texts.items)) }
     {
         for number in numbers {
@@ -63,7 +64,8 @@ impl<'a> Found<'a> {
         requires once { IsOnce (texts_of texts.now) }
         requires below { number < length texts.now }
         requires marked { IsMarked (texts_of texts.now) self.old.seen.items (texts_of self.old.texts.items) }
-        ensures found { OnOk result (texts_of self.new.texts.items ≡ with_text (texts_of self.old.texts.items) (text_by (texts_of texts.now) number)) }
+        ensures found { OnOk result (texts_of self.new.texts.items ≡ with_text (texts_of self.old.texts.items)
+            (text_by (texts_of texts.now) number)) }
         ensures marked { OnOk result (IsMarked (texts_of texts.now) self.new.seen.items (texts_of self.new.texts.items)) }
     {
         if self.seen[number] {

@@ -1,7 +1,8 @@
 // Texts by number.
 ghost use Rattle.std.specs.Prelude.{◌≡◌, ◌<◌, ◌++◌, ◌∷◌, [], false, length, map, option_map, IfOk, OnOk, OnErr};
 ghost use Rattle.std.specs.Str.{bytes_eq};
-ghost use Rattle.text_lists.specs.Lists.{texts_of, is_among, parts_of, parts_in};
+ghost use Rattle.bridge_io.specs.Texts.{is_among};
+ghost use Rattle.text_lists.specs.Lists.{texts_of, parts_of, parts_in};
 ghost use Rattle.text_lists.specs.Numbers.{IsNumbered, IsOnce, Grows, AreBelow, text_by, texts_by};
 
 use bridge_io::NoMemory;
@@ -40,7 +41,8 @@ impl<'a> TextTable<'a> {
         text: Option<&'a str>,
     ) -> Result<Vec<usize>, NoMemory>
         ensures grows { Grows (texts_of self.old.texts.items) (texts_of self.new.texts.items) }
-        ensures numbers { IfOk result (λ numbers. texts_by (texts_of self.new.texts.items) numbers.items ≡ parts_in (option_map (λ text. text.now) text.entry)) }
+        ensures numbers { IfOk result (λ numbers. texts_by (texts_of self.new.texts.items) numbers.items
+            ≡ parts_in (option_map (λ text. text.now) text.entry)) }
         ensures below { IfOk result (λ numbers. AreBelow (texts_of self.new.texts.items) numbers.items) }
     {
         match text {

@@ -1,29 +1,25 @@
 -- What the runs and the open end of a `Runs` have.
-use Rattle.std.proofs.Common.{◌≡◌, ℕ, zero, suc, ◌+◌, ◌-◌, ◌*◌, ◌<◌, ◌≤◌, ◌^◌, Bool, true, false, ◌&&◌, ltb, List, [], ◌∷◌, ◌++◌, length, get_or, ℤ, pos, negsuc, ◌+ℤ◌, ◌≤ℤ◌, ◌<ℤ◌, neg_ℤ, refl, ◌∙◌, sym, ap, subst, inl, inr, arith, length-append}
-use Rattle.std.specs.Prelude.{Option, Some, None, unsigned_abs}
-use Rattle.std.specs.List.{AllByRecursion, list_any}
-use Rattle.std.proofs.lemmas.Int.{ints}
-use Rattle.std.proofs.lemmas.List.Elements.{All-from_recursion}
+use Rattle.std.proofs.Common.{◌≡◌, ℕ, zero, suc, ◌+◌, ◌-◌, ◌*◌, ◌<◌, ◌≤◌, ◌^◌, Bool, true, false, ◌&&◌, ltb, List, ◌∷◌, ◌++◌, length}
+use Rattle.std.proofs.Common.{get_or, ℤ, pos, ◌+ℤ◌, ◌≤ℤ◌, ◌<ℤ◌, neg_ℤ, refl, ◌∙◌, sym, ap, subst, inl, inr, arith, length-append, []}
+use Rattle.std.specs.Prelude.{Option, Some, None}
+use Rattle.std.specs.List.{AllByRecursion}
+use Rattle.std.proofs.lemmas.{Int.ints, List.Elements.All-from_recursion, Bool.Decides.nat_tests}
 use Rattle.std.proofs.lemmas.Bool.{cases_order, cases_lt, lt-ltb, true≢false}
-use Rattle.std.proofs.lemmas.Bool.Decides.{nat_tests}
 use Rattle.std.proofs.Math.Nat.{mul-le-mul_left}
 use Rattle.exact_time.specs.Time.{Time}
 use Rattle.timeline.specs.Ratios.{natural}
 use Rattle.timeline.specs.Bounds.{IsNear}
 use Rattle.timeline.specs.Expansions.{Extent, repeated, repeat_of}
-use Rattle.timeline.specs.Limits.{breaks_limits, too_long}
+use Rattle.timeline.specs.Limits.{too_long}
 use Rattle.timeline.specs.Laws.{EndsRise}
-use Rattle.timeline.specs.declared.runs.Runs.TheInside.{Inside}
+use Rattle.timeline.specs.declared.{runs.Runs.TheInside.Inside, run.Endless.Endless}
 use Rattle.timeline.proofs.Rises.{ends_rise, no_step_from}
-use Rattle.timeline.specs.RunSegments.{IsRun, AreLaid, IsEndless, HasRoom, all_extents, extents_of, endless_count, endless_extents, first_of, TimedRun, head_of}
+use Rattle.timeline.specs.RunSegments.{IsRun, AreLaid, IsEndless, HasRoom, all_extents, extents_of, endless_count, first_of, TimedRun}
+use Rattle.timeline.specs.RunSegments.{head_of}
 use Rattle.timeline.specs.Kept.{Follows, FollowsOn, IsKept, timeline_of}
-use Rattle.timeline.specs.declared.run.Endless.{Endless}
-use Rattle.timeline.proofs.Repeats.{row, repeat-row, length-repeated, natural-pos}
-use Rattle.timeline.proofs.LimitLemmas.{breaks_ticks, open_breaks}
-use Rattle.timeline.proofs.OpenLemmas.{AreAlike, near-from, some_breaks, alike_breaks, alike_count}
-use Rattle.timeline.proofs.RunLemmas.{one_extent-row}
-use Rattle.timeline.proofs.SegmentTimelineLemmas.{open_at, open_count, open_breaks_limits}
-use Rattle.timeline.proofs.PlaceLemmas.{HasScale, LastsSome}
+use Rattle.timeline.proofs.Repeats.{row, repeat-row, length-repeated, natural-pos, one_extent-row}
+use Rattle.timeline.proofs.LimitLemmas.{abs-bounds, breaks_ticks, open_breaks, AreAlike, near-from, some_breaks, alike_breaks, alike_count}
+use Rattle.timeline.proofs.SegmentTimelineLemmas.{open_at, open_count, open_breaks_limits, HasScale, LastsSome}
 
 pub all_append : {X : Type 0} (P : X → Type 0) (xs ys : List X) → AllByRecursion P xs → AllByRecursion P ys → AllByRecursion P (xs ++ ys)
 all_append P [] ys xs_are ys_are = ys_are
@@ -39,7 +35,8 @@ unfolding repeated
 scales_repeated zero x is = tt
 scales_repeated (suc n) x is = (is, scales_repeated n (repeat_of x) is)
 
-pub near_rows : (n scale : ℕ) (start : ℤ) (step : ℕ) → 0 < scale → neg_ℤ (pos (2 ^ 64)) <ℤ start → (start +ℤ pos (n * step)) <ℤ pos (2 ^ 65 * scale) →
+pub near_rows : (n scale : ℕ) (start : ℤ) (step : ℕ) → 0 < scale → neg_ℤ (pos (2 ^ 64)) <ℤ start
+    → (start +ℤ pos (n * step)) <ℤ pos (2 ^ 65 * scale) →
     AllByRecursion EndsNear (repeated n (row scale start step))
 unfolding repeated
 near_rows zero scale start step some low high = tt
@@ -51,13 +48,9 @@ near_rows (suc n) scale start step some low high = (
 
 -- ---- the runs
 
-pub tick_bounds : (z : ℤ) → unsigned_abs z < 2 ^ 64 → (z <ℤ pos (2 ^ 64)) × (neg_ℤ (pos (2 ^ 64)) <ℤ z)
-tick_bounds (pos n) h = (omega (arith, ints), omega (arith, ints))
-tick_bounds (negsuc n) h = (omega (arith, ints), omega (arith, ints))
-
 near_one : (s : TimedRun) → IsRun s → EndsNear (head_of s)
 near_one s is =
-    let bounds = tick_bounds s.end.ticks is.end_near in
+    let bounds = abs-bounds s.end.ticks (2 ^ 64) is.end_near in
     let scale : 0 < s.end.scale = is.end_is in
     near-from s.end.ticks s.end.scale is.end_is (omega (arith, ints, bounds.0)) bounds.1
 
@@ -68,7 +61,7 @@ near_run s is = elim (cases_order s.count 1) [
   | inr other ↦ elim other [
     | inl fewer ↦ let none : 0 ≡ s.count = omega arith in subst (λ (n : ℕ). AllByRecursion EndsNear (repeated n (head_of s))) none tt
     | inr several ↦
-        let bounds = tick_bounds s.start.ticks is.start_near in
+        let bounds = abs-bounds s.start.ticks (2 ^ 64) is.start_near in
         let scale : 0 < s.end.scale = is.end_is in
         let ticks = is.in_ticks several in
         subst (λ (x : Extent). AllByRecursion EndsNear (repeated s.count x)) (sym (one_extent-row s is several))
@@ -78,21 +71,19 @@ near_run s is = elim (cases_order s.count 1) [
 
 pub length-laid : (before : ℕ) (runs : List TimedRun) (total : ℕ) → AreLaid before runs total → before + length (all_extents runs) ≡ total
 length-laid before [] total laid = omega (arith, laid)
-length-laid before (s ∷ later) total (at, some, is, laid) = omega (
-  arith,
-  length-append (extents_of s) (all_extents later),
-  length-repeated s.count (head_of s),
-  length-laid (before + s.count) later total laid,
-)
+length-laid before (s ∷ later) total (at, some, is, laid) =
+    let by_length_append = length-append (extents_of s) (all_extents later) in
+    omega (arith, length-repeated s.count (head_of s), length-laid (before + s.count) later total laid)
 
-pub near_laid : (before : ℕ) (runs : List TimedRun) (total : ℕ) → AreLaid before runs total → AllByRecursion EndsNear (all_extents runs)
-near_laid before [] total laid = tt
-near_laid before (s ∷ later) total (at, some, is, laid) = all_append EndsNear (extents_of s) (all_extents later) (near_run s is) (near_laid (before + s.count) later total laid)
+pub scales_run : (s : TimedRun) → IsRun s → AllByRecursion HasScale (extents_of s)
+scales_run s is = scales_repeated s.count (head_of s) is.end_is
 
-pub scales_laid : (before : ℕ) (runs : List TimedRun) (total : ℕ) → AreLaid before runs total → AllByRecursion HasScale (all_extents runs)
-scales_laid before [] total laid = tt
-scales_laid before (s ∷ later) total (at, some, is, laid) =
-    all_append HasScale (extents_of s) (all_extents later) (scales_repeated s.count (head_of s) is.end_is) (scales_laid (before + s.count) later total laid)
+pub all_laid : (P : Extent → Type 0) → ((s : TimedRun) → IsRun s → AllByRecursion P (extents_of s))
+    → (before : ℕ) (runs : List TimedRun) (total : ℕ) →
+    AreLaid before runs total → AllByRecursion P (all_extents runs)
+all_laid P each before [] total laid = tt
+all_laid P each before (s ∷ later) total (at, some, is, laid) =
+    all_append P (extents_of s) (all_extents later) (each s is) (all_laid P each (before + s.count) later total laid)
 
 pub runs_laid : (before : ℕ) (runs : List TimedRun) (total : ℕ) → AreLaid before runs total → AllByRecursion IsRun runs
 runs_laid before [] total laid = tt
@@ -120,38 +111,53 @@ record Stays (origin count : ℕ) (e : Endless) : Type 0 where
 pub open_breaks-some : (ticks origin total : ℕ) (e : Endless) (t : Time) → Follows ticks origin total e →
     open_breaks_limits ticks origin t (Some e) ≡ some_breaks e.start.scale origin e.start.n e.step (endless_count e t)
 open_breaks-some ticks origin total e t follows =
-    ap (λ (n : ℕ). list_any (breaks_limits n origin) (endless_extents e t)) (sym follows.scale)
-    ∙ open_breaks e.start.scale origin e.start.n e.step (endless_count e t) e.start.positive
+    cc (follows.scale, open_breaks e.start.scale origin e.start.n e.step (endless_count e t) e.start.positive)
 
 not_first : (a b : Bool) → a ≡ true → (a && b) ≡ false → b ≡ false
 not_first true b holds fails = fails
 not_first false b holds fails = absurd (true≢false (sym holds))
 
-stays : (ticks origin total : ℕ) (e : Endless) (t : Time) → Follows ticks origin total e → open_breaks_limits ticks origin t (Some e) ≡ false → Stays origin (endless_count e t) e
+stays : (ticks origin total : ℕ) (e : Endless) (t : Time) → Follows ticks origin total e
+    → open_breaks_limits ticks origin t (Some e) ≡ false → Stays origin (endless_count e t) e
 stays ticks origin total e t follows keeps =
-    let count : ℕ = endless_count e t in
-    let none : some_breaks e.start.scale origin e.start.n e.step count ≡ false = sym (open_breaks-some ticks origin total e t follows) ∙ keeps in
-    let of_last : 0 < count → breaks_ticks e.start.scale origin (e.start.n +ℤ pos (count * e.step)) e.step ≡ false = λ some. not_first (ltb 0 count) (breaks_ticks e.start.scale origin (e.start.n +ℤ pos (count * e.step)) e.step) (lt-ltb 0 count some) none in
-    record { media = λ some. let h = of_last some in grind (arith, ints, nat_tests); far = λ some. let h = of_last some in grind (arith, ints, nat_tests) }
+    let count = endless_count e t in
+    let none : some_breaks e.start.scale origin e.start.n e.step count ≡ false = sym (open_breaks-some ticks origin total e t follows)
+    ∙ keeps in
+    let of_last : 0 < count → breaks_ticks e.start.scale origin (e.start.n +ℤ pos (count * e.step)) e.step ≡ false =
+    λ some. not_first (ltb 0 count) (breaks_ticks e.start.scale origin (e.start.n +ℤ pos (count * e.step)) e.step)
+    (lt-ltb 0 count some) none in
+    record {
+      media = λ some. let h = of_last some in grind (arith, ints, nat_tests);
+      far = λ some. let h = of_last some in
+          grind (arith, ints, nat_tests);
+    }
 
 -- so many segments, of which the last one ends before the limit
-few_enough : (total origin count step : ℕ) (start : ℤ) → pos 0 ≤ℤ (start +ℤ pos origin) → 2 * total ≤ 2 * natural (start +ℤ pos origin) + step → 0 < step → 0 < count →
+few_enough : (total origin count step : ℕ) (start : ℤ) → pos 0 ≤ℤ (start +ℤ pos origin)
+    → 2 * total ≤ 2 * natural (start +ℤ pos origin) + step → 0 < step → 0 < count →
     ((start +ℤ pos (count * step)) +ℤ pos origin) <ℤ pos (2 ^ 63) → total + count < 2 ^ 63
 few_enough total origin count step start placed room lasts some media =
-    let first : ℕ = natural (start +ℤ pos origin) in
+    let first = natural (start +ℤ pos origin) in
     let first_is : start +ℤ pos origin ≡ pos first = natural-pos (start +ℤ pos origin) placed in
     let last : first + count * step < 2 ^ 63 = omega (arith, ints) in
     let more : count - 1 ≤ (count - 1) * step = omega (arith, mul-le-mul_left (count - 1) lasts) in
-    let split : count * step ≡ (count - 1) * step + step = let whole : count ≡ (count - 1) + 1 = omega arith in omega (arith, ap (λ (n : ℕ). n * step) whole) in
+    let split : count * step ≡ (count - 1) * step + step = let whole : count ≡ (count - 1) + 1 = omega arith in
+    omega (arith, ap (λ (n : ℕ). n * step) whole) in
     omega arith
 
-few_of : (ticks origin total : ℕ) (e : Endless) (count : ℕ) → Follows ticks origin total e → Stays origin count e → total ≤ 2 ^ 63 → total + count ≤ 2 ^ 63
+few_of : (ticks origin total : ℕ) (e : Endless) (count : ℕ) → Follows ticks origin total e → Stays origin count e → total ≤ 2 ^ 63
+    → total + count ≤ 2 ^ 63
 few_of ticks origin total e count follows is small = elim (cases_lt 0 count) [
-  | inl some ↦ omega (arith, few_enough total origin count e.step e.start.n follows.placed follows.room follows.is.lasting some (is.media some))
+  | inl some ↦ omega (
+    arith,
+    few_enough total origin count e.step e.start.n follows.placed follows.room follows.is.lasting some
+        (is.media some),
+  )
   | inr none ↦ omega arith
 ]
 
-room_of : (ticks origin total : ℕ) (e : Endless) (count : ℕ) → Follows ticks origin total e → Stays origin count e → total ≤ 2 ^ 63 → HasRoom e count
+room_of : (ticks origin total : ℕ) (e : Endless) (count : ℕ) → Follows ticks origin total e → Stays origin count e → total ≤ 2 ^ 63
+    → HasRoom e count
 room_of ticks origin total e count follows is small = record {
   near = λ some.
       let more : 1 * e.step ≤ count * e.step = omega (arith, mul-le-mul_left e.step some) in
@@ -163,13 +169,15 @@ none_repeated : (P : Extent → Type 0) (x : Extent) → AllByRecursion P (repea
 unfolding repeated
 none_repeated P x = tt
 
-near_of : (origin : ℕ) (e : Endless) (count : ℕ) → IsEndless e → Stays origin count e → AllByRecursion EndsNear (repeated count (first_of e))
+near_of : (origin : ℕ) (e : Endless) (count : ℕ) → IsEndless e → Stays origin count e
+    → AllByRecursion EndsNear (repeated count (first_of e))
 near_of origin e count ends is = elim (cases_lt 0 count) [
   | inl some ↦
-      let bounds = tick_bounds e.start.n e.start.bounded in
+      let bounds = abs-bounds e.start.n (2 ^ 64) e.start.bounded in
       let scale : 0 < e.start.scale = e.start.positive in
       near_rows count e.start.scale e.start.n e.step e.start.positive bounds.1 (omega (arith, ints, is.far some))
-  | inr none ↦ let zero_is : 0 ≡ count = omega arith in subst (λ (n : ℕ). AllByRecursion EndsNear (repeated n (first_of e))) zero_is (none_repeated EndsNear (first_of e))
+  | inr none ↦ let zero_is : 0 ≡ count = omega arith in
+      subst (λ (n : ℕ). AllByRecursion EndsNear (repeated n (first_of e))) zero_is (none_repeated EndsNear (first_of e))
 ]
 
 -- ---- media times of starts
@@ -177,7 +185,8 @@ near_of origin e count ends is = elim (cases_lt 0 count) [
 abbrev pub StartsTimed : ℕ → Extent → Type 0
 StartsTimed origin x = natural (x.start.ticks +ℤ pos origin) < 2 ^ 64
 
-timed_rows : (origin n scale : ℕ) (start : ℤ) (step : ℕ) → pos 0 ≤ℤ (start +ℤ pos origin) → ((start +ℤ pos (n * step)) +ℤ pos origin) <ℤ pos (2 ^ 64) →
+timed_rows : (origin n scale : ℕ) (start : ℤ) (step : ℕ) → pos 0 ≤ℤ (start +ℤ pos origin)
+    → ((start +ℤ pos (n * step)) +ℤ pos origin) <ℤ pos (2 ^ 64) →
     AllByRecursion (StartsTimed origin) (repeated n (row scale start step))
 unfolding repeated
 timed_rows origin zero scale start step low high = tt
@@ -188,10 +197,13 @@ timed_rows origin (suc n) scale start step low high =
           (timed_rows origin n scale (start +ℤ pos step) step (omega (arith, ints)) (omega (arith, ints))),
     )
 
-timed_of : (ticks origin total : ℕ) (e : Endless) (count : ℕ) → Follows ticks origin total e → Stays origin count e → AllByRecursion (StartsTimed origin) (repeated count (first_of e))
+timed_of : (ticks origin total : ℕ) (e : Endless) (count : ℕ) → Follows ticks origin total e → Stays origin count e
+    → AllByRecursion (StartsTimed origin) (repeated count (first_of e))
 timed_of ticks origin total e count follows is = elim (cases_lt 0 count) [
   | inl some ↦ timed_rows origin count e.start.scale e.start.n e.step follows.placed (omega (arith, ints, is.media some))
-  | inr none ↦ let zero_is : 0 ≡ count = omega arith in subst (λ (n : ℕ). AllByRecursion (StartsTimed origin) (repeated n (first_of e))) zero_is (none_repeated (StartsTimed origin) (first_of e))
+  | inr none ↦ let zero_is : 0 ≡ count = omega arith in
+      subst (λ (n : ℕ). AllByRecursion (StartsTimed origin) (repeated n (first_of e))) zero_is
+      (none_repeated (StartsTimed origin) (first_of e))
 ]
 
 -- ---- the whole segments, where no segment that is reached breaks the limits
@@ -201,7 +213,8 @@ pub record AreReached (origin total : ℕ) (t : Time) (e : Option Endless) : Typ
   pub near : AllByRecursion EndsNear (open_at t e)
   pub timed : AllByRecursion (StartsTimed origin) (open_at t e)
 
-pub reached_open : (ticks origin total : ℕ) (e : Option Endless) (t : Time) → FollowsOn ticks origin total e → total ≤ 2 ^ 63 → open_breaks_limits ticks origin t e ≡ false → AreReached origin total t e
+pub reached_open : (ticks origin total : ℕ) (e : Option Endless) (t : Time) → FollowsOn ticks origin total e → total ≤ 2 ^ 63
+    → open_breaks_limits ticks origin t e ≡ false → AreReached origin total t e
 reached_open ticks origin total None t follows small keeps = record { few = omega arith; near = tt; timed = tt }
 reached_open ticks origin total (Some e) t follows small keeps =
     let is = stays ticks origin total e t follows keeps in
@@ -211,24 +224,30 @@ reached_open ticks origin total (Some e) t follows small keeps =
       timed = timed_of ticks origin total e (endless_count e t) follows is;
     }
 
-pub room_reached : (ticks origin total : ℕ) (e : Endless) (t : Time) → Follows ticks origin total e → total ≤ 2 ^ 63 → open_breaks_limits ticks origin t (Some e) ≡ false → HasRoom e (endless_count e t)
-room_reached ticks origin total e t follows small keeps = room_of ticks origin total e (endless_count e t) follows (stays ticks origin total e t follows keeps) small
+pub room_reached : (ticks origin total : ℕ) (e : Endless) (t : Time) → Follows ticks origin total e → total ≤ 2 ^ 63
+    → open_breaks_limits ticks origin t (Some e) ≡ false → HasRoom e (endless_count e t)
+room_reached ticks origin total e t follows small keeps = room_of ticks origin total e (endless_count e t) follows
+    (stays ticks origin total e t follows keeps) small
 
 -- ---- times that are alike
 
-pub alike_open : (ticks origin total : ℕ) (s t : Time) (e : Option Endless) → AreAlike s t → 0 < s.scale → 0 < t.scale → FollowsOn ticks origin total e →
+pub alike_open : (ticks origin total : ℕ) (s t : Time) (e : Option Endless) → AreAlike s t → 0 < s.scale → 0 < t.scale
+    → FollowsOn ticks origin total e →
     open_breaks_limits ticks origin t e ≡ false → open_count s e ≡ open_count t e
 alike_open ticks origin total s t None alike positive_s positive_t follows keeps = refl
 alike_open ticks origin total s t (Some e) alike positive_s positive_t follows keeps =
-    let bounds = tick_bounds e.start.n e.start.bounded in
-    alike_count s t alike positive_s positive_t e.start.scale origin e.start.n e.step e.start.positive follows.is.lasting bounds.0 bounds.1 follows.short
+    let bounds = abs-bounds e.start.n (2 ^ 64) e.start.bounded in
+    alike_count s t alike positive_s positive_t e.start.scale origin e.start.n e.step e.start.positive follows.is.lasting bounds.0 bounds.1
+    follows.short
     (sym (open_breaks-some ticks origin total e t follows) ∙ keeps)
 
-pub alike_open_breaks : (ticks origin total : ℕ) (s t : Time) (e : Endless) → AreAlike s t → 0 < s.scale → 0 < t.scale → Follows ticks origin total e →
+pub alike_open_breaks : (ticks origin total : ℕ) (s t : Time) (e : Endless) → AreAlike s t → 0 < s.scale → 0 < t.scale
+    → Follows ticks origin total e →
     some_breaks e.start.scale origin e.start.n e.step (endless_count e s) ≡ open_breaks_limits ticks origin t (Some e)
 alike_open_breaks ticks origin total s t e alike positive_s positive_t follows =
-    let bounds = tick_bounds e.start.n e.start.bounded in
-    alike_breaks s t alike positive_s positive_t e.start.scale origin e.start.n e.step e.start.positive follows.is.lasting bounds.0 bounds.1 follows.short
+    let bounds = abs-bounds e.start.n (2 ^ 64) e.start.bounded in
+    alike_breaks s t alike positive_s positive_t e.start.scale origin e.start.n e.step e.start.positive follows.is.lasting bounds.0
+    bounds.1 follows.short
     ∙ sym (open_breaks-some ticks origin total e t follows)
 
 -- ---- the ends rise

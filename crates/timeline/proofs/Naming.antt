@@ -1,15 +1,23 @@
 -- The addresses of segments.
-use Rattle.std.proofs.Common.{◌≡◌, ℕ, List, Option, Result, Ok, Err, ap, sym, subst}
-use Rattle.std.specs.Prelude.{IfSome}
+use Rattle.std.proofs.Common.{◌≡◌, ℕ, List, Option, Result, Ok, Err, ap, sym, subst, ◌≤◌, ◌++◌, true, length, ◌∙◌, arith, length-append}
+use Rattle.std.proofs.Common.{false}
+use Rattle.std.specs.Prelude.{IfSome, nat_le, nat_lt, None}
 use Rattle.std.specs.Result.{IsErr, IsErrAnd}
 use Rattle.bridge_io.specs.Answer.{Gives}
-use Rattle.url_parts.specs.Addresses.{refusal, resolve, IsAddress}
+use Rattle.url_parts.specs.Addresses.{refusal, resolve, IsAddress, IsBase, folder_of}
 use Rattle.url_parts.specs.declared.address.Part.{Part}
 use Rattle.url_parts.specs.declared.range.Range.{Range}
 use Rattle.url_parts.specs.declared.fault.UrlFault.{UrlFault}
 use Rattle.url_parts.specs.declared.fault.UrlFault.TheVariants.{Memory}
-use Rattle.timeline.specs.declared.fault.ListFault.{ListFault}
+use Rattle.timeline.specs.declared.{fault.ListFault.ListFault, names.Names.TheVariants.Template}
 use Rattle.timeline.specs.Names.{list_refusal, list_fault_of, part_at}
+use Rattle.std.proofs.lemmas.{Bool.Decides.nat_tests, List.length-take, Bool.and_parts, Bool.cond-false}
+use Rattle.bridge_io.specs.Names.{is_name}
+use Rattle.template_ids.specs.Templates.{named}
+use Rattle.template_ids.proofs.FileNames.{each_names}
+use Rattle.url_parts.proofs.Bases.{folder_of-take}
+use Rattle.url_parts.proofs.Relative.{resolve_name}
+use Rattle.timeline.specs.FileNames.{AreInFolder, are_files}
 
 -- an address that is its own base
 pub resolve_own : (text : List ℕ) → IsAddress text → resolve text text ≡ Ok text
@@ -21,8 +29,30 @@ refused : (range : Option Range) (address : Result (List ℕ) UrlFault) (e : Url
 refused range address Memory h = tt
 refused range address e h = ap (part_at range) h
 
-pub gives_refusal : (range : Option Range) (address : Result (List ℕ) UrlFault) (e : UrlFault) (r : Result Part ListFault) → IsErr r × IsErrAnd r (λ fault. fault ≡ list_fault_of e) →
+pub gives_refusal : (range : Option Range) (address : Result (List ℕ) UrlFault) (e : UrlFault) (r : Result Part ListFault)
+    → IsErr r × IsErrAnd r (λ fault. fault ≡ list_fault_of e) →
     IfSome (refusal e) (λ f. address ≡ Err f) → Gives (λ part. part) list_refusal r (part_at range address)
 gives_refusal range address e (Ok part) h k = cc
 gives_refusal range address e (Err fault) h k =
     subst (λ (f : ListFault). IfSome (list_refusal f) (λ g. part_at range address ≡ Err g)) (sym h.1) (refused range address e k)
+
+-- ---- names of files in one folder have addresses
+
+short : (base : List ℕ) → length (folder_of base) ≤ length base
+short base = omega (arith, sym (length-take (length (folder_of base)) base) ∙ ap length (folder_of-take base))
+
+pub in_folder : (media id : List ℕ) (bandwidth : ℕ) (base : List ℕ) → IsBase base → are_files (Template media id bandwidth base) ≡ true
+    → AreInFolder (Template media id bandwidth base)
+in_folder media id bandwidth base is files place number time low early =
+    let both = and_parts _ _ files in
+    let name = named media (record { id = id; bandwidth = bandwidth; number = number; time = time }) in
+    let is_file : is_name name ≡ true = each_names media (record {
+      id = id;
+      bandwidth = bandwidth;
+      number = number;
+      time = time;
+    }) low early both.1 in
+    let small : nat_le (length name) 255 ≡ true = (and_parts _ _ (and_parts _ _ (and_parts _ _ is_file).0).0).1 in
+    let fits : nat_lt 2048 (length (folder_of base ++ name)) ≡ false = let shorter = short base in let room = both.0 in
+    let sum = length-append (folder_of base) name in grind (arith, nat_tests) in
+    ap (part_at None) (resolve_name base name is is_file ∙ cond-false _ _ _ fits)

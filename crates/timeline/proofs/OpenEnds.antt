@@ -1,30 +1,30 @@
 -- When segments go on to an end that isn't known yet.
-use Rattle.std.proofs.Common.{◌≡◌, ℕ, ◌+◌, ◌*◌, ◌<◌, Bool, true, false, cond, List, [], ◌∷◌, ◌++◌, map, ℤ, pos, negsuc, ◌+ℤ◌, ◌-ℤ◌, refl, ◌∙◌, sym, ap, subst, inl, inr, arith}
+use Rattle.std.proofs.Common.{◌≡◌, ℕ, ◌+◌, ◌*◌, ◌<◌, Bool, true, false, cond, List, ◌∷◌, ◌++◌, map, ℤ, pos, negsuc, ◌+ℤ◌, ◌-ℤ◌, refl, ◌∙◌}
+use Rattle.std.proofs.Common.{sym, ap, subst, inl, inr, arith, []}
 use Rattle.std.specs.Prelude.{Option, Some, None, IfSome, Ok, ◌↔◌, ◌⊎◌, slice_get, unwrap_or}
 use Rattle.std.specs.List.{list_any}
-use Rattle.std.proofs.lemmas.Int.{ints}
-use Rattle.std.proofs.lemmas.Bool.{cases_lt, true≢false}
+use Rattle.std.proofs.lemmas.{Int.ints, Bool.cases_lt, Bool.true≢false}
 use Rattle.exact_time.specs.Time.{Time, IsAtMost, at_most}
 use Rattle.exact_time.proofs.TimeOrder.{at_most-true, at_most-from}
-use Rattle.timeline.specs.declared.entry.SEntry.{SEntry}
-use Rattle.timeline.specs.declared.entry.Scale.{Scale}
-use Rattle.timeline.specs.declared.entry.End.{End}
-use Rattle.timeline.specs.declared.entry.End.TheVariants.{At, Unbounded}
-use Rattle.timeline.specs.declared.fault.TimeFault.{TimeFault}
-use Rattle.timeline.specs.declared.window.Window.{Window}
+use Rattle.timeline.specs.declared.{entry.SEntry.SEntry, entry.Scale.Scale, entry.End.End}
+use Rattle.timeline.specs.declared.{entry.End.TheVariants.At, entry.End.TheVariants.Unbounded, fault.TimeFault.TimeFault}
+use Rattle.timeline.specs.declared.{window.Window.Window}
 use Rattle.timeline.specs.Expansions.{Extent, Member, Closed, Short, Endless, SegmentTimeline, ended_by, goes_on, is_open, repeated}
 use Rattle.timeline.specs.Faults.{ends_open, fault_if, is_negative, is_unbounded, or_fault}
 use Rattle.timeline.specs.Listed.{reaches_fault}
 use Rattle.timeline.specs.OpenEnds.{StepsAreGreatest}
 use Rattle.timeline.specs.Ratios.{natural}
 use Rattle.timeline.specs.SegmentTimelines.{unless_fault}
-use Rattle.timeline.specs.Timelines.{Reach, Counted, UpTo, Unending, Nowhere, count_of, count_up_to, extent_from, members_from, members_of, reach_of, reach_of_next}
+use Rattle.timeline.specs.Timelines.{Reach, Counted, UpTo, Unending, Nowhere, count_of, count_up_to, extent_from, members_from, members_of}
+use Rattle.timeline.specs.Timelines.{reach_of}
+use Rattle.timeline.proofs.ExpansionsRise.{not_unending}
 use Rattle.timeline.proofs.Ratios.{floor_ticks, at_most-floor, int_le-true, int_le-from}
 use Rattle.timeline.proofs.Repeats.{again-row, ended_by-row, ends_by-in, ends_by-out, natural-pos, row, row-is, slice_get-repeated}
 
 -- ---- what has no fault
 
-pub no_fault : (fault : Option TimeFault) (made timeline : SegmentTimeline) → unless_fault fault made ≡ Ok timeline → (fault ≡ None) × (made ≡ timeline)
+pub no_fault : (fault : Option TimeFault) (made timeline : SegmentTimeline) → unless_fault fault made ≡ Ok timeline
+    → (fault ≡ None) × (made ≡ timeline)
 no_fault None made timeline is = (refl, cc)
 no_fault (Some fault) made timeline is = cc
 
@@ -48,7 +48,8 @@ either (Closed x ∷ xs) ys some = either xs ys some
 either (Short x ∷ xs) ys some = either xs ys some
 either (Endless x ∷ xs) ys some = inl refl
 
-up_to : (bound : Time) (x : Extent) (late : Bool) → is_open (cond late (Short x ∷ []) (map Closed (repeated (count_up_to bound x) x))) ≡ true → ⊥
+up_to : (bound : Time) (x : Extent) (late : Bool) → is_open (cond late (Short x ∷ []) (map Closed (repeated (count_up_to bound x) x)))
+    ≡ true → ⊥
 up_to bound x true is = cc
 up_to bound x false is = true≢false (sym is ∙ closed_not_open (repeated (count_up_to bound x) x))
 
@@ -58,36 +59,31 @@ unending (UpTo bound) x some = absurd (up_to bound x (at_most bound x.start) som
 unending Unending x some = refl
 unending Nowhere x some = cc
 
-not_next : (scale : Scale) (t : Option ℕ) → reach_of_next scale t ≡ Unending → ⊥
-not_next scale None is = cc
-not_next scale (Some t) is = cc
-
-last_open : (scale : Scale) (end : End) (s : SEntry) (r : ℤ) (later : List SEntry) → s.r ≡ r → reach_of scale end r later ≡ Unending → (is_unbounded end ≡ true) × (ends_open (s ∷ later) ≡ true)
+last_open : (scale : Scale) (end : End) (s : SEntry) (r : ℤ) (later : List SEntry) → s.r ≡ r → reach_of scale end r later ≡ Unending
+    → (is_unbounded end ≡ true) × (ends_open (s ∷ later) ≡ true)
 last_open scale end s (pos r) later at is = cc
 last_open scale (At length) s (negsuc r) [] at is = cc
 last_open scale Unbounded s (negsuc r) [] at is = (refl, ap is_negative at)
-last_open scale end s (negsuc r) (next ∷ later) at is = absurd (not_next scale next.t is)
+last_open scale end s (negsuc r) (next ∷ later) at is = absurd (not_unending scale next.t is)
 
 later_open : (s : SEntry) (later : List SEntry) → ends_open later ≡ true → ends_open (s ∷ later) ≡ true
 later_open s [] is = cc
 later_open s (next ∷ later) is = is
 
-pub entries_open : (scale : Scale) (end : End) (former : ℕ) (entries : List SEntry) → is_open (members_from scale end former entries) ≡ true → (is_unbounded end ≡ true) × (ends_open entries ≡ true)
+pub entries_open : (scale : Scale) (end : End) (former : ℕ) (entries : List SEntry)
+    → is_open (members_from scale end former entries) ≡ true → (is_unbounded end ≡ true) × (ends_open entries ≡ true)
 entries_open scale end former [] some = cc
 entries_open scale end former (s ∷ later) some =
-    let start : ℕ = unwrap_or s.t former in
-    let x : Extent = extent_from scale start s.d in
-    let reach : Reach = reach_of scale end s.r later in
+    let start = unwrap_or s.t former in
+    let x = extent_from scale start s.d in
+    let reach = reach_of scale end s.r later in
     elim (either (members_of reach x) (members_from scale end (start + count_of reach x * s.d) later) some) [
       | inl here ↦ last_open scale end s s.r later refl (unending reach x here)
       | inr behind ↦ let rest = entries_open scale end (start + count_of reach x * s.d) later behind in (rest.0, later_open s later rest.1)
     ]
 
-pub not_open_from : (b : Bool) → (b ≡ true → ⊥) → b ≡ false
-not_open_from true never = absurd (never refl)
-not_open_from false never = refl
-
-pub none_reaches : (timeline : SegmentTimeline) (window : Window) (members : List Member) → list_any goes_on members ≡ false → list_any (reaches_fault timeline window) members ≡ false
+pub none_reaches : (timeline : SegmentTimeline) (window : Window) (members : List Member) → list_any goes_on members ≡ false
+    → list_any (reaches_fault timeline window) members ≡ false
 none_reaches timeline window [] none = refl
 none_reaches timeline window (Closed x ∷ later) none = none_reaches timeline window later none
 none_reaches timeline window (Short x ∷ later) none = none_reaches timeline window later none
@@ -98,28 +94,31 @@ none_reaches timeline window (Endless x ∷ later) none = cc
 steps_row : (t : Time) (scale : ℕ) (start : ℤ) (step n k : ℕ) → 0 < t.scale → 0 < scale → 0 < step → k < n →
     IfSome (slice_get (repeated n (row scale start step)) k) (λ y. IsAtMost y.end t ↔ (k < ended_by t (row scale start step)))
 steps_row t scale start step n k time whole some within =
-    let x : Extent = row scale start step in
-    let last : ℤ = floor_ticks t scale in
-    let end : ℤ = (start +ℤ pos step) in
+    let x = row scale start step in
+    let last = floor_ticks t scale in
+    let end = (start +ℤ pos step) in
     let count = ended_by-row t scale start step time whole some in
     let placed : (start +ℤ pos (k * step)) +ℤ pos step ≡ end +ℤ pos (k * step) = omega (arith, ints) in
     let test = at_most-floor ((start +ℤ pos (k * step)) +ℤ pos step) scale t time in
-    subst (λ (o : Option Extent). IfSome o (λ y. IsAtMost y.end t ↔ (k < ended_by t x))) (sym (slice_get-repeated k n x within ∙ ap (λ (y : Extent). Some y) (again-row k scale start step))) (
+    subst (λ (o : Option Extent). IfSome o (λ y. IsAtMost y.end t ↔ (k < ended_by t x)))
+    (sym (slice_get-repeated k n x within ∙ ap (λ (y : Extent). Some y) (again-row k scale start step))) (
       λ early. elim (cases_lt k (ended_by t x)) [
         | inl less ↦ less
         | inr more ↦
             let out = ends_by-out last end step k some (omega (arith, count, more)) in
-            let at = int_le-true ((start +ℤ pos (k * step)) +ℤ pos step) last (sym test ∙ at_most-from (row scale (start +ℤ pos (k * step)) step).end t early) in
+            let at = int_le-true ((start +ℤ pos (k * step)) +ℤ pos step) last (sym test
+            ∙ at_most-from (row scale (start +ℤ pos (k * step)) step).end t early) in
             absurd (omega (arith, ints, out, at, placed))
       ],
       λ less.
           let in_time = ends_by-in last end step k (omega (arith, count, less)) in
-          at_most-true (row scale (start +ℤ pos (k * step)) step).end t (test ∙ int_le-from ((start +ℤ pos (k * step)) +ℤ pos step) last (omega (arith, ints, in_time, placed))),
+          at_most-true (row scale (start +ℤ pos (k * step)) step).end t (test
+          ∙ int_le-from ((start +ℤ pos (k * step)) +ℤ pos step) last (omega (arith, ints, in_time, placed))),
     )
 
 pub steps_are_greatest : StepsAreGreatest
 steps_are_greatest instant x n k time is within =
-    let step : ℕ = natural (x.end.ticks -ℤ x.start.ticks) in
+    let step = natural (x.end.ticks -ℤ x.start.ticks) in
     let lasts = natural-pos (x.end.ticks -ℤ x.start.ticks) (omega (arith, ints, is.rises)) in
     let same : x ≡ row x.end.scale x.start.ticks step = row-is x step is.one_scale (omega (arith, ints, lasts)) in
     subst (λ (y : Extent). IfSome (slice_get (repeated n y) k) (λ z. IsAtMost z.end instant ↔ (k < ended_by instant y))) (sym same)

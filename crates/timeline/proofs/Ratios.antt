@@ -1,29 +1,32 @@
 -- How often one time fits into another: floors and ceilings, by cross products.
-use Rattle.std.proofs.Common.{◌≡◌, ℕ, zero, suc, ◌+◌, ◌-◌, ◌*◌, ◌/◌, ◌<◌, ◌≤◌, true, false, leb, ℤ, pos, negsuc, ◌+ℤ◌, ◌*ℤ◌, ◌≤ℤ◌, ◌<ℤ◌, neg_ℤ, refl, ◌∙◌, sym, ap, inl, inr, arith}
+use Rattle.std.proofs.Common.{◌≡◌, ℕ, zero, suc, ◌+◌, ◌-◌, ◌*◌, ◌/◌, ◌<◌, ◌≤◌, true, false, leb, ℤ, pos, negsuc, ◌+ℤ◌, ◌*ℤ◌, ◌≤ℤ◌, ◌<ℤ◌}
+use Rattle.std.proofs.Common.{neg_ℤ, refl, ◌∙◌, sym, ap, inl, inr, arith}
 use Rattle.std.specs.Prelude.{int_le}
 use Rattle.std.specs.Int.{int_div_euclid}
-use Rattle.std.proofs.lemmas.Int.{ints}
-use Rattle.std.proofs.lemmas.Nat.{le-div, div_below}
+use Rattle.std.proofs.lemmas.{Int.ints, Nat.le-div, Nat.div_below, Bool.Decides.nat_tests}
 use Rattle.std.proofs.lemmas.Bool.{le-leb, lt-leb, cases_lt}
-use Rattle.std.proofs.lemmas.Bool.Decides.{nat_tests}
 use Rattle.std.proofs.Math.Dec.{leb-suc-suc}
 use Rattle.std.proofs.Math.Nat.{div-mul-le_self, mul-le-mul_left, le_of_mul-le-mul_left, le_antisymm, one-le-mul}
 use borrow.Author.Differences.{up, down}
-use Rattle.exact_time.specs.Time.{Time, at_most}
-use Rattle.exact_time.specs.Floor.{IsCeiling}
+use Rattle.exact_time.specs.{Time.Time, Time.at_most, Floor.IsCeiling}
 use Rattle.timeline.specs.Ratios.{natural, steps_within, steps_to_cover}
 
 -- ---- quotients
 
 -- a quotient is what its two bounds say
 pub quotient-is : (n d q : ℕ) → q * d ≤ n → n < (q + 1) * d → n / d ≡ q
-quotient-is n d q low high = le_antisymm (let h : n / d < q + 1 = div_below n d (q + 1) (omega arith) high in omega arith) (le-div q n d (omega arith) low)
+quotient-is n d q low high = le_antisymm (let h : n / d < q + 1 = div_below n d (q + 1) (omega arith) high in
+    omega arith) (le-div q n d (omega arith) low)
 
 pub quotient-low : (n d : ℕ) → n / d * d ≤ n
 quotient-low n d = div-mul-le_self n d
 
 pub quotient-high : (n d : ℕ) → 0 < d → n < (n / d + 1) * d
-quotient-high n d some = elim (cases_lt n ((n / d + 1) * d)) [ inl below ↦ below | inr above ↦ absurd (let h : n / d + 1 ≤ n / d = le-div (n / d + 1) n d some above in omega arith) ]
+quotient-high n d some = elim (cases_lt n ((n / d + 1) * d)) [
+  | inl below ↦ below
+  | inr above ↦
+      absurd (let h : n / d + 1 ≤ n / d = le-div (n / d + 1) n d some above in omega arith)
+]
 
 -- a factor of both cancels
 pub quotient-cancel : (n d m : ℕ) → 0 < m → 0 < d → (n * m) / (d * m) ≡ n / d
@@ -33,7 +36,8 @@ quotient-cancel n d m some whole = quotient-is (n * m) (d * m) (n / d)
 
 -- ---- steps within a length
 
-pub steps_within-is : (l s : Time) (n d m : ℕ) → 0 < m → 0 < d → natural l.ticks * s.scale ≡ n * m → l.scale * natural s.ticks ≡ d * m → steps_within l s ≡ n / d
+pub steps_within-is : (l s : Time) (n d m : ℕ) → 0 < m → 0 < d → natural l.ticks * s.scale ≡ n * m → l.scale * natural s.ticks ≡ d * m
+    → steps_within l s ≡ n / d
 unfolding steps_within
 steps_within-is l s n d m some whole above below = rw (above, below) (quotient-cancel n d m some whole)
 
@@ -56,9 +60,11 @@ ceiling-is n d k some is = le_antisymm (ceiling-le n d k some is.enough) (is.lea
 pub ceiling-cancel : (n d m : ℕ) → 0 < m → 0 < d → ceiling (n * m) (d * m) ≡ ceiling n d
 ceiling-cancel n d m some whole = le_antisymm
     (ceiling-le (n * m) (d * m) (ceiling n d) (one-le-mul whole some) (omega (arith, mul-le-mul_left m (ceiling-enough n d whole))))
-    (ceiling-le n d (ceiling (n * m) (d * m)) whole (le_of_mul-le-mul_left {k = m} (omega (arith, ceiling-enough (n * m) (d * m) (one-le-mul whole some))) some))
+    (ceiling-le n d (ceiling (n * m) (d * m)) whole
+    (le_of_mul-le-mul_left {k = m} (omega (arith, ceiling-enough (n * m) (d * m) (one-le-mul whole some))) some))
 
-pub steps_to_cover-is : (l s : Time) (n d m : ℕ) → 0 < m → 0 < d → natural l.ticks * s.scale ≡ n * m → l.scale * natural s.ticks ≡ d * m → steps_to_cover l s ≡ ceiling n d
+pub steps_to_cover-is : (l s : Time) (n d m : ℕ) → 0 < m → 0 < d → natural l.ticks * s.scale ≡ n * m → l.scale * natural s.ticks ≡ d * m
+    → steps_to_cover l s ≡ ceiling n d
 unfolding steps_to_cover
 steps_to_cover-is l s n d m some whole above below = rw (above, below) (ceiling-cancel n d m some whole)
 
@@ -75,7 +81,8 @@ leb-div a b u some = elim (cases_lt b (a * u)) [
 
 div-leb : (a b u : ℕ) → 0 < u → leb (suc b) (suc a * u) ≡ leb (b / u) a
 div-leb a b u some = elim (cases_lt b (suc a * u)) [
-  | inl below ↦ let h : b / u < suc a = div_below b u (suc a) some below in le-leb (suc b) (suc a * u) below ∙ sym (le-leb (b / u) a (omega arith))
+  | inl below ↦ let h : b / u < suc a = div_below b u (suc a) some below in le-leb (suc b) (suc a * u) below
+      ∙ sym (le-leb (b / u) a (omega arith))
   | inr above ↦ let h : suc a ≤ b / u = le-div (suc a) b u some above in lt-leb (suc b) (suc a * u) (omega arith) ∙ sym (lt-leb (b / u) a h)
 ]
 
@@ -94,7 +101,8 @@ floor-le (pos a) (negsuc b) u some = refl
 floor-le (negsuc a) (pos b) u some = ap (λ (z : ℤ). int_le z (pos b)) (negated (suc a * u) (one-le-mul (omega arith) some)).1
 floor-le (negsuc a) (negsuc b) u some = le_negated (suc a * u) b (one-le-mul (omega arith) some) ∙ div-leb a b u some
 
-pub at_most-floor : (e : ℤ) (scale : ℕ) (t : Time) → 0 < t.scale → at_most (record { ticks = e; scale = scale }) t ≡ int_le e (floor_ticks t scale)
+pub at_most-floor : (e : ℤ) (scale : ℕ) (t : Time) → 0 < t.scale → at_most (record { ticks = e; scale = scale }) t
+    ≡ int_le e (floor_ticks t scale)
 at_most-floor e scale t some = floor-le e (t.ticks *ℤ pos scale) t.scale some
 
 -- ---- tests on whole numbers
@@ -127,10 +135,12 @@ int_le-mul a b u h =
 
 pub floor-low : (t : Time) (scale : ℕ) → 0 < t.scale → (floor_ticks t scale *ℤ pos t.scale) ≤ℤ (t.ticks *ℤ pos scale)
 floor-low t scale some =
-    let f : ℤ = floor_ticks t scale in
-    int_le-true (f *ℤ pos t.scale) (t.ticks *ℤ pos scale) (floor-le f (t.ticks *ℤ pos scale) t.scale some ∙ int_le-from f f (omega (arith, ints)))
+    let f = floor_ticks t scale in
+    int_le-true (f *ℤ pos t.scale) (t.ticks *ℤ pos scale) (floor-le f (t.ticks *ℤ pos scale) t.scale some
+    ∙ int_le-from f f (omega (arith, ints)))
 
 pub floor-high : (t : Time) (scale : ℕ) → 0 < t.scale → (t.ticks *ℤ pos scale) <ℤ ((floor_ticks t scale +ℤ pos 1) *ℤ pos t.scale)
 floor-high t scale some =
-    let f : ℤ = floor_ticks t scale in
-    int_le-false ((f +ℤ pos 1) *ℤ pos t.scale) (t.ticks *ℤ pos scale) (floor-le (f +ℤ pos 1) (t.ticks *ℤ pos scale) t.scale some ∙ not_int_le-from (f +ℤ pos 1) f (omega (arith, ints)))
+    let f = floor_ticks t scale in
+    int_le-false ((f +ℤ pos 1) *ℤ pos t.scale) (t.ticks *ℤ pos scale) (floor-le (f +ℤ pos 1) (t.ticks *ℤ pos scale) t.scale some
+    ∙ not_int_le-from (f +ℤ pos 1) f (omega (arith, ints)))

@@ -1,43 +1,47 @@
 -- How far the segments of an S go on.
-use Rattle.std.proofs.lemmas.List.{append_assoc}
-use Rattle.std.proofs.Common.{inl, inr, ◌++◌, ◌≡◌, ℕ, zero, suc, ◌+◌, ◌-◌, ◌*◌, ◌<◌, ◌≤◌, Bool, true, false, cond, List, [], ◌∷◌, map, ℤ, pos, negsuc, ◌+ℤ◌, ◌-ℤ◌, ◌*ℤ◌, Option, Some, None, refl, ◌∙◌, sym, ap, subst, arith}
-use Rattle.std.specs.Prelude.{◌⊎◌, slice_get, IfSome, not, ◌&&◌, ◌==◌}
-use Rattle.std.specs.List.{list_any}
-use Rattle.std.specs.Int.{FitsUnsignedBits}
+use Rattle.std.proofs.lemmas.List.{append_assoc, append-nil, map-append, drop-drop, length-append, length-drop}
+use Rattle.std.proofs.Common.{inl, inr, ◌≡◌, ℕ, zero, suc, ◌+◌, ◌-◌, ◌*◌, ◌<◌, ◌≤◌, Bool, true, false, cond, List, ◌∷◌, map, ℤ, pos, negsuc}
+use Rattle.std.proofs.Common.{[]}
+use Rattle.std.proofs.Common.{◌+ℤ◌, ◌-ℤ◌, ◌*ℤ◌, Option, Some, None, refl, ◌∙◌, sym, ap, subst, arith, ◌^◌, max, ltb, ◌||◌, ◌++◌, length}
+use Rattle.std.proofs.Common.{drop}
+use Rattle.std.specs.Prelude.{◌⊎◌, slice_get, not, ◌&&◌, ◌==◌, Option, Some, None, All, IsNone, unsigned_abs}
+use Rattle.std.specs.{List.list_any, Int.FitsUnsignedBits}
 use mir.Val.{SFits}
 use mir.Syntax.{w64}
-use Rattle.std.proofs.lemmas.Int.{ints}
-use Rattle.std.proofs.lemmas.Bool.{cond-true, cond-false}
-use Rattle.std.proofs.Math.Nat.{one-le-mul}
+use Rattle.std.proofs.lemmas.{Int.ints, Option.IfSome_then, Bool.Decides.nat_tests}
+use Rattle.std.proofs.lemmas.Bool.{cond-true, cond-false, or_parts, cases_Bool, cases_lt, eq-eqb, ne_eqb, le-ltb, lt-leb}
+use Rattle.std.proofs.Math.Nat.{one-le-mul, mul-le-mul_right}
 use Rattle.exact_time.specs.Time.{Time, IsBefore, IsAtMost, difference, at_most, nanoseconds}
 use Rattle.exact_time.specs.Floor.{IsCeiling}
-use Rattle.timeline.specs.declared.entry.SEntry.{SEntry}
-use Rattle.timeline.specs.declared.entry.Scale.{Scale}
-use Rattle.timeline.specs.declared.entry.End.{End}
-use Rattle.timeline.specs.declared.entry.End.TheVariants.{At}
-use Rattle.timeline.specs.declared.fault.TimeFault.{TimeFault}
-use Rattle.timeline.specs.declared.fault.TimeFault.TheVariants.{Range, Step}
-use Rattle.timeline.specs.declared.builder.RunsBuilder.{RunsBuilder}
-use Rattle.timeline.specs.declared.limits.Limits.{Limits}
+use Rattle.timeline.specs.declared.{entry.SEntry.SEntry, entry.Scale.Scale, entry.End.End}
+use Rattle.timeline.specs.declared.{entry.End.TheVariants.At, entry.End.TheVariants.Unbounded, fault.TimeFault.TimeFault}
+use Rattle.timeline.specs.declared.{fault.TimeFault.TheVariants.Range, fault.TimeFault.TheVariants.Step, builder.RunsBuilder.RunsBuilder}
+use Rattle.timeline.specs.declared.{limits.Limits.Limits, names.Names.Names, media_run.MediaRun.MediaRun, media_runs.MediaRuns.MediaRuns}
+use Rattle.timeline.specs.declared.{shared_timeline.LaidTimeline.LaidTimeline}
 use Rattle.timeline.specs.declared.timelines.Reach.{Reach as Found}
-use Rattle.timeline.specs.declared.timelines.Reach.TheVariants.{Count, Open, Nowhere}
+use Rattle.timeline.specs.declared.timelines.Reach.TheVariants.{Count, Open, Nowhere, Nowhere as Without}
 use Rattle.timeline.specs.Ratios.{natural}
-use Rattle.timeline.specs.Expansions.{Extent, Member, Closed, Short, Endless as GoesOn, lasting, repeated}
-use Rattle.timeline.specs.Timelines.{UpTo, placed, extent_from, count_up_to, members_of, reach_of, reach_of_next, reach_of_end, members_from, expansion_of_timeline}
-use Rattle.timeline.specs.declared.names.Names.{Names}
+use Rattle.timeline.specs.Expansions.{Extent, Member, Closed, Short, lasting, repeated, Endless, repeat_of}
+use Rattle.timeline.specs.Timelines.{UpTo, placed, extent_from, count_up_to, members_of, reach_of, reach_of_end, members_from}
+use Rattle.timeline.specs.Timelines.{expansion_of_timeline, count_of, reach_of_next}
 use Rattle.timeline.specs.SegmentTimelines.{timeline_of_entries, timeline_if_paired}
-use Rattle.timeline.specs.Steady.{AreLasting, EndInTime, IsSteady}
-use Rattle.timeline.specs.Limits.{breaks_limits, too_long}
+use Rattle.timeline.specs.Steady.{AreKept}
+use Rattle.timeline.specs.Limits.{breaks_limits}
 use Rattle.timeline.specs.Faults.{ends_open, is_apart, is_unbounded, refusal, segment_fault}
-use Rattle.timeline.specs.Building.{AreAdded, IsLaidOut, IsFaultOf, breaks_in, extent_in, fault_of, former_end, members_so_far}
-use Rattle.timeline.specs.Reaches.{GoesOn as MoreFollow, IsUpTo, IsReach, AreLaidOut, AreLimitsOf, IsSoFar, IsTheirFault, members_of_entry, next_of, start_of}
-use Rattle.timeline.proofs.Ratios.{steps_to_cover-is, ceiling-is, int_le-mul, int_add-mul}
+use Rattle.timeline.specs.Building.{AreAdded, IsLaidOut, IsFaultOf, breaks_in, extent_in, fault_of, former_end, members_so_far, placed_in}
+use Rattle.timeline.specs.Building.{runs_in}
+use Rattle.timeline.specs.Reaches.{GoesOn as MoreFollow, IsUpTo, IsReach, AreLaidOut, AreLimitsOf, IsSoFar, IsTheirFault, members_of_entry}
+use Rattle.timeline.specs.Reaches.{next_of, start_of}
+use Rattle.timeline.proofs.Ratios.{steps_to_cover-is, ceiling-is, int_le-mul, int_add-mul, ceiling, ceiling-enough, ceiling-le}
 use Rattle.exact_time.proofs.TimeOrder.{at_most-from, not_at_most-from}
-use Rattle.timeline.proofs.Laid.{refusal_some}
-use Rattle.timeline.proofs.Rises.{steady_from}
-use Rattle.timeline.proofs.Judged.{not_long}
-use Rattle.timeline.proofs.Limited.{in_time, not_late}
-use Rattle.timeline.proofs.ExpansionsRise.{entries_last, neither}
+use Rattle.timeline.proofs.Laid.{refusal_some, IsRun-in, extents-push, extents_after, laid-push, none_follows, none_of, room_after}
+use Rattle.timeline.proofs.Laid.{timed-in}
+use Rattle.timeline.proofs.Paced.{kept_of}
+use Rattle.timeline.proofs.ExpansionsRise.{entries_last}
+use Rattle.timeline.specs.MediaTimelines.{IsLaidTimeline, IsMedia, IsNextRun, IsPushed, are_passed, media_end, rest_of, runs_by}
+use Rattle.timeline.specs.RunSegments.{AreLaid, IsRun, TimedRun, all_extents, placed_run}
+use Rattle.timeline.proofs.Judged.{breaks-mono, head_breaks, is_apart-in, media_extent-in, run_fault}
+use Rattle.timeline.proofs.LimitLemmas.{breaks_media, abs-lt}
 
 positive_from : (count length step : ℕ) → IsCeiling length step count → 0 < length → 0 < count
 positive_from zero length step is some = absurd (omega (arith, is.enough))
@@ -77,45 +81,55 @@ module _ (scale : Scale) (s d : ℕ) (some : 0 < d) where
   in_nanoseconds : media s *ℤ pos 1000000000 +ℤ pos (o * 1000000000) ≡ pos (s * 1000000000)
   in_nanoseconds =
       let sum : media s +ℤ pos o ≡ pos s = omega (arith, ints) in
-      sym (int_add-mul (media s) o 1000000000) ∙ ap (λ (z : ℤ). z *ℤ pos 1000000000) sum
+      cc (int_add-mul (media s) o 1000000000)
 
-  module _ (bound : Time) (before after : ℕ) (unit : ℕ) (positive : 0 < unit) (is_late : (after ≤ before) → IsAtMost bound x.start) (is_early : before < after → IsBefore x.start bound)
+  module _ (bound : Time) (before after : ℕ) (unit : ℕ) (positive : 0 < unit) (is_late : (after ≤ before)
+      → IsAtMost bound x.start) (is_early : before < after → IsBefore x.start bound)
       (counts : before < after → (n : ℕ) → IsCeiling (after - before) (d * unit) n → count_up_to bound x ≡ n) where
     reach_up_to : (found : Found) → IsUpTo after before (d * unit) found → IsReach (UpTo bound) x found
     reach_up_to (Count count) (early, is) =
         let same : count ≡ count_up_to bound x = sym (counts early count is) in (
           positive_from count (after - before) (d * unit) is (omega arith),
           same,
-          cond-false (at_most bound x.start) (Short x ∷ []) (map Closed (repeated (count_up_to bound x) x)) (not_at_most-from bound x.start (is_early early))
+          cond-false (at_most bound x.start) (Short x ∷ []) (map Closed (repeated (count_up_to bound x) x))
+              (not_at_most-from bound x.start (is_early early))
               ∙ ap (λ (n : ℕ). map Closed (repeated n x)) (sym same),
         )
     reach_up_to Open is = absurd is
-    reach_up_to Nowhere late = cond-true (at_most bound x.start) (Short x ∷ []) (map Closed (repeated (count_up_to bound x) x)) (at_most-from bound x.start (is_late late))
+    reach_up_to Nowhere late = cond-true (at_most bound x.start) (Short x ∷ []) (map Closed (repeated (count_up_to bound x) x))
+        (at_most-from bound x.start (is_late late))
 
   -- up to a media time
   pub reach_up_to_media : (t : ℕ) (found : Found) → IsUpTo t s d found → IsReach (UpTo (placed scale t)) x found
   reach_up_to_media t found is = reach_up_to (placed scale t) s t 1 (omega arith)
       (λ late. int_le-mul (media t) (media s) k (omega (arith, ints)))
-      (λ early. let times = later t early in let some_time : 0 < t - s = omega arith in omega (arith, ints, one-le-mul some_time scale.positive))
+      (λ early. let times = later t early in let some_time : 0 < t - s = omega arith in
+      omega (arith, ints, one-le-mul some_time scale.positive))
       (λ early n is.
       let times = later t early in
       let between : media t *ℤ pos k -ℤ media s *ℤ pos k ≡ pos ((t - s) * k) = omega (arith, ints) in
       let steps : natural (media t *ℤ pos k -ℤ media s *ℤ pos k) ≡ (t - s) * k = ap natural between in
-      steps_to_cover-is (difference (placed scale t) x.start) (lasting x) (t - s) (d * 1) (k * (k * k)) (one-le-mul scale.positive (one-le-mul scale.positive scale.positive)) (omega arith)
+      steps_to_cover-is (difference (placed scale t) x.start) (lasting x) (t - s) (d * 1) (k * (k * k))
+      (one-le-mul scale.positive (one-le-mul scale.positive scale.positive)) (omega arith)
       (ap (λ (m : ℕ). m * (k * k)) steps ∙ omega arith) (ap (λ (m : ℕ). k * k * m) lasts ∙ omega arith)
       ∙ ceiling-is (t - s) (d * 1) n (omega arith) is)
       found (subst (λ (m : ℕ). IsUpTo t s m found) (omega arith) is)
 
   -- up to a length from the Period's start
-  pub reach_up_to_end : (length : ℕ) (found : Found) → IsUpTo (length * k + o * 1000000000) (s * 1000000000) (d * 1000000000) found → IsReach (UpTo (nanoseconds (pos length))) x found
-  reach_up_to_end length found is = reach_up_to (nanoseconds (pos length)) (s * 1000000000) (length * k + o * 1000000000) 1000000000 (omega arith)
+  pub reach_up_to_end : (length : ℕ) (found : Found) → IsUpTo (length * k + o * 1000000000) (s * 1000000000) (d * 1000000000) found
+      → IsReach (UpTo (nanoseconds (pos length))) x found
+  reach_up_to_end length found is = reach_up_to (nanoseconds (pos length)) (s * 1000000000) (length * k + o * 1000000000) 1000000000
+      (omega arith)
       (λ late. let start = in_nanoseconds in omega (arith, ints))
       (λ early. let start = in_nanoseconds in omega (arith, ints))
       (λ early n is.
       let start = in_nanoseconds in
-      let between : pos (length * k) -ℤ media s *ℤ pos 1000000000 ≡ pos (length * k + o * 1000000000 - s * 1000000000) = omega (arith, ints) in
-      let steps : natural (pos (length * k) -ℤ media s *ℤ pos 1000000000) ≡ length * k + o * 1000000000 - s * 1000000000 = ap natural between in
-      steps_to_cover-is (difference (nanoseconds (pos length)) x.start) (lasting x) (length * k + o * 1000000000 - s * 1000000000) (d * 1000000000) (k * k) (one-le-mul scale.positive scale.positive) (omega arith)
+      let between : pos (length * k) -ℤ media s *ℤ pos 1000000000 ≡ pos (length * k + o * 1000000000 - s * 1000000000) =
+      omega (arith, ints) in
+      let steps : natural (pos (length * k) -ℤ media s *ℤ pos 1000000000) ≡ length * k + o * 1000000000 - s * 1000000000 =
+      ap natural between in
+      steps_to_cover-is (difference (nanoseconds (pos length)) x.start) (lasting x) (length * k + o * 1000000000 - s * 1000000000)
+      (d * 1000000000) (k * k) (one-le-mul scale.positive scale.positive) (omega arith)
       (ap (λ (m : ℕ). m * (k * k)) steps) (ap (λ (m : ℕ). 1000000000 * k * m) lasts ∙ omega arith)
       ∙ ceiling-is (length * k + o * 1000000000 - s * 1000000000) (d * 1000000000) n (omega arith) is)
       found is
@@ -124,108 +138,384 @@ module _ (scale : Scale) (s d : ℕ) (some : 0 < d) where
 
 pub extent_in-from : (scale : Scale) (l : Limits) (s d : ℕ) → AreLimitsOf scale l → extent_in l s d ≡ extent_from scale s d
 extent_in-from scale l s d are =
-    ap (λ (o : ℕ). record { start = record { ticks = pos s -ℤ pos o; scale = l.ticks }; end = record { ticks = pos (s + d) -ℤ pos o; scale = l.ticks } }) are.origin
-    ∙ ap (λ (k : ℕ). record { start = record { ticks = pos s -ℤ pos scale.offset; scale = k }; end = record { ticks = pos (s + d) -ℤ pos scale.offset; scale = k } }) are.ticks
+    cc (are.origin, are.ticks)
 
-short_of_two : (a b : Bool) (fault : TimeFault) → cond a (Some Range) (cond b (Some Step) None) ≡ Some fault → cond a (Some Range) (Some Step) ≡ Some fault
+short_of_two : (a b : Bool) (fault : TimeFault) → cond a (Some Range) (cond b (Some Step) None) ≡ Some fault
+    → cond a (Some Range) (Some Step) ≡ Some fault
 short_of_two true b fault is = is
 short_of_two false true fault is = is
 short_of_two false false fault is = cc
 
-pub IsFaultOf-short : (old : RunsBuilder) (x : Extent) (members : List Member) (fault : TimeFault) → members ≡ Short x ∷ [] → fault_of old.limits (former_end old) x ≡ Some fault → IsFaultOf old members fault
+pub IsFaultOf-short : (old : RunsBuilder) (x : Extent) (members : List Member) (fault : TimeFault) → members ≡ Short x ∷ []
+    → fault_of old.limits (former_end old) x ≡ Some fault → IsFaultOf old members fault
 IsFaultOf-short old x members fault short is =
     subst (λ (ms : List Member). IsFaultOf old ms fault) (sym short)
-    (refusal_some fault (λ f. (later : List Member) → segment_fault (breaks_in old.limits) (former_end old) (Short x ∷ later) ≡ Some f) (λ later. short_of_two (breaks_in old.limits x) (is_apart (former_end old) x) fault is))
+    (refusal_some fault (λ f. (later : List Member) → segment_fault (breaks_in old.limits) (former_end old) (Short x ∷ later) ≡ Some f)
+    (λ later. short_of_two (breaks_in old.limits x) (is_apart (former_end old) x) fault is))
 
 -- ---- how far an S goes on that has a negative `@r`
 
-pub reach_next : (scale : Scale) (end : End) (r : ℤ) (later : List SEntry) (next : SEntry) (t : ℕ) → SFits w64 r → (FitsUnsignedBits 64 r → ⊥) → Some next ≡ slice_get later 0 → next.t ≡ Some t →
+pub reach_next : (scale : Scale) (end : End) (r : ℤ) (later : List SEntry) (next : SEntry) (t : ℕ) → SFits w64 r
+    → (FitsUnsignedBits 64 r → ⊥) → Some next ≡ slice_get later 0 → next.t ≡ Some t →
     reach_of scale end r later ≡ UpTo (placed scale t)
 reach_next scale end (pos r) later next t fits negative at is = absurd (negative (omega (arith, fits.sfits)))
 reach_next scale end (negsuc r) [] next t fits negative at is = cc
 reach_next scale end (negsuc r) (s ∷ later) next t fits negative at is =
     let same : next ≡ s = cc in
-    ap (λ (e : SEntry). reach_of_next scale e.t) (sym same) ∙ ap (reach_of_next scale) is
+    cc
 
-pub reach_last : (scale : Scale) (end : End) (r : ℤ) (later : List SEntry) (length : ℕ) → SFits w64 r → (FitsUnsignedBits 64 r → ⊥) → None ≡ slice_get later 0 → end ≡ At length →
+pub reach_last : (scale : Scale) (end : End) (r : ℤ) (later : List SEntry) (length : ℕ) → SFits w64 r → (FitsUnsignedBits 64 r → ⊥)
+    → None ≡ slice_get later 0 → end ≡ At length →
     reach_of scale end r later ≡ UpTo (nanoseconds (pos length))
 reach_last scale end (pos r) later length fits negative at is = absurd (negative (omega (arith, fits.sfits)))
 reach_last scale end (negsuc r) [] length fits negative at is = ap reach_of_end is
 reach_last scale end (negsuc r) (s ∷ later) length fits negative at is = cc
 
-pub IfSome-map : {X : Type 0} (o : Option X) (P Q : X → Type 0) → ((x : X) → P x → Q x) → IfSome o P → IfSome o Q
-IfSome-map None P Q f holds = tt
-IfSome-map (Some x) P Q f holds = f x holds
+pub fault_in : (scale : Scale) (l : Limits) → AreLimitsOf scale l → (former : Option Time) (members : List Member) →
+    segment_fault (breaks_limits scale.ticks scale.offset) former members ≡ segment_fault (breaks_in l) former members
+fault_in scale l are former members =
+    ap (λ (k : ℕ). segment_fault (breaks_limits k scale.offset) former members) (sym are.ticks)
+    ∙ ap (λ (o : ℕ). segment_fault (breaks_limits l.ticks o) former members) (sym are.origin)
 
-pub breaks_in-of : (scale : Scale) (l : Limits) → AreLimitsOf scale l → (x : Extent) → breaks_in l x ≡ breaks_limits scale.ticks scale.offset x
-breaks_in-of scale l are x = ap (λ (k : ℕ). breaks_limits k l.origin x) are.ticks ∙ ap (λ (o : ℕ). breaks_limits scale.ticks o x) are.origin
-
--- faults depend on the tests alone
-pub fault_by : (p q : Extent → Bool) → ((x : Extent) → p x ≡ q x) → (former : Option Time) (members : List Member) → segment_fault p former members ≡ segment_fault q former members
-fault_by p q same former [] = refl
-fault_by p q same former (Closed x ∷ later) =
-    ap (λ (b : Bool). cond b (Some Range) (cond (is_apart former x) (Some Step) (segment_fault p (Some x.end) later))) (same x)
-    ∙ ap (λ (f : Option TimeFault). cond (q x) (Some Range) (cond (is_apart former x) (Some Step) f)) (fault_by p q same (Some x.end) later)
-fault_by p q same former (Short x ∷ later) = ap (λ (b : Bool). cond b (Some Range) (Some Step)) (same x)
-fault_by p q same former (GoesOn x ∷ later) = ap (λ (f : Option TimeFault). cond (is_apart former x) (Some Step) f) (fault_by p q same former later)
-
-pub fault_so_far : (scale : Scale) (end : End) (entries : List SEntry) (l : RunsBuilder) (rest : List SEntry) (s : SEntry) (later : List SEntry) (fault : TimeFault) → IsSoFar scale end entries l rest → rest ≡ s ∷ later →
-    IsFaultOf l (members_of_entry scale end l.former s later) fault → IsTheirFault (breaks_limits scale.ticks scale.offset) (expansion_of_timeline scale end entries) fault
+pub fault_so_far : (scale : Scale) (end : End) (entries : List SEntry) (l : RunsBuilder) (rest : List SEntry) (s : SEntry)
+    (later : List SEntry) (fault : TimeFault) → IsSoFar scale end entries l rest → rest ≡ s ∷ later →
+    IsFaultOf l (members_of_entry scale end l.former s later) fault
+    → IsTheirFault (breaks_limits scale.ticks scale.offset) (expansion_of_timeline scale end entries) fault
 fault_so_far scale end entries l rest s later fault so_far at is =
-    IfSome-map (refusal fault) _ _ (λ f holds.
-    fault_by (breaks_limits scale.ticks scale.offset) (breaks_in l.limits) (λ x. sym (breaks_in-of scale l.limits so_far.limits x)) None (expansion_of_timeline scale end entries)
-    ∙ so_far.judged
+    IfSome_then (refusal fault) is (λ f holds.
+    fault_in scale l.limits so_far.limits None (expansion_of_timeline scale end entries) ∙ so_far.judged
     ∙ ap (λ (ss : List SEntry). segment_fault (breaks_in l.limits) (former_end l) (members_from scale end l.former ss)) at
-    ∙ holds (members_from scale end (next_of scale end l.former s later) later)) is
+    ∙ holds (members_from scale end (next_of scale end l.former s later) later))
 
 pub members_nowhere : (scale : Scale) (end : End) (former : ℕ) (s : SEntry) (later : List SEntry) (start : ℕ) → start ≡ start_of former s →
-    members_of (reach_of scale end s.r later) (extent_from scale start s.d) ≡ Short (extent_from scale start s.d) ∷ [] → members_of_entry scale end former s later ≡ Short (extent_from scale start s.d) ∷ []
-members_nowhere scale end former s later start is short = ap (λ (n : ℕ). members_of (reach_of scale end s.r later) (extent_from scale n s.d)) (sym is) ∙ short
+    members_of (reach_of scale end s.r later) (extent_from scale start s.d) ≡ Short (extent_from scale start s.d) ∷ []
+    → members_of_entry scale end former s later ≡ Short (extent_from scale start s.d) ∷ []
+members_nowhere scale end former s later start is short = cc
 
 -- the segments of one more S are in the row
-pub so_far_more : (scale : Scale) (end : End) (entries : List SEntry) (l new : RunsBuilder) (rest : List SEntry) (s : SEntry) (later : List SEntry) → IsSoFar scale end entries l rest → rest ≡ s ∷ later →
-    AreAdded l (members_of_entry scale end l.former s later) new → new.limits ≡ l.limits → IsLaidOut new → MoreFollow new later → (new.former ≡ next_of scale end l.former s later) ⊎ (later ≡ []) → IsSoFar scale end entries new later
+pub so_far_more : (scale : Scale) (end : End) (entries : List SEntry) (l new : RunsBuilder) (rest : List SEntry) (s : SEntry)
+    (later : List SEntry) → IsSoFar scale end entries l rest → rest ≡ s ∷ later →
+    AreAdded l (members_of_entry scale end l.former s later) new → new.limits ≡ l.limits → IsLaidOut new → MoreFollow new later
+    → (new.former ≡ next_of scale end l.former s later) ⊎ (later ≡ []) → IsSoFar scale end entries new later
 so_far_more scale end entries l new rest s later so_far at added limits laid goes_on former =
-    let members : List Member = members_of_entry scale end l.former s later in
+    let members = members_of_entry scale end l.former s later in
     let behind : members_from scale end (next_of scale end l.former s later) later ≡ members_from scale end new.former later = elim former [
       | inl same ↦ ap (λ (n : ℕ). members_from scale end n later) (sym same)
-      | inr none ↦ ap (members_from scale end (next_of scale end l.former s later)) none ∙ sym (ap (members_from scale end new.former) none)
+      | inr none ↦ cc
     ] in
     record {
       limits = subst (λ (k : Limits). AreLimitsOf scale k) (sym limits) so_far.limits;
       laid = laid;
-      lasting = (neither (s.d == 0) (list_any (λ e. e.d == 0) later) (sym (ap (list_any (λ e. e.d == 0)) at) ∙ so_far.lasting)).1;
+      lasting = (or_parts (s.d == 0) (list_any (λ e. e.d == 0) later) (sym (ap (list_any (λ e. e.d == 0)) at) ∙ so_far.lasting)).1;
       goes_on = goes_on;
-      members = so_far.members ∙ ap (λ (ss : List SEntry). members_so_far l ++ members_from scale end l.former ss) at
-          ∙ sym (append_assoc (members_so_far l) members (members_from scale end (next_of scale end l.former s later) later))
-          ∙ ap (λ (ms : List Member). ms ++ members_from scale end (next_of scale end l.former s later) later) (sym added.added)
-          ∙ ap (λ (ms : List Member). members_so_far new ++ ms) behind;
+      members =
+          let by_append_assoc = append_assoc (members_so_far l) members (members_from scale end (next_of scale end l.former s later) later
+          ) in
+          cc (so_far.members, added.added);
       judged =
-          ap (λ (k : Limits). segment_fault (breaks_in k) None (expansion_of_timeline scale end entries)) limits
-          ∙ so_far.judged ∙ ap (λ (ss : List SEntry). segment_fault (breaks_in l.limits) (former_end l) (members_from scale end l.former ss)) at
-          ∙ added.passed (members_from scale end (next_of scale end l.former s later) later) ∙ ap (segment_fault (breaks_in new.limits) (former_end new)) behind;
+          cc (so_far.judged, added.passed (members_from scale end (next_of scale end l.former s later) later));
     }
 
 -- ---- a timeline
 
 -- laid out, it has no fault
-pub judged_by : (scale : Scale) (l : RunsBuilder) (members : List Member) → AreLaidOut scale members l → segment_fault (breaks_limits scale.ticks scale.offset) None members ≡ None
-judged_by scale l members are = fault_by (breaks_limits scale.ticks scale.offset) (breaks_in l.limits) (λ x. sym (breaks_in-of scale l.limits are.limits x)) None members ∙ are.judged
+pub judged_by : (scale : Scale) (l : RunsBuilder) (members : List Member) → AreLaidOut scale members l
+    → segment_fault (breaks_limits scale.ticks scale.offset) None members ≡ None
+judged_by scale l members are = fault_in scale l.limits are.limits None members ∙ are.judged
 
-module _ (scale : Scale) (end : End) (entries : List SEntry) (l : RunsBuilder) (are : AreLaidOut scale (expansion_of_timeline scale end entries) l) where
-  pub timeline_lasting : list_any (λ s. s.d == 0) entries ≡ false → AreLasting (members_so_far l)
-  timeline_lasting some = subst (λ (ms : List Member). AreLasting ms) (sym are.members_are) (entries_last scale end 0 entries some)
+pub timeline_kept : (scale : Scale) (end : End) (entries : List SEntry) (l : RunsBuilder) →
+    AreLaidOut scale (expansion_of_timeline scale end entries) l → list_any (λ s. s.d == 0) entries ≡ false → AreKept (members_so_far l)
+timeline_kept scale end entries l are some = rw are.members_are
+    (kept_of (λ x. l.limits.ticks) l.limits.origin (expansion_of_timeline scale end entries)
+    (entries_last scale end 0 entries some) are.judged)
 
-  pub timeline_steady : IsSteady (members_so_far l)
-  timeline_steady = subst (λ (ms : List Member). IsSteady ms) (sym are.members_are)
-      (steady_from (breaks_in l.limits) too_long (λ x kept. not_long l.limits.ticks l.limits.origin x kept) None (expansion_of_timeline scale end entries) are.judged)
-
-  pub timeline_in_time : EndInTime (members_so_far l)
-  timeline_in_time = subst (λ (ms : List Member). EndInTime ms) (sym are.members_are)
-      (in_time (breaks_in l.limits) (λ x kept. not_late l.limits.ticks l.limits.origin x kept) None
-      (expansion_of_timeline scale end entries) are.judged)
-
-pub timeline_built : (entries : List SEntry) (end : End) (live : Bool) (scale : Scale) (names : Names) (l : RunsBuilder) → list_any (λ s. s.d == 0) entries ≡ false → (not live && is_unbounded end && ends_open entries) ≡ false →
-    AreLaidOut scale (expansion_of_timeline scale end entries) l → timeline_of_entries entries end live scale names ≡ timeline_if_paired scale scale.offset names (members_so_far l)
+pub timeline_built : (entries : List SEntry) (end : End) (live : Bool) (scale : Scale) (names : Names) (l : RunsBuilder)
+    → list_any (λ s. s.d == 0) entries ≡ false → (not live && is_unbounded end && ends_open entries) ≡ false →
+    AreLaidOut scale (expansion_of_timeline scale end entries) l → timeline_of_entries entries end live scale names
+    ≡ timeline_if_paired scale scale.offset names (members_so_far l)
 timeline_built entries end live scale names l lasting ended are =
     rw (are.members_are, lasting, ended, judged_by scale l (expansion_of_timeline scale end entries) are) refl
+
+-- ---- runs in media time, at every timescale
+
+-- ---- how many segments an S has, whatever the scale
+
+short_closed : (count : ℕ) (x y : Extent) → 0 < count → Short x ∷ [] ≡ map Closed (repeated count y) → ⊥
+unfolding repeated
+short_closed zero x y some is = absurd (omega arith)
+short_closed (suc count) x y some is = cc
+
+endless_closed : (count : ℕ) (x y : Extent) → 0 < count → Endless x ∷ [] ≡ map Closed (repeated count y) → ⊥
+unfolding repeated
+endless_closed zero x y some is = absurd (omega arith)
+endless_closed (suc count) x y some is = cc
+
+module _ (s0 scale : Scale) (start d count : ℕ) (some : 0 < d) where
+  abbrev x0 : Extent
+  x0 = extent_from s0 start d
+
+  abbrev y : Extent
+  y = extent_from scale start d
+
+  up_to_any : (t : ℕ) → IsReach (UpTo (placed s0 t)) x0 (Count count) → IsReach (UpTo (placed scale t)) y (Count count)
+  up_to_any t found = elim (cases_lt start t) [
+    | inl early ↦
+        let n = ceiling (t - start) d in
+        let least : IsCeiling (t - start) d n = record {
+          enough = ceiling-enough (t - start) d some;
+          least = λ other h. ceiling-le (t - start) d other some h;
+        } in
+        let first = reach_up_to_media s0 start d some t (Count n) (early, least) in
+        let same : count ≡ n = found.1 ∙ sym first.1 in
+        subst (λ (k : ℕ). IsReach (UpTo (placed scale t)) y (Count k)) (sym same)
+        (reach_up_to_media scale start d some t (Count n) (early, least))
+    | inr late ↦ absurd (short_closed count x0 x0 found.0 (sym (reach_up_to_media s0 start d some t Without late) ∙ found.2))
+  ]
+
+  next_any : (t : Option ℕ) → IsReach (reach_of_next s0 t) x0 (Count count) → IsReach (reach_of_next scale t) y (Count count)
+  next_any None found = absurd (short_closed count x0 x0 found.0 found.2)
+  next_any (Some t) found = up_to_any t found
+
+  pub any_scale : (end : End) (r : ℤ) (later : List SEntry) → IsReach (reach_of s0 Unbounded r later) x0 (Count count)
+      → IsReach (reach_of scale end r later) y (Count count)
+  any_scale end (pos r) later found = (found.0, found.1, ap (λ (n : ℕ). map Closed (repeated n y)) (sym found.1))
+  any_scale end (negsuc r) [] found = absurd (endless_closed count x0 x0 found.0 found.2)
+  any_scale end (negsuc r) (next ∷ later) found = next_any next.t found
+
+-- the same where the start is told otherwise
+pub any_scale_at : (s0 scale : Scale) (from start d count : ℕ) → 0 < d → from ≡ start → (end : End) (r : ℤ) (later : List SEntry)
+    → IsReach (reach_of s0 Unbounded r later) (extent_from s0 from d) (Count count) →
+    IsReach (reach_of scale end r later) (extent_from scale start d) (Count count)
+any_scale_at s0 scale from start d count some same end r later found =
+    any_scale s0 scale start d count some end r later
+    (subst (λ (n : ℕ). IsReach (reach_of s0 Unbounded r later) (extent_from s0 n d) (Count count)) same found)
+
+-- ---- the first fault
+
+cond_or : {X : Type 0} (p q : Bool) (a b : X) → cond (p || q) a b ≡ cond p a (cond q a b)
+cond_or true q a b = refl
+cond_or false q a b = refl
+
+passed_more : (m far a d f e : ℕ) → f ≤ e → (ltb m (max a d) || ltb far e) ≡ ((ltb m a || ltb far f) || (ltb m d || ltb far e))
+passed_more m far a d f e order = grind (arith, nat_tests)
+
+end_is : (l : Limits) (m : MediaRuns) → 0 < m.total → media_end l m ≡ Some (placed_in l m.former)
+end_is l m some = cond-false (m.total == 0) None _ (ne_eqb m.total 0 (omega arith))
+
+no_end : (l : Limits) (m : MediaRuns) → m.total ≡ 0 → media_end l m ≡ None
+no_end l m none = cond-true (m.total == 0) None _ (eq-eqb m.total 0 none)
+
+near_media : (l : Limits) (m : MediaRuns) (s d : ℕ) → (0 < m.total → 2 * m.former ≤ 2 * s + d) → (0 < m.total → 2 * s ≤ 2 * m.former + d)
+    → is_apart (media_end l m) (extent_in l s d) ≡ false
+near_media l m s d late early = elim (cases_lt 0 m.total) [
+  | inr none ↦ ap (λ (f : Option Time). is_apart f (extent_in l s d)) (no_end l m (omega arith))
+  | inl some ↦
+      let late_enough = late some in
+      let early_enough = early some in
+      ap (λ (f : Option Time). is_apart f (extent_in l s d)) (end_is l m some)
+      ∙ elim (cases_lt m.former s) [
+        | inl behind ↦ is_apart-in l s d m.former (s - m.former) l.positive (inl (omega arith))
+            ∙ le-ltb d (2 * (s - m.former)) (omega arith)
+        | inr before ↦ is_apart-in l s d m.former (m.former - s) l.positive (inr (omega arith))
+            ∙ le-ltb d (2 * (m.former - s)) (omega arith)
+      ]
+]
+
+module _ (l : Limits) (s d count : ℕ) (some : 0 < count) (near : s + count * d < 2 ^ 63) where
+  abbrev broken : Bool
+  broken = ltb (1000000 * l.ticks) d || ltb (l.origin + l.ticks * 100000000000) (s + count * d)
+
+  breaks_last : (k : ℕ) → s + count * d ≡ (s + k * d) + d → breaks_in l (extent_in l (s + k * d) d) ≡ broken
+  breaks_last k end =
+      let by_breaks_media = breaks_media l (s + count * d) d (omega (arith, end)) in
+      cc (media_extent-in l (s + k * d) d (s + count * d) end, lt-leb (2 ^ 63) (s + count * d) near)
+
+run_judged : (l : Limits) (s d count : ℕ) (former : Option Time) (later : List Member) → 0 < count → s + count * d < 2 ^ 63
+    → is_apart former (extent_in l s d) ≡ false →
+    segment_fault (breaks_in l) former (map Closed (repeated count (extent_in l s d)) ++ later)
+    ≡ cond (ltb (1000000 * l.ticks) d || ltb (l.origin + l.ticks * 100000000000) (s + count * d)) (Some Range)
+    (segment_fault (breaks_in l) (Some (placed_in l (s + count * d))) later)
+unfolding repeated
+run_judged l s d zero former later some near apart = absurd (omega arith)
+run_judged l s d (suc n) former later some near apart =
+    let rest = segment_fault (breaks_in l) (Some (placed_in l (s + suc n * d))) later in
+    let last = breaks_last l s d (suc n) some near n (omega arith) in
+    elim (cases_Bool (breaks_in l (extent_in l s d))) [
+      | inl early ↦
+          head_breaks (breaks_in l) former (extent_in l s d) (map Closed (repeated n (repeat_of (extent_in l s d))) ++ later) early
+          ∙ sym (cond-true _ (Some Range) rest (sym last ∙ breaks-mono l s (s + n * d) d l.positive (omega arith) early))
+      | inr fine ↦ cc (run_fault l d n s former later l.positive fine apart)
+    ]
+
+-- ---- one more run
+
+small_abs : (a b : ℕ) → a < 2 ^ 64 → b < 2 ^ 64 → unsigned_abs (pos a -ℤ pos b) < 2 ^ 64
+small_abs a b a_small b_small = abs-lt (pos a -ℤ pos b) (2 ^ 64) (omega (arith, ints)) (omega (arith, ints))
+
+module _ (entries : List SEntry) (m new : MediaRuns) (s : SEntry) (later : List SEntry) (run : MediaRun) (is : IsMedia entries m)
+    (rest : rest_of entries m ≡ s ∷ later) (next : IsNextRun m s later run) (pushed : IsPushed m run new) where
+  step_lasts : 0 < run.step
+  step_lasts = omega (arith, next.lasting, next.step)
+
+  least : run.step ≤ run.count * run.step
+  least = omega (arith, mul-le-mul_right run.step next.some)
+
+  not_later : m.former ≤ run.start + run.count * run.step
+  not_later = elim (cases_lt 0 m.total) [
+    | inl some ↦ omega (arith, next.late_enough some, least)
+    | inr none ↦ omega (arith, is.begun (omega arith))
+  ]
+
+  fits : m.total + run.count ≤ run.start + run.count * run.step
+  fits = room_after m.total run.start run.step run.count step_lasts next.some
+      (elim (cases_lt 0 m.total) [ inl some ↦ omega (arith, next.late_enough some, is.room) | inr none ↦ omega arith ])
+
+  runs_new : (l : Limits) → runs_by l new ≡ runs_by l m ++ placed_run l.ticks l.origin run ∷ []
+  runs_new l = cc (pushed.runs, map-append (placed_run l.ticks l.origin) m.runs.items (run ∷ []))
+
+  abbrev added : Limits → List Extent
+  added l = repeated run.count (extent_in l run.start run.step)
+
+  extents_new : (l : Limits) → all_extents (runs_by l new) ≡ all_extents (runs_by l m) ++ added l
+  extents_new l = ap all_extents (runs_new l) ∙ extents-push (runs_by l m) (placed_run l.ticks l.origin run)
+
+  members_new : (l : Limits) (more : List Member) → map Closed (all_extents (runs_by l new)) ++ more
+      ≡ map Closed (all_extents (runs_by l m)) ++ (map Closed (added l) ++ more)
+  members_new l more =
+      let by_append_assoc = append_assoc (map Closed (all_extents (runs_by l m))) (map Closed (added l)) more in
+      cc (extents_new l, map-append (λ (y : Extent). Closed y) (all_extents (runs_by l m)) (added l))
+
+  shorter : length entries - length m.runs.items ≡ length later + 1
+  shorter = sym (length-drop (length m.runs.items) entries) ∙ ap length rest ∙ omega arith
+
+  longer : length new.runs.items ≡ length m.runs.items + 1
+  longer = ap length pushed.runs ∙ length-append m.runs.items (run ∷ []) ∙ omega arith
+
+  pub rest_new : later ≡ rest_of entries new
+  rest_new = ap (drop 1) (sym rest) ∙ drop-drop 1 (length m.runs.items) entries ∙ ap (λ (n : ℕ). drop n entries) (sym longer)
+
+  judged_new : (l : Limits) (more : List Member) → segment_fault (breaks_in l) None (map Closed (all_extents (runs_by l new)) ++ more)
+      ≡ cond (are_passed l new.longest new.former) (Some Range) (segment_fault (breaks_in l) (media_end l new) more)
+  judged_new l more =
+      let rest_fault = segment_fault (breaks_in l) (Some (placed_in l (run.start + run.count * run.step))) more in
+      let swap : l.ticks * 1000000 ≡ 1000000 * l.ticks = omega arith in
+      let end : media_end l new ≡ Some (placed_in l (run.start + run.count * run.step)) =
+      end_is l new (omega (arith, pushed.total, next.some)) ∙ ap (λ (n : ℕ). Some (placed_in l n)) pushed.former in
+      let passed : are_passed l new.longest new.former
+      ≡ ((ltb (l.ticks * 1000000) m.longest || ltb (l.origin + l.ticks * 100000000000) m.former)
+      || (ltb (1000000 * l.ticks) run.step || ltb (l.origin + l.ticks * 100000000000) (run.start + run.count * run.step))) =
+      ap (λ (n : ℕ). are_passed l n new.former) pushed.longest ∙ ap (λ (n : ℕ). are_passed l (max m.longest run.step) n) pushed.former
+      ∙ passed_more (l.ticks * 1000000) (l.origin + l.ticks * 100000000000) m.longest run.step m.former
+      (run.start + run.count * run.step) not_later
+      ∙ ap (λ (n : ℕ). (ltb (l.ticks * 1000000) m.longest || ltb (l.origin + l.ticks * 100000000000) m.former)
+      || (ltb n run.step || ltb (l.origin + l.ticks * 100000000000) (run.start + run.count * run.step))) swap in
+      ap (segment_fault (breaks_in l) None) (members_new l more)
+      ∙ is.judged l (map Closed (added l) ++ more)
+      ∙ ap (cond (are_passed l m.longest m.former) (Some Range))
+      (run_judged l run.start run.step run.count (media_end l m) more next.some next.near
+      (near_media l m run.start run.step next.late_enough next.early_enough))
+      ∙ sym (cond_or (are_passed l m.longest m.former) _ (Some Range) rest_fault)
+      ∙ ap (λ (b : Bool). cond b (Some Range) rest_fault) (sym passed)
+      ∙ ap (λ (f : Option Time). cond (are_passed l new.longest new.former) (Some Range) (segment_fault (breaks_in l) f more)) (sym end)
+
+  expanded_new : (scale : Scale) (end : End) (l : Limits) → l.ticks ≡ scale.ticks → l.origin ≡ scale.offset →
+      expansion_of_timeline scale end entries ≡ map Closed (all_extents (runs_by l new)) ++ members_from scale end new.former
+      (rest_of entries new)
+  expanded_new scale end l ticks origin =
+      let reach = next.reach scale end in
+      let meant = reach_of scale end s.r later in
+      let first = extent_from scale run.start s.d in
+      let same : extent_in l run.start run.step ≡ first = extent_in-from scale l run.start run.step
+      (record { ticks = ticks; origin = origin }) ∙ ap (extent_from scale run.start) next.step in
+      let behind : run.start + count_of meant first * s.d ≡ new.former = cc (reach.1, next.step, pushed.former) in
+      is.members scale end l ticks origin
+      ∙ ap (λ (ss : List SEntry). map Closed (all_extents (runs_by l m)) ++ members_from scale end m.former ss) rest
+      ∙ ap (λ (n : ℕ). map Closed (all_extents (runs_by l m)) ++ (members_of meant (extent_from scale n s.d)
+      ++ members_from scale end (n + count_of meant (extent_from scale n s.d) * s.d) later)) (sym next.start)
+      ∙ ap (λ (ms : List Member). map Closed (all_extents (runs_by l m))
+      ++ (ms ++ members_from scale end (run.start + count_of meant first * s.d) later)) (reach.2
+      ∙ ap (λ (y : Extent). map Closed (repeated run.count y)) (sym same))
+      ∙ ap (λ (n : ℕ). map Closed (all_extents (runs_by l m)) ++ (map Closed (added l) ++ members_from scale end n later)) behind
+      ∙ ap (λ (ss : List SEntry). map Closed (all_extents (runs_by l m)) ++ (map Closed (added l) ++ members_from scale end new.former ss))
+      rest_new
+      ∙ sym (members_new l (members_from scale end new.former (rest_of entries new)))
+
+  run_is : (l : Limits) → l.origin < 2 ^ 64 → IsRun (placed_run l.ticks l.origin run)
+  run_is l small = IsRun-in l run.start run.step run.count
+      (placed_run l.ticks l.origin run) refl refl refl refl step_lasts next.some next.near
+      (omega (arith, next.before, fits, next.near)) (small_abs run.start l.origin (omega (arith, next.near)) small)
+      (small_abs (run.start + run.step) l.origin (omega (arith, next.near, least)) small)
+
+  pub media_more : IsMedia entries new
+  media_more = record {
+    fewer = omega (arith, shorter, longer);
+    begun = λ none. absurd (omega (arith, none, pushed.total, next.some));
+    room = omega (arith, fits, pushed.total, pushed.former);
+    near = omega (arith, next.near, pushed.former);
+    laid = λ l small. subst (λ (n : ℕ). AreLaid 0 (runs_by l new) n) (sym pushed.total)
+        (subst (λ (xs : List TimedRun). AreLaid 0 xs (m.total + run.count)) (sym (runs_new l))
+        (laid-push 0 (runs_by l m) m.total (placed_run l.ticks l.origin run) (is.laid l small) next.before next.some (run_is l small)));
+    timed = λ l. extents_after (runs_by l new) (runs_by l m) (placed_run l.ticks l.origin run) (added l) (runs_new l) refl
+        (λ y. natural (y.start.ticks +ℤ pos l.origin) < 2 ^ 64) (is.timed l)
+        (timed-in l run.step run.count run.start (omega (arith, next.near)));
+    members = expanded_new;
+    judged = judged_new;
+  }
+
+-- ---- the runs in a builder
+
+any_drop : {X : Type 0} (test : X → Bool) (k : ℕ) (xs : List X) → list_any test xs ≡ false → list_any test (drop k xs) ≡ false
+any_drop test zero xs none = none
+any_drop test (suc k) [] none = none
+any_drop test (suc k) (x ∷ xs) none = any_drop test k xs (or_parts (test x) (list_any test xs) none).1
+
+module _ (t : LaidTimeline) (is : IsLaidTimeline t) (scale : Scale) (l : Limits) (are : AreLimitsOf scale l) where
+  abbrev entries : List SEntry
+  entries = t.entries
+
+  pub passed_fault : are_passed l t.media.longest t.media.former ≡ true → (end : End)
+      → segment_fault (breaks_limits scale.ticks scale.offset) None (expansion_of_timeline scale end entries) ≡ Some Range
+  passed_fault passed end =
+      let rest = members_from scale end t.media.former (rest_of entries t.media) in
+      fault_in scale l are None (expansion_of_timeline scale end entries)
+      ∙ ap (segment_fault (breaks_in l) None) (is.media.members scale end l are.ticks are.origin)
+      ∙ is.media.judged l rest ∙ cond-true (are_passed l t.media.longest t.media.former) (Some Range) _ passed
+
+  pub begun_so_far : (b : RunsBuilder) (rest : List SEntry) → b.limits ≡ l → runs_in b ≡ runs_by l t.media → b.total ≡ t.media.total
+      → b.former ≡ t.media.former → IsNone b.endless → rest ≡ rest_of entries t.media → l.origin < 2 ^ 64 →
+      list_any (λ s. s.d == 0) entries ≡ false → are_passed l t.media.longest t.media.former ≡ false → (end : End)
+      → IsSoFar scale end entries b rest
+  begun_so_far b rest limits runs total former none at small lasting kept end =
+      let laid : IsLaidOut b = record {
+        laid = subst (λ (n : ℕ). AreLaid 0 (runs_in b) n) (sym total)
+            (subst (λ (xs : List TimedRun). AreLaid 0 xs t.media.total) (sym runs) (is.media.laid l small));
+        follows = none_follows b.limits.ticks b.limits.origin b.total b.endless none;
+        countable = omega (arith, total, is.media.room, is.media.near);
+        timed = subst (λ (k : Limits). All (λ x. natural (x.start.ticks +ℤ pos k.origin) < 2 ^ 64) (all_extents (runs_in b))) (sym limits)
+            (subst (λ (xs : List TimedRun). All (λ x. natural (x.start.ticks +ℤ pos l.origin) < 2 ^ 64) (all_extents xs)) (sym runs)
+            (is.media.timed l));
+      } in
+      let so_far : members_so_far b ≡ map Closed (all_extents (runs_by l t.media)) =
+      cc (none_of b.endless none, append-nil (map Closed (all_extents (runs_in b)))) in
+      let behind : members_from scale end b.former rest ≡ members_from scale end t.media.former (rest_of entries t.media) =
+      cc in
+      let former_is : former_end b ≡ media_end l t.media =
+      cc in
+      record {
+        limits = subst (λ (k : Limits). AreLimitsOf scale k) (sym limits) are;
+        laid = laid;
+        lasting = cc (any_drop (λ s. s.d == 0) (length t.media.runs.items) entries lasting);
+        goes_on = inl (
+          record {
+            laid = laid;
+            room = omega (arith, total, former, is.media.room);
+            near = omega (arith, former, is.media.near);
+          },
+          none,
+        );
+        members = cc (is.media.members scale end l are.ticks are.origin);
+        judged =
+            let by_judged = is.media.judged l (members_from scale end t.media.former (rest_of entries t.media)) in
+            let by_members = is.media.members scale end l are.ticks are.origin in
+            cc (cond-false (are_passed l t.media.longest t.media.former) (Some Range) _ kept);
+      }

@@ -1,15 +1,17 @@
 -- Segments that are repeated: their number, the k-th one, their parts, and how many of them end by a time.
-use Rattle.std.proofs.Common.{◌≡◌, ℕ, zero, suc, ◌+◌, ◌-◌, ◌*◌, ◌/◌, ◌<◌, ◌≤◌, min, Bool, true, false, not, cond, List, [], ◌∷◌, ◌++◌, map, length, take, drop, ℤ, pos, negsuc, ◌+ℤ◌, ◌-ℤ◌, ◌*ℤ◌, ◌≤ℤ◌, ◌<ℤ◌, refl, ◌∙◌, sym, ap, subst, inl, inr, arith}
-use Rattle.std.specs.Prelude.{int_le, slice_get, Some}
-use Rattle.std.proofs.lemmas.Int.{ints}
-use Rattle.std.proofs.lemmas.List.Sums.{sum_by-cons}
-use Rattle.std.proofs.lemmas.Bool.{cases_lt, cases_Bool, cond-true, cond-false}
+use Rattle.std.proofs.Common.{◌≡◌, ℕ, zero, suc, ◌+◌, ◌-◌, ◌*◌, ◌/◌, ◌<◌, ◌≤◌, min, Bool, true, false, not, cond, List, ◌∷◌, ◌++◌, length}
+use Rattle.std.proofs.Common.{[]}
+use Rattle.std.proofs.Common.{take, drop, ℤ, pos, negsuc, ◌+ℤ◌, ◌-ℤ◌, ◌*ℤ◌, ◌≤ℤ◌, ◌<ℤ◌, refl, ◌∙◌, sym, ap, inl, inr, arith, ◌^◌}
+use Rattle.std.specs.Prelude.{int_le, slice_get, Some, unsigned_abs}
+use Rattle.std.proofs.lemmas.{Int.ints, List.Sums.sum_by-cons}
+use Rattle.std.proofs.lemmas.Bool.{cases_lt, cases_Bool, cond-true, cond-false, cases_order}
 use Rattle.std.proofs.Math.Nat.{mul-le-mul_left, one-le-mul}
-use Rattle.exact_time.specs.Time.{Time, IsBefore, difference, before, at_most, AreRising}
+use Rattle.exact_time.specs.Time.{Time, difference, before, at_most}
 use Rattle.timeline.specs.Ratios.{natural, steps_within}
 use Rattle.timeline.specs.Expansions.{Extent, repeated, repeat_of, ended_by, lasting}
-use Rattle.timeline.specs.RunSegments.{count_ended}
-use Rattle.timeline.proofs.Ratios.{quotient-is, quotient-low, quotient-high, steps_within-is, at_most-floor, floor_ticks, floor-low, floor-high, int_le-true, int_le-false, int_le-from, not_int_le-from, int_add-mul}
+use Rattle.timeline.specs.RunSegments.{count_ended, GoesOnAs, IsLonger, IsRun, IsRestOf, extents_of, TimedRun, head_of}
+use Rattle.timeline.proofs.Ratios.{quotient-is, quotient-low, quotient-high, steps_within-is, at_most-floor, floor_ticks, floor-low}
+use Rattle.timeline.proofs.Ratios.{floor-high, int_le-true, int_le-false, int_le-from, not_int_le-from, int_add-mul}
 use Rattle.exact_time.proofs.TimeOrder.{before-is}
 
 -- the k-th one after a segment
@@ -28,13 +30,14 @@ length-repeated (suc n) x = ap suc (length-repeated n (repeat_of x))
 pub repeated-add : (i j : ℕ) (x : Extent) → repeated (i + j) x ≡ repeated i x ++ repeated j (again i x)
 unfolding repeated again
 repeated-add zero j x = repeated-same (0 + j) j x (omega arith)
-repeated-add (suc i) j x = repeated-same (suc i + j) (suc (i + j)) x (omega arith) ∙ ap (λ (xs : List Extent). x ∷ xs) (repeated-add i j (repeat_of x))
+repeated-add (suc i) j x = cc (repeated-same (suc i + j) (suc (i + j)) x (omega arith), repeated-add i j (repeat_of x))
 
 pub drop-repeated : (k n : ℕ) (x : Extent) → drop k (repeated n x) ≡ repeated (n - k) (again k x)
 unfolding repeated again
 drop-repeated zero n x = repeated-same n (n - 0) x (omega arith)
 drop-repeated (suc k) zero x = repeated-same 0 (0 - suc k) (again k (repeat_of x)) (omega arith)
-drop-repeated (suc k) (suc n) x = drop-repeated k n (repeat_of x) ∙ repeated-same (n - k) (suc n - suc k) (again k (repeat_of x)) (omega arith)
+drop-repeated (suc k) (suc n) x = drop-repeated k n (repeat_of x)
+    ∙ repeated-same (n - k) (suc n - suc k) (again k (repeat_of x)) (omega arith)
 
 pub take-repeated : (k n : ℕ) (x : Extent) → k ≤ n → take k (repeated n x) ≡ repeated k x
 unfolding repeated
@@ -61,10 +64,14 @@ pub row-same : (scale : ℕ) (a b : ℤ) (step : ℕ) → a ≡ b → row scale 
 row-same scale a b step same = ap (λ (z : ℤ). row scale z step) same
 
 -- what such a segment is
-pub row-is : (x : Extent) (step : ℕ) → x.start.scale ≡ x.end.scale → x.end.ticks ≡ x.start.ticks +ℤ pos step → x ≡ row x.end.scale x.start.ticks step
+pub row-is : (x : Extent) (step : ℕ) → x.start.scale ≡ x.end.scale → x.end.ticks ≡ x.start.ticks +ℤ pos step
+    → x ≡ row x.end.scale x.start.ticks step
 row-is x step scale ticks =
     ap (λ (s : ℕ). record { start = record { ticks = x.start.ticks; scale = s }; end = x.end }) scale
-    ∙ ap (λ (z : ℤ). record { start = record { ticks = x.start.ticks; scale = x.end.scale }; end = record { ticks = z; scale = x.end.scale } }) ticks
+    ∙ ap (λ (z : ℤ). record {
+      start = record { ticks = x.start.ticks; scale = x.end.scale };
+      end = record { ticks = z; scale = x.end.scale };
+    }) ticks
 
 pub repeat-row : (scale : ℕ) (start : ℤ) (step : ℕ) → repeat_of (row scale start step) ≡ row scale (start +ℤ pos step) step
 repeat-row scale start step =
@@ -94,26 +101,28 @@ ends_by-before last end step past = ends_by-past last end step (not_int_le-from 
 pub ends_by-at : (last end : ℤ) (step distance : ℕ) → last ≡ end +ℤ pos distance → ends_by last end step ≡ distance / step + 1
 ends_by-at last end step distance at =
     let gap : last -ℤ end ≡ pos distance = omega (arith, ints) in
-    cond-true (int_le end last) (natural (last -ℤ end) / step + 1) 0 (int_le-from end last (omega (arith, ints)))
-    ∙ ap (λ (z : ℤ). natural z / step + 1) gap
+    cc (cond-true (int_le end last) (natural (last -ℤ end) / step + 1) 0 (int_le-from end last (omega (arith, ints))))
 
 pub natural-pos : (z : ℤ) → pos 0 ≤ℤ z → z ≡ pos (natural z)
 natural-pos (pos n) h = refl
 natural-pos (negsuc n) h = absurd h.le
 
-pub ends_by-next : (last end : ℤ) (step : ℕ) → 0 < step → int_le end last ≡ true → ends_by last end step ≡ 1 + ends_by last (end +ℤ pos step) step
+pub ends_by-next : (last end : ℤ) (step : ℕ) → 0 < step → int_le end last ≡ true
+    → ends_by last end step ≡ 1 + ends_by last (end +ℤ pos step) step
 ends_by-next last end step some within =
     let le = int_le-true end last within in
     let d = natural-pos (last -ℤ end) (omega (arith, ints)) in
-    let m : ℕ = natural (last -ℤ end) in
+    let m = natural (last -ℤ end) in
     cond-true (int_le end last) (m / step + 1) 0 within ∙ elim (cases_Bool (int_le (end +ℤ pos step) last)) [
       | inl early ↦
           let le_next = int_le-true (end +ℤ pos step) last early in
           let d_next = natural-pos (last -ℤ (end +ℤ pos step)) (omega (arith, ints)) in
-          let k : ℕ = natural (last -ℤ (end +ℤ pos step)) in
+          let k = natural (last -ℤ (end +ℤ pos step)) in
           let more : m ≡ k + step = omega (arith, ints) in
-          let q : m / step ≡ k / step + 1 = quotient-is m step (k / step + 1) (omega (arith, quotient-low k step)) (omega (arith, quotient-high k step some)) in
-          let next : ends_by last (end +ℤ pos step) step ≡ k / step + 1 = cond-true (int_le (end +ℤ pos step) last) (k / step + 1) 0 early in
+          let q : m / step ≡ k / step + 1 = quotient-is m step (k / step + 1) (omega (arith, quotient-low k step))
+          (omega (arith, quotient-high k step some)) in
+          let next : ends_by last (end +ℤ pos step) step ≡ k / step + 1 = cond-true (int_le (end +ℤ pos step) last)
+          (k / step + 1) 0 early in
           omega arith
       | inr late ↦
           let lt = int_le-false (end +ℤ pos step) last late in
@@ -129,7 +138,7 @@ ends_by-in last end step k within = elim (cases_Bool (int_le end last)) [
   | inl early ↦
       let le = int_le-true end last early in
       let d = natural-pos (last -ℤ end) (omega (arith, ints)) in
-      let m : ℕ = natural (last -ℤ end) in
+      let m = natural (last -ℤ end) in
       let e : ends_by last end step ≡ m / step + 1 = cond-true (int_le end last) (m / step + 1) 0 early in
       let most : k ≤ m / step = omega arith in
       omega (arith, ints, mul-le-mul_left step most, quotient-low m step)
@@ -141,7 +150,7 @@ ends_by-out last end step k some past = elim (cases_Bool (int_le end last)) [
   | inl early ↦
       let le = int_le-true end last early in
       let d = natural-pos (last -ℤ end) (omega (arith, ints)) in
-      let m : ℕ = natural (last -ℤ end) in
+      let m = natural (last -ℤ end) in
       let e : ends_by last end step ≡ m / step + 1 = cond-true (int_le end last) (m / step + 1) 0 early in
       let least : m / step + 1 ≤ k = omega arith in
       omega (arith, ints, mul-le-mul_left step least, quotient-high m step some)
@@ -149,29 +158,32 @@ ends_by-out last end step k some past = elim (cases_Bool (int_le end last)) [
 ]
 
 -- the same from the first start
-pub ends_by-start : (last start : ℤ) (step distance : ℕ) → 0 < step → last ≡ start +ℤ pos distance → ends_by last (start +ℤ pos step) step ≡ distance / step
+pub ends_by-start : (last start : ℤ) (step distance : ℕ) → 0 < step → last ≡ start +ℤ pos distance
+    → ends_by last (start +ℤ pos step) step ≡ distance / step
 ends_by-start last start step distance some at = elim (cases_lt distance step) [
-  | inl below ↦ ends_by-before last (start +ℤ pos step) step (omega (arith, ints)) ∙ sym (quotient-is distance step 0 (omega arith) (omega arith))
+  | inl below ↦ ends_by-before last (start +ℤ pos step) step (omega (arith, ints))
+      ∙ sym (quotient-is distance step 0 (omega arith) (omega arith))
   | inr above ↦
-      let k : ℕ = distance - step in
+      let k = distance - step in
       ends_by-at last (start +ℤ pos step) step k (omega (arith, ints))
       ∙ sym (quotient-is distance step (k / step + 1) (omega (arith, quotient-low k step)) (omega (arith, quotient-high k step some)))
 ]
 
 pub count_ended-in : (t : Time) (x : Extent) (xs : List Extent) → at_most x.end t ≡ true → count_ended t (x ∷ xs) ≡ 1 + count_ended t xs
-count_ended-in t x xs early = sum_by-cons (λ (y : Extent). cond (at_most y.end t) 1 0) x xs ∙ ap (λ (b : Bool). cond b 1 0 + count_ended t xs) early
+count_ended-in t x xs early = cc (sum_by-cons (λ (y : Extent). cond (at_most y.end t) 1 0) x xs)
 
 pub count_ended-out : (t : Time) (x : Extent) (xs : List Extent) → at_most x.end t ≡ false → count_ended t (x ∷ xs) ≡ count_ended t xs
-count_ended-out t x xs late = sum_by-cons (λ (y : Extent). cond (at_most y.end t) 1 0) x xs ∙ ap (λ (b : Bool). cond b 1 0 + count_ended t xs) late ∙ omega arith
+count_ended-out t x xs late = sum_by-cons (λ (y : Extent). cond (at_most y.end t) 1 0) x xs
+    ∙ ap (λ (b : Bool). cond b 1 0 + count_ended t xs) late ∙ omega arith
 
 pub count_ended-row : (n : ℕ) (t : Time) (scale : ℕ) (start : ℤ) (step : ℕ) → 0 < t.scale → 0 < step →
     count_ended t (repeated n (row scale start step)) ≡ min n (ends_by (floor_ticks t scale) (start +ℤ pos step) step)
 unfolding repeated
 count_ended-row zero t scale start step time some = omega arith
 count_ended-row (suc n) t scale start step time some =
-    let last : ℤ = floor_ticks t scale in
+    let last = floor_ticks t scale in
     let next : count_ended t (repeated n (repeat_of (row scale start step))) ≡ min n (ends_by last ((start +ℤ pos step) +ℤ pos step) step) =
-    ap (λ (x : Extent). count_ended t (repeated n x)) (repeat-row scale start step) ∙ count_ended-row n t scale (start +ℤ pos step) step time some in
+    cc (repeat-row scale start step, count_ended-row n t scale (start +ℤ pos step) step time some) in
     let here = at_most-floor (start +ℤ pos step) scale t time in
     elim (cases_Bool (int_le (start +ℤ pos step) last)) [
       | inl early ↦
@@ -182,7 +194,8 @@ count_ended-row (suc n) t scale start step time some =
           let none = count_ended-out t (row scale start step) (repeated n (repeat_of (row scale start step))) (here ∙ late) in
           let e = ends_by-past last (start +ℤ pos step) step late in
           let lt = int_le-false (start +ℤ pos step) last late in
-          let e_next = ends_by-past last ((start +ℤ pos step) +ℤ pos step) step (not_int_le-from ((start +ℤ pos step) +ℤ pos step) last (omega (arith, ints))) in
+          let e_next = ends_by-past last ((start +ℤ pos step) +ℤ pos step) step
+          (not_int_le-from ((start +ℤ pos step) +ℤ pos step) last (omega (arith, ints))) in
           omega arith
     ]
 
@@ -193,25 +206,30 @@ steps_by_ticks n u step k whole some low high = quotient-is n (u * step) (k / st
     (omega (arith, mul-le-mul_left u (quotient-low k step)))
     (let h : k + 1 ≤ (k / step + 1) * step = omega (arith, quotient-high k step some) in omega (arith, mul-le-mul_left u h))
 
-steps_from_start : (t : Time) (scale : ℕ) (start : ℤ) (step : ℕ) → 0 < t.scale → 0 < scale → 0 < step → (start +ℤ pos step) ≤ℤ floor_ticks t scale →
-    steps_within (difference t (row scale start step).start) (lasting (row scale start step)) ≡ natural (floor_ticks t scale -ℤ (start +ℤ pos step)) / step + 1
+steps_from_start : (t : Time) (scale : ℕ) (start : ℤ) (step : ℕ) → 0 < t.scale → 0 < scale → 0 < step
+    → (start +ℤ pos step) ≤ℤ floor_ticks t scale →
+    steps_within (difference t (row scale start step).start) (lasting (row scale start step))
+    ≡ natural (floor_ticks t scale -ℤ (start +ℤ pos step)) / step + 1
 steps_from_start t scale start step time whole some le =
-    let last : ℤ = floor_ticks t scale in
-    let big : ℤ = t.ticks *ℤ pos scale in
-    let u : ℕ = t.scale in
-    let k : ℕ = natural (last -ℤ (start +ℤ pos step)) in
+    let last = floor_ticks t scale in
+    let big = t.ticks *ℤ pos scale in
+    let u = t.scale in
+    let k = natural (last -ℤ (start +ℤ pos step)) in
     let k_is = natural-pos (last -ℤ (start +ℤ pos step)) (omega (arith, ints)) in
     let last_is : last ≡ start +ℤ pos (k + step) = omega (arith, ints) in
     let next_is : last +ℤ pos 1 ≡ start +ℤ pos (k + step + 1) = omega (arith, ints) in
-    let last_times : last *ℤ pos u ≡ start *ℤ pos u +ℤ pos ((k + step) * u) = ap (λ (z : ℤ). z *ℤ pos u) last_is ∙ int_add-mul start (k + step) u in
-    let next_times : (last +ℤ pos 1) *ℤ pos u ≡ start *ℤ pos u +ℤ pos ((k + step + 1) * u) = ap (λ (z : ℤ). z *ℤ pos u) next_is ∙ int_add-mul start (k + step + 1) u in
+    let last_times : last *ℤ pos u ≡ start *ℤ pos u +ℤ pos ((k + step) * u) = ap (λ (z : ℤ). z *ℤ pos u) last_is
+    ∙ int_add-mul start (k + step) u in
+    let next_times : (last +ℤ pos 1) *ℤ pos u ≡ start *ℤ pos u +ℤ pos ((k + step + 1) * u) = ap (λ (z : ℤ). z *ℤ pos u) next_is
+    ∙ int_add-mul start (k + step + 1) u in
     let low = floor-low t scale time in
     let high = floor-high t scale time in
-    let n : ℕ = natural (big -ℤ start *ℤ pos u) in
+    let n = natural (big -ℤ start *ℤ pos u) in
     let n_is = natural-pos (big -ℤ start *ℤ pos u) (omega (arith, ints)) in
     let low_n : (k + step) * u ≤ n = omega (arith, ints) in
     let high_n : n < (k + step + 1) * u = omega (arith, ints) in
-    let lasts : (start +ℤ pos step) *ℤ pos scale -ℤ start *ℤ pos scale ≡ pos (step * scale) = omega (arith, ints, int_add-mul start step scale) in
+    let lasts : (start +ℤ pos step) *ℤ pos scale -ℤ start *ℤ pos scale ≡ pos (step * scale) =
+    omega (arith, ints, int_add-mul start step scale) in
     let lasts_n : natural ((start +ℤ pos step) *ℤ pos scale -ℤ start *ℤ pos scale) ≡ step * scale = ap natural lasts in
     steps_within-is (difference t (row scale start step).start) (lasting (row scale start step)) n (u * step) (scale * scale)
     (one-le-mul whole whole) (one-le-mul time some) refl (omega (arith, ap (λ (m : ℕ). (u * scale) * m) lasts_n))
@@ -220,8 +238,8 @@ steps_from_start t scale start step time whole some le =
 pub ended_by-row : (t : Time) (scale : ℕ) (start : ℤ) (step : ℕ) → 0 < t.scale → 0 < scale → 0 < step →
     ended_by t (row scale start step) ≡ ends_by (floor_ticks t scale) (start +ℤ pos step) step
 ended_by-row t scale start step time whole some =
-    let x : Extent = row scale start step in
-    let last : ℤ = floor_ticks t scale in
+    let x = row scale start step in
+    let last = floor_ticks t scale in
     let here = at_most-floor (start +ℤ pos step) scale t time in
     let turned = before-is t x.end in
     elim (cases_Bool (int_le (start +ℤ pos step) last)) [
@@ -229,33 +247,114 @@ ended_by-row t scale start step time whole some =
           cond-false (before t x.end) 0 (steps_within (difference t x.start) (lasting x)) (turned ∙ ap not (here ∙ early))
           ∙ steps_from_start t scale start step time whole some (int_le-true (start +ℤ pos step) last early)
           ∙ sym (cond-true (int_le (start +ℤ pos step) last) (natural (last -ℤ (start +ℤ pos step)) / step + 1) 0 early)
-      | inr late ↦ cond-true (before t x.end) 0 (steps_within (difference t x.start) (lasting x)) (turned ∙ ap not (here ∙ late)) ∙ sym (ends_by-past last (start +ℤ pos step) step late)
+      | inr late ↦ cond-true (before t x.end) 0 (steps_within (difference t x.start) (lasting x)) (turned ∙ ap not (here ∙ late))
+          ∙ sym (ends_by-past last (start +ℤ pos step) step late)
     ]
 
--- ---- ends rise
+-- ---- the segments of a run
 
--- a list of times whose first one is after another
-abbrev StartsAfter : Time → List Time → Type 0
-StartsAfter former [] = Unit {0}
-StartsAfter former (x ∷ xs) = IsBefore former x
+-- several segments are so many ticks of one scale
+pub one_extent-row : (s : TimedRun) → IsRun s → 1 < s.count → head_of s ≡ row s.end.scale s.start.ticks s.step
+one_extent-row s is several = row-is (head_of s) s.step (is.one_scale several) (is.in_ticks several)
 
-rising-cons : (x : Time) (xs : List Time) → StartsAfter x xs → AreRising xs → AreRising (x ∷ xs)
-rising-cons x [] after rising = tt
-rising-cons x (y ∷ ys) after rising = (after, rising)
+times_split : (n k step : ℕ) → k ≤ n → (n - k) * step + k * step ≡ n * step
+times_split n k step within = let whole : n ≡ (n - k) + k = omega arith in omega (arith, ap (λ (m : ℕ). m * step) whole)
 
-starts_after : (n scale : ℕ) (start : ℤ) (step : ℕ) → 0 < scale → 0 < step →
-    StartsAfter (record { ticks = start; scale = scale }) (map (λ (x : Extent). x.end) (repeated n (row scale start step)))
+-- the run from the k-th segment on
+pub moved_to : (s : TimedRun) (place k : ℕ) (start end : Time) → IsRun s → place ≡ s.before + k → 0 < k → k < s.count →
+    start.ticks ≡ s.start.ticks +ℤ pos (k * s.step) → start.scale ≡ s.start.scale →
+    end.ticks ≡ s.end.ticks +ℤ pos (k * s.step) → end.scale ≡ s.end.scale → unsigned_abs start.ticks < 2 ^ 64
+    → unsigned_abs end.ticks < 2 ^ 64 →
+    IsRestOf s place (record { start = start; end = end; step = s.step; count = s.count - k; before = place })
+moved_to s place k start end is at some within start_n start_scale end_n end_scale start_near end_near =
+    let several : 1 < s.count = omega arith in
+    let one_scale : start.scale ≡ end.scale = omega (arith, is.one_scale several) in
+    let in_ticks : end.ticks ≡ start.ticks +ℤ pos s.step = omega (arith, ints, is.in_ticks several) in
+    let times : (s.count - k) * s.step + k * s.step ≡ s.count * s.step = times_split s.count k s.step (omega arith) in
+    let head : record { start = start; end = end } ≡ row s.end.scale (s.start.ticks +ℤ pos (k * s.step)) s.step =
+    row-is (record { start = start; end = end }) s.step one_scale in_ticks ∙ rw (end_scale, start_n) refl in
+    let skipped : place - s.before ≡ k = omega arith in
+    let by_drop_repeated = drop-repeated k s.count (row s.end.scale s.start.ticks s.step) in
+    record {
+      is = record {
+        start_is = omega (arith, start_scale, is.start_is);
+        end_is = omega (arith, end_scale, is.end_is);
+        start_near = start_near;
+        end_near = end_near;
+        lasting = is.lasting;
+        one_scale = λ _. one_scale;
+        in_ticks = λ _. in_ticks;
+        near = omega (arith, ints, is.near);
+        countable = omega (arith, is.countable);
+      };
+      some = omega arith;
+      placed = refl;
+      end = omega arith;
+      extents = cc (head, skipped, one_extent-row s is several, again-row k s.end.scale s.start.ticks s.step);
+    }
+
+-- ---- one more segment
+
+pub moved_time : (t r : Time) (n k : ℕ) → r.ticks ≡ t.ticks +ℤ pos n → r.scale ≡ t.scale → n ≡ k
+    → r ≡ record { ticks = t.ticks +ℤ pos k; scale = t.scale }
+moved_time t r n k ticks scale same = rw (← same, ← scale, ← ticks) refl
+
+pub longer : (s : TimedRun) (x : Extent) → IsRun s → s.before + s.count ≤ 2 ^ 63 → GoesOnAs s x
+    → IsLonger s x (record { start = s.start; end = s.end; step = s.step; count = s.count + 1; before = s.before })
+unfolding repeated again
+longer s x is room on =
+    let head : head_of s ≡ row s.end.scale s.start.ticks s.step = row-is (head_of s) s.step on.one_scale on.in_ticks in
+    let next : again s.count (head_of s) ≡ x =
+    ap (again s.count) head ∙ again-row s.count s.end.scale s.start.ticks s.step
+    ∙ sym (rw (on.start_is, on.end_is) (row-is (record {
+      start = record { ticks = s.start.ticks +ℤ pos (s.count * s.step); scale = s.start.scale };
+      end = record { ticks = s.end.ticks +ℤ pos (s.count * s.step); scale = s.end.scale };
+    }) s.step on.one_scale (omega (arith, ints, on.in_ticks)))) in
+    record {
+      is = record {
+        start_is = is.start_is;
+        end_is = is.end_is;
+        start_near = is.start_near;
+        end_near = is.end_near;
+        lasting = is.lasting;
+        one_scale = λ _. on.one_scale;
+        in_ticks = λ _. on.in_ticks;
+        near = omega (arith, ints, on.near, ap (λ (t : Time). t.ticks) on.end_is);
+        countable = omega (arith, room);
+      };
+      placed = refl;
+      one_more = refl;
+      extents = cc (repeated-add s.count 1 (head_of s));
+    }
+
+-- ---- how many end at or before a time
+
+count_of_one : (t : Time) (x : Extent) (step : ℕ) → 0 < t.scale → count_ended t (x ∷ [])
+    ≡ min 1 (ends_by (floor_ticks t x.end.scale) x.end.ticks step)
+count_of_one t x step time =
+    let last = floor_ticks t x.end.scale in
+    let here = at_most-floor x.end.ticks x.end.scale t time in
+    elim (cases_Bool (int_le x.end.ticks last)) [
+      | inl early ↦
+          let e : ends_by last x.end.ticks step ≡ natural (last -ℤ x.end.ticks) / step + 1 =
+          cond-true (int_le x.end.ticks last) (natural (last -ℤ x.end.ticks) / step + 1) 0 early in
+          omega (arith, count_ended-in t x [] (here ∙ early))
+      | inr late ↦
+          let e = ends_by-past last x.end.ticks step late in
+          omega (arith, count_ended-out t x [] (here ∙ late))
+    ]
+
+pub count_ended-run : (t : Time) (s : TimedRun) → 0 < t.scale → IsRun s → count_ended t (extents_of s)
+    ≡ min s.count (ends_by (floor_ticks t s.end.scale) s.end.ticks s.step)
 unfolding repeated
-starts_after zero scale start step whole some = tt
-starts_after (suc n) scale start step whole some =
-    omega (arith, ints, int_add-mul start step scale, one-le-mul some whole)
-
-pub rising-repeated : (n scale : ℕ) (start : ℤ) (step : ℕ) → 0 < scale → 0 < step → AreRising (map (λ (x : Extent). x.end) (repeated n (row scale start step)))
-unfolding repeated
-rising-repeated zero scale start step whole some = tt
-rising-repeated (suc n) scale start step whole some =
-    let next : Extent = row scale (start +ℤ pos step) step in
-    let same = repeat-row scale start step in
-    rising-cons (row scale start step).end (map (λ (x : Extent). x.end) (repeated n (repeat_of (row scale start step))))
-    (subst (λ (y : Extent). StartsAfter (row scale start step).end (map (λ (x : Extent). x.end) (repeated n y))) (sym same) (starts_after n scale (start +ℤ pos step) step whole some))
-    (subst (λ (y : Extent). AreRising (map (λ (x : Extent). x.end) (repeated n y))) (sym same) (rising-repeated n scale (start +ℤ pos step) step whole some))
+count_ended-run t s time is = elim (cases_order s.count 1) [
+  | inl one ↦
+      cc (count_of_one t (head_of s) s.step time)
+  | inr other ↦ elim other [
+    | inl fewer ↦
+        let none : s.count ≡ 0 = omega arith in
+        ap (λ (n : ℕ). count_ended t (repeated n (head_of s))) none ∙ omega arith
+    | inr several ↦
+        cc (one_extent-row s is several, count_ended-row s.count t s.end.scale s.start.ticks s.step time is.lasting, is.in_ticks several)
+  ]
+]

@@ -1,20 +1,19 @@
 -- Each segment ends after the one before it, where none is apart from it.
-use Rattle.std.proofs.Common.{◌≡◌, ℕ, zero, suc, ◌+◌, ◌*◌, ◌<◌, ◌≤◌, Bool, true, false, cond, ℤ, pos, negsuc, ◌+ℤ◌, ◌-ℤ◌, ◌*ℤ◌, ◌≤ℤ◌, ◌<ℤ◌, List, [], ◌∷◌, map, Option, Some, None, refl, ◌∙◌, ap, inl, inr, arith}
+use Rattle.std.proofs.Common.{◌≡◌, ℕ, zero, suc, ◌+◌, ◌*◌, ◌<◌, ◌≤◌, Bool, true, false, cond, ℤ, pos, negsuc, ◌+ℤ◌, ◌-ℤ◌, ◌*ℤ◌, ◌≤ℤ◌, ◌<ℤ◌}
+use Rattle.std.proofs.Common.{List, ◌∷◌, map, Option, Some, None, refl, ◌∙◌, ap, inl, inr, arith, []}
 use Rattle.std.specs.Prelude.{unsigned_abs}
-use Rattle.std.proofs.lemmas.Int.{ints}
-use Rattle.std.proofs.lemmas.Bool.{cond-false}
-use Rattle.std.proofs.lemmas.List.{append-nil}
+use Rattle.std.proofs.lemmas.{Int.ints, Bool.cond-false, List.append-nil}
 use Rattle.std.proofs.Math.Nat.{mul-le-mul_left, one-le-mul}
 use borrow.Author.Differences.{up, down}
 use Rattle.exact_time.specs.Time.{Time, IsTime, IsBefore, IsAtMost, cross, difference, before, AreRising}
 use Rattle.exact_time.proofs.TimeOrder.{share, share_le_out, before-false, not_before-from, before_or_at_most, before_excludes}
-use Rattle.timeline.specs.declared.fault.TimeFault.{TimeFault}
-use Rattle.timeline.specs.declared.fault.TimeFault.TheVariants.{Step, Range}
+use Rattle.timeline.specs.declared.{fault.TimeFault.TimeFault, fault.TimeFault.TheVariants.Step, fault.TimeFault.TheVariants.Range}
 use Rattle.timeline.specs.Ratios.{earlier}
 use Rattle.timeline.specs.Expansions.{Extent, Member, Closed, Short, Endless, extents, ended_by, lasting, repeat_of, repeated}
 use Rattle.timeline.specs.Faults.{is_apart, segment_fault}
 use Rattle.timeline.specs.Steady.{Lasts, LastsTicks, AreLasting}
 use Rattle.timeline.specs.Laws.{EndsRise}
+use Rattle.timeline.proofs.Judged.{head_passes, passes}
 use Rattle.timeline.proofs.Ratios.{int_le-mul}
 
 pub Lasts-from_ticks : (x : Extent) → LastsTicks x → Lasts x
@@ -23,7 +22,14 @@ Lasts-from_ticks x is = record {
   end_is = is.end_is;
   ends =
       let more : up x.start.ticks + down x.end.ticks + 1 ≤ up x.end.ticks + down x.start.ticks = omega (arith, ints, is.rises) in
-      omega (arith, ints, mul-le-mul_left x.end.scale more, is.end_is, ap (λ (k : ℕ). up x.end.ticks * k) is.one_scale, ap (λ (k : ℕ). down x.end.ticks * k) is.one_scale);
+      omega (
+        arith,
+        ints,
+        mul-le-mul_left x.end.scale more,
+        is.end_is,
+        ap (λ (k : ℕ). up x.end.ticks * k) is.one_scale,
+        ap (λ (k : ℕ). down x.end.ticks * k) is.one_scale,
+      );
 }
 
 -- ---- a segment that isn't apart from a time ends after it
@@ -31,7 +37,8 @@ Lasts-from_ticks x is = record {
 twice : (length gap : ℤ) (m n p : ℕ) → 0 < m → 0 < p → pos 0 <ℤ length → ((gap *ℤ pos n) +ℤ (length *ℤ pos p)) ≤ℤ pos 0 →
     (length *ℤ pos (m * p)) <ℤ (pos (2 * unsigned_abs gap) *ℤ pos (n * m))
 twice (negsuc l) gap m n p some_m some_p some le = absurd (omega (arith, ints))
-twice (pos l) (pos g) m n p some_m some_p some le = let some_l : 0 < l = omega (arith, ints) in absurd (omega (arith, ints, one-le-mul some_l some_p))
+twice (pos l) (pos g) m n p some_m some_p some le = let some_l : 0 < l = omega (arith, ints) in
+    absurd (omega (arith, ints, one-le-mul some_l some_p))
 twice (pos l) (negsuc g) m n p some_m some_p some le =
     let long : l * p ≤ suc g * n = omega (arith, ints) in
     let some_l : 0 < l = omega (arith, ints) in
@@ -39,22 +46,34 @@ twice (pos l) (negsuc g) m n p some_m some_p some le =
 
 -- twice the gap to a time that isn't before its end is longer than a segment
 farther : (former : Time) (x : Extent) → Lasts x → IsTime former → IsAtMost x.end former →
-    IsBefore (lasting x) (record { ticks = pos (2 * unsigned_abs (difference x.start former).ticks); scale = (difference x.start former).scale })
+    IsBefore (lasting x) (record {
+      ticks = pos (2 * unsigned_abs (difference x.start former).ticks);
+      scale = (difference x.start former).scale;
+    })
 farther former x is is_former late =
-    let length : ℤ = cross x.end x.start -ℤ cross x.start x.end in
-    let gap : ℤ = cross x.start former -ℤ cross former x.start in
+    let length = cross x.end x.start -ℤ cross x.start x.end in
+    let gap = cross x.start former -ℤ cross former x.start in
     twice length gap x.start.scale x.end.scale former.scale is.start_is is_former (omega (arith, ints, is.ends))
     (
     let gap_is : up gap + share former x.start ≡ down gap + share x.start former = omega (arith, ints) in
     let length_is : up length + share x.start x.end ≡ down length + share x.end x.start = omega (arith, ints) in
-    omega (arith, ints, ap (λ (k : ℕ). k * x.end.scale) gap_is, ap (λ (k : ℕ). k * former.scale) length_is, mul-le-mul_left x.start.scale (share_le_out x.end former late))
+    omega (
+      arith,
+      ints,
+      ap (λ (k : ℕ). k * x.end.scale) gap_is,
+      ap (λ (k : ℕ). k * former.scale) length_is,
+      mul-le-mul_left x.start.scale (share_le_out x.end former late),
+    )
     )
 
 pub ends_after : (former : Time) (x : Extent) → Lasts x → IsTime former → is_apart (Some former) x ≡ false → IsBefore former x.end
 ends_after former x is is_former near = elim (before_or_at_most former x.end) [
   | inl earlier ↦ earlier
   | inr late ↦
-      let twice_gap : Time = record { ticks = pos (2 * unsigned_abs (difference x.start former).ticks); scale = (difference x.start former).scale } in
+      let twice_gap : Time = record {
+        ticks = pos (2 * unsigned_abs (difference x.start former).ticks);
+        scale = (difference x.start former).scale;
+      } in
       absurd (before_excludes (lasting x) twice_gap (farther former x is is_former late) (before-false (lasting x) twice_gap near))
 ]
 
@@ -65,7 +84,8 @@ touching_own x is =
     let zero : (difference x.start x.start).ticks ≡ pos 0 = omega (arith, ints) in
     let lasts : pos 0 ≤ℤ (lasting x).ticks = omega (arith, ints, is.ends) in
     ap (λ (z : ℤ). before (lasting x) (record { ticks = pos (2 * unsigned_abs z); scale = x.start.scale * x.start.scale })) zero
-    ∙ not_before-from (lasting x) none (let times = int_le-mul (pos 0) (lasting x).ticks (x.start.scale * x.start.scale) lasts in omega (arith, ints))
+    ∙ not_before-from (lasting x) none (let times = int_le-mul (pos 0) (lasting x).ticks (x.start.scale * x.start.scale) lasts in
+    omega (arith, ints))
 
 -- ---- rising ends
 
@@ -91,7 +111,8 @@ LastsTicks-repeat x is = record { one_scale = refl; end_is = is.end_is; rises = 
 next_after : (x : Extent) → LastsTicks x → IsBefore x.end (repeat_of x).end
 next_after x is = (Lasts-from_ticks (repeat_of x) (LastsTicks-repeat x is)).ends
 
-repeated_after : (count : ℕ) (x : Extent) → LastsTicks x → (former : Time) → IsBefore former x.end → RisesAfter (Some former) (repeated count x)
+repeated_after : (count : ℕ) (x : Extent) → LastsTicks x → (former : Time) → IsBefore former x.end
+    → RisesAfter (Some former) (repeated count x)
 unfolding repeated
 repeated_after zero x is former first = tt
 repeated_after (suc count) x is former first = (first, repeated_after count (repeat_of x) (LastsTicks-repeat x is) x.end (next_after x is))
@@ -107,31 +128,21 @@ abbrev pub IsSomeTime : Option Time → Type 0
 IsSomeTime None = Unit {0}
 IsSomeTime (Some former) = IsTime former
 
-alone : (former : Option Time) (instant : Time) (x : Extent) (later : List Member) → later ≡ [] → RisesAfter former (repeated (ended_by instant x) x) →
+alone : (former : Option Time) (instant : Time) (x : Extent) (later : List Member) → later ≡ []
+    → RisesAfter former (repeated (ended_by instant x) x) →
     RisesAfter former (extents instant (Endless x ∷ later))
 alone former instant x later none rises = rw (none, append-nil) rises
-
-pub no_range : (holds : Bool) (rest : Option TimeFault) → cond holds (Some Range) rest ≡ None → rest ≡ None
-no_range true rest h = cc
-no_range false rest h = h
-
-pub first_false : (holds : Bool) (rest : Option TimeFault) → cond holds (Some Range) rest ≡ None → (holds ≡ false) × (rest ≡ None)
-first_false true rest h = cc
-first_false false rest h = (refl, h)
 
 pub short_none : (holds : Bool) → cond holds (Some Range) (Some Step) ≡ None → ⊥
 short_none true h = cc
 short_none false h = cc
 
-short_range : (holds : Bool) → cond holds (Some Range) (Some Step) ≡ None → Some Step ≡ None
-short_range true h = cc
-short_range false h = h
-
 pub no_step : (holds : Bool) (rest : Option TimeFault) → cond holds (Some Step) rest ≡ None → (holds ≡ false) × (rest ≡ None)
 no_step true rest h = cc
 no_step false rest h = (refl, h)
 
-pub members_rise : (members : List Member) (former : Option Time) → AreLasting members → IsSomeTime former → segment_fault (λ _. false) former members ≡ None →
+pub members_rise : (members : List Member) (former : Option Time) → AreLasting members → IsSomeTime former
+    → segment_fault (λ _. false) former members ≡ None →
     (instant : Time) → RisesAfter former (extents instant members)
 members_rise [] former last is none instant = tt
 members_rise (Closed x ∷ later) None (is, last) _ none instant = members_rise later (Some x.end) last is.end_is none instant
@@ -143,33 +154,26 @@ members_rise (Endless x ∷ later) None (is, last) _ none instant =
     alone None instant x later last (repeated_rises (ended_by instant x) x is)
 members_rise (Endless x ∷ later) (Some former) (is, last) is_former none instant =
     let split = no_step (is_apart (Some former) x) (segment_fault (λ _. false) (Some former) later) none in
-    alone (Some former) instant x later last (repeated_after (ended_by instant x) x is former (ends_after former x (Lasts-from_ticks x is) is_former split.0))
+    alone (Some former) instant x later last (repeated_after (ended_by instant x) x is former
+    (ends_after former x (Lasts-from_ticks x is) is_former split.0))
 
 pub ends_rise : (members : List Member) → AreLasting members → segment_fault (λ _. false) None members ≡ None → EndsRise members
 ends_rise members last none instant = rising-from (extents instant members) (members_rise members None last tt none instant)
 
 -- what has no fault by one test has none by a weaker one
-pub steady_from : (breaks long : Extent → Bool) → ((x : Extent) → breaks x ≡ false → long x ≡ false) → (former : Option Time) (members : List Member) →
+pub steady_from : (breaks long : Extent → Bool) → ((x : Extent) → breaks x ≡ false → long x ≡ false)
+    → (former : Option Time) (members : List Member) →
     segment_fault breaks former members ≡ None → segment_fault long former members ≡ None
 steady_from breaks long weaker former [] none = refl
 steady_from breaks long weaker former (Closed x ∷ later) none =
-    let kept = first_false (breaks x) (cond (is_apart former x) (Some Step) (segment_fault breaks (Some x.end) later)) none in
-    let near = no_step (is_apart former x) (segment_fault breaks (Some x.end) later) kept.1 in
-    cond-false (long x) (Some Range) (cond (is_apart former x) (Some Step) (segment_fault long (Some x.end) later)) (weaker x kept.0)
-    ∙ cond-false (is_apart former x) (Some Step) (segment_fault long (Some x.end) later) near.0 ∙ steady_from breaks long weaker (Some x.end) later near.1
+    let kept = passes _ _ _ none in
+    head_passes long former x later (weaker x kept.0) kept.1 ∙ steady_from breaks long weaker (Some x.end) later kept.2
 steady_from breaks long weaker former (Short x ∷ later) none = absurd (short_none (breaks x) none)
 steady_from breaks long weaker former (Endless x ∷ later) none =
     let near = no_step (is_apart former x) (segment_fault breaks former later) none in
     cond-false (is_apart former x) (Some Step) (segment_fault long former later) near.0 ∙ steady_from breaks long weaker former later near.1
 
 -- what has no fault has no step
-pub no_step_from : (breaks : Extent → Bool) (former : Option Time) (members : List Member) → segment_fault breaks former members ≡ None → segment_fault (λ _. false) former members ≡ None
-no_step_from breaks former [] none = refl
-no_step_from breaks former (Closed x ∷ later) none =
-    let kept = no_range (breaks x) (cond (is_apart former x) (Some Step) (segment_fault breaks (Some x.end) later)) none in
-    let near = no_step (is_apart former x) (segment_fault breaks (Some x.end) later) kept in
-    cond-false (is_apart former x) (Some Step) (segment_fault (λ _. false) (Some x.end) later) near.0 ∙ no_step_from breaks (Some x.end) later near.1
-no_step_from breaks former (Short x ∷ later) none = short_range (breaks x) none
-no_step_from breaks former (Endless x ∷ later) none =
-    let near = no_step (is_apart former x) (segment_fault breaks former later) none in
-    cond-false (is_apart former x) (Some Step) (segment_fault (λ _. false) former later) near.0 ∙ no_step_from breaks former later near.1
+pub no_step_from : (breaks : Extent → Bool) (former : Option Time) (members : List Member) → segment_fault breaks former members ≡ None
+    → segment_fault (λ _. false) former members ≡ None
+no_step_from breaks former members none = steady_from breaks (λ _. false) (λ x kept. refl) former members none

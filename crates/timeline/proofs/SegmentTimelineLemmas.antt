@@ -1,18 +1,23 @@
 -- The members of a timeline: segments, and perhaps those that go on to an open end.
-use Rattle.std.proofs.Common.{◌≡◌, ℕ, ◌+◌, Bool, true, false, not, ◌||◌, cond, List, [], ◌∷◌, ◌++◌, map, length, refl, ◌∙◌, sym, ap, append-nil, arith}
-use Rattle.std.specs.Prelude.{Option, Some, None, is_some, filter, flat_map, sum_by, count_by}
-use Rattle.std.specs.List.{list_any}
-use Rattle.std.proofs.lemmas.List.Sums.{sum_by-cons, sum_by-append}
-use Rattle.std.proofs.lemmas.Grind.{flat_map-append}
-use Rattle.exact_time.specs.Time.{Time, at_most}
+use Rattle.std.proofs.Common.{◌≡◌, ℕ, ◌+◌, Bool, true, false, not, cond, List, ◌∷◌, ◌++◌, map, length, refl, ◌∙◌, ap, append-nil, []}
+use Rattle.std.proofs.Common.{arith, zero, suc, ◌<◌, ◌≤◌, min, sym, inl, inr, length-append}
+use Rattle.std.specs.Prelude.{Option, Some, None, is_some, filter, flat_map, sum_by, count_by, cond}
+use Rattle.std.specs.List.{list_any, AllByRecursion}
+use Rattle.std.proofs.lemmas.List.Sums.{sum_by-cons, sum_by-append, count_by-le-length}
+use Rattle.std.proofs.lemmas.{Grind.flat_map-append, Bool.cases_Bool, Bool.cases_lt}
+use Rattle.exact_time.specs.Time.{Time, at_most, IsBefore, AreRising}
 use Rattle.timeline.specs.Expansions.{SegmentTimeline, Extent, Member, Closed, extents, extents_at, goes_on, is_open}
 use Rattle.timeline.specs.Limits.{breaks_limits}
 use Rattle.timeline.specs.Places.{closed_by, reached_by}
-use Rattle.timeline.specs.RunSegments.{count_ended, endless_count, endless_extents}
+use Rattle.timeline.specs.RunSegments.{count_ended, endless_count, endless_extents, first_of}
 use Rattle.timeline.specs.Kept.{endless_members}
 use Rattle.timeline.specs.Listed.{reaches_fault, instant_of}
-use Rattle.timeline.specs.declared.run.Endless.{Endless}
-use Rattle.timeline.specs.declared.window.Window.{Window}
+use Rattle.timeline.specs.declared.{run.Endless.Endless, window.Window.Window}
+use Rattle.exact_time.proofs.TimeOrder.{before_then_at_most, IsAtMost-from_before, at_most-false, not_at_most-from}
+use Rattle.timeline.proofs.NumberedLemmas.{count_all}
+use Rattle.timeline.proofs.Repeats.{length-repeated, count_ended-in, count_ended-out, count_ended-row, ended_by-row}
+use Rattle.timeline.proofs.Splits.{SplitsAt, splits_same, IsPlaceOf}
+use Rattle.std.proofs.Math.Bool.{or-false}
 
 -- the segments that go on to an open end, up to a time
 abbrev pub open_at : Time → Option Endless → List Extent
@@ -42,21 +47,16 @@ extents-endless t (Some e) = append-nil (endless_extents e t)
 
 pub extents-parts : (t : Time) (xs : List Extent) (e : Option Endless) → extents t (members_of_parts xs e) ≡ xs ++ open_at t e
 extents-parts t xs e =
-    flat_map-append (extents_at t) (map Closed xs) (endless_members e)
-    ∙ ap (λ (ys : List Extent). ys ++ extents t (endless_members e)) (extents-closed t xs)
-    ∙ ap (λ (ys : List Extent). xs ++ ys) (extents-endless t e)
+    cc (flat_map-append (extents_at t) (map Closed xs) (endless_members e), extents-closed t xs, extents-endless t e)
 
 -- ---- their numbers
 
-closed-closed : (t : Time) (xs : List Extent) → sum_by (closed_by t) (map Closed xs) ≡ count_ended t xs
-closed-closed t [] = refl
-closed-closed t (x ∷ xs) = sum_by-cons (closed_by t) (Closed x) (map Closed xs)
-    ∙ ap (λ (n : ℕ). cond (at_most x.end t) 1 0 + n) (closed-closed t xs) ∙ sym (sum_by-cons (λ (y : Extent). cond (at_most y.end t) 1 0) x xs)
-
-reached-closed : (t : Time) (xs : List Extent) → sum_by (reached_by t) (map Closed xs) ≡ count_ended t xs
-reached-closed t [] = refl
-reached-closed t (x ∷ xs) = sum_by-cons (reached_by t) (Closed x) (map Closed xs)
-    ∙ ap (λ (n : ℕ). cond (at_most x.end t) 1 0 + n) (reached-closed t xs) ∙ sym (sum_by-cons (λ (y : Extent). cond (at_most y.end t) 1 0) x xs)
+sum-closed : (test : Member → ℕ) (p : Extent → Bool) → ((x : Extent) → test (Closed x) ≡ cond (p x) 1 0) → (xs : List Extent) →
+    sum_by test (map Closed xs) ≡ count_by p xs
+sum-closed test p same [] = refl
+sum-closed test p same (x ∷ xs) =
+    let by_sum_by_cons = sum_by-cons (λ (y : Extent). cond (p y) 1 0) x xs in
+    cc (sum_by-cons test (Closed x) (map Closed xs), same x, sum-closed test p same xs)
 
 closed-endless : (t : Time) (e : Option Endless) → sum_by (closed_by t) (endless_members e) ≡ 0
 closed-endless t None = refl
@@ -67,41 +67,52 @@ reached-endless t None = refl
 reached-endless t (Some e) = omega arith
 
 pub closed-parts : (t : Time) (xs : List Extent) (e : Option Endless) → sum_by (closed_by t) (members_of_parts xs e) ≡ count_ended t xs
-closed-parts t xs e = omega (arith, sum_by-append (closed_by t) (map Closed xs) (endless_members e), closed-closed t xs, closed-endless t e)
+closed-parts t xs e = omega (
+  arith,
+  sum_by-append (closed_by t) (map Closed xs) (endless_members e),
+  sum-closed (closed_by t) (λ x. at_most x.end t) (λ _. refl) xs,
+  closed-endless t e,
+)
 
-pub reached-parts : (t : Time) (xs : List Extent) (e : Option Endless) → sum_by (reached_by t) (members_of_parts xs e) ≡ count_ended t xs + open_count t e
-reached-parts t xs e = omega (arith, sum_by-append (reached_by t) (map Closed xs) (endless_members e), reached-closed t xs, reached-endless t e)
-
-total-closed : (xs : List Extent) → count_by (λ (m : Member). not (goes_on m)) (map Closed xs) ≡ length xs
-total-closed [] = refl
-total-closed (x ∷ xs) = sum_by-cons (λ (m : Member). cond (not (goes_on m)) 1 0) (Closed x) (map Closed xs) ∙ (let rest = total-closed xs in omega arith)
+pub reached-parts : (t : Time) (xs : List Extent) (e : Option Endless) → sum_by (reached_by t) (members_of_parts xs e)
+    ≡ count_ended t xs + open_count t e
+reached-parts t xs e = omega (
+  arith,
+  sum_by-append (reached_by t) (map Closed xs) (endless_members e),
+  sum-closed (reached_by t) (λ x. at_most x.end t) (λ _. refl) xs,
+  reached-endless t e,
+)
 
 total-endless : (e : Option Endless) → count_by (λ (m : Member). not (goes_on m)) (endless_members e) ≡ 0
 total-endless None = refl
 total-endless (Some e) = refl
 
 pub total-parts : (xs : List Extent) (e : Option Endless) → count_by (λ (m : Member). not (goes_on m)) (members_of_parts xs e) ≡ length xs
-total-parts xs e = omega (arith, sum_by-append (λ (m : Member). cond (not (goes_on m)) 1 0) (map Closed xs) (endless_members e), total-closed xs, total-endless e)
+total-parts xs e = omega (
+  arith,
+  sum_by-append (λ (m : Member). cond (not (goes_on m)) 1 0) (map Closed xs) (endless_members e),
+  sum-closed (λ m. cond (not (goes_on m)) 1 0) (λ _. true) (λ _. refl) xs,
+  count_all xs,
+  total-endless e,
+)
 
 -- ---- the open end
 
-any-closed : (test : Member → Bool) → ((x : Extent) → test (Closed x) ≡ false) → (xs : List Extent) (later : List Member) → list_any test (map Closed xs ++ later) ≡ list_any test later
+any-closed : (test : Member → Bool) → ((x : Extent) → test (Closed x) ≡ false) → (xs : List Extent) (later : List Member)
+    → list_any test (map Closed xs ++ later) ≡ list_any test later
 any-closed test none [] later = refl
-any-closed test none (x ∷ xs) later = ap (λ (b : Bool). b || list_any test (map Closed xs ++ later)) (none x) ∙ any-closed test none xs later
+any-closed test none (x ∷ xs) later = cc (none x, any-closed test none xs later)
 
 pub is_open-parts : (xs : List Extent) (e : Option Endless) → is_open (members_of_parts xs e) ≡ is_some e
 is_open-parts xs None = any-closed goes_on (λ _. refl) xs (endless_members None)
 is_open-parts xs (Some e) = any-closed goes_on (λ _. refl) xs (endless_members (Some e))
 
-or_false : (b : Bool) → (b || false) ≡ b
-or_false true = refl
-or_false false = refl
-
 pub out_of_range-parts : (timeline : SegmentTimeline) (window : Window) (xs : List Extent) (e : Option Endless) →
-    list_any (reaches_fault timeline window) (members_of_parts xs e) ≡ open_breaks_limits timeline.ticks timeline.origin (instant_of window) e
+    list_any (reaches_fault timeline window) (members_of_parts xs e) ≡ open_breaks_limits timeline.ticks timeline.origin
+    (instant_of window) e
 out_of_range-parts timeline window xs None = any-closed (reaches_fault timeline window) (λ _. refl) xs (endless_members None)
 out_of_range-parts timeline window xs (Some e) = any-closed (reaches_fault timeline window) (λ _. refl) xs (endless_members (Some e))
-    ∙ or_false (list_any (breaks_limits timeline.ticks timeline.origin) (endless_extents e (instant_of window)))
+    ∙ or-false (list_any (breaks_limits timeline.ticks timeline.origin) (endless_extents e (instant_of window)))
 
 filter-closed : (xs : List Extent) (later : List Member) → filter goes_on (map Closed xs ++ later) ≡ filter goes_on later
 filter-closed [] later = refl
@@ -111,5 +122,97 @@ filter-endless : (e : Option Endless) → filter goes_on (endless_members e) ≡
 filter-endless None = refl
 filter-endless (Some e) = refl
 
-pub open_extents-parts : (t : Time) (xs : List Extent) (e : Option Endless) → flat_map (extents_at t) (filter goes_on (members_of_parts xs e)) ≡ open_at t e
-open_extents-parts t xs e = ap (flat_map (extents_at t)) (filter-closed xs (endless_members e) ∙ filter-endless e) ∙ extents-endless t e
+pub open_extents-parts : (t : Time) (xs : List Extent) (e : Option Endless)
+    → flat_map (extents_at t) (filter goes_on (members_of_parts xs e)) ≡ open_at t e
+open_extents-parts t xs e = cc (filter-closed xs (endless_members e), filter-endless e, extents-endless t e)
+
+-- ---- ends that rise: the segments that end by a time are the first ones
+
+abbrev pub HasScale : Extent → Type 0
+HasScale x = 0 < x.end.scale
+
+abbrev pub ends_of : List Extent → List Time
+ends_of xs = map (λ (x : Extent). x.end) xs
+
+abbrev pub ends_by_time : Time → Extent → Bool
+ends_by_time t x = at_most x.end t
+
+-- behind an end that is after the time, all are
+after_it : (t : Time) (x : Extent) (xs : List Extent) → IsBefore t x.end → AllByRecursion HasScale xs → AreRising (ends_of (x ∷ xs))
+    → SplitsAt (ends_by_time t) 0 xs
+after_it t x [] late scales rising = tt
+after_it t x (y ∷ ys) late scales rising =
+    let later : IsBefore t y.end = before_then_at_most t x.end y.end scales.0 late (IsAtMost-from_before x.end y.end rising.0) in
+    (not_at_most-from y.end t later, after_it t y ys later scales.1 rising.1)
+
+pub none_ended : (t : Time) (xs : List Extent) → SplitsAt (ends_by_time t) 0 xs → count_ended t xs ≡ 0
+none_ended t [] is = refl
+none_ended t (x ∷ xs) is = count_ended-out t x xs is.0 ∙ none_ended t xs is.1
+
+rising_tail : (x : Extent) (xs : List Extent) → AreRising (ends_of (x ∷ xs)) → AreRising (ends_of xs)
+rising_tail x [] rising = tt
+rising_tail x (y ∷ ys) rising = rising.1
+
+pub splits_rising : (t : Time) (xs : List Extent) → AllByRecursion HasScale xs → AreRising (ends_of xs)
+    → SplitsAt (ends_by_time t) (count_ended t xs) xs
+splits_rising t [] scales rising = tt
+splits_rising t (x ∷ xs) scales rising = elim (cases_Bool (at_most x.end t)) [
+  | inl early ↦ splits_same (ends_by_time t) (suc (count_ended t xs)) (count_ended t (x ∷ xs)) (x ∷ xs)
+      (omega (arith, count_ended-in t x xs early))
+      (early, splits_rising t xs scales.1 (rising_tail x xs rising))
+  | inr late ↦
+      let rest = after_it t x xs (at_most-false x.end t late) scales.1 rising in
+      splits_same (ends_by_time t) 0 (count_ended t (x ∷ xs)) (x ∷ xs) (sym (count_ended-out t x xs late ∙ none_ended t xs rest)) (
+        late,
+        rest,
+      )
+]
+
+pub count_ended-append : (t : Time) (xs ys : List Extent) → count_ended t (xs ++ ys) ≡ count_ended t xs + count_ended t ys
+count_ended-append t xs ys = sum_by-append (λ (x : Extent). cond (at_most x.end t) 1 0) xs ys
+
+pub count_ended-le : (t : Time) (xs : List Extent) → count_ended t xs ≤ length xs
+count_ended-le t xs = count_by-le-length (ends_by_time t) xs
+
+-- where one of the later ones ends by the time, all of the earlier ones do
+pub front_ended : (t : Time) (k : ℕ) (xs ys : List Extent) → SplitsAt (ends_by_time t) k (xs ++ ys) → 0 < count_ended t ys
+    → count_ended t xs ≡ length xs
+front_ended t k [] ys is some = refl
+front_ended t zero (x ∷ xs) ys is some = absurd (omega (arith, none_ended t (xs ++ ys) is.1, count_ended-append t xs ys))
+front_ended t (suc k) (x ∷ xs) ys is some = omega (arith, count_ended-in t x xs is.0, front_ended t k xs ys is.1 some)
+
+-- ---- the segments that go on to an open end
+
+abbrev pub LastsSome : Option Endless → Type 0
+LastsSome None = Unit {0}
+LastsSome (Some e) = 0 < e.step
+
+-- of those up to an instant, as many end by a time as all of them, at most
+pub count_ended-open : (t instant : Time) (e : Endless) → 0 < t.scale → 0 < e.step
+    → count_ended t (endless_extents e instant) ≡ min (endless_count e instant) (endless_count e t)
+count_ended-open t instant e time lasts =
+    count_ended-row (endless_count e instant) t e.start.scale e.start.n e.step time lasts
+    ∙ ap (min (endless_count e instant)) (sym (ended_by-row t e.start.scale e.start.n e.step time e.start.positive lasts))
+
+-- the place by a time: the number of the segments that end by it, or behind them all
+pub place_of-parts : (t instant : Time) (xs : List Extent) (e : Option Endless) (cap : ℕ) → 0 < t.scale → LastsSome e →
+    AllByRecursion HasScale (xs ++ open_at t e) → AreRising (ends_of (xs ++ open_at t e)) → length xs + open_count instant e ≤ cap →
+    IsPlaceOf (min cap (count_ended t xs + open_count t e)) (count_ended t (xs ++ open_at instant e)) (xs ++ open_at instant e)
+place_of-parts t instant xs None cap time lasts scales rising room =
+    inl (omega (arith, count_ended-le t xs, count_ended-append t xs []))
+place_of-parts t instant xs (Some e) cap time lasts scales rising room =
+    let closed = count_ended t xs in
+    let count = endless_count e instant in
+    let some = endless_count e t in
+    let whole : count_ended t (xs ++ endless_extents e instant) ≡ closed + min count some =
+    count_ended-append t xs (endless_extents e instant) ∙ ap (λ (n : ℕ). closed + n) (count_ended-open t instant e time lasts) in
+    let long : length (xs ++ endless_extents e instant) ≡ length xs + count =
+    length-append xs (endless_extents e instant) ∙ ap (λ (n : ℕ). length xs + n) (length-repeated count (first_of e)) in
+    elim (cases_lt count some) [
+      | inl past ↦
+          let here : count_ended t (endless_extents e t) ≡ min some some = count_ended-open t t e time lasts in
+          let all : closed ≡ length xs = front_ended t (count_ended t (xs ++ endless_extents e t)) xs (endless_extents e t)
+          (splits_rising t (xs ++ endless_extents e t) scales rising) (omega arith) in
+          inr (omega arith, omega arith)
+      | inr within ↦ inl (omega (arith, count_ended-le t xs))
+    ]

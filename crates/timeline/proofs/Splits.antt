@@ -1,9 +1,9 @@
 -- Lists of which the first ones pass a test and the others don't.
-use Rattle.std.proofs.Common.{◌≡◌, ℕ, zero, suc, ◌+◌, ◌-◌, ◌<◌, ◌≤◌, ◌⊎◌, min, max, Bool, true, false, not, ◌&&◌, List, [], ◌∷◌, ◌++◌, length, take, drop, refl, ◌∙◌, sym, ap, subst, inl, inr, arith}
-use Rattle.std.specs.Prelude.{slice_get, IsSome, IfSome, All, filter}
+use Rattle.std.proofs.Common.{◌≡◌, ℕ, zero, suc, ◌+◌, ◌-◌, ◌<◌, ◌≤◌, ◌⊎◌, min, max, Bool, true, false, not, ◌&&◌, List, ◌∷◌, ◌++◌, length}
+use Rattle.std.proofs.Common.{take, drop, refl, ◌∙◌, sym, ap, subst, inl, inr, arith, []}
+use Rattle.std.specs.Prelude.{slice_get, IsSome, All, filter}
 use Rattle.std.proofs.lemmas.List.Elements.{All-nil, All-cons}
 use Rattle.std.proofs.lemmas.List.{drop-drop, drop_all, take_all}
-use Rattle.std.proofs.lemmas.Option.{slice_get_past}
 use Rattle.std.proofs.lemmas.Bool.{cond-true, cond-false, and_left, and_right, and_from, not_from_true, not_from_false}
 
 -- the first k pass the test, and the others don't
@@ -33,12 +33,6 @@ splits_after test zero (x ∷ xs) is = All-cons (λ y. test y ≡ false) x xs is
 splits_after test (suc k) [] is = absurd is
 splits_after test (suc k) (x ∷ xs) is = splits_after test k xs is.1
 
-pub splits_behind : {X : Type 0} (test : X → Bool) (k : ℕ) (xs : List X) → SplitsAt test k xs → IfSome (slice_get xs k) (λ x. test x ≡ false)
-splits_behind test zero [] is = tt
-splits_behind test zero (x ∷ xs) is = is.0
-splits_behind test (suc k) [] is = absurd is
-splits_behind test (suc k) (x ∷ xs) is = splits_behind test k xs is.1
-
 -- what passes the one test, and not the other
 abbrev pub between : {X : Type 0} → (X → Bool) → (X → Bool) → X → Bool
 between low high x = not (low x) && high x
@@ -58,14 +52,15 @@ filter-skip : {X : Type 0} (test : X → Bool) (x : X) (xs : List X) → test x 
 filter-skip test x xs fails = cond-false (test x) (x ∷ filter test xs) (filter test xs) fails
 
 -- the elements behind the first `l` and among the first `h`
-filter-all : {X : Type 0} (low high : X → Bool) (l h : ℕ) (xs : List X) → SplitsAt low l xs → SplitsAt high h xs → filter (between low high) xs ≡ take (h - l) (drop l xs)
+filter-all : {X : Type 0} (low high : X → Bool) (l h : ℕ) (xs : List X) → SplitsAt low l xs → SplitsAt high h xs
+    → filter (between low high) xs ≡ take (h - l) (drop l xs)
 filter-all low high l h [] is_low is_high = nothing (h - l) l
 filter-all low high zero zero (x ∷ xs) is_low is_high =
     filter-skip (between low high) x xs (and_right (not (low x)) (high x) is_high.0) ∙ filter-all low high zero zero xs is_low.1 is_high.1
 filter-all low high zero (suc h) (x ∷ xs) is_low is_high =
-    filter-one (between low high) x xs (and_from (not (low x)) (high x) (not_from_false (low x) is_low.0) is_high.0)
-    ∙ ap (λ (ys : List _). x ∷ ys) (filter-all low high zero h xs is_low.1 is_high.1 ∙ taken (h - 0) h xs (omega arith))
-    ∙ taken (suc h) (suc h - 0) (x ∷ xs) (omega arith)
+    let by_filter_one = filter-one (between low high) x xs (and_from (not (low x)) (high x) (not_from_false (low x) is_low.0) is_high.0) in
+    let by_filter_all = filter-all low high zero h xs is_low.1 is_high.1 in
+    cc (taken (h - 0) h xs (omega arith), taken (suc h) (suc h - 0) (x ∷ xs) (omega arith))
 filter-all low high (suc l) zero (x ∷ xs) is_low is_high =
     filter-skip (between low high) x xs (and_left (not (low x)) (high x) (not_from_true (low x) is_low.0))
     ∙ filter-all low high l zero xs is_low.1 is_high.1 ∙ taken (0 - l) (0 - suc l) (drop l xs) (omega arith)
@@ -77,23 +72,28 @@ pub splits_same : {X : Type 0} (test : X → Bool) (m n : ℕ) (xs : List X) →
 splits_same test m n xs same is = subst (λ (k : ℕ). SplitsAt test k xs) same is
 
 -- of the list's front, and of its rest
-pub splits_front : {X : Type 0} (test : X → Bool) (k : ℕ) (xs ys : List X) → SplitsAt test k (xs ++ ys) → SplitsAt test (min k (length xs)) xs
+pub splits_front : {X : Type 0} (test : X → Bool) (k : ℕ) (xs ys : List X) → SplitsAt test k (xs ++ ys)
+    → SplitsAt test (min k (length xs)) xs
 splits_front test k [] ys is = splits_same test 0 (min k 0) [] (omega arith) tt
 splits_front test zero (x ∷ xs) ys is = splits_same test 0 (min 0 (suc (length xs))) (x ∷ xs) (omega arith)
     (is.0, splits_same test (min 0 (length xs)) 0 xs (omega arith) (splits_front test zero xs ys is.1))
-splits_front test (suc k) (x ∷ xs) ys is = splits_same test (suc (min k (length xs))) (min (suc k) (suc (length xs))) (x ∷ xs) (omega arith) (is.0, splits_front test k xs ys is.1)
+splits_front test (suc k) (x ∷ xs) ys is = splits_same test (suc (min k (length xs))) (min (suc k) (suc (length xs))) (x ∷ xs)
+    (omega arith) (is.0, splits_front test k xs ys is.1)
 
 pub splits_rest : {X : Type 0} (test : X → Bool) (k : ℕ) (xs ys : List X) → SplitsAt test k (xs ++ ys) → SplitsAt test (k - length xs) ys
 splits_rest test k [] ys is = splits_same test k (k - 0) ys (omega arith) is
-splits_rest test zero (x ∷ xs) ys is = splits_same test (0 - length xs) (0 - suc (length xs)) ys (omega arith) (splits_rest test zero xs ys is.1)
-splits_rest test (suc k) (x ∷ xs) ys is = splits_same test (k - length xs) (suc k - suc (length xs)) ys (omega arith) (splits_rest test k xs ys is.1)
+splits_rest test zero (x ∷ xs) ys is = splits_same test (0 - length xs) (0 - suc (length xs)) ys (omega arith)
+    (splits_rest test zero xs ys is.1)
+splits_rest test (suc k) (x ∷ xs) ys is = splits_same test (k - length xs) (suc k - suc (length xs)) ys (omega arith)
+    (splits_rest test k xs ys is.1)
 
 pub splits_drop : {X : Type 0} (test : X → Bool) (f k : ℕ) (xs : List X) → SplitsAt test k xs → SplitsAt test (k - f) (drop f xs)
 splits_drop test zero k xs is = splits_same test k (k - 0) xs (omega arith) is
 splits_drop test (suc f) zero [] is = splits_same test 0 (0 - suc f) [] (omega arith) is
 splits_drop test (suc f) zero (x ∷ xs) is = splits_same test (0 - f) (0 - suc f) (drop f xs) (omega arith) (splits_drop test f zero xs is.1)
 splits_drop test (suc f) (suc k) [] is = absurd is
-splits_drop test (suc f) (suc k) (x ∷ xs) is = splits_same test (k - f) (suc k - suc f) (drop f xs) (omega arith) (splits_drop test f k xs is.1)
+splits_drop test (suc f) (suc k) (x ∷ xs) is = splits_same test (k - f) (suc k - suc f) (drop f xs) (omega arith)
+    (splits_drop test f k xs is.1)
 
 -- the same from a place on
 pub filter-between : {X : Type 0} (low high : X → Bool) (l h f : ℕ) (xs : List X) → SplitsAt low l xs → SplitsAt high h xs →
@@ -105,11 +105,13 @@ filter-between low high l h f xs is_low is_high =
     ∙ ap (λ (n : ℕ). take (h - max f l) (drop n xs)) (omega arith)
 
 -- the first ones are no such elements
-pub filter-before : {X : Type 0} (low high : X → Bool) (l : ℕ) (xs : List X) → SplitsAt low l xs → filter (between low high) (take l xs) ≡ []
+pub filter-before : {X : Type 0} (low high : X → Bool) (l : ℕ) (xs : List X) → SplitsAt low l xs
+    → filter (between low high) (take l xs) ≡ []
 filter-before low high zero xs is = refl
 filter-before low high (suc l) [] is = absurd is
 filter-before low high (suc l) (x ∷ xs) is =
-    filter-skip (between low high) x (take l xs) (and_left (not (low x)) (high x) (not_from_true (low x) is.0)) ∙ filter-before low high l xs is.1
+    filter-skip (between low high) x (take l xs) (and_left (not (low x)) (high x) (not_from_true (low x) is.0))
+    ∙ filter-before low high l xs is.1
 
 -- the element behind them is the first one
 pub first-between : {X : Type 0} (low high : X → Bool) (l h : ℕ) (xs : List X) → SplitsAt low l xs → SplitsAt high h xs → l < h →
@@ -137,12 +139,6 @@ pub drop-place : {X : Type 0} (place k : ℕ) (xs : List X) → IsPlaceOf place 
 drop-place place k xs is = elim is [
   | inl same ↦ ap (λ (n : ℕ). drop n xs) same
   | inr past ↦ drop_all place xs past.1 ∙ sym (drop_all k xs (omega (arith, past.0)))
-]
-
-pub slice_get-place : {X : Type 0} (place k : ℕ) (xs : List X) → IsPlaceOf place k xs → slice_get xs place ≡ slice_get xs k
-slice_get-place place k xs is = elim is [
-  | inl same ↦ ap (slice_get xs) same
-  | inr past ↦ slice_get_past xs place past.1 ∙ sym (slice_get_past xs k (omega (arith, past.0)))
 ]
 
 -- what is left up to another place

@@ -1,5 +1,6 @@
 -- Why times give no segments.
-use Rattle.std.specs.Prelude.{ℕ, ◌-◌, ◌*◌, ℤ, pos, negsuc, Bool, true, false, not, ◌&&◌, ◌||◌, ◌==◌, nat_lt, List, [], ◌∷◌, length, unsigned_abs, if◌then◌else◌, Option, Some, None}
+use Rattle.std.specs.Prelude.{ℕ, ◌-◌, ◌*◌, ℤ, pos, negsuc, Bool, true, false, not, ◌&&◌, ◌||◌, ◌==◌, nat_lt, List, [], ◌∷◌, length}
+use Rattle.std.specs.Prelude.{unsigned_abs, if◌then◌else◌, Option, Some, None}
 use Rattle.std.specs.List.{list_any}
 use Rattle.exact_time.specs.Time.{Time, difference, before, at_most, nanoseconds}
 use Rattle.timeline.specs.declared.fault.TimeFault.{TimeFault}

@@ -9,7 +9,8 @@ use Rattle.timeline.specs.Names.{part_of}
 
 -- whether a template names files, for which the base's text leaves room in an address
 abbrev pub are_files : Names → Bool
-are_files (Template media id bandwidth base) = nat_le (length base) 1793 && names_files media (record { id = id; bandwidth = bandwidth; number = 0; time = 0 })
+are_files (Template media id bandwidth base) = nat_le (length base) 1793 && names_files media
+    (record { id = id; bandwidth = bandwidth; number = 0; time = 0 })
 are_files (Listed parts base) = false
 are_files (Shared parts base) = false
 are_files (Addresses parts) = false
@@ -23,7 +24,8 @@ folder_of_names (Addresses parts) = []
 
 -- what a template names
 abbrev pub file_name : Names → (number time : ℕ) → List ℕ
-file_name (Template media id bandwidth base) number time = named media (record { id = id; bandwidth = bandwidth; number = number; time = time })
+file_name (Template media id bandwidth base) number time =
+    named media (record { id = id; bandwidth = bandwidth; number = number; time = time })
 file_name (Listed parts base) number time = []
 file_name (Shared parts base) number time = []
 file_name (Addresses parts) number time = []

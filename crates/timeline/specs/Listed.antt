@@ -1,5 +1,6 @@
 -- Which segments are listed, and from where on.
-use Rattle.std.specs.Prelude.{◌≡◌, ℕ, ◌-◌, ◌<◌, ◌≤◌, ◌^◌, ℤ, pos, ◌+ℤ◌, Bool, true, false, ◌&&◌, ◌⊎◌, List, [], ◌∷◌, filter, take, drop, length, slice_get, All, IsSome, IfSome, Option, Some, None, unwrap_or, Result, Ok, Err, if◌then◌else◌}
+use Rattle.std.specs.Prelude.{◌≡◌, ℕ, ◌-◌, ◌<◌, ◌≤◌, ◌^◌, ℤ, pos, ◌+ℤ◌, Bool, true, false, ◌&&◌, ◌⊎◌, List, [], ◌∷◌, filter, take, drop}
+use Rattle.std.specs.Prelude.{length, slice_get, All, IsSome, IfSome, Option, Some, None, unwrap_or, Result, Ok, Err, if◌then◌else◌}
 use Rattle.std.specs.List.{list_any}
 use Rattle.exact_time.specs.Time.{Time, seconds, before, at_most, nanoseconds}
 use Rattle.exact_time.specs.Tick.{time_of}
@@ -45,14 +46,16 @@ listed_from place timeline window = listed window (drop place (expansion timelin
 abbrev pub reaches_fault : SegmentTimeline → Window → Member → Bool
 reaches_fault timeline window (Closed x) = false
 reaches_fault timeline window (Short x) = false
-reaches_fault timeline window (Endless x) = list_any (breaks_limits timeline.ticks timeline.origin) (extents_at (instant_of window) (Endless x))
+reaches_fault timeline window (Endless x) = list_any (breaks_limits timeline.ticks timeline.origin)
+    (extents_at (instant_of window) (Endless x))
 
 abbrev pub is_out_of_range : SegmentTimeline → Window → Bool
 is_out_of_range timeline window = list_any (reaches_fault timeline window) timeline.members
 
 -- the number of listed segments
 abbrev pub answered_count : SegmentTimeline → Window → Result ℕ TimeFault
-answered_count timeline window = if is_out_of_range timeline window then Err Range else Ok (length (listed window (expansion timeline window)))
+answered_count timeline window = if is_out_of_range timeline window then Err Range
+    else Ok (length (listed window (expansion timeline window)))
 
 -- an open end needs an instant
 abbrev pub IsWindowOf : SegmentTimeline → Window → Type 0

@@ -1,5 +1,6 @@
 -- S elements that were laid out in media time, whatever the timescale.
-use Rattle.std.specs.Prelude.{◌≡◌, ℕ, ◌+◌, ◌*◌, ◌<◌, ◌≤◌, ◌^◌, ◌==◌, pos, ◌+ℤ◌, Bool, ◌||◌, nat_lt, max, List, [], ◌∷◌, ◌++◌, map, drop, length, All, Option, Some, None, if◌then◌else◌}
+use Rattle.std.specs.Prelude.{◌≡◌, ℕ, ◌+◌, ◌*◌, ◌<◌, ◌≤◌, ◌^◌, ◌==◌, pos, ◌+ℤ◌, Bool, ◌||◌, nat_lt, max, List, [], ◌∷◌, ◌++◌, map, drop}
+use Rattle.std.specs.Prelude.{length, All, Option, Some, None, if◌then◌else◌}
 use Rattle.std.specs.List.{list_any}
 use Rattle.exact_time.specs.Time.{Time}
 use Rattle.timeline.specs.declared.entry.SEntry.{SEntry}
@@ -62,7 +63,8 @@ pub record IsMedia (entries : List SEntry) (m : MediaRuns) : Type 0 where
   pub laid : (l : Limits) → l.origin < 2 ^ 64 → AreLaid 0 (runs_by l m) m.total
   pub timed : (l : Limits) → All (λ x. natural (x.start.ticks +ℤ pos l.origin) < 2 ^ 64) (all_extents (runs_by l m))
   pub members : (scale : Scale) (end : End) (l : Limits) → l.ticks ≡ scale.ticks → l.origin ≡ scale.offset →
-      expansion_of_timeline scale end entries ≡ map Closed (all_extents (runs_by l m)) ++ members_from scale end m.former (rest_of entries m)
+      expansion_of_timeline scale end entries ≡ map Closed (all_extents (runs_by l m)) ++ members_from scale end m.former
+      (rest_of entries m)
   pub judged : (l : Limits) (later : List Member) → segment_fault (breaks_in l) None (map Closed (all_extents (runs_by l m)) ++ later)
       ≡ (if are_passed l m.longest m.former then Some Range else segment_fault (breaks_in l) (media_end l m) later)
 

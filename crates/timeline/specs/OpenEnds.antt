@@ -27,11 +27,13 @@ DurationsEnd = (duration : ℕ) (end : End) (live : Bool) (scale : Scale) (names
     timeline_of_duration duration end live scale names ≡ Ok timeline → may_be_open live end names ≡ false → is_open timeline.members ≡ false
 
 abbrev pub ListsEnd : Type 0
-ListsEnd = (spans : List Span) (scale : Scale) (names : Names) (timeline : SegmentTimeline) → timeline_of_spans spans scale names ≡ Ok timeline → is_open timeline.members ≡ false
+ListsEnd = (spans : List Span) (scale : Scale) (names : Names) (timeline : SegmentTimeline)
+    → timeline_of_spans spans scale names ≡ Ok timeline → is_open timeline.members ≡ false
 
 -- what has an end needs no `until`, and `count` never answers Range
 abbrev pub EndedIsReached : Type 0
-EndedIsReached = (timeline : SegmentTimeline) (window : Window) → is_open timeline.members ≡ false → IsWindowOf timeline window × IsReached timeline window
+EndedIsReached = (timeline : SegmentTimeline) (window : Window) → is_open timeline.members ≡ false
+    → IsWindowOf timeline window × IsReached timeline window
 
 -- of a window `until` alone tells whether it is one, whether `count` answers Range, and how far an open end goes
 abbrev pub UntilTells : Type 0

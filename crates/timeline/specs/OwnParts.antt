@@ -18,7 +18,8 @@ use Rattle.timeline.specs.SegmentTimelines.{timeline_of_entries, timeline_of_dur
 
 -- segment k has the first number and k
 abbrev pub AreNumbered : Type 0
-AreNumbered = (timeline : SegmentTimeline) (window : Window) (k : ℕ) → IfSome (slice_get (expansion timeline window) k) (λ x. x.number ≡ timeline.first_number + k)
+AreNumbered = (timeline : SegmentTimeline) (window : Window) (k : ℕ)
+    → IfSome (slice_get (expansion timeline window) k) (λ x. x.number ≡ timeline.first_number + k)
 
 -- the list has a part for the segment, in its own place, and the segment has it
 abbrev pub HasPart : SegmentTimeline → List Part → Timing → Type 0
@@ -36,7 +37,8 @@ DurationsHaveParts = (duration : ℕ) (end : End) (live : Bool) (scale : Scale) 
     timeline_of_duration duration end live scale (Addresses parts) ≡ Ok timeline → HaveParts timeline parts
 
 abbrev pub ListsHaveParts : Type 0
-ListsHaveParts = (spans : List Span) (scale : Scale) (parts : List Part) (timeline : SegmentTimeline) → timeline_of_spans spans scale (Addresses parts) ≡ Ok timeline → HaveParts timeline parts
+ListsHaveParts = (spans : List Span) (scale : Scale) (parts : List Part) (timeline : SegmentTimeline)
+    → timeline_of_spans spans scale (Addresses parts) ≡ Ok timeline → HaveParts timeline parts
 
 -- a segment that has its part is made with that, or memory is wanting
 abbrev pub PartsAreMade : Type 0
@@ -44,7 +46,8 @@ PartsAreMade = (old new : Rest) (parts : List Part) (made : Made) → All (HasPa
     slice_get parts (made.times.number - old.timeline.first_number) ≡ Some made.part
 
 abbrev pub OnlyMemoryHolds : Type 0
-OnlyMemoryHolds = (old new : Rest) (parts : List Part) (fault : ListFault) → All (HasPart old.timeline parts) old.left → IsHeld old fault new → fault ≡ Memory
+OnlyMemoryHolds = (old new : Rest) (parts : List Part) (fault : ListFault) → All (HasPart old.timeline parts) old.left
+    → IsHeld old fault new → fault ≡ Memory
 
 -- the SegmentURL that refers to an address
 abbrev pub reference_to : Part → RefPart
@@ -52,5 +55,6 @@ reference_to part = record { reference = Some part.address; range = part.range }
 
 -- addresses are what references to them give, whatever the base
 abbrev pub AreGivenAgain : Type 0
-AreGivenAgain = (parts : List Part) (base : List ℕ) (place number time : ℕ) → All (λ part. IsAddress part.address) parts → place < length parts →
+AreGivenAgain = (parts : List Part) (base : List ℕ) (place number time : ℕ) → All (λ part. IsAddress part.address) parts
+    → place < length parts →
     part_of (Addresses parts) place number time ≡ part_of (Listed (map reference_to parts) base) place number time

@@ -1,5 +1,6 @@
 -- How far the segments of an S go on, as the code finds it out.
-use Rattle.std.specs.Prelude.{◌≡◌, ℕ, ◌+◌, ◌-◌, ◌*◌, ◌<◌, ◌≤◌, ◌==◌, ◌⊎◌, Bool, false, List, [], ◌∷◌, ◌++◌, map, IfSome, IsNone, Some, None, unwrap_or}
+use Rattle.std.specs.Prelude.{◌≡◌, ℕ, ◌+◌, ◌-◌, ◌*◌, ◌<◌, ◌≤◌, ◌==◌, ◌⊎◌, Bool, false, List, [], ◌∷◌, ◌++◌, map, IfSome, IsNone, Some, None}
+use Rattle.std.specs.Prelude.{unwrap_or}
 use Rattle.std.specs.List.{list_any}
 use Rattle.exact_time.specs.Floor.{IsCeiling}
 use Rattle.timeline.specs.declared.entry.SEntry.{SEntry}
@@ -58,7 +59,8 @@ pub record IsSoFar (scale : Scale) (end : End) (entries : List SEntry) (l : Runs
   pub lasting : list_any (λ s. s.d == 0) rest ≡ false
   pub goes_on : GoesOn l rest
   pub members : expansion_of_timeline scale end entries ≡ members_so_far l ++ members_from scale end l.former rest
-  pub judged : segment_fault (breaks_in l.limits) None (expansion_of_timeline scale end entries) ≡ segment_fault (breaks_in l.limits) (former_end l) (members_from scale end l.former rest)
+  pub judged : segment_fault (breaks_in l.limits) None (expansion_of_timeline scale end entries)
+      ≡ segment_fault (breaks_in l.limits) (former_end l) (members_from scale end l.former rest)
 
 -- the members are in the row, and have no fault
 pub record AreLaidOut (scale : Scale) (members : List Member) (l : RunsBuilder) : Type 0 where

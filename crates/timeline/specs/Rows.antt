@@ -43,7 +43,10 @@ IsRange broken fault = IfSome (refusal fault) (λ f. (f ≡ Range) × (broken �
 
 -- a segment from a media time on that ends at the Period's end, where that is earlier
 abbrev pub last_extent : ℕ → ℕ → ℕ → ℕ → Extent
-last_extent ticks length start duration = record { start = in_units ticks start; end = earlier (in_units ticks (start + duration)) (nanoseconds (pos length)) }
+last_extent ticks length start duration = record {
+  start = in_units ticks start;
+  end = earlier (in_units ticks (start + duration)) (nanoseconds (pos length));
+}
 
 -- one more segment is in the row, which doesn't break the limits
 pub record IsLast (old : RunsBuilder) (x : Extent) (new : RunsBuilder) : Type 0 where
@@ -55,7 +58,8 @@ pub record IsLast (old : RunsBuilder) (x : Extent) (new : RunsBuilder) : Type 0 
 -- Range, or else more names than segments
 abbrev pub cut_fault : ℕ → ℕ → ℕ → ℕ → Option TimeFault
 cut_fault ticks length duration count =
-    or_fault (fault_if (extents_break (breaks_limits ticks 0) (expansion_of_names ticks (At length) duration count)) Range) (fault_if (begins_late ticks (At length) duration count) ListLength)
+    or_fault (fault_if (extents_break (breaks_limits ticks 0) (expansion_of_names ticks (At length) duration count)) Range)
+    (fault_if (begins_late ticks (At length) duration count) ListLength)
 
 -- how many segments there are up to the Period's end
 abbrev pub count_until : ℕ → ℕ → ℕ → Option ℕ → ℕ
@@ -64,7 +68,8 @@ count_until ticks length duration (Some count) = count
 
 abbrev pub counted_fault : ℕ → End → ℕ → Option ℕ → Option TimeFault
 counted_fault ticks end duration names =
-    or_fault (fault_if (extents_break (breaks_limits ticks 0) (members_by ticks end duration names)) Range) (fault_if (is_too_many ticks end duration names) ListLength)
+    or_fault (fault_if (extents_break (breaks_limits ticks 0) (members_by ticks end duration names)) Range)
+    (fault_if (is_too_many ticks end duration names) ListLength)
 
 -- the members are in the row, and they have no fault
 pub record AreCounted (ticks : ℕ) (members : List Member) (fault : Option TimeFault) (l : RunsBuilder) : Type 0 where

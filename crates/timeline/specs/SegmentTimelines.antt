@@ -19,11 +19,19 @@ unless_fault (Some fault) timeline = Err fault
 
 abbrev pub timeline_from : Scale → ℕ → Names → List Member → SegmentTimeline
 timeline_from scale origin names members =
-    record { members = members; ticks = scale.ticks; origin = origin; offset = scale.offset; first_number = scale.start_number; names = names }
+    record {
+      members = members;
+      ticks = scale.ticks;
+      origin = origin;
+      offset = scale.offset;
+      first_number = scale.start_number;
+      names = names;
+    }
 
 -- the segments with their names, unless these are a list of another length
 abbrev pub timeline_if_paired : Scale → ℕ → Names → List Member → Result SegmentTimeline TimeFault
-timeline_if_paired scale origin names members = unless_fault (fault_if (not (are_paired (count_of names) members)) ListLength) (timeline_from scale origin names members)
+timeline_if_paired scale origin names members = unless_fault (fault_if (not (are_paired (count_of names) members)) ListLength)
+    (timeline_from scale origin names members)
 
 abbrev pub timeline_of_entries : List SEntry → End → Bool → Scale → Names → Result SegmentTimeline TimeFault
 timeline_of_entries entries end live scale names = unless_fault (timeline_fault entries end live scale names)

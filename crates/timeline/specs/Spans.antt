@@ -19,7 +19,8 @@ have_no_time spans = list_any (λ span. lasts_no_time (extent_of span)) spans
 -- the fault of one segment that follows on a time
 abbrev pub fault_of_span : Option Tick → Span → Option TimeFault
 fault_of_span former span =
-    if span_breaks_limits (extent_of span) then Some Range else (if is_apart (option_map time_of former) (extent_of span) then Some Step else None)
+    if span_breaks_limits (extent_of span) then Some Range else (if is_apart (option_map time_of former) (extent_of span) then Some Step
+    else None)
 
 -- some segments are in the row, and the others are judged from the last end on
 pub record IsRowSoFar (ticks : ℕ) (spans : List Span) (l : RunsBuilder) (former : Option Tick) (rest : List Span) : Type 0 where
@@ -30,7 +31,8 @@ pub record IsRowSoFar (ticks : ℕ) (spans : List Span) (l : RunsBuilder) (forme
   pub number : l.total + length rest ≡ length spans
   pub lasting : have_no_time rest ≡ false
   pub members : expansion_of_list spans ≡ members_so_far l ++ expansion_of_list rest
-  pub judged : segment_fault span_breaks_limits None (expansion_of_list spans) ≡ segment_fault span_breaks_limits (option_map time_of former) (expansion_of_list rest)
+  pub judged : segment_fault span_breaks_limits None (expansion_of_list spans)
+      ≡ segment_fault span_breaks_limits (option_map time_of former) (expansion_of_list rest)
 
 -- the members are in the row, and have no fault
 pub record AreInRow (ticks : ℕ) (members : List Member) (l : RunsBuilder) : Type 0 where

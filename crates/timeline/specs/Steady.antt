@@ -44,6 +44,12 @@ pub record IsWithinLimits (x : Timing) : Type 0 where
 abbrev pub IsSteady : List Member → Type 0
 IsSteady members = segment_fault too_long None members ≡ None
 
+-- what a `Runs` keeps of its members
+pub record AreKept (members : List Member) : Type 0 where
+  pub lasting : AreLasting members
+  pub steady : IsSteady members
+  pub in_time : EndInTime members
+
 -- From the first segment's start on no end is before the one before it, or more than 2,000,000 s after it. So the ends
 -- may be given to a `Rounder` that begins at that start.
 abbrev pub ArePaced : List Timing → Type 0

@@ -11,7 +11,8 @@ place_of None = 0
 place_of (Some s) = s.before
 
 abbrev pub rest_of : Inside → List Extent
-rest_of walk = extents_of_some (option_map timed walk.now) ++ (all_extents (slice_runs walk.later) ++ extents_of_some (option_map timed walk.tail))
+rest_of walk = extents_of_some (option_map timed walk.now) ++ (all_extents (slice_runs walk.later)
+    ++ extents_of_some (option_map timed walk.tail))
 
 abbrev pub timings_left : Inside → List Timing
 timings_left walk = numbered (walk.first_number + place_of (option_map timed walk.now)) (take walk.left (rest_of walk))
@@ -19,7 +20,8 @@ timings_left walk = numbered (walk.first_number + place_of (option_map timed wal
 -- the run that the walk stands in is followed by the later ones
 abbrev pub StandsIn : Option TimedRun → Inside → Type 0
 StandsIn None walk = walk.left ≡ 0
-StandsIn (Some s) walk = (0 < s.count) × IsRun s × AreLaidFrom (s.before + s.count) (slice_runs walk.later) (option_map timed walk.tail) (s.before + walk.left)
+StandsIn (Some s) walk = (0 < s.count) × IsRun s × AreLaidFrom (s.before + s.count) (slice_runs walk.later) (option_map timed walk.tail)
+    (s.before + walk.left)
 
 pub record IsWalk (walk : Inside) : Type 0 where
   pub stands : StandsIn (option_map timed walk.now) walk

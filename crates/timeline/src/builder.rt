@@ -1,5 +1,6 @@
 // The segments of a Representation while they are put in a row.
-ghost use Rattle.std.specs.Prelude.{◌≡◌, ◌+◌, ◌-◌, ◌*◌, ◌<◌, ◌^◌, pos, ◌+ℤ◌, ◌<ℤ◌, [], ◌∷◌, ◌++◌, map, Some, IsNone, IfErr, OnOk, MatchResult};
+ghost use Rattle.std.specs.Prelude.{◌≡◌, ◌+◌, ◌-◌, ◌*◌, ◌<◌, ◌^◌, pos, ◌+ℤ◌, ◌<ℤ◌, [], ◌∷◌, ◌++◌, map, Some, IsNone, IfErr, OnOk};
+ghost use Rattle.std.specs.Prelude.{MatchResult};
 ghost use Rattle.exact_time.specs.Tick.{time_of};
 ghost use Rattle.timeline.specs.Building.{placed_in};
 ghost use Rattle.timeline.specs.declared.fault.TimeFault.TheVariants.{Memory};
@@ -27,7 +28,8 @@ pub struct RunsBuilder {
 impl RunsBuilder {
     ghost use Rattle.timeline.specs.Expansions.{Closed, Endless as GoesOn, repeated};
     ghost use Rattle.timeline.specs.Faults.{are_paired, is_apart};
-    ghost use Rattle.timeline.specs.Building.{AreAdded, IsFaultOf, IsInTime, IsLaidOut, IsLastWith, extent_in, fault_of, former_end, members_so_far};
+    ghost use Rattle.timeline.specs.Building.{AreAdded, IsFaultOf, IsInTime, IsLaidOut, IsLastWith, extent_in, fault_of, former_end};
+    ghost use Rattle.timeline.specs.Building.{members_so_far};
     ghost use Rattle.timeline.specs.RunSegments.{one_extent, timed};
     ghost use Rattle.timeline.specs.Ratios.{natural};
 

@@ -8,7 +8,8 @@ ghost use Rattle.timeline.specs.declared.entry.End.TheVariants.{At};
 ghost use Rattle.timeline.specs.Faults.{lacks_end, members_by};
 ghost use Rattle.timeline.specs.Building.{IsInTime, breaks_in};
 ghost use Rattle.timeline.specs.Limits.{breaks_limits};
-ghost use Rattle.timeline.specs.Rows.{AreCounted, IsCountedFault, IsFresh, IsLast, IsRange, IsRow, count_until, counted_fault, cut_fault, last_extent, row_of};
+ghost use Rattle.timeline.specs.Rows.{AreCounted, IsCountedFault, IsFresh, IsLast, IsRange, IsRow, count_until, counted_fault, cut_fault};
+ghost use Rattle.timeline.specs.Rows.{last_extent, row_of};
 
 use crate::builder::RunsBuilder;
 use crate::limits::{LONGEST, Limits};
@@ -114,7 +115,8 @@ fn add_some(builder: &mut RunsBuilder, duration: u64, count: u128) -> Result<(),
     requires lasting { 0 < duration }
     requires fresh { IsFresh builder.old }
     ensures { let limits = builder.old.limits in
-        MatchResult result (λ _. IsRow limits duration count builder.new) (IsRange (list_any (breaks_in limits) (row_of limits duration count))) }
+        MatchResult result (λ _. IsRow limits duration count builder.new)
+        (IsRange (list_any (breaks_in limits) (row_of limits duration count))) }
 {
     if count == 0 {
         return Ok(());
@@ -134,7 +136,8 @@ fn add_until(
     requires fresh { IsFresh builder.old }
     requires scale { builder.old.limits.ticks ≡ ticks }
     ensures { let fault = cut_fault ticks length duration count in
-        MatchResult result (λ _. AreCounted ticks (expansion_of_names ticks (At length) duration count) fault builder.new) (IsCountedFault fault) }
+        MatchResult result (λ _. AreCounted ticks (expansion_of_names ticks (At length) duration count) fault builder.new)
+        (IsCountedFault fault) }
 {
     let Some(whole) = count.checked_sub(1) else {
         return Ok(());

@@ -1,7 +1,8 @@
 //! Laws of the definitions. The functions do nothing: what they ensure is the law.
 
 ghost use Rattle.timeline.specs.Laws.{TimelinesRise, DurationsRise, ListsRise};
-ghost use Rattle.timeline.specs.OwnParts.{AreGivenAgain, AreNumbered, DurationsHaveParts, ListsHaveParts, OnlyMemoryHolds, PartsAreMade, TimelinesHaveParts};
+ghost use Rattle.timeline.specs.OwnParts.{AreGivenAgain, AreNumbered, DurationsHaveParts, ListsHaveParts, OnlyMemoryHolds, PartsAreMade};
+ghost use Rattle.timeline.specs.OwnParts.{TimelinesHaveParts};
 ghost use Rattle.timeline.specs.OpenEnds.{TimelinesEnd, DurationsEnd, ListsEnd, EndedIsReached, StepsAreGreatest, UntilTells};
 ghost use Rattle.timeline.specs.Starts.{TimelinesInTicks, DurationsInTicks, ListsInTicks};
 

@@ -94,7 +94,8 @@ impl MediaRuns {
     /// Whether a segment begins more than half its duration before or after the end of the last one.
     fn is_apart(&self, start: u64, step: u64) -> bool
         requires { self.now.former < 2 ^ 63 }
-        ensures { result ≡ false → 0 < self.now.total → (2 * self.now.former ≤ 2 * start + step) × (2 * start ≤ 2 * self.now.former + step) }
+        ensures { result ≡ false → 0 < self.now.total → (2 * self.now.former ≤ 2 * start + step)
+            × (2 * start ≤ 2 * self.now.former + step) }
     {
         let gap = u128::from(start.abs_diff(self.former));
         self.total > 0 && u128::from(step) < 2 * gap

@@ -54,7 +54,8 @@ pub enum Names {
 
 impl Names {
     ghost use Rattle.timeline.specs.Names.{count_of, asks_for_time, part_of};
-    ghost use Rattle.timeline.specs.declared.names.Names.TheVariants.{Template as ByTemplate, List as ByList, Shared as ByShared, Addresses as ByAddresses};
+    ghost use Rattle.timeline.specs.declared.names.Names.TheVariants.{Template as ByTemplate, List as ByList, Shared as ByShared};
+    ghost use Rattle.timeline.specs.declared.names.Names.TheVariants.{Addresses as ByAddresses};
 
     /// Names by a template.
     pub fn of_template(media: Template, id: Text, bandwidth: u64, base: Base) -> Names

@@ -47,7 +47,8 @@ impl Run {
     pub fn longer(self, start: Tick, end: Tick) -> Option<Run>
         requires is { IsRun (timed self) }
         requires countable { self.before + self.count ≤ 2 ^ 63 }
-        ensures { MatchOption result (GoesOnAs (timed self) (one_extent start end) → ⊥) (λ run. IsLonger (timed self) (one_extent start end) (timed run)) }
+        ensures { MatchOption result (GoesOnAs (timed self) (one_extent start end)
+            → ⊥) (λ run. IsLonger (timed self) (one_extent start end) (timed run)) }
     {
         let step = i128::from(self.step);
         if self.start.scale != self.end.scale || self.end.n != self.start.n + step {

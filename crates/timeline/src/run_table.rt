@@ -1,5 +1,5 @@
 // The runs of a Representation.
-use crate::limits::Limits;
+use crate::Scale;
 use crate::run::Run;
 use crate::run_slice::RunSlice;
 use crate::shared_timeline::Laid;
@@ -15,9 +15,11 @@ impl RunTable {
     ghost use Rattle.std.specs.Prelude.{◌≡◌};
     ghost use Rattle.timeline.specs.RunTables.{runs_at, slice_runs};
 
-    pub fn as_slice(&self, limits: Limits) -> RunSlice<'_>
-        ensures { slice_runs result ≡ runs_at limits.ticks limits.origin self.now }
+    /// The runs, counted by a scale from the media time of the Period's start.
+    pub fn as_slice(&self, scale: Scale, origin: u64) -> RunSlice<'_>
+        ensures { slice_runs result ≡ runs_at scale.ticks origin self.now }
     {
+        let limits = scale.limits(origin);
         match &self.laid {
             None => RunSlice::of(&[], limits, self.own.as_slice()),
             Some(laid) => RunSlice::of(laid.runs(), limits, self.own.as_slice()),

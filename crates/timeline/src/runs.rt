@@ -43,9 +43,10 @@ impl Runs {
     ghost use Rattle.bridge_io.specs.Answer.{Gives};
     ghost use Rattle.timeline.specs.SegmentTimelines.{timeline_from, timeline_if_paired};
     ghost use Rattle.timeline.specs.Faults.{refusal};
-    ghost use Rattle.timeline.specs.Steady.{AreLasting, ArePaced, EndInTime, IsSteady, IsWithinLimits};
+    ghost use Rattle.timeline.specs.Steady.{AreKept, ArePaced, IsWithinLimits};
     ghost use Rattle.timeline.specs.Building.{IsLaidOut, members_so_far};
-    ghost use Rattle.timeline.specs.Listed.{IsWindowOf, IsReached, IsFirstListed, IsPlaceAfter, answered_count, is_out_of_range, expansion, listed_from, offset_of};
+    ghost use Rattle.timeline.specs.Listed.{IsWindowOf, IsReached, IsFirstListed, IsPlaceAfter, answered_count, is_out_of_range, expansion};
+    ghost use Rattle.timeline.specs.Listed.{listed_from, offset_of};
     ghost use Rattle.timeline.specs.declared.window.Window.{Window};
     ghost use Rattle.timeline.specs.Bounds.{low_of, time_of_bound};
     ghost use Rattle.timeline.specs.Expansions.{is_open};
@@ -143,7 +144,7 @@ impl Runs {
         let left = self.finish(window).saturating_sub(begin);
         let tail = self.tail(window);
         TimeWalk::from(
-            self.table.as_slice(self.scale.limits(self.origin)),
+            self.table.as_slice(self.scale, self.origin),
             tail,
             begin,
             left,
@@ -170,9 +171,7 @@ impl Runs {
         requires laid { IsLaidOut builder }
         requires ticks { builder.limits.ticks ≡ scale.ticks }
         requires origin { builder.limits.origin ≡ origin }
-        requires lasting { AreLasting (members_so_far builder) }
-        requires steady { IsSteady (members_so_far builder) }
-        requires in_time { EndInTime (members_so_far builder) }
+        requires kept { AreKept (members_so_far builder) }
         ensures { result ≡ timeline_from scale origin names (members_so_far builder) }
     {
         Runs {
@@ -195,9 +194,7 @@ impl Runs {
         requires laid { IsLaidOut builder }
         requires ticks { builder.limits.ticks ≡ scale.ticks }
         requires origin { builder.limits.origin ≡ origin }
-        requires lasting { AreLasting (members_so_far builder) }
-        requires steady { IsSteady (members_so_far builder) }
-        requires in_time { EndInTime (members_so_far builder) }
+        requires kept { AreKept (members_so_far builder) }
         ensures { Gives (λ runs. runs) refusal result (timeline_if_paired scale origin names (members_so_far builder)) }
     {
         if !builder.is_paired(names.len()) {
@@ -236,9 +233,10 @@ impl Runs {
 
     /// The last run of which a segment ends at or before a bound. As ends rise, all before it do too.
     fn last_begun(&self, bound: Bound) -> Option<Run>
-        ensures { MatchOption result (closed_count self.now (time_of_bound bound) ≡ 0) (λ s. IsLastBegun self.now (time_of_bound bound) (timed s)) }
+        ensures { MatchOption result (closed_count self.now (time_of_bound bound) ≡ 0)
+            (λ s. IsLastBegun self.now (time_of_bound bound) (timed s)) }
     {
-        let runs = self.table.as_slice(self.scale.limits(self.origin));
+        let runs = self.table.as_slice(self.scale, self.origin);
         let begun = runs.count_front(Test::BeginsBy(bound));
         if begun == 0 {
             return None;

@@ -112,7 +112,8 @@ impl SharedTimeline {
         requires lasting { list_any (λ s. s.d == 0) self.now ≡ false }
         ensures { MatchResult result
             (λ parts. (end : End) → IsSoFar scale end self.now parts.0 parts.1.now)
-            (λ fault. (end : End) → IsTheirFault (breaks_limits scale.ticks scale.offset) (expansion_of_timeline scale end self.now) fault) }
+            (λ fault. (end : End) → IsTheirFault (breaks_limits scale.ticks scale.offset)
+            (expansion_of_timeline scale end self.now) fault) }
     {
         let limits = scale.limits(scale.offset);
         if self.laid.timeline.media.are_passed(limits) {

@@ -54,7 +54,8 @@ impl<'a> TimeWalk<'a> {
     ) -> TimeWalk<'a>
         requires laid { 0 < left → AreLaidWith (slice_runs runs) (option_map timed tail) (place + left) }
         requires countable { 0 < left → first_number + (place + left) < 2 ^ 64 }
-        ensures { result ≡ numbered (first_number + place) (take left (drop place (all_extents (slice_runs runs.entry) ++ extents_of_some (option_map timed tail)))) }
+        ensures { result ≡ numbered (first_number + place)
+            (take left (drop place (all_extents (slice_runs runs.entry) ++ extents_of_some (option_map timed tail)))) }
     {
         if left == 0 {
             return TimeWalk::at_end(first_number);
@@ -145,7 +146,8 @@ impl<'a> TimeWalk<'a> {
 
 /// The first run, and those behind it.
 fn split(runs: RunSlice<'_>, tail: Option<Run>) -> (Option<Run>, RunSlice<'_>, Option<Run>)
-    ensures { IsSplit (slice_runs runs.entry) (option_map timed tail) (option_map timed result.0) (slice_runs result.1) (option_map timed result.2) }
+    ensures { IsSplit (slice_runs runs.entry) (option_map timed tail) (option_map timed result.0) (slice_runs result.1)
+        (option_map timed result.2) }
 {
     match runs.split_first() {
         Some((first, later)) => (Some(first), later, tail),
@@ -156,7 +158,8 @@ fn split(runs: RunSlice<'_>, tail: Option<Run>) -> (Option<Run>, RunSlice<'_>, O
 /// Goes to the first of the runs behind, and at their end to the tail.
 #[inline(always)]
 fn go_on(now: &mut Option<Run>, later: &mut RunSlice<'_>, tail: &mut Option<Run>)
-    ensures { IsSplit (slice_runs later.old) (option_map timed tail.old) (option_map timed now.new) (slice_runs later.new) (option_map timed tail.new) }
+    ensures { IsSplit (slice_runs later.old) (option_map timed tail.old) (option_map timed now.new) (slice_runs later.new)
+        (option_map timed tail.new) }
 {
     match later.split_first() {
         Some((first, others)) => {

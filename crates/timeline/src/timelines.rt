@@ -5,7 +5,8 @@ ghost use Rattle.bridge_io.specs.Answer.{Gives};
 ghost use Rattle.timeline.specs.Faults.{ends_open, is_unbounded};
 ghost use Rattle.timeline.specs.Building.{AreAdded, IsFaultOf, IsInTime, IsLaidOut};
 ghost use Rattle.timeline.specs.Limits.{breaks_limits};
-ghost use Rattle.timeline.specs.Reaches.{AreLaidOut, AreLimitsOf, GoesOn, IsReach, IsTheirFault, IsUpTo, members_of_entry, next_of, start_of};
+ghost use Rattle.timeline.specs.Reaches.{AreLaidOut, AreLimitsOf, GoesOn, IsReach, IsTheirFault, IsUpTo, members_of_entry, next_of};
+ghost use Rattle.timeline.specs.Reaches.{start_of};
 ghost use Rattle.timeline.specs.Timelines.{expansion_of_timeline, extent_from, reach_of};
 
 use crate::builder::RunsBuilder;

@@ -1,5 +1,6 @@
 -- Bases, seen as their URLs.
-use Rattle.std.proofs.Common.{◌≡◌, ℕ, ◌-◌, ◌≤◌, ◌==◌, take, drop, take_at, length-append, true, not, List, ◌++◌, Option, Some, None, Ok, sym, refl, ap, ◌∙◌, subst, ⊎_elim, arith}
+use Rattle.std.proofs.Common.{◌≡◌, ℕ, ◌-◌, ◌≤◌, ◌==◌, take, drop, take_at, length-append, true, not, List, ◌++◌, Option, Some, None, Ok}
+use Rattle.std.proofs.Common.{sym, refl, ap, ◌∙◌, subst, ⊎_elim, arith}
 use Rattle.std.specs.Prelude.{codes, bytes_eq, length}
 use Rattle.std.specs.List.{list_all, position_or_len, suffix_len}
 use Rattle.std.proofs.lemmas.List.{append_assoc, take-append-drop}
@@ -12,7 +13,8 @@ use Rattle.url.specs.Parser.{parse_url}
 use Rattle.url.specs.Parts.{Parts, kind_of, IsValid}
 use Rattle.url.proofs.ValidLemmas.{special_has_authority}
 use Rattle.url.proofs.Theorems.{parse_url-serialize_special}
-use Rattle.url_parts.specs.Addresses.{is_address_byte, is_web, text_of, accepted_url, accepted, absolute, is_absolute, url_of, resolve, is_tail, without_tail, folder_of, IsAddress, IsBase, IsBaseUrl}
+use Rattle.url_parts.specs.Addresses.{is_address_byte, is_web, text_of, accepted_url, accepted, absolute, is_absolute, url_of, resolve}
+use Rattle.url_parts.specs.Addresses.{is_tail, without_tail, folder_of, IsAddress, IsBase, IsBaseUrl}
 
 -- what holds of both schemes holds of each web scheme
 pub at_web : (P : List ℕ → Type 0) (scheme : List ℕ) → is_web scheme ≡ true → P (codes "http") → P (codes "https") → P scheme
@@ -57,7 +59,8 @@ own_text_is_absolute url valid web =
     rw authority (begins_web url.scheme _ web)
 
 -- the text of a web URL is resolved to itself, unless it is no address
-pub resolve_web_text : (url : Parts) (base : List ℕ) → IsValid url → is_web url.scheme ≡ true → resolve base (text_of url) ≡ accepted_url url
+pub resolve_web_text : (url : Parts) (base : List ℕ) → IsValid url → is_web url.scheme ≡ true
+    → resolve base (text_of url) ≡ accepted_url url
 unfolding resolve absolute
 resolve_web_text url base valid web = cond-true _ _ _ (own_text_is_absolute url valid web) ∙ ap accepted (parse_web_text url None valid web)
 
@@ -77,8 +80,11 @@ unfolding folder_of
 folder_front text =
     let path : List ℕ = without_tail text in
     let m : ℕ = position_or_len is_tail text in
-    let n : ℕ = length path - suffix_len (λ b. not (b == 47)) path in
-    (drop n path ++ drop m text, sym (sym (append_assoc (take n path) (drop n path) (drop m text)) ∙ ap (λ t. t ++ drop m text) (take-append-drop n path) ∙ take-append-drop m text))
+    let n : ℕ = length path - suffix_len (λ b. not (b == 47)) path in (
+      drop n path ++ drop m text,
+      sym (sym (append_assoc (take n path) (drop n path) (drop m text))
+          ∙ ap (λ t. t ++ drop m text) (take-append-drop n path) ∙ take-append-drop m text),
+    )
 
 pub folder_of-take : (text : List ℕ) → take (length (folder_of text)) text ≡ folder_of text
 folder_of-take text = let front = folder_front text in

@@ -1,5 +1,7 @@
 -- The hosts that the URL Standard reads in a special URL.
-use Rattle.std.proofs.Common.{◌≡◌, ◌≢◌, ℕ, zero, suc, ◌+◌, ◌-◌, ◌*◌, ◌/◌, ◌^◌, ◌<◌, ◌≤◌, Bool, true, false, ◌&&◌, ◌==◌, List, [], ◌∷◌, ◌++◌, length, get_or, Option, Some, None, All, sym, refl, inl, inr, subst, ⊎_elim, arith, length-append, lit<, mod-lt}
+use Rattle.std.proofs.Common.{◌≡◌, ◌≢◌, ℕ, zero, suc, ◌+◌, ◌-◌, ◌*◌, ◌/◌, ◌^◌, ◌<◌, ◌≤◌, Bool, true, false, ◌&&◌, ◌==◌, List, [], ◌∷◌, ◌++◌}
+use Rattle.std.proofs.Common.{length, get_or, Option, Some, None, All, sym, refl, inl, inr, subst, ⊎_elim, arith, length-append, lit<}
+use Rattle.std.proofs.Common.{mod-lt}
 use Rattle.std.specs.Prelude.{codes, IfOk, nat_eq, nat_lt}
 use Rattle.std.specs.Int.{w32, byte_at, bytes_high_first, to_be_bytes}
 use Rattle.std.specs.List.{list_all, list_any}
@@ -20,7 +22,8 @@ use Rattle.url.specs.declared.host.Host.{Host}
 use Rattle.url.specs.declared.scheme.SchemeType.TheVariants.{SpecialNotFile}
 use Rattle.url.specs.Input.{is_empty}
 use Rattle.url.specs.Scheme.{default_port}
-use Rattle.url.specs.Host.{is_forbidden_in_domain, ipv4_host, ipv6_host, ascii_domain, host_of_ascii, parse_bracketed, parse_special_host, is_empty_host, IsHostOf}
+use Rattle.url.specs.Host.{is_forbidden_in_domain, ipv4_host, ipv6_host, ascii_domain, host_of_ascii, parse_bracketed, parse_special_host}
+use Rattle.url.specs.Host.{is_empty_host, IsHostOf}
 use Rattle.url.specs.Ipv4.{ends_in_a_number, parse_ipv4}
 use Rattle.url.specs.Parts.{IsPortOf}
 use Rattle.url.specs.Parser.{Parsed, without_default_port, parse_port}
@@ -57,9 +60,13 @@ groups_below ipv4 lead text (s ∷ segments) (inl (group, rest, spelled, is, mor
 groups_below ipv4 lead text (s ∷ segments) (inr (last, octets, allowed, spelled, dotted, value)) =
     subst (All (IsBelow (2 ^ 16))) (sym value) (dotted_below last octets dotted)
 
-filled_valid : (head zeros tail : List ℕ) → length head + length tail < 8 → length zeros ≡ 8 - length head - length tail → All (IsBelow (2 ^ 16)) head → All (IsBelow (2 ^ 16)) zeros → All (IsBelow (2 ^ 16)) tail → (length (head ++ zeros ++ tail) ≡ 8) × All (IsBelow (2 ^ 16)) (head ++ zeros ++ tail)
-filled_valid head zeros tail room filled heads none tails =
-    (omega (arith, length-append head zeros, length-append (head ++ zeros) tail), All-append (IsBelow (2 ^ 16)) (head ++ zeros) tail (All-append (IsBelow (2 ^ 16)) head zeros heads none) tails)
+filled_valid : (head zeros tail : List ℕ) → length head + length tail < 8 → length zeros ≡ 8 - length head - length tail
+    → All (IsBelow (2 ^ 16)) head → All (IsBelow (2 ^ 16)) zeros → All (IsBelow (2 ^ 16)) tail
+    → (length (head ++ zeros ++ tail) ≡ 8) × All (IsBelow (2 ^ 16)) (head ++ zeros ++ tail)
+filled_valid head zeros tail room filled heads none tails = (
+  omega (arith, length-append head zeros, length-append (head ++ zeros) tail),
+  All-append (IsBelow (2 ^ 16)) (head ++ zeros) tail (All-append (IsBelow (2 ^ 16)) head zeros heads none) tails,
+)
 
 elided_valid : (text segments : List ℕ) → IsElided text segments → (length segments ≡ 8) × All (IsBelow (2 ^ 16)) segments
 elided_valid text segments is =
@@ -99,19 +106,30 @@ ipv4_valid (Some bits) = ((refl, reads_below (2 ^ 8) (to_be_bytes w32 bits) (lit
 
 bracketed_valid : (bytes : List ℕ) → IfOk (parse_bracketed bytes) IsHost
 unfolding parse_bracketed
-bracketed_valid bytes = cond_both (get_or bytes (length bytes - 1) 0 == 93) _ _ (λ (r : Parsed (Host (List ℕ))). IfOk r IsHost) (λ _. read_valid _ _ refl) (λ _. tt)
+bracketed_valid bytes = cond_both (get_or bytes (length bytes - 1) 0 == 93) _ _ (λ (r : Parsed (Host (List ℕ))). IfOk r IsHost)
+    (λ _. read_valid _ _ refl) (λ _. tt)
 
 domain_valid : (bytes : List ℕ) (ascii : Option (List ℕ)) → ascii_domain bytes ≡ ascii → IfOk (host_of_ascii ascii) IsHost
 domain_valid bytes None is = tt
 domain_valid bytes (Some domain) is =
     cond_both (is_empty domain) _ _ (λ (r : Parsed (Host (List ℕ))). IfOk r IsHost) (λ _. tt) λ nonempty.
     cond_both (list_any is_forbidden_in_domain domain) _ _ (λ (r : Parsed (Host (List ℕ))). IfOk r IsHost) (λ _. tt) λ none.
-    cond_both (ends_in_a_number domain) _ _ (λ (r : Parsed (Host (List ℕ))). IfOk r IsHost) (λ _. ipv4_valid (parse_ipv4 domain)) λ named.
-    ((record { allowed = none_from_list_any is_forbidden_in_domain domain none; lower = ascii_domain-lower bytes domain is; named = named }, grind (arith, nat_tests)), nonempty)
+    cond_both (ends_in_a_number domain) _ _ (λ (r : Parsed (Host (List ℕ))). IfOk r IsHost) (λ _. ipv4_valid (parse_ipv4 domain)) λ named. (
+      (
+        record {
+          allowed = none_from_list_any is_forbidden_in_domain domain none;
+          lower = ascii_domain-lower bytes domain is;
+          named = named;
+        },
+        grind (arith, nat_tests),
+      ),
+      nonempty,
+    )
 
 pub host_valid : (bytes : List ℕ) → IfOk (parse_special_host bytes) IsHost
 unfolding parse_special_host
-host_valid bytes = cond_both (get_or bytes 0 0 == 91) _ _ (λ (r : Parsed (Host (List ℕ))). IfOk r IsHost) (λ _. bracketed_valid bytes) (λ _. domain_valid _ _ refl)
+host_valid bytes = cond_both (get_or bytes 0 0 == 91) _ _ (λ (r : Parsed (Host (List ℕ))). IfOk r IsHost) (λ _. bracketed_valid bytes)
+    (λ _. domain_valid _ _ refl)
 
 -- ---- ports
 
@@ -126,4 +144,5 @@ pub port_valid : (scheme digits : List ℕ) → IfOk (parse_port scheme digits) 
 unfolding parse_port
 port_valid scheme digits =
     cond_both (is_empty digits) _ _ (λ (r : Parsed (Option ℕ)). IfOk r (IsPortOf scheme)) (λ _. tt) λ _.
-    cond_both (list_all is_ascii_digit digits && nat_lt (digits_value 10 digits) (2 ^ 16)) _ _ (λ (r : Parsed (Option ℕ)). IfOk r (IsPortOf scheme)) (λ fits. not_default scheme _ (ltb-true _ _ (and_parts _ _ fits).1)) (λ _. tt)
+    cond_both (list_all is_ascii_digit digits && nat_lt (digits_value 10 digits) (2 ^ 16)) _ _
+    (λ (r : Parsed (Option ℕ)). IfOk r (IsPortOf scheme)) (λ fits. not_default scheme _ (ltb-true _ _ (and_parts _ _ fits).1)) (λ _. tt)

@@ -6,3 +6,4 @@ pub mod LocalNames
 pub mod Neighbours
 pub mod Parsed
 pub mod Chains
+pub mod Codes

@@ -13,7 +13,8 @@ use Rattle.url_parts.proofs.Parsed.{address_is_base}
 use Rattle.url_parts.proofs.Relative.{child, child_valid, child_spelled, accepted_child, name_is_address}
 
 -- a folder's text and a name is given by each base
-resolve_whole : (front name base : List ℕ) → IsBase front → is_name name ≡ true → resolve base (folder_of front ++ name) ≡ unless_long (folder_of front ++ name)
+resolve_whole : (front name base : List ℕ) → IsBase front → is_name name ≡ true
+    → resolve base (folder_of front ++ name) ≡ unless_long (folder_of front ++ name)
 resolve_whole front name base is named =
     let url = child is.url name in
     let spelled = child_spelled is.url name is.is ∙ ap (λ t. folder_of t ++ name) is.spelled in
@@ -21,7 +22,8 @@ resolve_whole front name base is named =
     ∙ resolve_web_text url base (child_valid is.url name is.is named) (web_from_accepted is.url _ is.is.accepted)
     ∙ accepted_child is.url name is.is named ∙ ap (λ t. unless_long (folder_of t ++ name)) is.spelled
 
-parts_in : (folder text : List ℕ) → is_name_in folder text ≡ true → (text ≡ folder ++ drop (length folder) text) × (is_name (drop (length folder) text) ≡ true)
+parts_in : (folder text : List ℕ) → is_name_in folder text ≡ true → (text ≡ folder ++ drop (length folder) text)
+    × (is_name (drop (length folder) text) ≡ true)
 parts_in folder text is =
     let both = and_parts (starts_with nat_eq text folder) (is_name (drop (length folder) text)) is in
     ((starts_is Decides-eqb text folder (starts_with nat_eq text folder) refl).0 both.0, both.1)
@@ -37,4 +39,5 @@ in_folder folder text base is named = given_in is.address text is.is (rw is.fold
 pub is_address_in_folder : (folder text : List ℕ) → IsFolder folder → is_name_in folder text ≡ true → length text ≤ 2048 → IsAddress text
 is_address_in_folder folder text is named =
     let parts = parts_in folder text named in
-    rw parts.0 (subst (λ f. length (f ++ drop (length folder) text) ≤ 2048 → IsAddress (f ++ drop (length folder) text)) is.folder_is (name_is_address is.address _ (address_is_base is.address is.is) parts.1))
+    rw parts.0 (subst (λ f. length (f ++ drop (length folder) text) ≤ 2048 → IsAddress (f ++ drop (length folder) text)) is.folder_is
+    (name_is_address is.address _ (address_is_base is.address is.is) parts.1))

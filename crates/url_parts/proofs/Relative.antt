@@ -1,13 +1,17 @@
 -- A name that is resolved against a base stands behind the base's folder.
-use Rattle.std.proofs.Common.{◌≡◌, ◌≢◌, ℕ, suc, ◌+◌, ◌-◌, ◌<◌, ◌≤◌, true, false, not, ◌==◌, ltb, List, [], ◌∷◌, ◌++◌, length, get_or, take, drop, Option, Some, None, Ok, All, sym, refl, inl, ap, ◌∙◌, subst, ⊎_elim, append_assoc, append-nil, arith, length-append, take_all, take_at, lit<}
+use Rattle.std.proofs.Common.{◌≡◌, ◌≢◌, ℕ, suc, ◌+◌, ◌-◌, ◌<◌, ◌≤◌, true, false, not, ◌==◌, ltb, List, [], ◌∷◌, ◌++◌, length, get_or, take}
+use Rattle.std.proofs.Common.{drop, Option, Some, None, Ok, All, sym, refl, inl, ap, ◌∙◌, subst, ⊎_elim, append_assoc, append-nil, arith}
+use Rattle.std.proofs.Common.{length-append, take_all, take_at, lit<}
 use Rattle.std.specs.Prelude.{nat_eq, bytes_eq, option_map, codes, reverse, is_some, unwrap_or}
 use Rattle.std.specs.List.{starts_with, list_all, prefix_len, suffix_len, concat}
-use Rattle.std.proofs.lemmas.Bool.{cond-false, cases_Bool, cases_eq, true≢false, and_parts, and_left, and_right, ne_eqb, eq-eqb, le-ltb, ltb-true, ltb-false}
+use Rattle.std.proofs.lemmas.Bool.{cond-false, cases_Bool, cases_eq, true≢false, and_parts, and_left, and_right, ne_eqb, eq-eqb, le-ltb}
+use Rattle.std.proofs.lemmas.Bool.{ltb-true, ltb-false}
 use Rattle.std.specs.Option.{option_eq}
 use Rattle.std.specs.Result.{result_ok}
 use Rattle.std.proofs.lemmas.Slice.Eq.{bytes_eq-Decides, starts_is}
 use Rattle.std.proofs.lemmas.Bool.Decides.{nat_tests, Decides-eqb}
-use Rattle.std.proofs.lemmas.List.{take-append-drop, get_or-reverse, length-reverse, get_or_past, get_or_at, get_or_append_left, get_or-append_right}
+use Rattle.std.proofs.lemmas.List.{take-append-drop, get_or-reverse, length-reverse, get_or_past, get_or_at, get_or_append_left}
+use Rattle.std.proofs.lemmas.List.{get_or-append_right}
 use Rattle.std.proofs.lemmas.List.Elements.{All-nil, All-cons, All-head, All-tail, All-append, All-push, All-take, All-weaker}
 use Rattle.std.proofs.lemmas.List.Sums.{suffix_len_is}
 use Rattle.std.proofs.lemmas.List.Concat.{flat_map-append}
@@ -15,12 +19,15 @@ use Rattle.url.specs.declared.slicing.Position.TheVariants.{AfterPort, AfterPath
 use Rattle.url.specs.declared.sets.TheConstants.{PATH}
 use Rattle.url.specs.declared.scheme.SchemeType.TheVariants.{SpecialNotFile}
 use Rattle.url.specs.Path.{dot_count, parse_path, without_last_segment, shorten_path, IsSegment, join_segments, IsSegmentList}
-use Rattle.url.specs.Input.{when, rsplit_step, rsplit_once, is_c0_control_or_space, is_tab_or_new_line, trim_c0_control_and_space, strip_tabs_and_new_lines, split_once}
+use Rattle.url.specs.Input.{when, rsplit_step, rsplit_once, is_c0_control_or_space, is_tab_or_new_line, trim_c0_control_and_space}
+use Rattle.url.specs.Input.{strip_tabs_and_new_lines, split_once}
 use Rattle.url.specs.Scheme.{scheme_len, is_special, is_file}
 use Rattle.url.specs.Parts.{Parts, pieces, text_before, IsHierarchicalPath, IsValid}
 use Rattle.url.specs.Head.{head_only}
-use Rattle.url.specs.Parser.{split_scheme, parse_parts, parse_body, parse_relative, parse_by_scheme, leading_slashes, and_then, with_path, with_tail, before_tail, parse_url}
-use Rattle.url.proofs.InputLemmas.{IsNot, Passes, All_from_list_all, list_all_from_All, StopsAt, prefix_len_at, split_once_none, filter_all, is_empty_nonempty}
+use Rattle.url.specs.Parser.{split_scheme, parse_parts, parse_body, parse_relative, parse_by_scheme, leading_slashes, and_then, with_path}
+use Rattle.url.specs.Parser.{with_tail, before_tail, parse_url}
+use Rattle.url.proofs.InputLemmas.{IsNot, Passes, All_from_list_all, list_all_from_All, StopsAt, prefix_len_at, split_once_none, filter_all}
+use Rattle.url.proofs.InputLemmas.{is_empty_nonempty}
 use Rattle.url.proofs.ValidLemmas.{special_has_authority, base_from_authority, hierarchical}
 use Rattle.url.proofs.LayoutLemmas.{IsValidHead_same}
 use Rattle.url.proofs.PathLemmas.{rooted, without_last_valid}
@@ -28,7 +35,9 @@ use Rattle.url.proofs.PiecesLemmas.{concat-split}
 use Rattle.url.proofs.TextLemmas.{is_body_byte, body_bytes}
 use Rattle.url.proofs.SetLemmas.{kept_from_passes}
 use Rattle.url.proofs.RoundTrip.{parse_own_segments, stays_unless_file}
-use Rattle.url_parts.specs.Addresses.{is_address_byte, is_web, accepted_url, accepted, is_normal, resolve, beside, unchanged, is_absolute, url_of, text_of, is_tail, without_tail, through_last_slash, folder_of, unless_long, IsAddress, IsBase, IsBaseUrl}
+use Rattle.url_parts.specs.Addresses.{is_address_byte, is_web, accepted_url, accepted, is_normal, resolve, beside, unchanged, is_absolute}
+use Rattle.url_parts.specs.Addresses.{url_of, text_of, is_tail, without_tail, through_last_slash, folder_of, unless_long, IsAddress, IsBase}
+use Rattle.url_parts.specs.Addresses.{IsBaseUrl}
 use Rattle.url_parts.proofs.Bases.{base_kind, own_url, base_is_address, parse_web_text, web_from_accepted, bytes_from_accepted}
 use Rattle.bridge_io.specs.Names.{is_name_byte, is_proper_part, parts_after, is_name}
 
@@ -44,8 +53,10 @@ dot_count_proper : (s : List ℕ) → All IsPartByte s → is_proper_part s ≡ 
 unfolding dot_count
 dot_count_proper [] part proper = absurd (true≢false (sym proper))
 dot_count_proper (a ∷ []) part proper = let here = part 0 0 (omega arith) in grind (arith, nat_tests)
-dot_count_proper (a ∷ b ∷ []) part proper = let here = part 0 0 (omega arith) in let next = part 1 0 (omega arith) in grind (arith, nat_tests)
-dot_count_proper (a ∷ b ∷ c ∷ s) part proper = let here = part 0 0 (omega arith) in let next = part 1 0 (omega arith) in grind (arith, nat_tests)
+dot_count_proper (a ∷ b ∷ []) part proper = let here = part 0 0 (omega arith) in let next = part 1 0 (omega arith) in
+    grind (arith, nat_tests)
+dot_count_proper (a ∷ b ∷ c ∷ s) part proper = let here = part 0 0 (omega arith) in let next = part 1 0 (omega arith) in
+    grind (arith, nat_tests)
 
 part_is_segment : (s : List ℕ) → All IsPartByte s → is_proper_part s ≡ true → IsSegment SpecialNotFile s
 part_is_segment s part proper = record {
@@ -62,7 +73,8 @@ record Segments (path : List ℕ) : Type 0 where
   first_is : IsSegment SpecialNotFile first
   each : All (IsSegment SpecialNotFile) others
 
-segments_from : (front bytes : List ℕ) → All IsPartByte front → All (Passes is_name_byte) bytes → list_all is_proper_part (parts_after front bytes) ≡ true → Segments (front ++ bytes)
+segments_from : (front bytes : List ℕ) → All IsPartByte front → All (Passes is_name_byte) bytes
+    → list_all is_proper_part (parts_after front bytes) ≡ true → Segments (front ++ bytes)
 segments_from front [] part name proper = record {
   first = front;
   others = [];
@@ -84,7 +96,8 @@ segments_from front (b ∷ bytes) part name proper =
       each = All-cons (IsSegment SpecialNotFile) rest.first rest.others rest.first_is rest.each;
     })
     (λ other. let here = rw (ne_eqb b 47 other) at proper in
-    subst Segments (append_assoc front (b ∷ []) bytes) (segments_from (front ++ b ∷ []) bytes (All-push IsPartByte front b part (All-head (Passes is_name_byte) b bytes name, other)) later here))
+    subst Segments (append_assoc front (b ∷ []) bytes) (segments_from (front ++ b ∷ []) bytes
+    (All-push IsPartByte front b part (All-head (Passes is_name_byte) b bytes name, other)) later here))
     (cases_eq b 47)
 
 name_bytes : (name : List ℕ) → is_name name ≡ true → All (Passes is_name_byte) name
@@ -99,13 +112,16 @@ name_segments name is = segments_from [] name (All-nil IsPartByte) (name_bytes n
 -- the segments of a name stay as they are, behind a path
 parse_name_path : (path name : List ℕ) → is_name name ≡ true → parse_path SpecialNotFile path name ≡ path ++ 47 ∷ name
 parse_name_path path name is = let s = name_segments name is in
-    rw s.joined (parse_own_segments SpecialNotFile path s.first s.others (stays_unless_file SpecialNotFile path s.first refl) s.first_is s.each)
+    rw s.joined (parse_own_segments SpecialNotFile path s.first s.others
+    (stays_unless_file SpecialNotFile path s.first refl) s.first_is s.each)
 
-name_path_valid : (path name : List ℕ) → IsSegmentList SpecialNotFile path → is_name name ≡ true → IsSegmentList SpecialNotFile (path ++ 47 ∷ name)
+name_path_valid : (path name : List ℕ) → IsSegmentList SpecialNotFile path → is_name name ≡ true
+    → IsSegmentList SpecialNotFile (path ++ 47 ∷ name)
 name_path_valid path name list is = let s = name_segments name is in record {
   segments = list.segments ++ s.first ∷ s.others;
   joined = (λ i. list.joined i ++ 47 ∷ s.joined i) ∙ sym (flat_map-append (λ segment. 47 ∷ segment) list.segments (s.first ∷ s.others));
-  each = All-append (IsSegment SpecialNotFile) list.segments (s.first ∷ s.others) list.each (All-cons (IsSegment SpecialNotFile) s.first s.others s.first_is s.each);
+  each = All-append (IsSegment SpecialNotFile) list.segments (s.first ∷ s.others) list.each
+      (All-cons (IsSegment SpecialNotFile) s.first s.others s.first_is s.each);
 }
 
 -- ---- what a name is read as
@@ -125,15 +141,18 @@ unfolding trim_c0_control_and_space
 untrimmed name is =
     let start = no_control_at_front name (λ h. above_space name is 0 h) in
     let len = length-reverse name in
-    let end = no_control_at_front (reverse name) (λ h. rw (get_or-reverse name 0 0 (omega arith)) (above_space name is (length name - 1 - 0) (omega arith))) in
+    let end = no_control_at_front (reverse name) (λ h. rw (get_or-reverse name 0 0 (omega arith))
+    (above_space name is (length name - 1 - 0) (omega arith))) in
     rw (start, end) (take_all _ name (omega arith))
 
 unstripped : (name : List ℕ) → is_name name ≡ true → strip_tabs_and_new_lines name ≡ name
 unfolding strip_tabs_and_new_lines
-unstripped name is = filter_all _ name (All-weaker (Passes is_name_byte) (Passes (λ b. not (is_tab_or_new_line b))) (λ b passes. grind (arith, nat_tests)) name (name_bytes name is))
+unstripped name is = filter_all _ name (All-weaker (Passes is_name_byte) (Passes (λ b. not (is_tab_or_new_line b)))
+    (λ b passes. grind (arith, nat_tests)) name (name_bytes name is))
 
 lacks : (c : ℕ) (name : List ℕ) → is_name_byte c ≡ false → is_name name ≡ true → All (IsNot c) name
-lacks c name other is = All-weaker (Passes is_name_byte) (IsNot c) (λ b passes same. true≢false (sym passes ∙ ap is_name_byte same ∙ other)) name (name_bytes name is)
+lacks c name other is = All-weaker (Passes is_name_byte) (IsNot c) (λ b passes same. true≢false (sym passes ∙ ap is_name_byte same
+    ∙ other)) name (name_bytes name is)
 
 no_colon : (name : List ℕ) (n : ℕ) → is_name name ≡ true → (get_or name n 0 == 58) ≡ false
 no_colon name n is =
@@ -153,21 +172,25 @@ no_slash_at_front [] is = refl
 no_slash_at_front (b ∷ name) is =
     let here = name_bytes (b ∷ name) is 0 0 (omega arith) in
     let proper = name_parts (b ∷ name) is in
-    let other : (b == 47) ≡ false = ⊎_elim (λ slash. absurd (true≢false (sym (rw slash at proper)))) (λ other. other) (cases_Bool (b == 47)) in
+    let other : (b == 47) ≡ false = ⊎_elim (λ slash. absurd (true≢false (sym (rw slash at proper)))) (λ other. other)
+    (cases_Bool (b == 47)) in
     grind (arith, nat_tests)
 
 -- the path of the base up to its last slash, and the name
 relative_name : (base : Parts) (name : List ℕ) → IsBaseUrl base → is_name name ≡ true → parse_relative base name ≡ Ok (child base name)
 unfolding parse_relative shorten_path
 relative_name base name valid is =
-    rw (base_kind base valid, no_slash_at_front name is) (ap (λ p. Ok (with_path (head_only base) p)) (parse_name_path (without_last_segment base.path) name is))
+    rw (base_kind base valid, no_slash_at_front name is) (ap (λ p. Ok (with_path (head_only base) p))
+    (parse_name_path (without_last_segment base.path) name is))
 
-parse_name_body : (base : Parts) (name : List ℕ) → IsBaseUrl base → is_name name ≡ true → parse_parts base.scheme (Some base) name None None ≡ Ok (child base name)
+parse_name_body : (base : Parts) (name : List ℕ) → IsBaseUrl base → is_name name ≡ true
+    → parse_parts base.scheme (Some base) name None None ≡ Ok (child base name)
 unfolding parse_parts parse_body
 parse_name_body base name valid is =
     let kind = base_kind base valid in
     cond-false _ _ _ (is_empty_nonempty name (nonempty name is))
-    ∙ ap (λ r. and_then r (λ url. Ok (with_tail (before_tail url None None) None None))) (cond-false _ _ _ (ap is_file kind) ∙ relative_name base name valid is)
+    ∙ ap (λ r. and_then r (λ url. Ok (with_tail (before_tail url None None) None None))) (cond-false _ _ _ (ap is_file kind)
+    ∙ relative_name base name valid is)
     ∙ ap (λ u. Ok (with_tail u None None)) (cond-false _ _ _ (and_right _ false refl))
 
 parse_name : (base : Parts) (name : List ℕ) → IsBaseUrl base → is_name name ≡ true → parse_url (Some base) name ≡ Ok (child base name)
@@ -188,13 +211,16 @@ parse_name base name valid is =
 base_path : (base : Parts) → IsBaseUrl base → IsHierarchicalPath SpecialNotFile base.path
 base_path base valid =
     let authority = special_has_authority base valid.valid.head (ap is_special (base_kind base valid)) in
-    subst (λ k. IsHierarchicalPath k base.path) (base_kind base valid) (hierarchical base valid.valid.path (base_from_authority base authority))
+    subst (λ k. IsHierarchicalPath k base.path) (base_kind base valid)
+    (hierarchical base valid.valid.path (base_from_authority base authority))
 
 pub child_valid : (base : Parts) (name : List ℕ) → IsBaseUrl base → is_name name ≡ true → IsValid (child base name)
 child_valid base name valid is = record {
   head = IsValidHead_same base (child base name) refl valid.valid.head;
-  path = inl (subst (λ k. IsHierarchicalPath k (without_last_segment base.path ++ 47 ∷ name)) (sym (base_kind base valid))
-      (name_path_valid (without_last_segment base.path) name (without_last_valid SpecialNotFile base.path (base_path base valid).0) is, λ _. simp length-append (omega arith)));
+  path = inl (subst (λ k. IsHierarchicalPath k (without_last_segment base.path ++ 47 ∷ name)) (sym (base_kind base valid)) (
+    name_path_valid (without_last_segment base.path) name (without_last_valid SpecialNotFile base.path (base_path base valid).0) is,
+    λ _. simp length-append (omega arith),
+  ));
   query = tt;
   fragment = tt;
 }
@@ -203,14 +229,18 @@ child_valid base name valid is = record {
 abbrev head_text : Parts → List ℕ
 head_text url = text_before url AfterPort
 
-child_text : (base : Parts) (name : List ℕ) → IsBaseUrl base → text_of (child base name) ≡ head_text base ++ (without_last_segment base.path ++ 47 ∷ name)
+child_text : (base : Parts) (name : List ℕ) → IsBaseUrl base → text_of (child base name) ≡ head_text base
+    ++ (without_last_segment base.path ++ 47 ∷ name)
 unfolding text_of
 child_text base name valid =
     let authority = special_has_authority base valid.valid.head (ap is_special (base_kind base valid)) in
-    concat-split (pieces (child base name)) 9 ∙ ap (λ t. head_text base ++ t) (rw authority (append-nil (without_last_segment base.path ++ 47 ∷ name)))
+    concat-split (pieces (child base name)) 9
+    ∙ ap (λ t. head_text base ++ t) (rw authority (append-nil (without_last_segment base.path ++ 47 ∷ name)))
 
 -- a query or a fragment begins a tail
-tail_stops : (query fragment : Option (List ℕ)) → StopsAt (λ b. not (is_tail b)) (when (is_some query) (63 ∷ []) ++ (unwrap_or query [] ++ (when (is_some fragment) (35 ∷ []) ++ (unwrap_or fragment [] ++ []))))
+tail_stops : (query fragment : Option (List ℕ))
+    → StopsAt (λ b. not (is_tail b)) (when (is_some query) (63 ∷ [])
+    ++ (unwrap_or query [] ++ (when (is_some fragment) (35 ∷ []) ++ (unwrap_or fragment [] ++ []))))
 tail_stops None None = tt
 tail_stops None (Some fragment) = refl
 tail_stops (Some query) fragment = refl
@@ -225,23 +255,27 @@ without_own_tail base valid =
     let body = All-weaker (Passes is_body_byte) (Passes test) (λ b passes. grind (arith, nat_tests)) front (body_bytes base valid.valid) in
     let len = prefix_len_at test front tail body (tail_stops base.query base.fragment) in
     let whole = concat-split (pieces base) 11 in
-    let spelled : front ≡ head_text base ++ base.path = concat-split (take 11 (pieces base)) 9 ∙ ap (λ t. head_text base ++ t) (rw authority (append-nil base.path)) in
+    let spelled : front ≡ head_text base ++ base.path = concat-split (take 11 (pieces base)) 9
+    ∙ ap (λ t. head_text base ++ t) (rw authority (append-nil base.path)) in
     ap without_tail whole ∙ ap (λ n. take n (front ++ tail)) len ∙ take_at front tail _ refl ∙ spelled
 
 -- ---- the last slash
 
-pub through_slash_at : (text : List ℕ) (k : ℕ) → k < length text → get_or text k 0 ≡ 47 → ((i : ℕ) → k < i → i < length text → get_or text i 0 ≢ 47) → through_last_slash text ≡ take (k + 1) text
+pub through_slash_at : (text : List ℕ) (k : ℕ) → k < length text → get_or text k 0 ≡ 47
+    → ((i : ℕ) → k < i → i < length text → get_or text i 0 ≢ 47) → through_last_slash text ≡ take (k + 1) text
 through_slash_at text k inside slash after =
     let test = λ (b : ℕ). not (b == 47) in
     let len : suffix_len test text ≡ length text - (k + 1) = suffix_len_is test text (k + 1) 0 (omega arith)
-    (λ i above below. rw (ne_eqb _ 47 (after i (omega arith) below)) refl) (λ _. let back : k + 1 - 1 ≡ k = omega arith in rw (back, slash) refl) in
+    (λ i above below. rw (ne_eqb _ 47 (after i (omega arith) below)) refl) (λ _. let back : k + 1 - 1 ≡ k = omega arith in
+    rw (back, slash) refl) in
     let cut : length text - suffix_len test text ≡ k + 1 = omega (arith, len) in
     ap (λ n. take n text) cut
 
 pub through_no_slash : (text : List ℕ) → ((i : ℕ) → i < length text → get_or text i 0 ≢ 47) → through_last_slash text ≡ []
 through_no_slash text none =
     let test = λ (b : ℕ). not (b == 47) in
-    let len : suffix_len test text ≡ length text - 0 = suffix_len_is test text 0 0 (omega arith) (λ i above below. rw (ne_eqb _ 47 (none i below)) refl) (λ h. absurd (omega arith)) in
+    let len : suffix_len test text ≡ length text - 0 = suffix_len_is test text 0 0 (omega arith)
+    (λ i above below. rw (ne_eqb _ 47 (none i below)) refl) (λ h. absurd (omega arith)) in
     let gone : length text - suffix_len test text ≡ 0 = omega (arith, len) in
     ap (λ n. take n text) gone
 
@@ -249,7 +283,8 @@ abbrev SplitsAtLast : ℕ → List ℕ → Option (List ℕ) → List ℕ → Ty
 SplitsAtLast s xs None back = All (IsNot s) xs × (back ≡ xs)
 SplitsAtLast s xs (Some front) back = (xs ≡ front ++ s ∷ back) × All (IsNot s) back
 
-splits_one_more : (s b : ℕ) (o : Option (List ℕ)) (back xs : List ℕ) → SplitsAtLast s xs o back → SplitsAtLast s (b ∷ xs) (rsplit_step s b o back).0 (rsplit_step s b o back).1
+splits_one_more : (s b : ℕ) (o : Option (List ℕ)) (back xs : List ℕ) → SplitsAtLast s xs o back
+    → SplitsAtLast s (b ∷ xs) (rsplit_step s b o back).0 (rsplit_step s b o back).1
 splits_one_more s b (Some front) back xs h = (ap (λ t. b ∷ t) h.0, h.1)
 splits_one_more s b None back xs h =
     ⊎_elim
@@ -262,7 +297,8 @@ unfolding rsplit_once
 splits_at_last s [] = (All-nil (IsNot s), refl)
 splits_at_last s (b ∷ xs) = splits_one_more s b (rsplit_once s xs).0 (rsplit_once s xs).1 xs (splits_at_last s xs)
 
-last_segment : (path : List ℕ) (o : Option (List ℕ)) (back : List ℕ) → get_or path 0 0 ≡ 47 → 0 < length path → SplitsAtLast 47 path o back → (path ≡ unwrap_or o [] ++ 47 ∷ back) × All (IsNot 47) back
+last_segment : (path : List ℕ) (o : Option (List ℕ)) (back : List ℕ) → get_or path 0 0 ≡ 47 → 0 < length path → SplitsAtLast 47 path o back
+    → (path ≡ unwrap_or o [] ++ 47 ∷ back) × All (IsNot 47) back
 last_segment path None back slash nonempty h = absurd (h.0 0 0 nonempty slash)
 last_segment path (Some front) back slash nonempty h = h
 
@@ -273,18 +309,22 @@ through_last front last whole =
     let after : (i : ℕ) → length front < i → i < length text → get_or text i 0 ≢ 47 =
     λ i above inside same. let m : ℕ = i - length front - 1 in
     let at : i - length front ≡ suc m = omega arith in
-    let read : get_or text i 0 ≡ get_or last m 0 = get_or-append_right front (47 ∷ last) (length front) i 0 refl (omega arith) ∙ ap (λ n. get_or (47 ∷ last) n 0) at in
+    let read : get_or text i 0 ≡ get_or last m 0 = get_or-append_right front (47 ∷ last) (length front) i 0 refl (omega arith)
+    ∙ ap (λ n. get_or (47 ∷ last) n 0) at in
     whole m 0 (omega arith) (sym read ∙ same) in
     through_slash_at text (length front) (omega arith) (get_or_at front 47 last 0 _ refl) after
-    ∙ ap (take (length front + 1)) (sym (append_assoc front (47 ∷ []) last)) ∙ take_at (front ++ 47 ∷ []) last _ (length-append front (47 ∷ []))
+    ∙ ap (take (length front + 1)) (sym (append_assoc front (47 ∷ []) last))
+    ∙ take_at (front ++ 47 ∷ []) last _ (length-append front (47 ∷ []))
 
 folder_text : (base : Parts) → IsBaseUrl base → folder_of (text_of base) ≡ head_text base ++ (without_last_segment base.path ++ 47 ∷ [])
 unfolding folder_of
 folder_text base valid =
     let path = base_path base valid in
-    let slash : get_or base.path 0 0 ≡ 47 = ⊎_elim (λ empty. absurd (let long = path.1 refl in let none = ap length empty in omega arith)) (λ slash. slash) (rooted SpecialNotFile base.path path.0) in
+    let slash : get_or base.path 0 0 ≡ 47 = ⊎_elim (λ empty. absurd (let long = path.1 refl in let none = ap length empty in omega arith))
+    (λ slash. slash) (rooted SpecialNotFile base.path path.0) in
     let split = last_segment base.path _ _ slash (path.1 refl) (splits_at_last 47 base.path) in
-    ap through_last_slash (without_own_tail base valid ∙ ap (λ p. head_text base ++ p) split.0 ∙ sym (append_assoc (head_text base) (without_last_segment base.path) _))
+    ap through_last_slash (without_own_tail base valid ∙ ap (λ p. head_text base ++ p) split.0
+    ∙ sym (append_assoc (head_text base) (without_last_segment base.path) _))
     ∙ through_last _ _ split.1 ∙ append_assoc (head_text base) (without_last_segment base.path) (47 ∷ [])
 
 -- ---- what a name gives
@@ -293,29 +333,36 @@ folder_text base valid =
 pub child_spelled : (base : Parts) (name : List ℕ) → IsBaseUrl base → text_of (child base name) ≡ folder_of (text_of base) ++ name
 child_spelled base name valid =
     let front = without_last_segment base.path in
-    rw (folder_text base valid) (child_text base name valid ∙ sym (append_assoc (head_text base) (front ++ 47 ∷ []) name ∙ ap (λ t. head_text base ++ t) (append_assoc front (47 ∷ []) name)))
+    rw (folder_text base valid) (child_text base name valid ∙ sym (append_assoc (head_text base) (front ++ 47 ∷ []) name
+    ∙ ap (λ t. head_text base ++ t) (append_assoc front (47 ∷ []) name)))
 
 folder_bytes : (text : List ℕ) → list_all is_address_byte text ≡ true → All (Passes is_address_byte) (folder_of text)
 unfolding folder_of
-folder_bytes text bytes = All-take (Passes is_address_byte) _ _ (All-take (Passes is_address_byte) _ text (All_from_list_all is_address_byte text bytes))
+folder_bytes text bytes = All-take (Passes is_address_byte) _ _ (All-take (Passes is_address_byte) _ text
+    (All_from_list_all is_address_byte text bytes))
 
-child_bytes : (base : Parts) (name : List ℕ) → IsBaseUrl base → is_name name ≡ true → list_all is_address_byte (folder_of (text_of base) ++ name) ≡ true
+child_bytes : (base : Parts) (name : List ℕ) → IsBaseUrl base → is_name name ≡ true
+    → list_all is_address_byte (folder_of (text_of base) ++ name) ≡ true
 child_bytes base name valid is =
     let folder = folder_bytes (text_of base) (bytes_from_accepted base _ valid.accepted) in
-    let named = All-weaker (Passes is_name_byte) (Passes is_address_byte) (λ b passes. grind (arith, nat_tests)) name (name_bytes name is) in
+    let named = All-weaker (Passes is_name_byte) (Passes is_address_byte) (λ b passes. grind (arith, nat_tests)) name
+    (name_bytes name is) in
     list_all_from_All is_address_byte _ (All-append (Passes is_address_byte) (folder_of (text_of base)) name folder named)
 
-pub accepted_child : (base : Parts) (name : List ℕ) → IsBaseUrl base → is_name name ≡ true → accepted_url (child base name) ≡ unless_long (folder_of (text_of base) ++ name)
+pub accepted_child : (base : Parts) (name : List ℕ) → IsBaseUrl base → is_name name ≡ true
+    → accepted_url (child base name) ≡ unless_long (folder_of (text_of base) ++ name)
 accepted_child base name valid is =
     rw (child_spelled base name valid, child_bytes base name valid is, web_from_accepted base _ valid.accepted)
 
-child_is_base : (base : Parts) (name : List ℕ) → IsBaseUrl base → is_name name ≡ true → length (folder_of (text_of base) ++ name) ≤ 2048 → IsBaseUrl (child base name)
+child_is_base : (base : Parts) (name : List ℕ) → IsBaseUrl base → is_name name ≡ true → length (folder_of (text_of base) ++ name) ≤ 2048
+    → IsBaseUrl (child base name)
 child_is_base base name valid is short = record {
   valid = child_valid base name valid is;
   accepted = accepted_child base name valid is ∙ cond-false _ _ _ (le-ltb 2048 _ short) ∙ ap Ok (sym (child_spelled base name valid));
 }
 
-lacks_front : (front name : List ℕ) (i : ℕ) → i < length front → get_or front i 0 ≡ 58 → is_name name ≡ true → starts_with nat_eq name front ≡ false
+lacks_front : (front name : List ℕ) (i : ℕ) → i < length front → get_or front i 0 ≡ 58 → is_name name ≡ true
+    → starts_with nat_eq name front ≡ false
 lacks_front front name i inside colon is =
     ⊎_elim
     (λ begins.
@@ -329,10 +376,12 @@ lacks_front front name i inside colon is =
 not_absolute : (name : List ℕ) → is_name name ≡ true → is_absolute name ≡ false
 not_absolute name is = rw (lacks_front (codes "http://") name 4 (lit< tt) refl is, lacks_front (codes "https://") name 5 (lit< tt) refl is)
 
-resolve_child : (base : Parts) (name : List ℕ) → IsBaseUrl base → is_name name ≡ true → resolve (text_of base) name ≡ unless_long (folder_of (text_of base) ++ name)
+resolve_child : (base : Parts) (name : List ℕ) → IsBaseUrl base → is_name name ≡ true
+    → resolve (text_of base) name ≡ unless_long (folder_of (text_of base) ++ name)
 unfolding resolve
 resolve_child base name valid is =
-    cond-false _ _ _ (not_absolute name is) ∙ ap (λ b. accepted (parse_url b name)) (own_url base valid) ∙ ap accepted (parse_name base name valid is) ∙ accepted_child base name valid is
+    cond-false _ _ _ (not_absolute name is) ∙ ap (λ b. accepted (parse_url b name)) (own_url base valid)
+    ∙ ap accepted (parse_name base name valid is) ∙ accepted_child base name valid is
 
 -- the text of a web URL is normal
 normal_text : (url : Parts) (text : List ℕ) → text_of url ≡ text → IsValid url → is_web url.scheme ≡ true → is_normal text ≡ true
@@ -340,34 +389,43 @@ normal_text url text spelled valid web =
     let read : url_of text ≡ Some url = ap url_of (sym spelled) ∙ ap result_ok (parse_web_text url None valid web) in
     ap (λ u. option_eq bytes_eq (option_map text_of u) (Some text)) read ∙ (bytes_eq-Decides (text_of url) text).1 spelled
 
-beside_child : (base : Parts) (name : List ℕ) → IsBaseUrl base → is_name name ≡ true → beside (text_of base) name ≡ unless_long (folder_of (text_of base) ++ name)
+beside_child : (base : Parts) (name : List ℕ) → IsBaseUrl base → is_name name ≡ true
+    → beside (text_of base) name ≡ unless_long (folder_of (text_of base) ++ name)
 unfolding unchanged
 beside_child base name valid is =
-    rw (normal_text (child base name) _ (child_spelled base name valid) (child_valid base name valid is) (web_from_accepted base _ valid.accepted))
+    rw (normal_text (child base name) _ (child_spelled base name valid) (child_valid base name valid is)
+    (web_from_accepted base _ valid.accepted))
 
-child_is_address : (base : Parts) (name : List ℕ) → IsBaseUrl base → is_name name ≡ true → length (folder_of (text_of base) ++ name) ≤ 2048 → IsAddress (folder_of (text_of base) ++ name)
+child_is_address : (base : Parts) (name : List ℕ) → IsBaseUrl base → is_name name ≡ true → length (folder_of (text_of base) ++ name) ≤ 2048
+    → IsAddress (folder_of (text_of base) ++ name)
 child_is_address base name valid is short =
     subst IsAddress (child_spelled base name valid) (base_is_address (child base name) (child_is_base base name valid is short))
 
 -- ---- the same, by the base's text
 
 pub resolve_name : (base name : List ℕ) → IsBase base → is_name name ≡ true → resolve base name ≡ unless_long (folder_of base ++ name)
-resolve_name base name is named = subst (λ b. resolve b name ≡ unless_long (folder_of b ++ name)) is.spelled (resolve_child is.url name is.is named)
+resolve_name base name is named = subst (λ b. resolve b name ≡ unless_long (folder_of b ++ name)) is.spelled
+    (resolve_child is.url name is.is named)
 
 pub beside_name : (base name : List ℕ) → IsBase base → is_name name ≡ true → beside base name ≡ unless_long (folder_of base ++ name)
-beside_name base name is named = subst (λ b. beside b name ≡ unless_long (folder_of b ++ name)) is.spelled (beside_child is.url name is.is named)
+beside_name base name is named = subst (λ b. beside b name ≡ unless_long (folder_of b ++ name)) is.spelled
+    (beside_child is.url name is.is named)
 
-pub name_is_address : (base name : List ℕ) → IsBase base → is_name name ≡ true → length (folder_of base ++ name) ≤ 2048 → IsAddress (folder_of base ++ name)
-name_is_address base name is named = subst (λ b. length (folder_of b ++ name) ≤ 2048 → IsAddress (folder_of b ++ name)) is.spelled (child_is_address is.url name is.is named)
+pub name_is_address : (base name : List ℕ) → IsBase base → is_name name ≡ true → length (folder_of base ++ name) ≤ 2048
+    → IsAddress (folder_of base ++ name)
+name_is_address base name is named = subst (λ b. length (folder_of b ++ name) ≤ 2048 → IsAddress (folder_of b ++ name)) is.spelled
+    (child_is_address is.url name is.is named)
 
 -- a name that stands behind the folder in a text
 pub whole_from_front : (front text : List ℕ) → take (length front) text ≡ front → text ≡ front ++ drop (length front) text
 whole_from_front front text begins = sym (take-append-drop (length front) text) ∙ ap (λ t. t ++ drop (length front) text) begins
 
-pub resolve_behind : (base text : List ℕ) → IsBase base → take (length (folder_of base)) text ≡ folder_of base → is_name (drop (length (folder_of base)) text) ≡ true → resolve base (drop (length (folder_of base)) text) ≡ unless_long text
+pub resolve_behind : (base text : List ℕ) → IsBase base → take (length (folder_of base)) text ≡ folder_of base
+    → is_name (drop (length (folder_of base)) text) ≡ true → resolve base (drop (length (folder_of base)) text) ≡ unless_long text
 resolve_behind base text is begins named = resolve_name base _ is named ∙ ap unless_long (sym (whole_from_front _ text begins))
 
-pub behind_is_address : (base text : List ℕ) → IsBase base → take (length (folder_of base)) text ≡ folder_of base → is_name (drop (length (folder_of base)) text) ≡ true → length text ≤ 2048 → IsAddress text
+pub behind_is_address : (base text : List ℕ) → IsBase base → take (length (folder_of base)) text ≡ folder_of base
+    → is_name (drop (length (folder_of base)) text) ≡ true → length text ≤ 2048 → IsAddress text
 behind_is_address base text is begins named = rw (whole_from_front _ text begins) (name_is_address base _ is named)
 
 -- the address of a name is given again

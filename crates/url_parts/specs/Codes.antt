@@ -1,6 +1,7 @@
 -- The classes of codes in a codecs list (RFC 6381, 3.3), by the characters that stand before the first `.`.
-use Rattle.std.specs.Prelude.{ℕ, ◌==◌, Bool, List, [], ◌∷◌, bytes_eq, codes, if◌then◌else◌}
-use Rattle.std.specs.List.{list_any, before_first}
+use Rattle.std.specs.Prelude.{ℕ, ◌==◌, List, [], ◌∷◌, codes, if◌then◌else◌}
+use Rattle.std.specs.List.{before_first}
+use Rattle.bridge_io.specs.Texts.{is_among}
 use Rattle.url_parts.specs.declared.code.CodeClass.{CodeClass}
 use Rattle.url_parts.specs.declared.code.CodeClass.TheVariants.{Video, Audio, Text, Unknown}
 
@@ -19,10 +20,8 @@ audio_names =
 abbrev pub text_names : List (List ℕ)
 text_names = codes "stpp" ∷ codes "wvtt" ∷ []
 
-abbrev pub is_among : List ℕ → List (List ℕ) → Bool
-is_among name names = list_any (λ listed. bytes_eq listed name) names
-
 -- the class of a code
 abbrev pub class_of : List ℕ → CodeClass
 class_of code = let name = before_first (λ b. b == 46) code in
-    if is_among name video_names then Video else (if is_among name audio_names then Audio else (if is_among name text_names then Text else Unknown))
+    if is_among name video_names then Video else (if is_among name audio_names then Audio
+    else (if is_among name text_names then Text else Unknown))

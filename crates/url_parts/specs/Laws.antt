@@ -18,4 +18,5 @@ IsGivenInFolder address text = is_name_in (folder_of address) text ≡ true → 
 
 -- one more reference is resolved against what those before it gave
 abbrev pub GoesOn : List ℕ → Type 0
-GoesOn reference = (base : List ℕ) (references : List (List ℕ)) → chain base (references ++ reference ∷ []) ≡ resolve_more (λ next. resolve next reference) (chain base references)
+GoesOn reference = (base : List ℕ) (references : List (List ℕ)) → chain base (references ++ reference ∷ [])
+    ≡ resolve_more (λ next. resolve next reference) (chain base references)

@@ -4,7 +4,8 @@ ghost use Rattle.std.specs.List.{list_all};
 ghost use Rattle.url.specs.Parser.{Gives as IsParsed, Parsed};
 ghost use Rattle.url.specs.Parts.{Parts, IsValid};
 ghost use Rattle.bridge_io.specs.Answer.{Gives};
-ghost use Rattle.url_parts.specs.Addresses.{is_absolute, is_address_byte, is_web, text_of, accepted, refusal, IsAddress, IsBaseUrl, folder_of, unless_long, is_tail, without_tail, local_name_of};
+ghost use Rattle.url_parts.specs.Addresses.{is_absolute, is_address_byte, is_web, text_of, accepted, refusal, IsAddress, IsBaseUrl};
+ghost use Rattle.url_parts.specs.Addresses.{folder_of, unless_long, is_tail, without_tail, local_name_of};
 
 use crate::{Address, UrlFault};
 use bridge_io::{Name, NameFault, NoMemory, Text, is_name};

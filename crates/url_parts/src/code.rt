@@ -1,5 +1,6 @@
 // Classes of codes.
-ghost use Rattle.std.specs.Prelude.{◌≡◌};
+ghost use Rattle.std.specs.Prelude.{◌≡◌, ◌==◌};
+ghost use Rattle.std.specs.List.{before_first};
 ghost use Rattle.url_parts.specs.Codes.{class_of};
 
 /// What a code of a codecs list stands for (RFC 6381, 3.3).
@@ -35,10 +36,7 @@ const TEXT: [&str; 2] = ["stpp", "wvtt"];
 pub fn code_class(code: &str) -> CodeClass
     ensures { result ≡ class_of code.now }
 {
-    let name = match code.split_once('.') {
-        None => code,
-        Some((name, _)) => name,
-    };
+    let name = name_of(code);
     if VIDEO.contains(&name) {
         CodeClass::Video
     } else if AUDIO.contains(&name) {
@@ -47,5 +45,14 @@ pub fn code_class(code: &str) -> CodeClass
         CodeClass::Text
     } else {
         CodeClass::Unknown
+    }
+}
+
+fn name_of(code: &str) -> &str
+    ensures { result.now ≡ before_first (λ b. b == 46) code.now }
+{
+    match code.split_once('.') {
+        None => code,
+        Some((name, _)) => name,
     }
 }

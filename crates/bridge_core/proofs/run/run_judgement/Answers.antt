@@ -2,7 +2,7 @@ use Rattle.std.proofs.Common.{refl, arith}
 use Rattle.bridge_core.proofs.run.run_judgement.Goals as goal
 
 pub returns-in-Reload : goal.returns-in-Reload
-returns-in-Reload g c = let told = c.judge-in-Reload.ensures in
+returns-in-Reload g c = let told = c.run_reload.ensures in
     rw c.in-Reload.is
     (record {
       ends = record {

@@ -11,7 +11,8 @@ pub returns-in-Ok-Some-clause-work : goal.returns-in-Ok-Some-clause-work
 unfolding course_of
 returns-in-Ok-Some-clause-work g c =
     let is = rw c.in-Ok-Some.field-0-is at c.in-Ok-Some.ensures.job in
-    same_worked _ (job_of c.args.words.now) (g.F.Store.files c.args.store.now) (g.I.Source.remaining c.args.input.now) _ _ _ is c.run_job.ensures.work
+    same_worked _ (job_of c.args.words.now) (g.F.Store.files c.args.store.now)
+    (g.I.Source.remaining c.args.input.now) _ _ _ is c.run_job.ensures.work
 
 pub returns-in-Ok-None-clause-work : goal.returns-in-Ok-None-clause-work
 unfolding course_of

@@ -9,7 +9,8 @@ invariant-loop-store g l =
     let store = g.F.Store in
     record {
       piece : 0 < vec_len l.piece;
-      front : (files : Files) → store.files l.fn.store ≡ Some files → (is_some (files l.name) ≡ true) × IsFront l.bytes (content_of files l.name);
+      front : (files : Files) → store.files l.fn.store ≡ Some files → (is_some (files l.name) ≡ true)
+          × IsFront l.bytes (content_of files l.name);
       files : store.files l.store ≡ store.files l.fn.store;
       never_falls : store.read_faults l.fn.store ≤ store.read_faults l.store;
       writes : store.write_faults l.store ≡ store.write_faults l.fn.store;

@@ -26,4 +26,5 @@ returns-in_err-text c = rw c.from_residual.ensures (sym (no_number c.args.most c
 pub returns : goal.returns
 returns c =
     c.ok.ensures.value
-    ∙ parsed c.args.most c.args.digits.now c.parse.result (sym c.if-not-are_digits.ensures) c.if-digits-most.false (rw c.in_ok-text.ensures at c.parse.ensures.value.0)
+    ∙ parsed c.args.most c.args.digits.now c.parse.result (sym c.if-not-are_digits.ensures) c.if-digits-most.false
+    (rw c.in_ok-text.ensures at c.parse.ensures.value.0)

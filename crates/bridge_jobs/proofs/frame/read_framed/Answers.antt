@@ -10,9 +10,14 @@ returns-in_err-header-clause-frame g c = λ bytes told.
 pub returns-in_err-frame-clause-frame : goal.returns-in_err-frame-clause-frame
 returns-in_err-frame-clause-frame g c = λ bytes told.
     let fault = err_from_is_err_and c.from_residual-in_err-frame.result c.from_residual-in_err-frame.ensures.1 in
-    rw (fault.1, fault.2) (no_body c.args.at c.args.line.now bytes c.in_ok-header.header c.behind-body_at.result _ c.in_ok-header.ensures.header c.behind-body_at.ensures.place (c.in_err-frame.ensures.frame bytes told))
+    rw (fault.1, fault.2) (no_body c.args.at c.args.line.now bytes c.in_ok-header.header c.behind-body_at.result _
+    c.in_ok-header.ensures.header c.behind-body_at.ensures.place (c.in_err-frame.ensures.frame bytes told))
 
 pub returns-clause-frame : goal.returns-clause-frame
 returns-clause-frame g c = λ bytes told.
-    let read = c.in_ok-frame.ensures.frame bytes told in
-    (read.0, read.1, whole_frame c.args.at c.args.line.now bytes c.in_ok-header.header c.behind-body_at.result _ _ read.0 c.in_ok-header.ensures.header c.behind-body_at.ensures.place read.2)
+    let read = c.in_ok-frame.ensures.frame bytes told in (
+      read.0,
+      read.1,
+      whole_frame c.args.at c.args.line.now bytes c.in_ok-header.header c.behind-body_at.result _ _ read.0
+          c.in_ok-header.ensures.header c.behind-body_at.ensures.place read.2,
+    )

@@ -11,8 +11,12 @@ returns-then-len-length-clause-piece g c = λ bytes told.
 pub returns-clause-piece : goal.returns-clause-piece
 returns-clause-piece g c = λ bytes told.
     let taken = c.in_ok-body.ensures.bytes bytes told in
-    let there = rw c.as_slice.ensures.value at c.behind-after.ensures.place in
-    (taken.1, taken.2, rw (there, c.from.ensures) (whole_piece c.args.place c.args.length bytes c.in_ok-body.body.items taken.1 taken.0 taken.3 (omega arith)))
+    let there = rw c.as_slice.ensures.value at c.behind-after.ensures.place in (
+      taken.1,
+      taken.2,
+      rw (there, c.from.ensures)
+          (whole_piece c.args.place c.args.length bytes c.in_ok-body.body.items taken.1 taken.0 taken.3 (omega arith)),
+    )
 
 pub returns-clause-place : goal.returns-clause-place
 returns-clause-place g c =

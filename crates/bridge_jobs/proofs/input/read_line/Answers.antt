@@ -11,14 +11,16 @@ returns-in_default-clause-bytes g c = λ bytes told.
 pub returns-then-byte-eq10-clause-bytes : goal.returns-then-byte-eq10-clause-bytes
 returns-then-byte-eq10-clause-bytes g c = λ bytes told.
     let byte = rw c.in-Some.is at c.in_ok-byte.ensures.byte in
-    rw c.in_ok-push.ensures.ok (line_last _ c.in-Some.byte _ _ _ _ c.loop-input.invariant.so_far (omega arith) byte c.if-byte-eq10.true bytes told)
+    rw c.in_ok-push.ensures.ok (line_last _ c.in-Some.byte _ _ _ _ c.loop-input.invariant.so_far
+    (omega arith) byte c.if-byte-eq10.true bytes told)
 
 pub loop-input-preserved : goal.loop-input-preserved
 loop-input-preserved g c =
     let byte = rw c.in-Some.is at c.in_ok-byte.ensures.byte in
     record {
       room = rw c.in_ok-push.ensures.ok (omega (arith, length-append c.loop-input.line (c.in-Some.byte ∷ [])));
-      so_far = rw c.in_ok-push.ensures.ok (line_byte _ c.in-Some.byte _ _ _ _ c.loop-input.invariant.so_far (omega arith) byte c.if-byte-eq10.false);
+      so_far = rw c.in_ok-push.ensures.ok (line_byte _ c.in-Some.byte _ _ _ _ c.loop-input.invariant.so_far
+          (omega arith) byte c.if-byte-eq10.false);
       never_falls = omega (arith, c.loop-input.invariant.never_falls, c.in_ok-byte.ensures.cause.never_falls);
     }
 

@@ -14,7 +14,8 @@ returns-in_default-clause-lengths c =
 pub loop-track-preserved : goal.loop-track-preserved
 loop-track-preserved c =
     let next = rw c.in-Some.is at c.next_length.ensures.next in
-    rw c.in_ok-push.ensures.ok (so_far_more _ _ _ _ _ _ c.loop-track.invariant c.in-Some.length (option_copied c.in-Some.more) (omega arith) (sym next) (c.in-Some.ensures.small))
+    rw c.in_ok-push.ensures.ok (so_far_more _ _ _ _ _ _ c.loop-track.invariant c.in-Some.length (option_copied c.in-Some.more)
+    (omega arith) (sym next) (c.in-Some.ensures.small))
 
 -- where no text is left, none is pointed to
 none_pointed : (rest : Option (Bor (List ℕ))) → is_some rest ≡ false → option_copied rest ≡ None

@@ -8,7 +8,8 @@ returns-in_err-body-clause-bodies g c = λ bytes told.
     let lengths = c.args.lengths.now in
     let i = c.loop-length.length-index in
     let fault = err_from_is_err_and c.from_residual.result c.from_residual.ensures.1 in
-    rw (fault.1, fault.2) (body_fails c.args.place c.loop-length.at lengths i c.loop-length.bodies _ _ c.loop-length.invariant.so_far (get_or lengths i 0) c.in_err-body.field-0.0
+    rw (fault.1, fault.2) (body_fails c.args.place c.loop-length.at lengths i c.loop-length.bodies _ _ c.loop-length.invariant.so_far
+    (get_or lengths i 0) c.in_err-body.field-0.0
     (next_size lengths i c.loop-length-test.true) c.in_err-body.ensures.piece bytes told)
 
 pub loop-length-preserved : goal.loop-length-preserved
@@ -17,13 +18,16 @@ loop-length-preserved g c =
     let i = c.loop-length.length-index in
     let so_far = c.loop-length.invariant in
     record {
-      so_far = rw c.in_ok-push.ensures.ok (body_more c.args.place c.loop-length.at lengths i c.loop-length.bodies _ _ so_far.so_far (get_or lengths i 0) c.in_ok-body.body c.in_ok-body.after _
+      so_far = rw c.in_ok-push.ensures.ok (body_more c.args.place c.loop-length.at lengths i c.loop-length.bodies _ _ so_far.so_far
+          (get_or lengths i 0) c.in_ok-body.body c.in_ok-body.after _
           (next_size lengths i c.loop-length-test.true) c.in_ok-body.ensures.piece);
-      place = behind_next lengths i c.args.place c.loop-length.at c.in_ok-body.after c.loop-length-test.true so_far.place c.in_ok-body.ensures.place;
+      place = behind_next lengths i c.args.place c.loop-length.at c.in_ok-body.after c.loop-length-test.true so_far.place
+          c.in_ok-body.ensures.place;
       count = rw c.in_ok-push.ensures.ok (omega (arith, so_far.count, length-append c.loop-length.bodies (c.in_ok-body.body ∷ [])));
       never_falls = omega (arith, so_far.never_falls, c.in_ok-body.ensures.cause.never_falls);
     }
 
 pub returns-clause-bodies : goal.returns-clause-bodies
 returns-clause-bodies g c =
-    all_bodies c.args.place c.loop-length.at c.args.lengths.now c.loop-length.length-index c.loop-length.bodies _ _ c.loop-length.invariant.so_far c.loop-length-test.false
+    all_bodies c.args.place c.loop-length.at c.args.lengths.now c.loop-length.length-index c.loop-length.bodies _ _
+    c.loop-length.invariant.so_far c.loop-length-test.false

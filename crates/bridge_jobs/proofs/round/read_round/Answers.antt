@@ -24,7 +24,8 @@ returns-in_err-round-in-Some-clause-round g c = λ bytes told.
     let taken = rw c.in-Some.is at (c.in_ok-next.ensures.line bytes told) in
     let fault = err_from_is_err_and c.from_residual-in_err-round-in-Some.result c.from_residual-in_err-round-in-Some.ensures.1 in
     let refused = rw c.as_slice.ensures at (c.in_err-round-in-Some.ensures.round taken.0 taken.1) in
-    rw (fault.1, fault.2) (told_on c.in_err-round-in-Some.field-0.0 (round_by_line c.args.tracks at c.in-Some.line taken.0) (next_round c.args.tracks at bytes)
+    rw (fault.1, fault.2) (told_on c.in_err-round-in-Some.field-0.0 (round_by_line c.args.tracks at c.in-Some.line taken.0)
+    (next_round c.args.tracks at bytes)
     (λ f same. next_round_by c.args.tracks at bytes _ taken.2 ∙ ap some_of same) refused)
 
 pub returns-in_ok-round-in-Some-clause-round : goal.returns-in_ok-round-in-Some-clause-round

@@ -11,7 +11,8 @@ returns-in_err-header-clause-round g c = λ bytes told.
     let at = c.args.at in
     let line = c.args.line.now in
     let fault = err_from_is_err_and c.from_residual.result c.from_residual.ensures.1 in
-    rw (fault.1, fault.2) (told_on c.in_err-header.field-0.0 (header_at most_header (header_of c.args.tracks) at.place line) (round_by_line c.args.tracks at line bytes)
+    rw (fault.1, fault.2) (told_on c.in_err-header.field-0.0 (header_at most_header (header_of c.args.tracks) at.place line)
+    (round_by_line c.args.tracks at line bytes)
     (λ f same. round_by c.args.tracks at line bytes (Err f) same) c.in_err-header.ensures.header)
 
 pub returns-in_err-bodies-clause-round : goal.returns-in_err-bodies-clause-round
@@ -21,12 +22,18 @@ returns-in_err-bodies-clause-round g c = λ bytes told.
     let header = c.in_ok-header.header in
     let fault = err_from_is_err_and c.from_residual-in_err-bodies.result c.from_residual-in_err-bodies.ensures.1 in
     let refused = rw (c.behind-bodies_at.ensures.place, c.as_slice.ensures) at (c.in_err-bodies.ensures.bodies bytes told) in
-    rw (fault.1, fault.2) (told_on c.in_err-bodies.field-0.0 (bodies_of (behind at.place line) header.lengths bytes) (round_by_line c.args.tracks at line bytes)
-    (λ f same. round_by c.args.tracks at line bytes (Ok header) c.in_ok-header.ensures.header ∙ ap (counted at.frames header.now) same) refused)
+    rw (fault.1, fault.2) (told_on c.in_err-bodies.field-0.0 (bodies_of (behind at.place line) header.lengths bytes)
+    (round_by_line c.args.tracks at line bytes)
+    (λ f same. round_by c.args.tracks at line bytes (Ok header) c.in_ok-header.ensures.header
+    ∙ ap (counted at.frames header.now) same) refused)
 
 pub returns-clause-round : goal.returns-clause-round
 returns-clause-round g c = λ bytes told.
     let at = c.args.at in
     let header = c.in_ok-header.header in
-    let read = rw (c.behind-bodies_at.ensures.place, c.as_slice.ensures) at (c.in_ok-bodies.ensures.bodies bytes told) in
-    (read.0, read.1, round_by c.args.tracks at c.args.line.now bytes (Ok header) c.in_ok-header.ensures.header ∙ ap (counted at.frames header.now) read.2)
+    let read = rw (c.behind-bodies_at.ensures.place, c.as_slice.ensures) at (c.in_ok-bodies.ensures.bodies bytes told) in (
+      read.0,
+      read.1,
+      round_by c.args.tracks at c.args.line.now bytes (Ok header) c.in_ok-header.ensures.header
+          ∙ ap (counted at.frames header.now) read.2,
+    )

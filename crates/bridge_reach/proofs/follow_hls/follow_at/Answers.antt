@@ -1,5 +1,5 @@
 use Rattle.std.proofs.Common.{Err, ap, refl, arith}
-use Rattle.bridge_runs.proofs.Stepping.{falls_then}
+use Rattle.bridge_courses.proofs.Stepping.{falls_then}
 use Rattle.bridge_steps.proofs.Grown.{none_grown}
 use Rattle.bridge_reach.proofs.Working.{either_later, halt_caused, halt_worked, read_worked}
 use Rattle.bridge_reach.proofs.follow_hls.follow_at.Goals as goal
@@ -27,7 +27,8 @@ returns-in-Ok-clause-never_falls g c = let read = c.in-Ok.ensures in
 pub returns-in-Err-clause-work : goal.returns-in-Err-clause-work
 returns-in-Err-clause-work g c =
     let read = c.in-Err.ensures in
-    halt_worked c.args.out.now (g.F.Store.files c.args.store.now) (g.I.Source.remaining c.args.input.now) c.args.place.now c.halted.result _ _
+    halt_worked c.args.out.now (g.F.Store.files c.args.store.now)
+    (g.I.Source.remaining c.args.input.now) c.args.place.now c.halted.result _ _
     (record { files = read.files; report = refl; made = refl })
     (record { input = omega arith; reads = read.cause.never_falls; writes = omega (arith, read.writes); report = omega arith })
     c.in-Err.halt c.halted.ensures (λ e. read.cause.rose (ap Err e)) read.master

@@ -16,7 +16,8 @@ pub returns-then-accepted-eq1-clause-ok : goal.returns-then-accepted-eq1-clause-
 returns-then-accepted-eq1-clause-ok g c = let s = c.args.session.now in let out = c.args.out.now in let files = g.F.Store.files in
     let first : s.common.accepted ≡ 1 = rw c.accepted.ensures at c.if-accepted-eq1.true in
     on_ok_by c.write_the_master.result
-    (λ puts. subst (λ fs. Changes (put_all fs) (files c.args.store.now) (files c.write_the_master.new.store)) (sym (files_first out s first))
+    (λ puts. subst (λ fs. Changes (put_all fs) (files c.args.store.now) (files c.write_the_master.new.store))
+    (sym (files_first out s first))
     (put_last (track_files out s) (master_file out s) (files c.args.store.now) (files c.write_tracks.new.store)
     (files c.write_the_master.new.store) c.in_ok-write_tracks.ensures.ok (rw c.first.ensures.first at puts)))
     c.write_the_master.ensures.ok

@@ -10,7 +10,8 @@ returns-in_err-write_track-clause-err g c =
     let s = c.args.session.now in let out = c.args.out.now in let l = c.loop-track in let files = g.F.Store.files in
     let within : l.track < length s.tracks = omega (arith, ap length c.tracks.ensures, c.first.ensures.tracks) in
     on_err c.from_residual.result
-    (begun_at (track_files out s) l.track (track_file out s l.track) (files c.args.store.now) (files l.store) (files c.write_track.new.store)
+    (begun_at (track_files out s) l.track (track_file out s l.track) (files c.args.store.now) (files l.store)
+    (files c.write_track.new.store)
     (track_at (track_file out s) (length s.tracks) l.track within) l.invariant.put c.in_err-write_track.ensures.err)
 
 pub loop-track-preserved : goal.loop-track-preserved
@@ -19,7 +20,8 @@ loop-track-preserved g c =
     let within : l.track < length s.tracks = omega (arith, ap length c.tracks.ensures, c.first.ensures.tracks) in
     record {
       put = put_next (track_files out s) l.track (track_file out s l.track) (files c.args.store.now) (files l.store)
-          (files c.write_track.new.store) (track_at (track_file out s) (length s.tracks) l.track within) l.invariant.put c.in_ok-write_track.ensures.ok;
+          (files c.write_track.new.store) (track_at (track_file out s) (length s.tracks) l.track within) l.invariant.put
+          c.in_ok-write_track.ensures.ok;
       never_falls = omega (arith, l.invariant.never_falls, c.in_ok-write_track.ensures.cause.never_falls);
       reads = c.in_ok-write_track.ensures.reads ∙ l.invariant.reads;
     }

@@ -11,10 +11,12 @@ returns-in_ok-mpd-in-Mpd-clause-listed g c =
     let terms : Terms = record { url = c.args.url.now; digits = c.args.digits } in
     let values = segments_mpd c.in_ok-mpd-in-Mpd.mpd in
     let read : values_of c.in-Mpd.body ≡ Ok values = ap values_of (sym c.as_slice.ensures) ∙ c.in_ok-mpd-in-Mpd.ensures.mpd in
-    first_listed terms values c.in-Mpd.now c.answers_allow_listings.ensures.counted (first_appends terms c.args.frame.now) c.begin_session.result
+    first_listed terms values c.in-Mpd.now c.answers_allow_listings.ensures.counted
+    (first_appends terms c.args.frame.now) c.begin_session.result
     (first_read terms c.args.frame.now c.in-Mpd.now c.in-Mpd.body values c.in-Mpd.is read) c.begin_session.ensures.state
 
 pub returns-in_ok-mpd-in-Mpd-clause-first : goal.returns-in_ok-mpd-in-Mpd-clause-first
 returns-in_ok-mpd-in-Mpd-clause-first g c =
-    first_one (record { url = c.args.url.now; digits = c.args.digits }) (segments_mpd c.in_ok-mpd-in-Mpd.mpd) c.in-Mpd.now c.begin_session.result
+    first_one (record { url = c.args.url.now; digits = c.args.digits })
+    (segments_mpd c.in_ok-mpd-in-Mpd.mpd) c.in-Mpd.now c.begin_session.result
     c.begin_session.ensures.state

@@ -9,5 +9,6 @@ returns-in-Ok-clause-finished g c = λ some.
 
 pub returns-in-Ok-clause-listable : goal.returns-in-Ok-clause-listable
 returns-in-Ok-clause-listable g c = λ some.
-    listable_read c.segments_can_be_listed.ensures.verified c.args.live (10 ^ c.args.digits) c.args.place.now.url c.args.now c.args.bytes.now
+    listable_read c.segments_can_be_listed.ensures.verified c.args.live
+    (10 ^ c.args.digits) c.args.place.now.url c.args.now c.args.bytes.now
     c.in-Ok.ready.presentation c.in-Ok.ensures.ready some

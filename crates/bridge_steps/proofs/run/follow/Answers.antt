@@ -1,5 +1,5 @@
 use Rattle.std.proofs.Common.{◌∙◌}
-use Rattle.bridge_runs.proofs.Stepping.{falls_then, caused_later}
+use Rattle.bridge_courses.proofs.Stepping.{falls_then, caused_later}
 use Rattle.bridge_steps.proofs.Grown.{grown_then}
 use Rattle.bridge_steps.proofs.run.follow.Goals as goal
 

@@ -1,7 +1,7 @@
 use Rattle.std.proofs.Common.{◌≡◌, ◌-◌, ℕ, List, Some}
 use Rattle.bridge_jobs.specs.Frames.{most_frames}
-use Rattle.bridge_runs.specs.Runs.{NeverFalls}
-use Rattle.bridge_runs.specs.Steps.{Leads}
+use Rattle.bridge_courses.specs.Executions.{NeverFalls}
+use Rattle.bridge_courses.specs.Steps.{Leads}
 use Rattle.bridge_steps.specs.Follow.{follow_course, rest_course, IsGoing, Grows, world_of}
 use Rattle.bridge_steps.proofs.run.follow.Given as goal
 

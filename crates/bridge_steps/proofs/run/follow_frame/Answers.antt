@@ -1,7 +1,8 @@
 use Rattle.std.proofs.Common.{◌≡◌, Some, refl}
 use Rattle.bridge_steps.specs.Follow.{world_of}
 use Rattle.bridge_report.specs.Refusals.{refusal_text}
-use Rattle.bridge_steps.proofs.FrameSteps.{accepted_done, accepted_stops, refused_done, refused_stops, left_accepted, left_refused, one_more, no_more}
+use Rattle.bridge_steps.proofs.FrameSteps.{accepted_done, accepted_stops, refused_done, refused_stops, left_accepted, left_refused}
+use Rattle.bridge_steps.proofs.FrameSteps.{one_more, no_more}
 use Rattle.bridge_steps.proofs.run.follow_frame.Goals as goal
 
 pub returns-in-Ok-publish-clause-done : goal.returns-in-Ok-publish-clause-done

@@ -9,4 +9,5 @@ swizzle c = high_ok c.args.lanes (record { long = c.fits-lanes.0; each = c.fits-
 pub returns : goal.returns
 returns c =
     let v = c.args.lanes in
-    looked_up c.args.table (λ x. x / 16) v _ c.twice.result (omega arith) (record { long = c.fits-lanes.0; each = c.fits-lanes.1 }) (zip2_splat shifted v 32 4 c.fits-lanes.0) (λ x h. omega arith) c.twice.ensures
+    looked_up c.args.table (λ x. x / 16) v _ c.twice.result (omega arith) (record { long = c.fits-lanes.0; each = c.fits-lanes.1 })
+    (zip2_splat shifted v 32 4 c.fits-lanes.0) (λ x h. omega arith) c.twice.ensures

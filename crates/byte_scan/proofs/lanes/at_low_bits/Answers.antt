@@ -13,5 +13,6 @@ low_bits s v = ap (λ (f : ℕ → ℕ). map (λ x. get_or s (f x) 0) v) (λ i x
 pub returns : goal.returns
 returns c =
     let v = c.args.lanes in
-    looked_up c.args.table (λ x. bit_and x 15) v _ c.twice.result (omega arith) (record { long = c.fits-lanes.0; each = c.fits-lanes.1 }) (zip2_splat bit_and v 32 15 c.fits-lanes.0)
+    looked_up c.args.table (λ x. bit_and x 15) v _ c.twice.result (omega arith) (record { long = c.fits-lanes.0; each = c.fits-lanes.1 })
+    (zip2_splat bit_and v 32 15 c.fits-lanes.0)
     (λ x h. omega (arith, and_mask x 4)) c.twice.ensures ∙ low_bits c.args.table v

@@ -6,7 +6,11 @@ use Rattle.byte_scan.proofs.scan.count.Goals as goal
 pub overflow_add-count : goal.overflow_add-count
 overflow_add-count g c =
     let passes = g.T.ByteTest.passes c.args.test.now in
-    omega (arith, count_by_block passes 32 c.cut.ensures c.loop-block.block-index c.loop-block-test.true c.hits.result c.hits.ensures, count_by-le-length passes c.args.bytes.now)
+    omega (
+      arith,
+      count_by_block passes 32 c.cut.ensures c.loop-block.block-index c.loop-block-test.true c.hits.result c.hits.ensures,
+      count_by-le-length passes c.args.bytes.now,
+    )
 
 pub loop-block-preserved : goal.loop-block-preserved
 loop-block-preserved g c =

@@ -9,5 +9,6 @@ loop-member-preserved c =
     let i = c.loop-member.member-index in
     let known = c.loop-member.invariant in (
       length-set _ _ _ ∙ known.0,
-      HasRows_more members i c.loop-member.rows (omega arith) (ascii_at members i c.requires (omega arith)) known.0 known.1 c.from.result c.from.ensures,
+      HasRows_more members i c.loop-member.rows (omega arith)
+          (ascii_at members i c.requires (omega arith)) known.0 known.1 c.from.result c.from.ensures,
     )

@@ -1,7 +1,7 @@
 use Rattle.std.proofs.Common.{drop, sym, ◌∙◌, arith}
 use Rattle.std.proofs.lemmas.List.{append-nil, take_rest}
 use Rattle.mpd_text.specs.Escapes.{escape_all}
-use Rattle.file_pieces.proofs.Adding.{adds_same}
+use Rattle.bridge_io.proofs.Adding.{adds_same}
 use Rattle.dash_writer.proofs.Escaping.{first_parts, found_at, none_escaped}
 use Rattle.dash_writer.proofs.Progress.{ends, fails, further, nothing_yet}
 use Rattle.dash_writer.proofs.escape.push_escaped.Goals as goal

@@ -1,5 +1,5 @@
 use Rattle.std.proofs.Common.{length}
-use Rattle.file_pieces.specs.Adding.{shown}
+use Rattle.bridge_io.specs.Adding.{shown}
 use Rattle.mpd_text.specs.Escapes.{escape_all}
 use Rattle.dash_writer.proofs.Progress.{Progress}
 use Rattle.dash_writer.proofs.escape.push_escaped.Given as goal

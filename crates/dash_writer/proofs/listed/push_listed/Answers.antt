@@ -1,6 +1,6 @@
 use Rattle.std.proofs.Common.{List, ◌∙◌, ap}
 use Rattle.url_parts.specs.declared.address.Part.{Part}
-use Rattle.file_pieces.proofs.Adding.{adds_same}
+use Rattle.bridge_io.proofs.Adding.{adds_same}
 use Rattle.timeline.specs.Listed.{expansion}
 use Rattle.presentation.proofs.OwnListed.{have_addresses, reached}
 use Rattle.presentation.proofs.Printing.{all_listed}

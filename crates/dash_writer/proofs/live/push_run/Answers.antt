@@ -1,5 +1,5 @@
 use Rattle.std.proofs.Common.{List, None, ◌^◌, map, ap, ◌∙◌}
-use Rattle.file_pieces.proofs.Adding.{adds_same}
+use Rattle.bridge_io.proofs.Adding.{adds_same}
 use Rattle.dash_writer.specs.declared.live.LiveSegment.{LiveSegment}
 use Rattle.dash_writer.specs.Lists.{list_with}
 use Rattle.dash_writer.specs.Live.{first_time, part_of}

@@ -1,5 +1,5 @@
 use Rattle.std.proofs.Common.{map}
-use Rattle.file_pieces.proofs.Adding.{adds_same, adds_stop, adds_stop_at, adds_then}
+use Rattle.bridge_io.proofs.Adding.{adds_same, adds_stop, adds_stop_at, adds_then}
 use Rattle.dash_writer.specs.Lists.{timeline_with}
 use Rattle.dash_writer.specs.Segments.{initialization, segment_url}
 use Rattle.dash_writer.proofs.Nodes.{three_parts}

@@ -1,6 +1,6 @@
 use Rattle.std.proofs.Common.{◌≡◌, ◌+◌, drop, codes, Err, refl, ap, arith}
 use Rattle.std.proofs.lemmas.List.{drop_all}
-use Rattle.file_pieces.proofs.Adding.{adds_same}
+use Rattle.bridge_io.proofs.Adding.{adds_same}
 use Rattle.dash_writer.specs.Outline.{set_attributes, track_elements}
 use Rattle.dash_writer.specs.Written.{elements_text}
 use Rattle.dash_writer.proofs.Nodes.{adds_node, stops_at_children, stops_at_start}

@@ -1,5 +1,5 @@
 use Rattle.std.proofs.Common.{ℕ, List, Some, ap, ◌∙◌}
-use Rattle.file_pieces.proofs.Adding.{adds_same}
+use Rattle.bridge_io.proofs.Adding.{adds_same}
 use Rattle.presentation.specs.Presented.{listed_in}
 use Rattle.dash_writer.specs.Lists.{list_with, parts_of}
 use Rattle.dash_writer.specs.Written.{element_text}

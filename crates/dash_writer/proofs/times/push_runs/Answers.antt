@@ -1,5 +1,5 @@
 use Rattle.std.proofs.Common.{◌≡◌, [], length, codes, Err, refl, sym, ap, ◌∙◌}
-use Rattle.file_pieces.proofs.Adding.{adds_same}
+use Rattle.bridge_io.proofs.Adding.{adds_same}
 use Rattle.dash_writer.specs.SegmentRuns.{gone_on, runs_left}
 use Rattle.dash_writer.specs.Written.{elements_text}
 use Rattle.dash_writer.proofs.Nodes.{adds_node, stops_at_children, stops_at_start}

@@ -1,5 +1,5 @@
 use Rattle.std.proofs.Common.{◌+◌, ◌<◌, ◌^◌, length}
-use Rattle.file_pieces.specs.Adding.{shown}
+use Rattle.bridge_io.specs.Adding.{shown}
 use Rattle.dash_writer.specs.SegmentRuns.{runs_left}
 use Rattle.dash_writer.specs.Written.{elements_text}
 use Rattle.dash_writer.proofs.Progress.{Progress}

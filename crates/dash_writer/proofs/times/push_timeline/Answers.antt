@@ -1,5 +1,5 @@
 use Rattle.std.proofs.Common.{ap, sym}
-use Rattle.file_pieces.proofs.Adding.{adds_same}
+use Rattle.bridge_io.proofs.Adding.{adds_same}
 use Rattle.dash_writer.specs.Lists.{timeline_with}
 use Rattle.dash_writer.specs.Written.{element_text}
 use Rattle.dash_writer.proofs.times.push_timeline.Goals as goal

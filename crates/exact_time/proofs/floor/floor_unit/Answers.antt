@@ -17,4 +17,5 @@ pub returns-clause-floor : goal.returns-clause-floor
 returns-clause-floor c = is_floor c
 
 pub returns-clause-value : goal.returns-clause-value
-returns-clause-value c = floor_of-difference (time_of c.args.end) (time_of c.args.first) c.args.end.positive c.args.first.positive c.requires.not_before (is_floor c)
+returns-clause-value c = floor_of-difference (time_of c.args.end)
+    (time_of c.args.first) c.args.end.positive c.args.first.positive c.requires.not_before (is_floor c)

@@ -13,4 +13,8 @@ pub returns-clause-ends : goal.returns-clause-ends
 returns-clause-ends c first unit ends numbers last calls = calls_rise (rounding_from first unit) ends numbers last calls
 
 pub returns-clause-sums : goal.returns-clause-sums
-returns-clause-sums c first unit ends numbers last calls = omega (arith, calls_sum (rounding_from first unit) ends numbers last calls, floor_in-difference_self unit first)
+returns-clause-sums c first unit ends numbers last calls = omega (
+  arith,
+  calls_sum (rounding_from first unit) ends numbers last calls,
+  floor_in-difference_self unit first,
+)

@@ -11,9 +11,14 @@ use Rattle.exact_time.proofs.laws.sums_are_floors.Goals as goal
 
 sums : SumsAreFloors
 sums u s ends k end is_s rising at =
-    let from_s : floor_in u (difference s s) + sum (take (suc k) (differences (floor_in u (difference s s)) (floors u s ends))) ≡ floor_in u (difference end s) =
+    let from_s : floor_in u (difference s s) + sum (take (suc k) (differences (floor_in u (difference s s)) (floors u s ends)))
+    ≡ floor_in u (difference end s) =
     sum-printed u s s ends k end is_s is_s (IsAtMost_refl s) rising at in
-    rw add-one (omega (arith, subst (λ (n : ℕ). n + sum (take (suc k) (differences n (floors u s ends))) ≡ floor_in u (difference end s)) (floor_in-difference_self u s) from_s))
+    rw add-one (omega (
+      arith,
+      subst (λ (n : ℕ). n + sum (take (suc k) (differences n (floors u s ends))) ≡ floor_in u (difference end s))
+          (floor_in-difference_self u s) from_s,
+    ))
 
 pub returns-clause-exact : goal.returns-clause-exact
 returns-clause-exact c = sums

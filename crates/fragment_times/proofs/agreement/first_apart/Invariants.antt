@@ -1,6 +1,7 @@
 use Rattle.std.proofs.Common.{◌≡◌, length, map}
+use Rattle.bridge_io.specs.Firsts.{first_some}
 use Rattle.presentation.proofs.Counts.{from_on}
-use Rattle.fragment_times.specs.Agreeing.{apart_in, first_apart, first_some}
+use Rattle.fragment_times.specs.Agreeing.{apart_in, first_apart}
 use Rattle.fragment_times.proofs.agreement.first_apart.Given as goal
 
 -- nothing is apart in the sections before this one

@@ -1,6 +1,6 @@
 use Rattle.std.proofs.Common.{◌<◌, length, ap, arith}
+use Rattle.presentation.proofs.FirstSome.{none_here, some_here, none_left, all_left}
 use Rattle.fragment_times.specs.Agreeing.{apart_at, apart_in}
-use Rattle.fragment_times.proofs.Apart.{all_left, none_here, none_left, some_here}
 use Rattle.fragment_times.proofs.agreement.first_in_section.Goals as goal
 
 pub loop-track-init : goal.loop-track-init

@@ -1,6 +1,7 @@
 use Rattle.std.proofs.Common.{◌≡◌, length, map}
+use Rattle.bridge_io.specs.Firsts.{first_some}
 use Rattle.presentation.proofs.Counts.{from_on}
-use Rattle.fragment_times.specs.Agreeing.{apart_at, apart_in, first_some}
+use Rattle.fragment_times.specs.Agreeing.{apart_at, apart_in}
 use Rattle.fragment_times.proofs.agreement.first_in_section.Given as goal
 
 -- nothing is apart of the tracks before this one

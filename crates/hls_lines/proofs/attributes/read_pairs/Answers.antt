@@ -18,14 +18,17 @@ returns-then-is_empty c = ap Some (ap pairs_of c.in_ok-push.ensures.items ∙ ma
     ∙ the_last _ _ _ c.loop-found.invariant.1 _ _ (sym c.in-Some.ensures) (eqb-true _ _ (sym c.is_empty.ensures ∙ c.if-is_empty.true))
 
 pub returns-in_default-after_comma : goal.returns-in_default-after_comma
-returns-in_default-after_comma c = no_comma _ _ _ c.loop-found.invariant.1 _ _ (sym c.in-Some.ensures) (grind (arith, nat_tests)) (sym c.in_default-after_comma.ensures)
+returns-in_default-after_comma c = no_comma _ _ _ c.loop-found.invariant.1 _ _ (sym c.in-Some.ensures) (grind (arith, nat_tests))
+    (sym c.in_default-after_comma.ensures)
 
 pub loop-found-smaller : goal.loop-found-smaller
 loop-found-smaller c = omega (arith, attribute_shorter _ _ (sym c.in-Some.ensures), comma_shorter _ _ (sym c.in-Some-after_comma.ensures))
 
 pub loop-found-preserved : goal.loop-found-preserved
 loop-found-preserved c =
-    let more = one_more _ _ _ c.loop-found.invariant.1 _ _ _ (sym c.in-Some.ensures) (grind (arith, nat_tests)) (sym c.in-Some-after_comma.ensures) in (
+    let more = one_more _ _ _ c.loop-found.invariant.1 _ _ _ (sym c.in-Some.ensures) (grind (arith, nat_tests))
+    (sym c.in-Some-after_comma.ensures) in (
       search rules,
-      subst (λ (pairs : List NameValue). GoesOn c.args.text.now pairs c.in-Some-after_comma.next.now) (sym (ap pairs_of c.in_ok-push.ensures.items ∙ map-append pair_of _ _)) more,
+      subst (λ (pairs : List NameValue). GoesOn c.args.text.now pairs c.in-Some-after_comma.next.now)
+          (sym (ap pairs_of c.in_ok-push.ensures.items ∙ map-append pair_of _ _)) more,
     )

@@ -5,4 +5,5 @@ use Rattle.hls_master.specs.Codes.{is_of}
 use Rattle.hls_master.proofs.codes.chosen_codes.Given as goal
 
 abbrev pub invariant-loop-code : goal.invariant-loop-code
-invariant-loop-code l = map (λ code. code.now) l.chosen.items ≡ filter (is_of l.kind) (map (trimmed Space) (map (λ code. code.now) l.yielded))
+invariant-loop-code l = map (λ code. code.now) l.chosen.items ≡ filter (is_of l.kind)
+    (map (trimmed Space) (map (λ code. code.now) l.yielded))

@@ -6,7 +6,8 @@ use Rattle.hls_master.proofs.master.few_tracks.Goals as goal
 
 pub returns-in_ok-read_tracks-in-Some : goal.returns-in_ok-read_tracks-in-Some
 returns-in_ok-read_tracks-in-Some c =
-    few_are c.args.end (mentions_seen c.args.mentions.now) (map mention_seen c.in-Some.firsts.items) _ (rw c.in-Some.is at c.in_ok-firsts.ensures)
+    few_are c.args.end (mentions_seen c.args.mentions.now) (map mention_seen c.in-Some.firsts.items) _
+    (rw c.in-Some.is at c.in_ok-firsts.ensures)
     (rw (c.as_slice.ensures.value, c.as_slice-in-Some.ensures.value) at c.in_ok-read_tracks-in-Some.ensures)
 
 pub returns-in-None : goal.returns-in-None

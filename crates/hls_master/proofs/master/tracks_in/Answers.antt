@@ -19,4 +19,5 @@ returns-in_err-mentions c =
     (line_fault a.base.now a.end a.lines) c.in_err-mentions.ensures)
 
 pub returns : goal.returns
-returns c = rw (whole_is c.args.base.now c.args.end c.args.lines (mentions_seen c.in_ok-mentions.mentions) c.in_ok-mentions.ensures) c.tracks_of.ensures
+returns c = rw (whole_is c.args.base.now c.args.end c.args.lines (mentions_seen c.in_ok-mentions.mentions) c.in_ok-mentions.ensures)
+    c.tracks_of.ensures

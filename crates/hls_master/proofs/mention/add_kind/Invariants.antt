@@ -4,4 +4,5 @@ use Rattle.hls_master.specs.Tracks.{has_kind}
 use Rattle.hls_master.proofs.mention.add_kind.Given as goal
 
 abbrev pub invariant-loop-mention : goal.invariant-loop-mention
-invariant-loop-mention l = map mention_seen l.ordered.items ≡ map mention_seen l.initial.ordered.items ++ filter (has_kind l.kind) (map mention_seen (take l.mention-index l.firsts))
+invariant-loop-mention l = map mention_seen l.ordered.items ≡ map mention_seen l.initial.ordered.items
+    ++ filter (has_kind l.kind) (map mention_seen (take l.mention-index l.firsts))

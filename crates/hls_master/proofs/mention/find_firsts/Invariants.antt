@@ -5,4 +5,5 @@ use Rattle.hls_master.proofs.mention.find_firsts.Given as goal
 
 abbrev pub invariant-loop-mention : goal.invariant-loop-mention
 invariant-loop-mention l = (length l.firsts.items ≤ 200)
-    × (map mention_seen l.firsts.items ++ firsts_behind l.addresses (map mention_seen (drop l.mention-index l.mentions)) ≡ firsts_behind [] (map mention_seen l.mentions))
+    × (map mention_seen l.firsts.items ++ firsts_behind l.addresses (map mention_seen (drop l.mention-index l.mentions))
+    ≡ firsts_behind [] (map mention_seen l.mentions))

@@ -4,4 +4,5 @@ use Rattle.hls_master.specs.Tracks.{sets_behind}
 use Rattle.hls_master.proofs.mention.first_of_sets.Given as goal
 
 abbrev pub invariant-loop-mention : goal.invariant-loop-mention
-invariant-loop-mention l = sets_behind (map mention_seen l.sets.items) (map mention_seen (drop l.mention-index l.ordered)) ≡ sets_behind [] (map mention_seen l.ordered)
+invariant-loop-mention l = sets_behind (map mention_seen l.sets.items) (map mention_seen (drop l.mention-index l.ordered))
+    ≡ sets_behind [] (map mention_seen l.ordered)

@@ -5,4 +5,5 @@ use Rattle.hls_master.specs.Tracks.{same_set}
 use Rattle.hls_master.proofs.mention.has_set.Given as goal
 
 abbrev pub invariant-loop-set : goal.invariant-loop-set
-invariant-loop-set l = list_any (same_set (mention_seen l.mention)) (map mention_seen l.sets) ≡ list_any (same_set (mention_seen l.mention)) (map mention_seen (drop l.set-index l.sets))
+invariant-loop-set l = list_any (same_set (mention_seen l.mention)) (map mention_seen l.sets)
+    ≡ list_any (same_set (mention_seen l.mention)) (map mention_seen (drop l.set-index l.sets))

@@ -8,4 +8,5 @@ abbrev pub invariant-loop-rendition : goal.invariant-loop-rendition
 invariant-loop-rendition l = map mention_seen l.mentions.items ≡ map by_rendition (map rendition_seen (take l.rendition-index l.renditions))
 
 abbrev pub invariant-loop-variant : goal.invariant-loop-variant
-invariant-loop-variant l = map mention_seen l.mentions.items ≡ map by_rendition (map rendition_seen l.renditions) ++ map by_variant (map variant_seen (take l.variant-index l.variants))
+invariant-loop-variant l = map mention_seen l.mentions.items ≡ map by_rendition (map rendition_seen l.renditions)
+    ++ map by_variant (map variant_seen (take l.variant-index l.variants))

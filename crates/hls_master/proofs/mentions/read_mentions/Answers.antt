@@ -11,11 +11,13 @@ use Rattle.hls_master.proofs.mentions.read_mentions.Goals as goal
 
 pub loop-entry-preserved : goal.loop-entry-preserved
 loop-entry-preserved c =
-    let next = next_is_read c.args.base.now (mentions_seen c.loop-entry.mentions) (mentions_seen c.add.new.self) (entry_seen c.in-Some.entry) _ _ c.in-Some.ensures c.in_ok-add.ensures.added in
+    let next = next_is_read c.args.base.now (mentions_seen c.loop-entry.mentions) (mentions_seen c.add.new.self)
+    (entry_seen c.in-Some.entry) _ _ c.in-Some.ensures c.in_ok-add.ensures.added in
     (c.in_ok-add.ensures.named, c.loop-entry.invariant.1 ∙ next.0)
 
 pub loop-entry-smaller : goal.loop-entry-smaller
-loop-entry-smaller c = (next_is_read c.args.base.now (mentions_seen c.loop-entry.mentions) (mentions_seen c.add.new.self) (entry_seen c.in-Some.entry) _ _ c.in-Some.ensures c.in_ok-add.ensures.added).1
+loop-entry-smaller c = (next_is_read c.args.base.now (mentions_seen c.loop-entry.mentions) (mentions_seen c.add.new.self)
+    (entry_seen c.in-Some.entry) _ _ c.in-Some.ensures c.in_ok-add.ensures.added).1
 
 pub returns-in_err-add : goal.returns-in_err-add
 returns-in_err-add c =

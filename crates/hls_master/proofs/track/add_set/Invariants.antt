@@ -6,4 +6,5 @@ use Rattle.hls_master.proofs.track.add_set.Given as goal
 
 abbrev pub invariant-loop-mention : goal.invariant-loop-mention
 invariant-loop-mention l = map track_seen l.tracks
-    ≡ map track_seen l.initial.tracks ++ map (track_of (map variant_seen l.variants) l.number) (filter (same_set (mention_seen l.set)) (map mention_seen (take l.mention-index l.firsts)))
+    ≡ map track_seen l.initial.tracks ++ map (track_of (map variant_seen l.variants) l.number)
+    (filter (same_set (mention_seen l.set)) (map mention_seen (take l.mention-index l.firsts)))

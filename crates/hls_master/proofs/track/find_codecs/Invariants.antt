@@ -4,4 +4,5 @@ use Rattle.hls_master.specs.Tracks.{group_codecs}
 use Rattle.hls_master.proofs.track.find_codecs.Given as goal
 
 abbrev pub invariant-loop-variant : goal.invariant-loop-variant
-invariant-loop-variant l = group_codecs l.kind l.group (map variant_seen l.variants) ≡ group_codecs l.kind l.group (map variant_seen (drop l.variant-index l.variants))
+invariant-loop-variant l = group_codecs l.kind l.group (map variant_seen l.variants)
+    ≡ group_codecs l.kind l.group (map variant_seen (drop l.variant-index l.variants))

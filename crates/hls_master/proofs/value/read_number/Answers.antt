@@ -5,4 +5,8 @@ use Rattle.hls_master.proofs.value.read_number.Goals as goal
 
 pub returns-in_err-number : goal.returns-in_err-number
 returns-in_err-number c =
-    rw (c.from_residual.ensures, none_below c.args.bound (numeral_of c.args.text.now) (omega arith) (sym c.read_numeral.ensures ∙ c.in_err-number.was)) refl
+    rw (
+      c.from_residual.ensures,
+      none_below c.args.bound (numeral_of c.args.text.now) (omega arith) (sym c.read_numeral.ensures
+          ∙ c.in_err-number.was),
+    ) refl

@@ -4,4 +4,5 @@ use Rattle.hls_master.specs.Texts.{SameTexts}
 use Rattle.hls_master.proofs.whole.addresses_of.Given as goal
 
 abbrev pub invariant-loop-rendition : goal.invariant-loop-rendition
-invariant-loop-rendition l = SameTexts l.addresses (map (λ rendition. rendition.address) (map rendition_seen (take l.rendition-index l.renditions)))
+invariant-loop-rendition l = SameTexts l.addresses (map (λ rendition. rendition.address)
+    (map rendition_seen (take l.rendition-index l.renditions)))

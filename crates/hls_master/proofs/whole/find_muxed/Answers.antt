@@ -8,4 +8,5 @@ use Rattle.hls_master.proofs.whole.find_muxed.Goals as goal
 
 pub returns : goal.returns
 returns c = c.first_muxed.ensures
-    ∙ first_place-same _ _ (λ v. ap (λ b. not b && (not (is_audio_variant v) && (is_none v.audio && has_code_in Audio v.shown.codecs))) (c.in_ok-addresses.ensures.same v.address)) _
+    ∙ first_place-same _ _ (λ v. ap (λ b. not b && (not (is_audio_variant v) && (is_none v.audio && has_code_in Audio v.shown.codecs)))
+    (c.in_ok-addresses.ensures.same v.address)) _

@@ -4,4 +4,5 @@ use Rattle.hls_master.specs.SeenTags.{variant_seen}
 use Rattle.hls_master.proofs.whole.first_muxed.Given as goal
 
 abbrev pub invariant-loop-variant : goal.invariant-loop-variant
-invariant-loop-variant l = first_place (is_muxed l.addresses) (map variant_seen l.variants) ≡ first_place (is_muxed l.addresses) (map variant_seen (drop l.variant-index l.variants))
+invariant-loop-variant l = first_place (is_muxed l.addresses) (map variant_seen l.variants)
+    ≡ first_place (is_muxed l.addresses) (map variant_seen (drop l.variant-index l.variants))

@@ -17,20 +17,24 @@ returns-in_err-reader c =
 pub returns-in_default : goal.returns-in_default
 returns-in_default c =
     let ok = rw c.copy.ensures.lines at c.in_ok-reader.ensures.ok in
-    rw c.end_of.ensures (media_in-no_target (place_of c.args.bytes.now (length c.args.bytes.now)) c.args.base.now c.args.lines ok.0 (ap (λ (s : State). s.target) (sym ok.1) ∙ c.in_default.is))
+    rw c.end_of.ensures (media_in-no_target (place_of c.args.bytes.now (length c.args.bytes.now)) c.args.base.now c.args.lines ok.0
+    (ap (λ (s : State). s.target) (sym ok.1) ∙ c.in_default.is))
 
 pub returns-in-Some-first_long : goal.returns-in-Some-first_long
 returns-in-Some-first_long c =
     let ok = rw c.copy.ensures.lines at c.in_ok-reader.ensures.ok in
-    media_in-long (place_of c.args.bytes.now (length c.args.bytes.now)) c.args.base.now c.args.lines c.in-Some.target _ ok.0 (ap (λ (s : State). s.target) (sym ok.1) ∙ c.in-Some.is) (sym c.in-Some-first_long.ensures)
+    media_in-long (place_of c.args.bytes.now (length c.args.bytes.now)) c.args.base.now c.args.lines c.in-Some.target _ ok.0
+    (ap (λ (s : State). s.target) (sym ok.1) ∙ c.in-Some.is) (sym c.in-Some-first_long.ensures)
 
 pub returns : goal.returns
 returns c =
     let ok = rw c.copy.ensures.lines at c.in_ok-reader.ensures.ok in
-    media_in-good (place_of c.args.bytes.now (length c.args.bytes.now)) c.args.base.now c.args.lines c.in-Some.target ok.0 (ap (λ (s : State). s.target) (sym ok.1) ∙ c.in-Some.is) (sym c.in_default-first_long.ensures)
+    media_in-good (place_of c.args.bytes.now (length c.args.bytes.now)) c.args.base.now c.args.lines c.in-Some.target ok.0
+    (ap (λ (s : State). s.target) (sym ok.1) ∙ c.in-Some.is) (sym c.in_default-first_long.ensures)
     ∙ ap Ok (sym (c.finish.ensures ∙ ap media_at ok.1))
 
 pub first_long-requires : goal.first_long-requires
 first_long-requires c =
     let ok = rw c.copy.ensures.lines at c.in_ok-reader.ensures.ok in
-    rw (c.as_slice.ensures.value) (λ short. none_long c.args.base.now c.in-Some.target c.args.lines nothing ok.0 (ap (λ (s : State). list_all (is_short c.in-Some.target) s.segments) (sym ok.1) ∙ short))
+    rw (c.as_slice.ensures.value) (λ short. none_long c.args.base.now c.in-Some.target c.args.lines nothing ok.0
+    (ap (λ (s : State). list_all (is_short c.in-Some.target) s.segments) (sym ok.1) ∙ short))

@@ -9,5 +9,7 @@ use Rattle.hls_media.proofs.value.are_digits.Goals as goal
 
 pub returns : goal.returns
 returns c =
-    all_from_yields_List is_ascii_digit _ _ _ c.all.ensures.ran (YieldsList-from_slice c.args.bytes.now cc) (λ x b q k. search (rules, tests))
-    ∙ same_from_clauses (list_all is_ascii_digit) all_ascii_digits (λ byte others. is_ascii_digit byte && others) refl (λ _ _. refl) (λ _ _. refl) c.args.bytes.now
+    all_from_yields_List is_ascii_digit _ _ _ c.all.ensures.ran (YieldsList-from_slice c.args.bytes.now cc)
+    (λ x b q k. search (rules, tests))
+    ∙ same_from_clauses (list_all is_ascii_digit) all_ascii_digits (λ byte others. is_ascii_digit byte && others) refl (λ _ _. refl)
+    (λ _ _. refl) c.args.bytes.now

@@ -1,4 +1,4 @@
-use Rattle.hls_media.proofs.Digits.{leading_below}
+use Rattle.exact_time.proofs.Decimals.{leading_below}
 use Rattle.hls_media.proofs.value.fraction_nanos.Goals as goal
 
 pub returns-clause-bound : goal.returns-clause-bound

@@ -1,9 +1,14 @@
 use Rattle.std.proofs.Common.{arith, ◌+◌}
-use Rattle.hls_media.proofs.Digits.{digit_at, value_more, twenty_digits}
+use Rattle.exact_time.proofs.Decimals.{digit_at, value_more}
+use Rattle.hls_media.proofs.Digits.{twenty_digits}
 use Rattle.hls_media.proofs.value.number.Goals as goal
 
 pub overflow_mul-number : goal.overflow_mul-number
-overflow_mul-number c = omega (arith, twenty_digits c.loop-digit.number c.loop-digit.digit-index c.loop-digit.invariant.1 (omega (arith, c.requires.few)))
+overflow_mul-number c = omega (
+  arith,
+  twenty_digits c.loop-digit.number c.loop-digit.digit-index c.loop-digit.invariant.1
+      (omega (arith, c.requires.few)),
+)
 
 pub overflow_sub-number : goal.overflow_sub-number
 overflow_sub-number c = (digit_at c.args.digits.now c.loop-digit.digit-index c.requires.ascii (omega arith)).0

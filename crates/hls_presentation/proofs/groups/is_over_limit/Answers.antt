@@ -21,4 +21,5 @@ returns-else-total-ge10000000000000000000 c =
     let tracks = c.args.tracks.now in
     let done = no_rows tracks c.loop-place.place c.section_count-count.result (omega arith) in
     let short : list_any is_too_long (rows_of tracks) ≡ false = sym c.loop-place.invariant.long ∙ ap (list_any is_too_long) done in
-    many_if (rows_of tracks) c.section_count-count.result short (omega (arith, c.loop-place.invariant.total, ap (sum_by row_length) done)) (count_rows tracks ∙ sym c.section_count-count.ensures)
+    many_if (rows_of tracks) c.section_count-count.result short (omega (arith, c.loop-place.invariant.total, ap (sum_by row_length) done))
+    (count_rows tracks ∙ sym c.section_count-count.ensures)

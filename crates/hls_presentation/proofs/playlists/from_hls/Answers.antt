@@ -5,4 +5,5 @@ use Rattle.hls_presentation.proofs.Turns.{came_if}
 use Rattle.hls_presentation.proofs.playlists.from_hls.Goals as goal
 
 pub returns-clause-came : goal.returns-clause-came
-returns-clause-came c = came_if c.present_all.result _ _ c.present_all.ensures (All-same IsSilentTrack _ _ (c.as_slice.ensures ∙ c.tracks.ensures) c.requires)
+returns-clause-came c = came_if c.present_all.result _ _ c.present_all.ensures
+    (All-same IsSilentTrack _ _ (c.as_slice.ensures ∙ c.tracks.ensures) c.requires)

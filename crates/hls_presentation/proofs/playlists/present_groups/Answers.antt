@@ -17,9 +17,11 @@ from_parts-requires-clause-ended c = all_ended _ (rows_of c.args.groups.now) c.i
 pub returns-in_err-contents : goal.returns-in_err-contents
 returns-in_err-contents c =
     let fault = err_from_is_err_and c.from_residual.result c.from_residual.ensures.1 in
-    rw (fault.1, fault.2) (refused_by c.of.result.nanos (map source_of c.args.kept.now) c.args.left_out (rows_of c.args.groups.now) c.in_err-contents.field-0.0 c.of.ensures c.in_err-contents.ensures)
+    rw (fault.1, fault.2) (refused_by c.of.result.nanos (map source_of c.args.kept.now) c.args.left_out
+    (rows_of c.args.groups.now) c.in_err-contents.field-0.0 c.of.ensures c.in_err-contents.ensures)
 
 pub returns : goal.returns
 returns c =
-    presented_as c.of.result.nanos (map source_of c.args.kept.now) c.args.left_out (rows_of c.args.groups.now) c.in_ok-contents.contents c.in_ok-tracks.tracks c.in_ok-sections.sections _
+    presented_as c.of.result.nanos (map source_of c.args.kept.now) c.args.left_out
+    (rows_of c.args.groups.now) c.in_ok-contents.contents c.in_ok-tracks.tracks c.in_ok-sections.sections _
     c.of.ensures c.in_ok-contents.ensures c.in_ok-tracks.ensures c.in_ok-sections.ensures c.in_ok-from_parts.ensures

@@ -6,6 +6,7 @@ use Rattle.hls_presentation.proofs.tracks.sections_of.Given as goal
 
 abbrev pub invariant-loop-place : goal.invariant-loop-place
 invariant-loop-place l = record {
-  told : l.sections ++ sections_from l.place l.start (rows_from l.tracks l.place (section_count l.tracks - l.place)) ≡ sections_from 0 0 (rows_of l.tracks);
+  told : l.sections ++ sections_from l.place l.start (rows_from l.tracks l.place (section_count l.tracks - l.place))
+      ≡ sections_from 0 0 (rows_of l.tracks);
   sum : l.start + sum_by row_length (rows_from l.tracks l.place (section_count l.tracks - l.place)) ≡ sum_by row_length (rows_of l.tracks);
 }

@@ -1,5 +1,5 @@
 use Rattle.std.proofs.Common.{take, flat_map, Ok}
-use Rattle.file_pieces.specs.Adding.{Adds, shown}
+use Rattle.bridge_io.specs.Adding.{Adds, shown}
 use Rattle.hls_writer.proofs.Listing.{there_bytes}
 use Rattle.hls_writer.proofs.attribute.push_further.Given as goal
 
@@ -7,4 +7,5 @@ use Rattle.hls_writer.proofs.attribute.push_further.Given as goal
 abbrev pub invariant-loop-attribute : goal.invariant-loop-attribute
 invariant-loop-attribute g l =
     let shows = shown g.F.Store.files g.F.Store.read_faults g.F.Store.write_faults in
-    Adds {T = Unit {0}} (flat_map there_bytes (take l.attribute-index l.attributes)) l.initial.writer l.writer (shows l.initial.store) (shows l.store) (Ok tt)
+    Adds {T = Unit {0}} (flat_map there_bytes (take l.attribute-index l.attributes)) l.initial.writer l.writer (shows l.initial.store)
+    (shows l.store) (Ok tt)

@@ -3,11 +3,12 @@ use Rattle.std.specs.Borrow.{Bor}
 use Rattle.std.proofs.lemmas.List.{append-nil}
 use Rattle.hls_writer.specs.Attributes.{codes_bytes}
 use Rattle.hls_writer.specs.AttributeRows.{texts_of}
-use Rattle.file_pieces.proofs.Adding.{adds_same, adds_then, adds_stop_at}
+use Rattle.bridge_io.proofs.Adding.{adds_same, adds_then, adds_stop_at}
 use Rattle.hls_writer.proofs.attribute.push_list.Goals as goal
 
 -- the codes are the first one and the others
-all : (codes others : List (Bor (List ℕ))) (first : Bor (List ℕ)) → codes ≡ first ∷ others → codes_bytes (first.now ∷ texts_of others) ≡ codes_bytes (texts_of codes)
+all : (codes others : List (Bor (List ℕ))) (first : Bor (List ℕ)) → codes ≡ first ∷ others
+    → codes_bytes (first.now ∷ texts_of others) ≡ codes_bytes (texts_of codes)
 all codes others first is = ap (λ xs. codes_bytes (texts_of xs)) (sym is)
 
 pub returns-in_err-push_pieces : goal.returns-in_err-push_pieces
@@ -21,4 +22,5 @@ pub returns : goal.returns
 returns g c =
     let others = c.in-Some.others.now in let first = c.in-Some.first.now in
     adds_same (all c.args.codes.now others first c.in-Some.ensures.cases.0)
-    (adds_then (flat_map (λ code. 44 ∷ code) (texts_of others)) (adds_same (append-nil c.as_bytes.result.now ∙ c.as_bytes.ensures.value) c.in_ok-push_pieces.ensures) c.push_further_codes.ensures)
+    (adds_then (flat_map (λ code. 44 ∷ code) (texts_of others)) (adds_same (append-nil c.as_bytes.result.now
+    ∙ c.as_bytes.ensures.value) c.in_ok-push_pieces.ensures) c.push_further_codes.ensures)

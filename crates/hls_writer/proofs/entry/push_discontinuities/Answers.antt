@@ -1,7 +1,7 @@
 use Rattle.std.proofs.Common.{◌<◌, replicate, length, sym, ap, arith}
 use Rattle.std.proofs.lemmas.List.{take_all, get_or-replicate, length-replicate}
 use Rattle.hls_writer.specs.Lines.{line_text, discontinuity}
-use Rattle.file_pieces.proofs.Adding.{adds_none, adds_same, adds_more, adds_until}
+use Rattle.bridge_io.proofs.Adding.{adds_none, adds_same, adds_more, adds_until}
 use Rattle.hls_writer.proofs.entry.push_discontinuities.Goals as goal
 
 pub loop-step-init : goal.loop-step-init
@@ -21,7 +21,8 @@ returns-in_err-push_to g c =
     let at = c.loop-step._step in
     let below : at < length lines = omega (arith, length-replicate c.args.count discontinuity) in
     let here = sym (ap line_text (get_or-replicate c.args.count at discontinuity discontinuity (omega arith))) in
-    adds_until line_text lines at discontinuity below c.loop-step.invariant c.from_residual.result c.from_residual.ensures.1 (adds_same here c.in_err-push_to.ensures)
+    adds_until line_text lines at discontinuity below c.loop-step.invariant c.from_residual.result c.from_residual.ensures.1
+    (adds_same here c.in_err-push_to.ensures)
 
 pub returns : goal.returns
 returns g c =

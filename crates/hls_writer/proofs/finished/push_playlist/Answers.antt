@@ -2,7 +2,7 @@ use Rattle.std.proofs.Common.{◌^◌, None, ap, true}
 use Rattle.hls_writer.specs.Finished.{track_items}
 use Rattle.hls_writer.specs.Lines.{lines_text, on_demand}
 use Rattle.hls_writer.specs.Playlists.{finished_text, head_lines, items_lines, end_lines}
-use Rattle.file_pieces.proofs.Adding.{adds_same, adds_then, adds_stop, adds_stop_at}
+use Rattle.bridge_io.proofs.Adding.{adds_same, adds_then, adds_stop, adds_stop_at}
 use Rattle.hls_writer.proofs.Following.{media_text}
 use Rattle.hls_writer.proofs.finished.push_playlist.Goals as goal
 
@@ -11,7 +11,8 @@ unfolding finished_text
 returns-in_err-push_lines g c =
     let t = c.args.track.now in let items = items_lines t.digits None (track_items t.presentation.now (10 ^ t.digits) t.track) in
     adds_same (media_text (head_lines c.args.target 0 on_demand) items (end_lines true))
-    (adds_stop_at _ c.from_residual.result c.from_residual.ensures.1 (adds_stop {T = Unit {0}} (lines_text items) (adds_same (ap lines_text c.head_lines.ensures.written) c.in_err-push_lines.ensures)))
+    (adds_stop_at _ c.from_residual.result c.from_residual.ensures.1
+    (adds_stop {T = Unit {0}} (lines_text items) (adds_same (ap lines_text c.head_lines.ensures.written) c.in_err-push_lines.ensures)))
 
 pub returns-in_err-push_sections : goal.returns-in_err-push_sections
 unfolding finished_text
@@ -19,12 +20,15 @@ returns-in_err-push_sections g c =
     let t = c.args.track.now in let items = items_lines t.digits None (track_items t.presentation.now (10 ^ t.digits) t.track) in
     adds_same (media_text (head_lines c.args.target 0 on_demand) items (end_lines true))
     (adds_stop_at _ c.from_residual-in_err-push_sections.result c.from_residual-in_err-push_sections.ensures.1
-    (adds_then (lines_text items) (adds_same (ap lines_text c.head_lines.ensures.written) c.in_ok-push_lines.ensures) c.in_err-push_sections.ensures))
+    (adds_then (lines_text items) (adds_same (ap lines_text c.head_lines.ensures.written) c.in_ok-push_lines.ensures)
+    c.in_err-push_sections.ensures))
 
 pub returns : goal.returns
 unfolding finished_text
 returns g c =
     let t = c.args.track.now in let items = items_lines t.digits None (track_items t.presentation.now (10 ^ t.digits) t.track) in
     adds_same (media_text (head_lines c.args.target 0 on_demand) items (end_lines true))
-    (adds_then (lines_text (end_lines true)) (adds_then (lines_text items) (adds_same (ap lines_text c.head_lines.ensures.written) c.in_ok-push_lines.ensures) c.in_ok-push_sections.ensures)
+    (adds_then (lines_text (end_lines true))
+    (adds_then (lines_text items) (adds_same (ap lines_text c.head_lines.ensures.written) c.in_ok-push_lines.ensures)
+    c.in_ok-push_sections.ensures)
     c.push_lines-2.ensures)

@@ -1,6 +1,6 @@
 use Rattle.std.proofs.Common.{◌≡◌, ℕ, ◌^◌, ◌-◌, List, ◌++◌, flat_map, length, None, Ok}
 use Rattle.std.specs.List.{range_with_len}
-use Rattle.file_pieces.specs.Adding.{Adds, shown}
+use Rattle.bridge_io.specs.Adding.{Adds, shown}
 use Rattle.hls_writer.specs.Finished.{section_items, track_items}
 use Rattle.hls_writer.specs.Lines.{lines_text}
 use Rattle.hls_writer.specs.Playlists.{items_lines}
@@ -14,5 +14,6 @@ invariant-loop-section g l =
     let unit = 10 ^ l.track.digits in
     let left = flat_map (section_items p unit l.track.track) (range_with_len l.section (length p.sections - l.section)) in
     (done : List ℕ)
-    × (done ++ lines_text (items_lines l.track.digits l.former left) ≡ lines_text (items_lines l.track.digits None (track_items p unit l.track.track)))
+    × (done ++ lines_text (items_lines l.track.digits l.former left)
+    ≡ lines_text (items_lines l.track.digits None (track_items p unit l.track.track)))
     × Adds {T = Unit {0}} done l.initial.writer l.writer (shows l.initial.store) (shows l.store) (Ok tt)

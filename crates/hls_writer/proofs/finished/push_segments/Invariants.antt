@@ -1,6 +1,6 @@
 use Rattle.std.proofs.Common.{◌≡◌, ℕ, List, ◌++◌, length, All, Ok}
 use Rattle.presentation.specs.Laws.{HasAddress}
-use Rattle.file_pieces.specs.Adding.{Adds, shown}
+use Rattle.bridge_io.specs.Adding.{Adds, shown}
 use Rattle.hls_writer.specs.Finished.{items_at}
 use Rattle.hls_writer.specs.Lines.{lines_text}
 use Rattle.hls_writer.specs.Playlists.{items_lines, last_section}

@@ -9,10 +9,12 @@ use Rattle.hls_writer.specs.Finished.{media_text, target_of, track_text}
 use Rattle.hls_writer.proofs.finished.write_media.Goals as goal
 
 pub of-requires : goal.of-requires
-of-requires g c = slice_get_within c.args.longest.now c.args.track _ (each_has_longest c.args.presentation.now (10 ^ c.args.digits) c.args.track c.args.longest.now c.requires.verified c.requires.track)
+of-requires g c = slice_get_within c.args.longest.now c.args.track _
+    (each_has_longest c.args.presentation.now (10 ^ c.args.digits) c.args.track c.args.longest.now c.requires.verified c.requires.track)
 
 -- the target that is computed is that of the track's longest duration
-same_text : (p : Presented) (digits track target longest : ℕ) → target ≡ target_of (10 ^ digits) longest → Some longest ≡ Some (longest_of p (10 ^ digits) track) → track_text p digits track target ≡ media_text p digits track
+same_text : (p : Presented) (digits track target longest : ℕ) → target ≡ target_of (10 ^ digits) longest
+    → Some longest ≡ Some (longest_of p (10 ^ digits) track) → track_text p digits track target ≡ media_text p digits track
 unfolding media_text
 same_text p digits track target longest is told = let same : longest ≡ longest_of p (10 ^ digits) track = cc in
     ap (track_text p digits track) (is ∙ ap (target_of (10 ^ digits)) same)
@@ -20,13 +22,20 @@ same_text p digits track target longest is told = let same : longest ≡ longest
 pub returns-clause-ok : goal.returns-clause-ok
 returns-clause-ok g c =
     let p = c.args.presentation.now in
-    let told = sym c.of.ensures ∙ each_has_longest p (10 ^ c.args.digits) c.args.track c.args.longest.now c.requires.verified c.requires.track in
-    subst (λ (text : List ℕ). OnOk c.write_playlist.result (Changes (put c.args.name.now text) (g.F.Store.files c.args.store.now) (g.F.Store.files c.write_playlist.new.store)))
-    (same_text p c.args.digits c.args.track c.target_of-target.result c.of.result c.target_of-target.ensures told) c.write_playlist.ensures.ok
+    let told = sym c.of.ensures ∙ each_has_longest p (10 ^ c.args.digits) c.args.track c.args.longest.now c.requires.verified
+    c.requires.track in
+    subst (λ (text : List ℕ). OnOk c.write_playlist.result (Changes (put c.args.name.now text) (g.F.Store.files c.args.store.now)
+    (g.F.Store.files c.write_playlist.new.store)))
+    (same_text p c.args.digits c.args.track c.target_of-target.result c.of.result c.target_of-target.ensures told)
+    c.write_playlist.ensures.ok
 
 pub returns-clause-err : goal.returns-clause-err
 returns-clause-err g c =
     let p = c.args.presentation.now in
-    let told = sym c.of.ensures ∙ each_has_longest p (10 ^ c.args.digits) c.args.track c.args.longest.now c.requires.verified c.requires.track in
-    subst (λ (text : List ℕ). OnErr c.write_playlist.result ((g.F.Store.files c.write_playlist.new.store ≡ g.F.Store.files c.args.store.now) ⊎ HasFront c.args.name.now text (g.F.Store.files c.args.store.now) (g.F.Store.files c.write_playlist.new.store)))
-    (same_text p c.args.digits c.args.track c.target_of-target.result c.of.result c.target_of-target.ensures told) c.write_playlist.ensures.err
+    let told = sym c.of.ensures ∙ each_has_longest p (10 ^ c.args.digits) c.args.track c.args.longest.now c.requires.verified
+    c.requires.track in
+    subst (λ (text : List ℕ). OnErr c.write_playlist.result
+    ((g.F.Store.files c.write_playlist.new.store ≡ g.F.Store.files c.args.store.now)
+    ⊎ HasFront c.args.name.now text (g.F.Store.files c.args.store.now) (g.F.Store.files c.write_playlist.new.store)))
+    (same_text p c.args.digits c.args.track c.target_of-target.result c.of.result c.target_of-target.ensures told)
+    c.write_playlist.ensures.err

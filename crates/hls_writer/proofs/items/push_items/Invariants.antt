@@ -1,5 +1,5 @@
 use Rattle.std.proofs.Common.{◌≡◌, ℕ, List, ◌++◌, drop, map, Ok}
-use Rattle.file_pieces.specs.Adding.{Adds, shown}
+use Rattle.bridge_io.specs.Adding.{Adds, shown}
 use Rattle.hls_writer.specs.Items.{item_of}
 use Rattle.hls_writer.specs.Lines.{lines_text}
 use Rattle.hls_writer.specs.Playlists.{items_lines, last_section}

@@ -2,7 +2,7 @@ use Rattle.std.proofs.Common.{◌++◌, map, None, ap}
 use Rattle.hls_writer.specs.Items.{item_of}
 use Rattle.hls_writer.specs.Lines.{lines_text, discontinuity_sequence}
 use Rattle.hls_writer.specs.Playlists.{followed_text, head_lines, items_lines, end_lines}
-use Rattle.file_pieces.proofs.Adding.{adds_same, adds_then, adds_stop, adds_stop_at}
+use Rattle.bridge_io.proofs.Adding.{adds_same, adds_then, adds_stop, adds_stop_at}
 use Rattle.hls_writer.proofs.Following.{media_text, end_text}
 use Rattle.hls_writer.proofs.items.push_playlist.Goals as goal
 
@@ -12,7 +12,8 @@ returns-in_err-push_lines g c =
     let head = c.args.head.now in
     let items = items_lines head.digits None (map item_of (c.args.front.now ++ c.args.back.now)) in
     adds_same (media_text (head_lines head.target head.sequence (discontinuity_sequence head.first_section)) items (end_lines head.ended))
-    (adds_stop_at _ c.from_residual.result c.from_residual.ensures.1 (adds_stop {T = Unit {0}} (lines_text items) (adds_same (ap lines_text c.lines.ensures.written) c.in_err-push_lines.ensures)))
+    (adds_stop_at _ c.from_residual.result c.from_residual.ensures.1
+    (adds_stop {T = Unit {0}} (lines_text items) (adds_same (ap lines_text c.lines.ensures.written) c.in_err-push_lines.ensures)))
 
 pub returns-in_err-push_slices : goal.returns-in_err-push_slices
 unfolding followed_text

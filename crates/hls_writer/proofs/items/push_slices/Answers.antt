@@ -1,6 +1,6 @@
 use Rattle.std.proofs.Common.{None, refl, ◌∙◌}
 use Rattle.std.proofs.lemmas.List.{append-nil}
-use Rattle.file_pieces.proofs.Adding.{adds_same, adds_answered, adds_then, adds_stop_at}
+use Rattle.bridge_io.proofs.Adding.{adds_same, adds_answered, adds_then, adds_stop_at}
 use Rattle.hls_writer.proofs.Following.{joined}
 use Rattle.hls_writer.proofs.items.push_slices.Goals as goal
 

@@ -1,6 +1,6 @@
 use Rattle.std.proofs.Common.{◌≡◌, ℕ, List, [], ◌∷◌, ◌++◌, codes, decimal, ap, append_assoc}
 use Rattle.hls_writer.specs.Lines.{line_bytes}
-use Rattle.file_pieces.proofs.Adding.{adds_same}
+use Rattle.bridge_io.proofs.Adding.{adds_same}
 use Rattle.hls_writer.proofs.line.push_map.Goals as goal
 
 file : (address : List ℕ) → address ++ (34 ∷ (10 ∷ [])) ≡ ((address ++ (34 ∷ [])) ++ []) ++ (10 ∷ [])
@@ -17,5 +17,6 @@ returns-in-None g c = rw c.in-None.is (adds_same (ap (λ t. codes "#EXT-X-MAP:UR
 
 pub returns-in-Some : goal.returns-in-Some
 unfolding line_bytes
-returns-in-Some g c = rw c.in-Some.is (adds_same (ap (λ t. codes "#EXT-X-MAP:URI=\"" ++ t) (part c.args.part.now.address (decimal c.in-Some.range.count) (decimal c.in-Some.range.first)))
+returns-in-Some g c = rw c.in-Some.is (adds_same (ap (λ t. codes "#EXT-X-MAP:URI=\"" ++ t)
+    (part c.args.part.now.address (decimal c.in-Some.range.count) (decimal c.in-Some.range.first)))
     (rw (c.as_bytes.ensures.value, c.as_str.ensures.text) at c.push_pieces-in-Some.ensures))

@@ -2,7 +2,7 @@ use Rattle.std.proofs.Common.{refl, ap, ◌∙◌, flat_map}
 use Rattle.bridge_io.specs.declared.media.Kind.TheVariants.{Text}
 use Rattle.hls_writer.specs.Renditions.{places_of}
 use Rattle.hls_writer.specs.Variants.{variants_of, variant_lines, variant_text}
-use Rattle.file_pieces.proofs.Adding.{adds_none, adds_same, adds_wanting}
+use Rattle.bridge_io.proofs.Adding.{adds_none, adds_same, adds_wanting}
 use Rattle.hls_writer.proofs.Listing.{text_of_all}
 use Rattle.hls_writer.proofs.master.push_variants.Goals as goal
 
@@ -17,4 +17,5 @@ returns g c =
     let t = c.args.tracks.now in let of = c.args.groups.now in
     adds_same (ap (λ texts. flat_map (variant_text t of texts) c.in_ok-variants.variants.items) c.in_ok-texts.ensures
     ∙ ap (flat_map (variant_text t of (places_of Text t))) c.in_ok-variants.ensures
-    ∙ text_of_all (variant_lines t of (places_of Text t)) (variants_of t of)) (rw (c.deref.ensures.value, c.deref-2.ensures.value) at c.push_told.ensures)
+    ∙ text_of_all (variant_lines t of (places_of Text t)) (variants_of t of))
+    (rw (c.deref.ensures.value, c.deref-2.ensures.value) at c.push_told.ensures)

@@ -1,5 +1,5 @@
 use Rattle.std.proofs.Common.{arith}
-use Rattle.iso_time.proofs.DigitLemmas.{ten_pow-pos}
+use Rattle.exact_time.proofs.Decimals.{ten_pow-pos}
 use Rattle.iso_time.proofs.digits.digit.Goals as goal
 
 pub nonzero_div-result : goal.nonzero_div-result

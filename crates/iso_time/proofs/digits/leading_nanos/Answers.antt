@@ -1,5 +1,5 @@
 use Rattle.std.proofs.Common.{arith}
-use Rattle.iso_time.proofs.DigitLemmas.{leading_below}
+use Rattle.exact_time.proofs.Decimals.{leading_below}
 use Rattle.iso_time.proofs.digits.leading_nanos.Goals as goal
 
 pub returns-clause-bound : goal.returns-clause-bound

@@ -1,6 +1,6 @@
 use Rattle.std.proofs.Common.{◌≡◌, ◌+◌, ◌-◌, ◌∙◌, length-append, arith, ne_eqb}
 use Rattle.std.proofs.Math.Nat.{mod-one}
-use Rattle.iso_time.proofs.DigitLemmas.{ten_pow-pos}
+use Rattle.exact_time.proofs.Decimals.{ten_pow-pos}
 use Rattle.iso_time.proofs.PlaceLemmas.{without_zeros-none, without_zeros-more, written_end, written_more}
 use Rattle.iso_time.proofs.duration.push_fraction.Goals as goal
 
@@ -18,7 +18,8 @@ pub loop-place-preserved : goal.loop-place-preserved
 loop-place-preserved c =
     let l = c.loop-place in
     let k : l.place - 1 + 1 ≡ l.place = omega arith in
-    let more = without_zeros-more l.place (l.place - 1) c.args.nanos (omega arith) (rw k at (rw c.pow.ensures at c.if-nanos-pow-eq0.false)) in
+    let more = without_zeros-more l.place (l.place - 1) c.args.nanos (omega arith)
+    (rw k at (rw c.pow.ensures at c.if-nanos-pow-eq0.false)) in
     let pushed = c.push-in-loop-place.ensures.ascii (omega arith) in
     let digit = c.from.ensures ∙ c.digit.ensures in (
       written_more _ _ _ _ _ _ more l.invariant.0 (rw digit at pushed),

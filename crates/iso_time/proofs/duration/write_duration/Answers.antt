@@ -8,5 +8,13 @@ push_fraction-requires-clause-room c =
     omega (arith, seconds_short _ c.value.invariant, ap length c.new-text.ensures, ap length c.format.ensures.text)
 
 pub push-requires : goal.push-requires
-push-requires c =
-    (omega arith, omega (arith, seconds_short _ c.value.invariant, ap length c.new-text.ensures, ap length c.format.ensures.text, ap length (encode_ascii 83 (omega arith))))
+push-requires c = (
+  omega arith,
+  omega (
+    arith,
+    seconds_short _ c.value.invariant,
+    ap length c.new-text.ensures,
+    ap length c.format.ensures.text,
+    ap length (encode_ascii 83 (omega arith)),
+  ),
+)

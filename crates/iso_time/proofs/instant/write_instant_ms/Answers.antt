@@ -17,7 +17,8 @@ pub returns-clause-text : goal.returns-clause-text
 returns-clause-text c =
     let fits : FitsSigned w128 c.value.inside.0 = omega (arith, signed_arith, c.value.invariant) in
     let is = c.from_nanosecond_in_range.ensures ∙ to_z-of_z w128 _ fits ∙ c.value.view_is in
-    c.text_of.ensures ∙ instant_text-civil _ _ (year_from_writable c.from_nanosecond_in_range.result c.args.value is c.requires) ∙ ap instant_text is
+    c.text_of.ensures ∙ instant_text-civil _ _ (year_from_writable c.from_nanosecond_in_range.result c.args.value is c.requires)
+    ∙ ap instant_text is
 
 pub returns-clause-civil : goal.returns-clause-civil
 returns-clause-civil c = λ dt is.

@@ -14,23 +14,28 @@ returns-in_err-check_moved-clause-judged c =
     let changed = told_if (is_changed (common_shown c.args.standing.now) (segments_mpd c.args.mpd.now) c.args.force.now) Changed in
     let not_older : older_than c.args.standing.now.published (segments_mpd c.args.mpd.now).facts.publish_time ≡ [] = search rules in
     let p = err_from_is_err_and c.from_residual-in_err-check_moved.result c.from_residual-in_err-check_moved.ensures.1 in
-    rw (p.1, p.2) (told_behind c.in_err-check_moved.field-0.0 (older ++ changed) (moved_told (common_shown c.args.standing.now) c.args.force.now)
+    rw (p.1, p.2) (told_behind c.in_err-check_moved.field-0.0 (older ++ changed)
+    (moved_told (common_shown c.args.standing.now) c.args.force.now)
     (none_told older changed not_older c.in_ok-place.ensures.judged)
     (subst (λ (xs : List Refusal). Tells c.in_err-check_moved.field-0.0 xs)
-    (sym (moved_is (common_shown c.args.standing.now) c.args.force.now c.in_ok-place.place c.requires.once c.in_ok-place.ensures.place)) c.in_err-check_moved.ensures))
+    (sym (moved_is (common_shown c.args.standing.now) c.args.force.now c.in_ok-place.place c.requires.once c.in_ok-place.ensures.place))
+    c.in_err-check_moved.ensures))
 
 pub returns-clause-judged : goal.returns-clause-judged
 returns-clause-judged c =
     let older = older_than c.args.standing.now.published (segments_mpd c.args.mpd.now).facts.publish_time in
     let changed = told_if (is_changed (common_shown c.args.standing.now) (segments_mpd c.args.mpd.now) c.args.force.now) Changed in
     let not_older : older_than c.args.standing.now.published (segments_mpd c.args.mpd.now).facts.publish_time ≡ [] = search rules in
-    none_told (older ++ changed) (moved_told (common_shown c.args.standing.now) c.args.force.now) (none_told older changed not_older c.in_ok-place.ensures.judged)
-    (moved_is (common_shown c.args.standing.now) c.args.force.now c.in_ok-place.place c.requires.once c.in_ok-place.ensures.place ∙ c.in_ok-check_moved.ensures)
+    none_told (older ++ changed) (moved_told (common_shown c.args.standing.now) c.args.force.now)
+    (none_told older changed not_older c.in_ok-place.ensures.judged)
+    (moved_is (common_shown c.args.standing.now) c.args.force.now c.in_ok-place.place c.requires.once c.in_ok-place.ensures.place
+    ∙ c.in_ok-check_moved.ensures)
 
 pub returns-clause-place : goal.returns-clause-place
 returns-clause-place c = record {
   starts = c.in_ok-place.ensures.starts;
   alike = c.in_ok-place.ensures.alike;
   among = c.in_ok-place.ensures.place;
-  unmoved = unmoved (common_shown c.args.standing.now) c.args.force.now c.in_ok-place.place c.requires.once c.in_ok-place.ensures.place c.in_ok-check_moved.ensures;
+  unmoved = unmoved (common_shown c.args.standing.now) c.args.force.now c.in_ok-place.place c.requires.once c.in_ok-place.ensures.place
+      c.in_ok-check_moved.ensures;
 }

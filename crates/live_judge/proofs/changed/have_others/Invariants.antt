@@ -7,4 +7,5 @@ use Rattle.live_judge.proofs.changed.have_others.Given as goal
 
 abbrev pub invariant-loop-section : goal.invariant-loop-section
 invariant-loop-section l =
-    list_any (has_other l.known l.force l.place) (from_on l.section (length l.force.sections)) ≡ list_any (has_other l.known l.force l.place) (sections_of l.force)
+    list_any (has_other l.known l.force l.place) (from_on l.section (length l.force.sections))
+    ≡ list_any (has_other l.known l.force l.place) (sections_of l.force)

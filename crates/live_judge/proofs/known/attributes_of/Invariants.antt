@@ -8,4 +8,5 @@ use Rattle.live_judge.proofs.known.attributes_of.Given as goal
 
 abbrev pub invariant-loop-track : goal.invariant-loop-track
 invariant-loop-track l =
-    map attributes_shown l.all.items ++ flat_map (one_of l.force l.section) (from_on l.track (length l.force.tracks)) ≡ attributes_at l.force l.section
+    map attributes_shown l.all.items ++ flat_map (one_of l.force l.section) (from_on l.track (length l.force.tracks))
+    ≡ attributes_at l.force l.section

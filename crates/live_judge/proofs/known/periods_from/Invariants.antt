@@ -6,4 +6,5 @@ use Rattle.live_judge.proofs.known.periods_from.Given as goal
 
 abbrev pub invariant-loop-at : goal.invariant-loop-at
 invariant-loop-at l =
-    map known_shown l.new.items ++ map (known_at l.force) (from_on l.at (length l.force.sections)) ≡ map (known_at l.force) (from_on l.fn.section (length l.force.sections))
+    map known_shown l.new.items ++ map (known_at l.force) (from_on l.at (length l.force.sections))
+    ≡ map (known_at l.force) (from_on l.fn.section (length l.force.sections))

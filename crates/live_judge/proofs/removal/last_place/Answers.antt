@@ -18,7 +18,11 @@ loop-place-init c =
 pub overflow_add-sum : goal.overflow_add-sum
 overflow_add-sum c =
     let fits : Fits w64 c.duration_of.result = search rules in
-    omega (arith, bound_more (length c.args.track.now.facts.items) c.loop-place.place c.loop-place.sum c.from-sum.result (search rules) (search rules) (omega (arith, c.from-sum.ensures, fits.fits)) c.loop-place.invariant.bound)
+    omega (
+      arith,
+      bound_more (length c.args.track.now.facts.items) c.loop-place.place c.loop-place.sum c.from-sum.result (search rules)
+          (search rules) (omega (arith, c.from-sum.ensures, fits.fits)) c.loop-place.invariant.bound,
+    )
 
 pub loop-place-preserved : goal.loop-place-preserved
 loop-place-preserved c =
@@ -30,17 +34,20 @@ loop-place-preserved c =
       inside = omega (arith, kept.inside);
       summed = omega (arith, kept.summed, at, c.from-sum.ensures, c.duration_of.ensures);
       bound = omega (arith, kept.bound, kept.inside, c.from-sum.ensures, fits.fits);
-      last = λ later after within. summed_more (durations (kept_in c.args.track.now)) c.args.least c.loop-place.place c.loop-place.sum later kept.summed (search rules) kept.last after within;
+      last = λ later after within. summed_more (durations (kept_in c.args.track.now)) c.args.least c.loop-place.place c.loop-place.sum
+          later kept.summed (search rules) kept.last after within;
     }
 
 pub returns-else-sum-least : goal.returns-else-sum-least
 returns-else-sum-least c =
     let long = durations_long c.args.track.now c.requires in
-    walked c.args.least c.loop-place.place (durations (kept_in c.args.track.now)) (omega (arith, long, c.loop-place.invariant.inside)) c.loop-place.invariant.last
+    walked c.args.least c.loop-place.place (durations (kept_in c.args.track.now))
+    (omega (arith, long, c.loop-place.invariant.inside)) c.loop-place.invariant.last
     (inl (omega (arith, c.loop-place.invariant.summed)))
 
 pub returns-after-loop-place : goal.returns-after-loop-place
 returns-after-loop-place c =
     let long = durations_long c.args.track.now c.requires in
-    walked c.args.least c.loop-place.place (durations (kept_in c.args.track.now)) (omega (arith, long, c.loop-place.invariant.inside)) c.loop-place.invariant.last
+    walked c.args.least c.loop-place.place (durations (kept_in c.args.track.now))
+    (omega (arith, long, c.loop-place.invariant.inside)) c.loop-place.invariant.last
     (inr (omega arith))

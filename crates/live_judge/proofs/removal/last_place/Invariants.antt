@@ -8,7 +8,8 @@ invariant-loop-place l = record {
   inside : l.place ≤ length l.track.facts.items;
   summed : l.sum ≡ sum (drop l.place (durations (kept_in l.track)));
   bound : l.sum ≤ (length l.track.facts.items - l.place) * 2 ^ 64;
-  last : (later : ℕ) → l.place < later → later ≤ length (durations (kept_in l.track)) → sum (drop later (durations (kept_in l.track))) < l.least;
+  last : (later : ℕ) → l.place < later → later ≤ length (durations (kept_in l.track))
+      → sum (drop later (durations (kept_in l.track))) < l.least;
 }
 
 abbrev pub decreases-loop-place : goal.decreases-loop-place

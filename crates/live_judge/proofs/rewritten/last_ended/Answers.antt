@@ -19,7 +19,15 @@ place_before-cursor-requires-clause-more c =
     let xs = expansion c.args.runs.now window in
     let all = all_from window xs c.seek-whole.result c.seek-whole.ensures.first.none_before in
     let parts = lengths window xs c.seek_end-behind.result in
-    omega (arith, parts, c.min-wanted.ensures, c.saturating_add.ensures, c.count_from-later.ensures, c.count_from-all.ensures, ap (λ (ys : List Timing). length ys) all)
+    omega (
+      arith,
+      parts,
+      c.min-wanted.ensures,
+      c.saturating_add.ensures,
+      c.count_from-later.ensures,
+      c.count_from-all.ensures,
+      ap (λ (ys : List Timing). length ys) all,
+    )
 
 pub overflow_sub-result : goal.overflow_sub-result
 overflow_sub-result c =
@@ -27,7 +35,15 @@ overflow_sub-result c =
     let xs = expansion c.args.runs.now window in
     let all = all_from window xs c.seek-whole.result c.seek-whole.ensures.first.none_before in
     let parts = lengths window xs c.seek_end-behind.result in
-    omega (arith, parts, c.min-wanted.ensures, c.saturating_add.ensures, c.count_from-later.ensures, c.count_from-all.ensures, ap (λ (ys : List Timing). length ys) all)
+    omega (
+      arith,
+      parts,
+      c.min-wanted.ensures,
+      c.saturating_add.ensures,
+      c.count_from-later.ensures,
+      c.count_from-all.ensures,
+      ap (λ (ys : List Timing). length ys) all,
+    )
 
 pub returns : goal.returns
 returns c =
@@ -39,19 +55,30 @@ returns c =
     let last = time_of c.args.last in
     let after = c.seek_end-behind.ensures window c.requires.window c.requires.reached in
     let all = all_from window xs c.seek-whole.result c.seek-whole.ensures.first.none_before in
-    let whole : c.count_from-all.result ≡ length (listed window xs) = c.count_from-all.ensures ∙ ap (λ (ys : List Timing). length ys) (sym all) in
+    let whole : c.count_from-all.result ≡ length (listed window xs) = c.count_from-all.ensures
+    ∙ ap (λ (ys : List Timing). length ys) (sym all) in
     let fits : Fits w64 c.count_from-all.result = search rules in
     let parts = lengths window xs behind in
     let found : length (listed window (drop cursor xs)) ≡ c.min-wanted.result = c.place_before-cursor.ensures in
     let later : c.count_from-later.result ≡ length (listed window (drop behind xs)) = c.count_from-later.ensures in
-    let counted = count_is window xs last behind cursor c.args.most after (omega (arith, whole, fits.fits)) (omega (arith, found, later, whole, c.min-wanted.ensures, c.saturating_add.ensures)) in
-    let same : c.min-wanted.result - c.count_from-later.result ≡ length (listed window (drop cursor xs)) - length (listed window (drop behind xs)) = omega (arith, found, later) in
+    let counted = count_is window xs last behind cursor c.args.most after (omega (arith, whole, fits.fits))
+    (omega (arith, found, later, whole, c.min-wanted.ensures, c.saturating_add.ensures)) in
+    let same : c.min-wanted.result - c.count_from-later.result ≡ length (listed window (drop cursor xs)) - length
+    (listed window (drop behind xs)) = omega (arith, found, later) in
     let ended = ends_by last (listed window xs) in
     record {
       paced = subst ArePaced (c.walk-paced.ensures.listed ∙ sym all) c.walk-paced.ensures.paced;
       count = same ∙ counted;
       are = ap (take (c.min-wanted.result - c.count_from-later.result)) c.walk.ensures.listed
           ∙ ap (λ n. take n (listed window (drop cursor xs))) same
-          ∙ taken window xs last behind cursor c.args.most after (omega (arith, found, later, parts, whole, c.min-wanted.ensures, c.saturating_add.ensures)) (omega (arith, found, whole, c.min-wanted.ensures))
+          ∙ taken window xs last behind cursor c.args.most after (omega (
+            arith,
+            found,
+            later,
+            parts,
+            whole,
+            c.min-wanted.ensures,
+            c.saturating_add.ensures,
+          )) (omega (arith, found, whole, c.min-wanted.ensures))
           ∙ ap (λ n. drop (length ended - n) ended) (sym same);
     }

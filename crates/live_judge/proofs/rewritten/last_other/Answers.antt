@@ -14,7 +14,8 @@ returns-in_default c =
     let f = time_of c.args.first in
     let found = option_map pair_of c.loop-left.found in
     let none : c.loop-left.walk ≡ [] = search rules in
-    sym (held_end olds f c.loop-left.left found) ∙ ap (λ (xs : List Timing). held olds f c.loop-left.left xs found) (sym none) ∙ c.loop-left.invariant.same
+    sym (held_end olds f c.loop-left.left found) ∙ ap (λ (xs : List Timing). held olds f c.loop-left.left xs found) (sym none)
+    ∙ c.loop-left.invariant.same
 
 pub loop-left-preserved : goal.loop-left-preserved
 loop-left-preserved c =

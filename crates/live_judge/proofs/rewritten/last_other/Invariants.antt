@@ -12,5 +12,6 @@ invariant-loop-left l =
     record {
       can : (goal.iterator-loop-left).can_next l.walk;
       finite : (goal.iterator-loop-left).is_finite l.walk;
-      same : held olds (time_of l.first) l.left l.walk (option_map pair_of l.found) ≡ held olds (time_of l.first) l.initial.left l.initial.walk None;
+      same : held olds (time_of l.first) l.left l.walk (option_map pair_of l.found)
+          ≡ held olds (time_of l.first) l.initial.left l.initial.walk None;
     }

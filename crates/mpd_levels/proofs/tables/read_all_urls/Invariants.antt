@@ -10,5 +10,6 @@ abbrev pub invariant-loop-child : goal.invariant-loop-child
 invariant-loop-child l = record {
   can_next : (goal.iterator-loop-child).can_next l.child-iterator;
   finite : (goal.iterator-loop-child).is_finite l.child-iterator;
-  so_far : l.urls.items ++ map url_of (filter (is_named (codes "SegmentURL")) (elements_left l.child-iterator)) ≡ map url_of (children_named (codes "SegmentURL") (element_of l.fn.list));
+  so_far : l.urls.items ++ map url_of (filter (is_named (codes "SegmentURL")) (elements_left l.child-iterator))
+      ≡ map url_of (children_named (codes "SegmentURL") (element_of l.fn.list));
 }

@@ -10,6 +10,7 @@ abbrev pub invariant-loop-child : goal.invariant-loop-child
 invariant-loop-child l = record {
   can_next : (goal.iterator-loop-child).can_next l.child-iterator;
   finite : (goal.iterator-loop-child).is_finite l.child-iterator;
-  so_far : l.entries.items ++ map run_of (filter (is_named (codes "S")) (elements_left l.child-iterator)) ≡ runs_of (element_of l.fn.timeline);
+  so_far : l.entries.items ++ map run_of (filter (is_named (codes "S")) (elements_left l.child-iterator))
+      ≡ runs_of (element_of l.fn.timeline);
   fits : All FitsRun (filter (is_named (codes "S")) (elements_left l.child-iterator));
 }

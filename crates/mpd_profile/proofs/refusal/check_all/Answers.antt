@@ -7,7 +7,8 @@ use Rattle.mpd_profile.proofs.refusal.check_all.Goals as goal
 pub returns-in_err-check : goal.returns-in_err-check
 returns-in_err-check c =
     let p = err_from_is_err_and c.from_residual.result c.from_residual.ensures.1 in
-    rw (p.1, p.2) (root_told c.args.pass (element_of c.args.root) _ (rw c.is_dynamic-dynamic.ensures at (c.in_err-check.ensures [] c.new.ensures)))
+    rw (p.1, p.2) (root_told c.args.pass (element_of c.args.root) _
+    (rw c.is_dynamic-dynamic.ensures at (c.in_err-check.ensures [] c.new.ensures)))
 
 pub returns : goal.returns
 returns c =

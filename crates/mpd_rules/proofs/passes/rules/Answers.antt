@@ -1,11 +1,12 @@
 use Rattle.std.proofs.Common.{◌≡◌, true, Ok, refl, sym, subst}
 use Rattle.std.proofs.lemmas.Result.{err_from_is_err_and}
 use Rattle.bridge_io.specs.Answer.{Gives}
+use Rattle.bridge_io.specs.Firsts.{first_fault}
 use Rattle.mpd_text.specs.Nodes.{root_of}
 use Rattle.mpd_text.specs.Trees.{Element}
 use Rattle.mpd_profile.specs.declared.listed.Addressing.TheVariants.{Segments}
 use Rattle.mpd_profile.specs.Heads.{is_dynamic}
-use Rattle.mpd_profile.specs.Refusals.{first_of, refusal, refusals_of}
+use Rattle.mpd_profile.specs.Refusals.{refusal, refusals_of}
 use Rattle.mpd_levels.specs.Segments.{segments_of}
 use Rattle.mpd_rules.specs.Fits.{FitsMpd}
 use Rattle.mpd_rules.specs.Rules.{all_refusals, dash_values, segments_refused, refusals_behind, typed_mpd_of, unless_refused}
@@ -15,7 +16,8 @@ use Rattle.mpd_rules.proofs.Fitting.{mpd_fits}
 use Rattle.mpd_rules.proofs.Refusing.{first_of_more, none_first, unless_first}
 use Rattle.mpd_rules.proofs.passes.rules.Goals as goal
 
-meaning_is : (root : Element) → first_of (refusals_of Segments root) ≡ Ok tt → unless_refused (refusals_behind true segments_refused segments_of root) (values_with segments_of root) ≡ typed_mpd_of root
+meaning_is : (root : Element) → first_fault (refusals_of Segments root) ≡ Ok tt
+    → unless_refused (refusals_behind true segments_refused segments_of root) (values_with segments_of root) ≡ typed_mpd_of root
 unfolding typed_mpd_of all_refusals dash_values
 meaning_is root none = rw (none_first (refusals_of Segments root) none) refl
 
@@ -25,10 +27,13 @@ returns-in_err-check c =
     let p = err_from_is_err_and c.from_residual.result c.from_residual.ensures.1 in
     let root = root_of c.args.tree.now in
     rw (p.1, p.2) (unless_first c.in_err-check.field-0.0 (all_refusals root) (dash_values root)
-    (first_of_more c.in_err-check.field-0.0 (refusals_of Segments root) (refusals_behind true segments_refused segments_of root) (all_refusals root) refl c.in_err-check.ensures.refused))
+    (first_of_more c.in_err-check.field-0.0 (refusals_of Segments root) (refusals_behind true segments_refused segments_of root)
+    (all_refusals root) refl c.in_err-check.ensures.refused))
 
 pub values-requires : goal.values-requires
-values-requires c = subst FitsMpd (sym c.root.ensures) (mpd_fits Segments (is_dynamic (root_of c.args.tree.now).head) (root_of c.args.tree.now) c.in_ok-check.ensures.sound)
+values-requires c = subst FitsMpd (sym c.root.ensures) (mpd_fits Segments (is_dynamic (root_of c.args.tree.now).head)
+    (root_of c.args.tree.now) c.in_ok-check.ensures.sound)
 
 pub returns : goal.returns
-returns c = subst (λ meaning. Gives segments_mpd refusal c.values.result meaning) (meaning_is (root_of c.args.tree.now) c.in_ok-check.ensures.refused) (rw c.root.ensures at c.values.ensures)
+returns c = subst (λ meaning. Gives segments_mpd refusal c.values.result meaning)
+    (meaning_is (root_of c.args.tree.now) c.in_ok-check.ensures.refused) (rw c.root.ensures at c.values.ensures)

@@ -1,11 +1,12 @@
 use Rattle.std.proofs.Common.{◌≡◌, false, Ok, refl, sym, subst}
 use Rattle.std.proofs.lemmas.Result.{err_from_is_err_and}
 use Rattle.bridge_io.specs.Answer.{Gives}
+use Rattle.bridge_io.specs.Firsts.{first_fault}
 use Rattle.mpd_text.specs.Nodes.{root_of}
 use Rattle.mpd_text.specs.Trees.{Element}
 use Rattle.mpd_profile.specs.declared.listed.Addressing.TheVariants.{Index}
 use Rattle.mpd_profile.specs.Heads.{is_dynamic}
-use Rattle.mpd_profile.specs.Refusals.{first_of, refusal, refusals_of}
+use Rattle.mpd_profile.specs.Refusals.{refusal, refusals_of}
 use Rattle.mpd_levels.specs.Indexed.{index_of}
 use Rattle.mpd_rules.specs.Fits.{FitsMpd}
 use Rattle.mpd_rules.specs.Rules.{all_index_refusals, index_values, index_refused, refusals_behind, indexed_mpd_of, unless_refused}
@@ -15,7 +16,8 @@ use Rattle.mpd_rules.proofs.Fitting.{mpd_fits}
 use Rattle.mpd_rules.proofs.Refusing.{first_of_more, none_first, unless_first}
 use Rattle.mpd_rules.proofs.passes.rules_indexed.Goals as goal
 
-meaning_is : (root : Element) → first_of (refusals_of Index root) ≡ Ok tt → unless_refused (refusals_behind false index_refused index_of root) (values_with index_of root) ≡ indexed_mpd_of root
+meaning_is : (root : Element) → first_fault (refusals_of Index root) ≡ Ok tt
+    → unless_refused (refusals_behind false index_refused index_of root) (values_with index_of root) ≡ indexed_mpd_of root
 unfolding indexed_mpd_of all_index_refusals index_values
 meaning_is root none = rw (none_first (refusals_of Index root) none) refl
 
@@ -25,10 +27,13 @@ returns-in_err-check c =
     let p = err_from_is_err_and c.from_residual.result c.from_residual.ensures.1 in
     let root = root_of c.args.tree.now in
     rw (p.1, p.2) (unless_first c.in_err-check.field-0.0 (all_index_refusals root) (index_values root)
-    (first_of_more c.in_err-check.field-0.0 (refusals_of Index root) (refusals_behind false index_refused index_of root) (all_index_refusals root) refl c.in_err-check.ensures.refused))
+    (first_of_more c.in_err-check.field-0.0 (refusals_of Index root) (refusals_behind false index_refused index_of root)
+    (all_index_refusals root) refl c.in_err-check.ensures.refused))
 
 pub values-requires : goal.values-requires
-values-requires c = subst FitsMpd (sym c.root.ensures) (mpd_fits Index (is_dynamic (root_of c.args.tree.now).head) (root_of c.args.tree.now) c.in_ok-check.ensures.sound)
+values-requires c = subst FitsMpd (sym c.root.ensures) (mpd_fits Index (is_dynamic (root_of c.args.tree.now).head)
+    (root_of c.args.tree.now) c.in_ok-check.ensures.sound)
 
 pub returns : goal.returns
-returns c = subst (λ meaning. Gives index_mpd refusal c.values.result meaning) (meaning_is (root_of c.args.tree.now) c.in_ok-check.ensures.refused) (rw c.root.ensures at c.values.ensures)
+returns c = subst (λ meaning. Gives index_mpd refusal c.values.result meaning)
+    (meaning_is (root_of c.args.tree.now) c.in_ok-check.ensures.refused) (rw c.root.ensures at c.values.ensures)

@@ -12,7 +12,8 @@ use Rattle.mpd_rules.proofs.periods.read_bounds.Goals as goal
 
 pub one_bounds-requires-clause-one : goal.one_bounds-requires-clause-one
 one_bounds-requires-clause-one c =
-    all_here element_of FitsPeriod c.args.periods.now c.loop-place.place c.index-periods-place.result (rw c.requires.these c.requires.fits.periods) c.loop-place-test.true c.index-periods-place.is
+    all_here element_of FitsPeriod c.args.periods.now c.loop-place.place c.index-periods-place.result
+    (rw c.requires.these c.requires.fits.periods) c.loop-place-test.true c.index-periods-place.is
 
 pub one_bounds-requires-clause-behind : goal.one_bounds-requires-clause-behind
 one_bounds-requires-clause-behind c =
@@ -24,13 +25,17 @@ unfolding period_refusals
 returns-in_err-one c =
     let p = err_from_is_err_and c.from_residual.result c.from_residual.ensures.1 in
     let told = rw (rest_is c.args.periods.now (c.loop-place.place + 1)) at c.in_err-one.ensures in
-    let here = one_left element_of c.args.periods.now c.loop-place.place c.index-periods-place.result c.loop-place-test.true c.index-periods-place.is in
-    rw (p.1, p.2) (unless_first c.in_err-one.field-0.0 (order_told None (period_bounds (element_of c.args.mpd))) (map bounds_of (period_bounds (element_of c.args.mpd)))
-    (first_of_more c.in_err-one.field-0.0 _ _ (order_told None (period_bounds (element_of c.args.mpd))) (rw here at c.loop-place.invariant.refused) (one_first _ c.in_err-one.field-0.0 _ told)))
+    let here = one_left element_of c.args.periods.now c.loop-place.place c.index-periods-place.result c.loop-place-test.true
+    c.index-periods-place.is in
+    rw (p.1, p.2) (unless_first c.in_err-one.field-0.0 (order_told None (period_bounds (element_of c.args.mpd)))
+    (map bounds_of (period_bounds (element_of c.args.mpd)))
+    (first_of_more c.in_err-one.field-0.0 _ _ (order_told None (period_bounds (element_of c.args.mpd)))
+    (rw here at c.loop-place.invariant.refused) (one_first _ c.in_err-one.field-0.0 _ told)))
 
 pub end_said-default-requires : goal.end_said-default-requires
 end_said-default-requires c =
-    all_here element_of FitsPeriod c.args.periods.now c.loop-place.place c.index-periods-place.result (rw c.requires.these c.requires.fits.periods) c.loop-place-test.true c.index-periods-place.is
+    all_here element_of FitsPeriod c.args.periods.now c.loop-place.place c.index-periods-place.result
+    (rw c.requires.these c.requires.fits.periods) c.loop-place-test.true c.index-periods-place.is
 
 pub loop-place-preserved : goal.loop-place-preserved
 loop-place-preserved c =
@@ -40,10 +45,12 @@ loop-place-preserved c =
     let here = one_left element_of c.args.periods.now c.loop-place.place node c.loop-place-test.true c.index-periods-place.is in
     record {
       refused = rw (c.nanos-former.ensures, c.end_said-default.ensures)
-          (sym (order_goes_on c.nanos-total.result c.loop-place.former c.loop-place.default (element_of node) later c.in_ok-one.one told) ∙ rw here at c.loop-place.invariant.refused);
+          (sym (order_goes_on c.nanos-total.result c.loop-place.former c.loop-place.default (element_of node) later c.in_ok-one.one told)
+          ∙ rw here at c.loop-place.invariant.refused);
       bounds = rw (c.in_ok-push.ensures.ok, c.end_said-default.ensures)
           (append_assoc c.loop-place.bounds (c.in_ok-one.one ∷ []) _
-          ∙ ap (λ bs. c.loop-place.bounds ++ bs) (sym (bounds_go_on c.nanos-total.result c.loop-place.former c.loop-place.default (element_of node) later c.in_ok-one.one told))
+          ∙ ap (λ bs. c.loop-place.bounds ++ bs) (sym (bounds_go_on c.nanos-total.result c.loop-place.former c.loop-place.default
+          (element_of node) later c.in_ok-one.one told))
           ∙ rw here at c.loop-place.invariant.bounds);
     }
 
@@ -54,4 +61,5 @@ returns c =
     let left = at_drop_all (map element_of) c.args.periods.now c.loop-place.place c.loop-place-test.false in
     let refused : order_told None (period_bounds (element_of c.args.mpd)) ≡ [] = sym (rw left at i.refused) in
     let bounds = rw left at i.bounds in
-    ap (λ fs. unless_refused fs (map bounds_of (period_bounds (element_of c.args.mpd)))) refused ∙ ap Ok (sym bounds ∙ append-nil c.loop-place.bounds)
+    ap (λ fs. unless_refused fs (map bounds_of (period_bounds (element_of c.args.mpd)))) refused
+    ∙ ap Ok (sym bounds ∙ append-nil c.loop-place.bounds)

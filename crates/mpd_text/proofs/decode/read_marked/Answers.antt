@@ -17,8 +17,10 @@ returns-in_err-push-clause-space c byte h no_amp no_return = memory_tells_nothin
 
 pub returns-clause-reference : goal.returns-clause-reference
 returns-clause-reference c h =
-    absurd (c.if-bytes-from-eq38.false (ap (λ b. get_or b c.args.from 0) c.as_bytes-bytes.ensures.value ∙ get_or_from_slice_get c.args.text.now c.args.from 38 0 h))
+    absurd (c.if-bytes-from-eq38.false (ap (λ b. get_or b c.args.from 0) c.as_bytes-bytes.ensures.value
+    ∙ get_or_from_slice_get c.args.text.now c.args.from 38 0 h))
 
 pub returns-clause-line_end : goal.returns-clause-line_end
 returns-clause-line_end c h =
-    absurd (c.if-bytes-from-eq13.false (ap (λ b. get_or b c.args.from 0) c.as_bytes-bytes.ensures.value ∙ get_or_from_slice_get c.args.text.now c.args.from 13 0 h))
+    absurd (c.if-bytes-from-eq13.false (ap (λ b. get_or b c.args.from 0) c.as_bytes-bytes.ensures.value
+    ∙ get_or_from_slice_get c.args.text.now c.args.from 13 0 h))

@@ -14,7 +14,8 @@ invariant-value l = record {
   forth : l.fn.from ≤ l.at;
   boundary : IsCharBoundary l.text l.at;
   appends : Appends (string_bytes l.fn.read) (string_bytes l.read);
-  so_far : (os : List Opened) (t : Tag) (named : Named) (place : Place) → IsQuote l.quote → l.set ≡ marked_in_value l.quote → IsAt l.text l.fn.from (at_value os t named (quoted l.quote place)) →
+  so_far : (os : List Opened) (t : Tag) (named : Named) (place : Place) → IsQuote l.quote → l.set ≡ marked_in_value l.quote
+      → IsAt l.text l.fn.from (at_value os t named (quoted l.quote place)) →
       IsSoFar (value_mode os t named l.quote place) l.text l.at (string_bytes l.fn.read) (string_bytes l.read);
 }
 

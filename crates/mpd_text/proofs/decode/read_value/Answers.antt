@@ -28,8 +28,10 @@ returns-then-eq-clause-value c os t named at is =
     let quote = get_or c.as_bytes-bytes.result.now c.args.quote_at 0 in
     let there = quote_there c.as_bytes-bytes.result.now c.args.text.now c.args.quote_at c.as_bytes-bytes.ensures.value is in
     let closed = sym c.byte_at.ensures.byte ∙ some_is c.byte_at.result quote (sym c.eq.ensures ∙ c.if-eq.true) in
-    value_stands os t named c.as_bytes-bytes.result.now c.args.text.now c.in_value-set.result.now c.args.quote_at c.next_marked-stop.result quote (string_bytes c.args.read.now)
-    there.0 c.as_bytes-bytes.ensures.value (c.in_value-set.ensures.marked there.0) at there.1 c.next_marked-stop.ensures.behind c.next_marked-stop.ensures.within c.next_marked-stop.ensures.plain
+    value_stands os t named c.as_bytes-bytes.result.now c.args.text.now c.in_value-set.result.now c.args.quote_at c.next_marked-stop.result
+    quote (string_bytes c.args.read.now)
+    there.0 c.as_bytes-bytes.ensures.value (c.in_value-set.ensures.marked there.0) at there.1 c.next_marked-stop.ensures.behind
+    c.next_marked-stop.ensures.within c.next_marked-stop.ensures.plain
     (ap (λ b. slice_get b c.next_marked-stop.result) (sym c.as_bytes-bytes.ensures.value) ∙ closed)
 
 pub returns-in_err-end-clause-value : goal.returns-in_err-end-clause-value

@@ -10,4 +10,5 @@ returns-then-eq-clause-read c = λ out place is.
 
 pub returns-else-eq-clause-read : goal.returns-else-eq-clause-read
 returns-else-eq-clause-read c = λ out place is.
-    c.closed_end-else-eq.ensures.read out two_dashes place is (λ dash. some_is_not c.byte_at.result 45 (sym c.if-eq.ensures) (c.byte_at.ensures.byte ∙ dash))
+    c.closed_end-else-eq.ensures.read out two_dashes place is (λ dash. some_is_not c.byte_at.result 45 (sym c.if-eq.ensures)
+    (c.byte_at.ensures.byte ∙ dash))

@@ -11,8 +11,10 @@ pub loop-at-init : goal.loop-at-init
 loop-at-init c = record {
   behind = c.white_end-at.ensures.behind;
   within = c.white_end-at.ensures.within;
-  ready = λ out outer r. subst (λ k. IsReady c.args.bytes.now k out) (sym c.white_end-at.ensures.run) (white_ready c.args.bytes.now c.args.from out outer r);
-  no_white = λ byte e. no_white_left c.args.bytes.now c.args.from byte c.requires (subst (λ k. slice_get c.args.bytes.now k ≡ Some byte) c.white_end-at.ensures.run e);
+  ready = λ out outer r. subst (λ k. IsReady c.args.bytes.now k out) (sym c.white_end-at.ensures.run)
+      (white_ready c.args.bytes.now c.args.from out outer r);
+  no_white = λ byte e. no_white_left c.args.bytes.now c.args.from byte c.requires
+      (subst (λ k. slice_get c.args.bytes.now k ≡ Some byte) c.white_end-at.ensures.run e);
 }
 
 pub loop-at-preserved : goal.loop-at-preserved
@@ -20,7 +22,8 @@ loop-at-preserved c = record {
   behind = omega (arith, c.loop-at.invariant.behind, c.in_ok-behind.ensures.bound.0, c.white_end-at-in-loop-at.ensures.behind);
   within = c.white_end-at-in-loop-at.ensures.within;
   ready = λ out outer r. subst (λ k. IsReady c.args.bytes.now k out) (sym c.white_end-at-in-loop-at.ensures.run)
-      (white_ready c.args.bytes.now c.in_ok-behind.behind out outer (inl (false, c.in_ok-behind.ensures.read out (c.loop-at.invariant.ready out outer r))));
+      (white_ready c.args.bytes.now c.in_ok-behind.behind out outer
+      (inl (false, c.in_ok-behind.ensures.read out (c.loop-at.invariant.ready out outer r))));
   no_white = λ byte e. no_white_left c.args.bytes.now c.in_ok-behind.behind byte c.in_ok-behind.ensures.bound.1.within
       (subst (λ k. slice_get c.args.bytes.now k ≡ Some byte) c.white_end-at-in-loop-at.ensures.run e);
 }

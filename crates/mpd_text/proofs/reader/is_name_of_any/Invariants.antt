@@ -1,5 +1,5 @@
 use Rattle.std.proofs.Common.{◌≡◌, drop}
-use Rattle.mpd_text.specs.Grammar.{is_among}
+use Rattle.bridge_io.specs.Texts.{is_among}
 use Rattle.mpd_text.specs.Names.{names_in}
 use Rattle.mpd_text.proofs.reader.is_name_of_any.Given as goal
 

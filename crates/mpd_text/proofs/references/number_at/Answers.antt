@@ -27,7 +27,8 @@ loop-at-preserved c =
       base_is = c.loop-at.invariant.base_is;
       small = omega (arith, c.min-number.ensures);
       number_is = c.min-number.ensures ∙ ap (λ b. min 1114112 (c.loop-at.number * b + c.in-Some.digit)) c.loop-at.invariant.base_is
-          ∙ number_more c.args.is_hexadecimal bytes c.args.from at c.loop-at.number c.in-Some.digit c.loop-at.invariant.behind c.loop-at-test.true c.loop-at.invariant.number_is found.1;
+          ∙ number_more c.args.is_hexadecimal bytes c.args.from at c.loop-at.number c.in-Some.digit c.loop-at.invariant.behind
+          c.loop-at-test.true c.loop-at.invariant.number_is found.1;
       behind = omega (arith, c.loop-at.invariant.behind);
       within = omega (arith, c.loop-at-test.true);
       run = run_more (is_digit_of c.args.is_hexadecimal) bytes at _ c.loop-at-test.true found.0 c.loop-at.invariant.run;

@@ -11,7 +11,8 @@ invariant-loop-at l = record {
   number_is : l.number ≡ capped (number_of (base_of l.is_hexadecimal) (take (l.at - l.fn.from) (drop l.fn.from l.bytes)));
   behind : l.fn.from ≤ l.at;
   within : l.at ≤ length l.bytes;
-  run : l.at + prefix_len (is_digit_of l.is_hexadecimal) (drop l.at l.bytes) ≡ l.fn.from + prefix_len (is_digit_of l.is_hexadecimal) (drop l.fn.from l.bytes);
+  run : l.at + prefix_len (is_digit_of l.is_hexadecimal) (drop l.at l.bytes) ≡ l.fn.from + prefix_len (is_digit_of l.is_hexadecimal)
+      (drop l.fn.from l.bytes);
 }
 
 abbrev pub decreases-loop-at : goal.decreases-loop-at

@@ -6,11 +6,13 @@ use Rattle.mpd_text.proofs.references.reference.Goals as goal
 
 pub returns-in-Some-clause-bounds : goal.returns-in-Some-clause-bounds
 returns-in-Some-clause-bounds c =
-    let found = name_found c.args.bytes.now c.args.from c.in-Some.named c.in-Some.count _ (take_rest c.args.bytes.now (c.args.from + 1)) c.in-Some.ensures in
+    let found = name_found c.args.bytes.now c.args.from c.in-Some.named c.in-Some.count _
+    (take_rest c.args.bytes.now (c.args.from + 1)) c.in-Some.ensures in
     (found.1, found.2)
 
 pub returns-in-Some-clause-character : goal.returns-in-Some-clause-character
-returns-in-Some-clause-character c = (name_found c.args.bytes.now c.args.from c.in-Some.named c.in-Some.count _ (take_rest c.args.bytes.now (c.args.from + 1)) c.in-Some.ensures).0
+returns-in-Some-clause-character c = (name_found c.args.bytes.now c.args.from c.in-Some.named c.in-Some.count _
+    (take_rest c.args.bytes.now (c.args.from + 1)) c.in-Some.ensures).0
 
 pub returns-in-None-clause-fault : goal.returns-in-None-clause-fault
 returns-in-None-clause-fault c =

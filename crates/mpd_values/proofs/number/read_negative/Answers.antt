@@ -5,4 +5,8 @@ use Rattle.mpd_values.proofs.number.read_negative.Goals as goal
 
 pub returns-in_err-read_numeral : goal.returns-in_err-read_numeral
 returns-in_err-read_numeral c =
-    rw (c.from_residual.ensures, none_below (2 ^ 63 + 1) (numeral_of c.args.digits.now) (lit≤ tt) (sym c.read_numeral.ensures ∙ c.in_err-read_numeral.was)) refl
+    rw (
+      c.from_residual.ensures,
+      none_below (2 ^ 63 + 1) (numeral_of c.args.digits.now) (lit≤ tt) (sym c.read_numeral.ensures
+          ∙ c.in_err-read_numeral.was),
+    ) refl

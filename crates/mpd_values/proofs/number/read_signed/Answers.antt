@@ -10,7 +10,8 @@ by_bool false at_true at_false = at_false refl
 
 no_minus : (text : List ℕ) → ((rest : List ℕ) → text ≢ encode_utf8 45 ++ rest) → has_minus text ≡ false
 no_minus [] none = refl
-no_minus (b ∷ bs) none = by_bool (b == 45) (λ minus. absurd (none bs (rw (encode_ascii 45 (lit< tt), eqb-true b 45 minus) refl))) (λ other. other)
+no_minus (b ∷ bs) none = by_bool (b == 45) (λ minus. absurd (none bs (rw (encode_ascii 45 (lit< tt), eqb-true b 45 minus) refl)))
+    (λ other. other)
 
 pub returns-in-None : goal.returns-in-None
 unfolding signed_64_of

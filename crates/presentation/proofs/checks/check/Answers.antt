@@ -7,4 +7,5 @@ use Rattle.presentation.proofs.checks.check.Goals as goal
 pub returns : goal.returns
 returns c =
     subst (λ faults. Gives (λ done. done) refusal c.check_tracks.result (unless_any faults tt))
-    (sym (none_told _ _ _ _ _ (sym c.needs_now.ensures ∙ c.if-needs_now.false) (sym c.is_over.ensures ∙ c.if-is_over.false))) (rw c.periods.ensures.periods at c.check_tracks.ensures)
+    (sym (none_told _ _ _ _ _ (sym c.needs_now.ensures ∙ c.if-needs_now.false) (sym c.is_over.ensures ∙ c.if-is_over.false)))
+    (rw c.periods.ensures.periods at c.check_tracks.ensures)

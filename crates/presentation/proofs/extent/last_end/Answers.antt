@@ -10,5 +10,6 @@ loop-span-preserved c = let kept = c.loop-span.invariant in
       finite = tt;
       last = last;
       rising = rising.2;
-      not_before = IsAtMost-trans (time_of c.args.first.start) (time_of c.loop-span.last) (time_of c.in-Some.span.end) c.loop-span.last.positive kept.not_before rising.1;
+      not_before = IsAtMost-trans (time_of c.args.first.start) (time_of c.loop-span.last)
+          (time_of c.in-Some.span.end) c.loop-span.last.positive kept.not_before rising.1;
     }

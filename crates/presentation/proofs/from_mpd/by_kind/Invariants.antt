@@ -1,12 +1,12 @@
 use Rattle.std.proofs.Common.{◌≡◌, filter}
 use Rattle.bridge_io.specs.declared.media.Kind.TheVariants.{Video, Audio, Text}
-use Rattle.presentation.specs.declared.told.Told.{Told}
+use Rattle.presentation.specs.declared.told.PeriodContent.{PeriodContent}
 use Rattle.presentation.specs.Rows.{is_of}
 use Rattle.presentation.proofs.from_mpd.by_kind.Given as goal
 
 abbrev pub invariant-loop-told : goal.invariant-loop-told
 invariant-loop-told l = record {
-  video : l.video.items ≡ filter (λ (told : Told). is_of Video told.kind) l.yielded;
-  audio : l.audio.items ≡ filter (λ (told : Told). is_of Audio told.kind) l.yielded;
-  text : l.text.items ≡ filter (λ (told : Told). is_of Text told.kind) l.yielded;
+  video : l.video.items ≡ filter (λ (told : PeriodContent). is_of Video told.kind) l.yielded;
+  audio : l.audio.items ≡ filter (λ (told : PeriodContent). is_of Audio told.kind) l.yielded;
+  text : l.text.items ≡ filter (λ (told : PeriodContent). is_of Text told.kind) l.yielded;
 }

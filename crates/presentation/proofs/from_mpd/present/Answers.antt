@@ -21,7 +21,9 @@ invariant_of-result c =
     ∙ ap (λ periods. length (first_rows (map (period_with shown) periods))) c.periods.ensures.periods in
     record {
       filled = ap length c.in_ok-parted.ensures.contents ∙ length-map _ _ ∙ c.requires.filled
-          ∙ ap (λ n. n * length (first_rows (map (period_with shown) c.args.mpd.now.values.periods))) (sym sections) ∙ ap (λ n. length c.in_ok-sections.sections * n) (sym tracks);
-      ended = λ none. rw c.in_ok-parted.ensures.contents (c.requires.ended (not_live _ _ (sym c.following_of.ensures ∙ ap (option_map following_of) none)));
+          ∙ ap (λ n. n * length (first_rows (map (period_with shown) c.args.mpd.now.values.periods))) (sym sections)
+          ∙ ap (λ n. length c.in_ok-sections.sections * n) (sym tracks);
+      ended = λ none. rw c.in_ok-parted.ensures.contents
+          (c.requires.ended (not_live _ _ (sym c.following_of.ensures ∙ ap (option_map following_of) none)));
       grouped = c.in_ok-groups.ensures ∙ ap groups_of c.as_slice.ensures;
     }

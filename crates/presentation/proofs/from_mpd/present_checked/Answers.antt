@@ -21,4 +21,5 @@ present-requires-clause-filled c =
 pub present-requires-clause-ended : goal.present-requires-clause-ended
 present-requires-clause-ended c =
     let told = rw (c.live.ensures, c.periods.ensures.periods) at c.in-Ok.ensures in
-    all_ended c.closed_ends.ensures.timelines c.closed_ends.ensures.durations c.args.base.now c.args.mpd.now.values.facts.live (map (period_with shown) c.args.mpd.now.values.periods) c.in-Ok.tolds.items told
+    all_ended c.closed_ends.ensures.timelines c.closed_ends.ensures.durations c.args.base.now c.args.mpd.now.values.facts.live
+    (map (period_with shown) c.args.mpd.now.values.periods) c.in-Ok.tolds.items told

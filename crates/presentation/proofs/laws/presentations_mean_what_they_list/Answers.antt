@@ -5,4 +5,10 @@ use Rattle.presentation.proofs.Whole.{finished_are_whole}
 use Rattle.presentation.proofs.laws.presentations_mean_what_they_list.Goals as goal
 
 pub returns : goal.returns
-returns c = record { made = made_are_meant; verified = verified_are_meant; finished = finished_are_whole; mpd = presented_are_meant; text = texts_are_meant }
+returns c = record {
+  made = made_are_meant;
+  verified = verified_are_meant;
+  finished = finished_are_whole;
+  mpd = presented_are_meant;
+  text = texts_are_meant;
+}

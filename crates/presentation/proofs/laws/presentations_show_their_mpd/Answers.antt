@@ -3,4 +3,10 @@ use Rattle.presentation.proofs.Pace.{are_always_in_pace, presented_are_in_pace}
 use Rattle.presentation.proofs.laws.presentations_show_their_mpd.Goals as goal
 
 pub returns : goal.returns
-returns c = record { few = presented_are_few; followed = presented_are_followed; sections = sections_are_periods; pace = presented_are_in_pace; always = are_always_in_pace }
+returns c = record {
+  few = presented_are_few;
+  followed = presented_are_followed;
+  sections = sections_are_periods;
+  pace = presented_are_in_pace;
+  always = are_always_in_pace;
+}

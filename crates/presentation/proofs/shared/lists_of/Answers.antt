@@ -7,4 +7,5 @@ use Rattle.presentation.proofs.shared.lists_of.Goals as goal
 pub loop-key-preserved : goal.loop-key-preserved
 loop-key-preserved c =
     let within : c.loop-key.key < length (lists_in c.args.tables.now) = omega arith in
-    one_kept names_in (lists_in c.args.tables.now) c.loop-key.key [] _ _ _ _ within c.in_ok-list_at.ensures c.in_ok-push.ensures.items c.loop-key.invariant
+    one_kept names_in (lists_in c.args.tables.now) c.loop-key.key
+    [] _ _ _ _ within c.in_ok-list_at.ensures c.in_ok-push.ensures.items c.loop-key.invariant

@@ -11,12 +11,15 @@ second_cut : (c : In-Some-split_once) → IsCut c.in-Some.after.now c.in-Some-sp
 second_cut c = let h = c.in-Some-split_once.ensures.byte (lit< tt) (λ w o h. h) in record { at = h.2; front_is = h.0; back_is = h.1 }
 
 pub returns-in_default-split_once : goal.returns-in_default-split_once
-returns-in_default-split_once c = absurd (never_lone _ _ _ (c.in_default-split_once.ensures.byte (lit< tt) (λ w o h. h)) _ _ c.loop-literal.invariant.1 (first_cut (goal.at.returns-in_default-split_once c).In-Some))
+returns-in_default-split_once c = absurd
+    (never_lone _ _ _ (c.in_default-split_once.ensures.byte (lit< tt) (λ w o h. h)) _ _ c.loop-literal.invariant.1
+    (first_cut (goal.at.returns-in_default-split_once c).In-Some))
 
 pub returns-in_err-read : goal.returns-in_err-read
 returns-in_err-read c =
     let fault = err_from_is_err_and c.from_residual-in_err-read.result c.from_residual-in_err-read.ensures.1 in
-    let first = first_at_fault _ _ _ _ _ _ _ c.loop-literal.invariant.1 (first_cut (goal.at.returns-in_err-read c).In-Some) (second_cut (goal.at.returns-in_err-read c).In-Some-split_once) _ (sym c.in_err-read.ensures.value) in
+    let first = first_at_fault _ _ _ _ _ _ _ c.loop-literal.invariant.1 (first_cut (goal.at.returns-in_err-read c).In-Some)
+    (second_cut (goal.at.returns-in_err-read c).In-Some-split_once) _ (sym c.in_err-read.ensures.value) in
     rw (fault.1, fault.2) first
 
 pub loop-literal-preserved : goal.loop-literal-preserved
@@ -25,8 +28,10 @@ loop-literal-preserved c =
     let two = second_cut (goal.at.loop-literal-preserved c).In-Some-split_once in
     let next = step _ _ _ _ _ _ _ c.loop-literal.invariant.1 one two in (
       IsUtf8-cut _ _ _ two (IsUtf8-cut _ _ _ one c.loop-literal.invariant.0),
-      rw (c.in_ok-add-2.ensures, c.in_ok-add.ensures) (next _ _ _ (sym c.in_ok-read.ensures.value) c.in_ok-read.ensures.width c.loop-literal.invariant.0 refl refl),
+      rw (c.in_ok-add-2.ensures, c.in_ok-add.ensures)
+          (next _ _ _ (sym c.in_ok-read.ensures.value) c.in_ok-read.ensures.width c.loop-literal.invariant.0 refl refl),
     )
 
 pub returns : goal.returns
-returns c = rw c.in_ok-add-3.ensures (finish _ _ _ (c.in_default.ensures.byte (lit< tt) (λ w o h. h)) _ _ c.loop-literal.invariant.1 c.loop-literal.invariant.0 refl refl)
+returns c = rw c.in_ok-add-3.ensures (finish _ _ _ (c.in_default.ensures.byte (lit< tt) (λ w o h. h)) _ _ c.loop-literal.invariant.1
+    c.loop-literal.invariant.0 refl refl)

@@ -1,6 +1,5 @@
 use Rattle.std.proofs.Common.{◌≡◌, ◌*◌, ◌<◌, ◌^◌, suc, inl, inr, arith}
 use Rattle.std.proofs.lemmas.Bool.{cases_lt}
-use Rattle.timeline.specs.declared.limits.Limits.{Limits}
 use Rattle.timeline.proofs.Laid.{from_fault}
 use Rattle.timeline.proofs.Counted.{cut_none, cut_first, cut_late, cut_end}
 use Rattle.timeline.proofs.durations.add_until.Goals as goal
@@ -12,25 +11,28 @@ returns-in_default c =
 
 pub returns-in_err-add_some : goal.returns-in_err-add_some
 returns-in_err-add_some c =
-    let limits : Limits = c.args.builder.now.limits in
+    let limits = c.args.builder.now.limits in
     let more : c.args.count ≡ suc c.in-Some.whole = omega (arith, c.in-Some.ensures.0, c.in-Some.ensures.1) in
     from_fault c.from_residual.result c.in_err-add_some.field-0.0 _ _ c.from_residual.ensures
-    (cut_first limits c.args.ticks c.requires.scale c.requires.fresh.origin c.args.length c.args.duration c.in-Some.whole c.args.count more c.in_err-add_some.field-0.0 c.in_err-add_some.ensures)
+    (cut_first limits c.args.ticks c.requires.scale c.requires.fresh.origin c.args.length c.args.duration c.in-Some.whole c.args.count more
+    c.in_err-add_some.field-0.0 c.in_err-add_some.ensures)
 
 pub returns-then-from-former : goal.returns-then-from-former
 returns-then-from-former c =
-    let limits : Limits = c.args.builder.now.limits in
+    let limits = c.args.builder.now.limits in
     let more : c.args.count ≡ suc c.in-Some.whole = omega (arith, c.in-Some.ensures.0, c.in-Some.ensures.1) in
     let bound : c.from.result * c.from-2.result ≡ c.args.length * c.args.ticks = cc (c.from.ensures, c.length.view_is, c.from-2.ensures) in
     let row = c.in_ok-add_some.ensures in
     let small : c.args.length < 10 ^ 19 = omega (arith, c.length.view_is, c.length.invariant) in
-    cut_late limits c.args.ticks c.requires.scale c.requires.fresh.origin c.args.length c.args.duration c.in-Some.whole c.args.count more row.kept c.requires.lasting (omega (arith, row.laid.near, row.former)) small
+    cut_late limits c.args.ticks c.requires.scale c.requires.fresh.origin c.args.length c.args.duration c.in-Some.whole c.args.count more
+    row.kept c.requires.lasting (omega (arith, row.laid.near, row.former)) small
     (omega (arith, bound, c.if-from-former.true, c.former.ensures, row.former))
 
 pub returns : goal.returns
 returns c =
-    let limits : Limits = c.args.builder.now.limits in
+    let limits = c.args.builder.now.limits in
     let more : c.args.count ≡ suc c.in-Some.whole = omega (arith, c.in-Some.ensures.0, c.in-Some.ensures.1) in
     let bound : c.from.result * c.from-2.result ≡ c.args.length * c.args.ticks = cc (c.from.ensures, c.length.view_is, c.from-2.ensures) in
-    cut_end limits c.add_some.new.builder c.add_last.new.builder c.args.ticks c.args.length c.args.duration c.in-Some.whole c.args.count c.add_last.result c.requires.scale c.requires.fresh.origin more c.in_ok-add_some.ensures
+    cut_end limits c.add_some.new.builder c.add_last.new.builder c.args.ticks c.args.length c.args.duration c.in-Some.whole c.args.count
+    c.add_last.result c.requires.scale c.requires.fresh.origin more c.in_ok-add_some.ensures
     (omega (arith, bound, c.if-from-former.false, c.former.ensures)) c.add_last.ensures

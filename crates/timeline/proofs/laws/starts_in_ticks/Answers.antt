@@ -7,7 +7,7 @@ use Rattle.timeline.specs.Durations.{expansion_of_list}
 use Rattle.timeline.specs.Starts.{StartInTicks}
 use Rattle.timeline.specs.Timelines.{expansion_of_timeline}
 use Rattle.timeline.proofs.OpenEnds.{no_fault}
-use Rattle.timeline.proofs.Starts.{durations_begin, entries_begin, listed_start, lists_begin}
+use Rattle.timeline.proofs.OwnParts.{durations_begin, entries_begin, listed_start, lists_begin}
 use Rattle.timeline.proofs.laws.starts_in_ticks.Goals as goal
 
 pub returns-clause-timelines : goal.returns-clause-timelines

@@ -1,16 +1,17 @@
 use Rattle.std.proofs.Common.{◌≡◌, ℕ, ◌*◌, ◌<◌, ◌≤◌, ◌^◌, ◌∙◌, ℤ, sym, ap, rules, arith, mul-le-mul}
 use Rattle.std.specs.Prelude.{unsigned_abs}
 use Rattle.std.proofs.lemmas.Int.{to_z-of_z}
-use Rattle.timeline.proofs.Spanned.{is_apart_span, far_apart, short_lasts}
+use Rattle.timeline.proofs.Counted.{is_apart_span, far_apart, short_lasts}
 use Rattle.timeline.proofs.spans.is_apart.Goals as goal
 use mir.Val.{Fits, SFits, to_z, of_z}
 use mir.Syntax.{w32, w128}
 
 gap_is : (r d : ℤ) (gap : ℕ) → SFits w128 r → r ≡ d → gap ≡ unsigned_abs (to_z w128 (of_z w128 r)) → unsigned_abs d ≡ gap
-gap_is r d gap fits same is = ap unsigned_abs (sym same) ∙ ap unsigned_abs (sym (to_z-of_z w128 r fits)) ∙ sym is
+gap_is r d gap fits same is = cc (to_z-of_z w128 r fits)
 
 -- no product is out of range where neither time is far
-small : (lasts gap s e f : ℕ) → lasts ≤ 1000000 * (s * e) → gap ≤ 1000000 * (f * s) → s < 2 ^ 32 → e < 2 ^ 32 → f < 2 ^ 32 → (lasts * f < 2 ^ 128) × (2 * gap * e < 2 ^ 128)
+small : (lasts gap s e f : ℕ) → lasts ≤ 1000000 * (s * e) → gap ≤ 1000000 * (f * s) → s < 2 ^ 32 → e < 2 ^ 32 → f < 2 ^ 32
+    → (lasts * f < 2 ^ 128) × (2 * gap * e < 2 ^ 128)
 small lasts gap s e f short near s_fits e_fits f_fits =
     let s_le : s ≤ 2 ^ 32 = omega arith in
     let e_le : e ≤ 2 ^ 32 = omega arith in
@@ -29,7 +30,15 @@ overflow_mul-result c =
     let e_fits : Fits w32 c.args.end.scale = search rules in
     let f_fits : Fits w32 c.args.former.scale = search rules in
     let short = short_lasts c.args.start c.args.end c.lasting-lasts.result c.lasting-lasts.ensures.value c.requires.short in
-    record { fits = omega (arith, c.from-2.ensures, (small c.lasting-lasts.result 0 c.args.start.scale c.args.end.scale c.args.former.scale short (omega arith) s_fits.fits e_fits.fits f_fits.fits).0, ap (λ (n : ℕ). c.lasting-lasts.result * n) c.from-2.ensures) }
+    record {
+      fits = omega (
+        arith,
+        c.from-2.ensures,
+        (small c.lasting-lasts.result 0 c.args.start.scale c.args.end.scale c.args.former.scale short
+            (omega arith) s_fits.fits e_fits.fits f_fits.fits).0,
+        ap (λ (n : ℕ). c.lasting-lasts.result * n) c.from-2.ensures,
+      );
+    }
 
 pub overflow_mul-result-3 : goal.overflow_mul-result-3
 overflow_mul-result-3 c =
@@ -37,14 +46,24 @@ overflow_mul-result-3 c =
     let e_fits : Fits w32 c.args.end.scale = search rules in
     let f_fits : Fits w32 c.args.former.scale = search rules in
     let short = short_lasts c.args.start c.args.end c.lasting-lasts.result c.lasting-lasts.ensures.value c.requires.short in
-    let near : c.unsigned_abs-gap.result ≤ 1000000 * (c.args.former.scale * c.args.start.scale) = omega (arith, c.if-from-scales.false, ap (λ (n : ℕ). n * c.scales.result) c.from.ensures, c.scales.ensures.value) in
-    record { fits = omega (arith, (small c.lasting-lasts.result c.unsigned_abs-gap.result c.args.start.scale c.args.end.scale c.args.former.scale short near s_fits.fits e_fits.fits f_fits.fits).1, ap (λ (n : ℕ). 2 * c.unsigned_abs-gap.result * n) c.from-3.ensures) }
+    let near : c.unsigned_abs-gap.result ≤ 1000000 * (c.args.former.scale * c.args.start.scale) =
+    omega (arith, c.if-from-scales.false, ap (λ (n : ℕ). n * c.scales.result) c.from.ensures, c.scales.ensures.value) in
+    record {
+      fits = omega (
+        arith,
+        (small c.lasting-lasts.result c.unsigned_abs-gap.result c.args.start.scale c.args.end.scale
+            c.args.former.scale short near s_fits.fits e_fits.fits f_fits.fits).1,
+        ap (λ (n : ℕ). 2 * c.unsigned_abs-gap.result * n) c.from-3.ensures,
+      );
+    }
 
 pub returns : goal.returns
 returns c =
     let fits : SFits w128 c.between.result = search rules in
     let is = gap_is c.between.result _ c.unsigned_abs-gap.result fits c.between.ensures.value c.unsigned_abs-gap.ensures.value in
-    rw (c.from-2.ensures, c.from-3.ensures) (sym (is_apart_span c.args.start c.args.end c.lasting-lasts.result c.lasting-lasts.ensures.value c.args.former c.unsigned_abs-gap.result is))
+    rw (c.from-2.ensures, c.from-3.ensures) (sym
+    (is_apart_span c.args.start c.args.end c.lasting-lasts.result c.lasting-lasts.ensures.value c.args.former c.unsigned_abs-gap.result
+    is))
 
 pub returns-then-from-scales : goal.returns-then-from-scales
 returns-then-from-scales c =
@@ -52,6 +71,7 @@ returns-then-from-scales c =
     let is = gap_is c.between.result _ c.unsigned_abs-gap.result fits c.between.ensures.value c.unsigned_abs-gap.ensures.value in
     let far : 1000000 * (c.args.former.scale * c.args.start.scale) < c.unsigned_abs-gap.result =
     omega (arith, c.if-from-scales.true, ap (λ (n : ℕ). n * c.scales.result) c.from.ensures, c.scales.ensures.value) in
-    sym (is_apart_span c.args.start c.args.end c.lasting-lasts.result c.lasting-lasts.ensures.value c.args.former c.unsigned_abs-gap.result is
+    sym (is_apart_span c.args.start c.args.end c.lasting-lasts.result c.lasting-lasts.ensures.value c.args.former c.unsigned_abs-gap.result
+    is
     ∙ far_apart c.args.start c.args.end c.lasting-lasts.result c.lasting-lasts.ensures.value c.args.former c.unsigned_abs-gap.result
     (short_lasts c.args.start c.args.end c.lasting-lasts.result c.lasting-lasts.ensures.value c.requires.short) far)

@@ -1,7 +1,6 @@
-use Rattle.std.proofs.Common.{◌≡◌, suc, ◌-◌, ap, ◌∙◌, sym, refl, List, [], ◌∷◌, length, ℤ, pos, negsuc, rules, arith}
+use Rattle.std.proofs.Common.{◌≡◌, suc, ◌-◌, ap, ◌∙◌, sym, refl, List, ◌∷◌, length, ℤ, pos, negsuc, rules, arith, []}
 use Rattle.std.specs.Prelude.{slice_get, Some, int_lt}
-use Rattle.std.proofs.lemmas.Int.{to_z-of_z}
-use Rattle.std.proofs.lemmas.Bool.{le-ltb}
+use Rattle.std.proofs.lemmas.{Int.to_z-of_z, Bool.le-ltb}
 use Rattle.timeline.specs.declared.entry.SEntry.{SEntry}
 use Rattle.timeline.specs.Faults.{ends_open, is_negative}
 use Rattle.timeline.proofs.timelines.goes_on.Goals as goal
@@ -22,4 +21,5 @@ last_is (x ∷ next ∷ later) s at =
 pub returns-in-Some : goal.returns-in-Some
 returns-in-Some c =
     let fits : SFits w64 c.in-Some.entry.now.r = search rules in
-    rw (to_z-of_z w64 c.in-Some.entry.now.r fits) (negative c.in-Some.entry.now.r ∙ sym (last_is c.args.entries.now c.in-Some.entry.now c.in-Some.ensures.value))
+    rw (to_z-of_z w64 c.in-Some.entry.now.r fits) (negative c.in-Some.entry.now.r
+    ∙ sym (last_is c.args.entries.now c.in-Some.entry.now c.in-Some.ensures.value))

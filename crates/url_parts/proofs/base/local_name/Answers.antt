@@ -18,7 +18,8 @@ outside folder address never =
     (cases_Bool (starts_with nat_eq address folder))
 
 -- a name after the folder's text
-inside : (folder address rest name : List ℕ) → address ≡ folder ++ rest → name_of (without_tail rest) ≡ Ok name → Some name ≡ local_name_of folder address
+inside : (folder address rest name : List ℕ) → address ≡ folder ++ rest → name_of (without_tail rest) ≡ Ok name
+    → Some name ≡ local_name_of folder address
 inside folder address rest name whole named =
     let begins = (starts_is Decides-eqb address folder (starts_with nat_eq address folder) refl).1 rest whole in
     let back : drop (length folder) address ≡ rest = ap (drop (length folder)) whole ∙ drop_at folder rest _ refl in
@@ -33,4 +34,5 @@ returns-in-Ok c =
     let h = c.in-Some.ensures.cases in
     let whole = rw (c.as_str.ensures.text, c.as_str-2.ensures.text) at h.1.1 in
     let rest = rw c.as_str.ensures.text at h.2 in
-    inside c.args.folder.now c.args.address.now c.in-Some.rest.now c.in-Ok.name (whole ∙ ap (λ t. c.args.folder.now ++ t) (sym rest)) (rw c.without_tail.ensures at c.in-Ok.ensures)
+    inside c.args.folder.now c.args.address.now c.in-Some.rest.now c.in-Ok.name (whole ∙ ap (λ t. c.args.folder.now ++ t) (sym rest))
+    (rw c.without_tail.ensures at c.in-Ok.ensures)

@@ -10,4 +10,5 @@ returns-clause-reference c =
     beside_name _ _ base named ∙ sym (resolve_name _ _ base named)
 
 pub returns-clause-again : goal.returns-clause-again
-returns-clause-again c address given = given_again address (beside_is_address _ _ address c.as_str.ensures.base c.as_str-2.ensures.named given)
+returns-clause-again c address given = given_again address
+    (beside_is_address _ _ address c.as_str.ensures.base c.as_str-2.ensures.named given)

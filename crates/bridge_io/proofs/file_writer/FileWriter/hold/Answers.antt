@@ -13,6 +13,8 @@ returns-in_err-extend_from_slice-clause-err g c = on_err c.from_residual-in_err-
     let name = target c.args.self.now in
     let piece = c.args.piece.now in
     elim c.if-piece-len.branch [
-      | then-piece-len+in_ok-flush w ↦ front_of_more name text piece first _ (front_of_all name text first _ (ap g.F.Store.files w.store-is ∙ w.in_ok-flush.ensures.ok text first behind))
-      | else-piece-len w ↦ front_of_more name text piece first _ (rw (← w.store-is) at (front_of_behind c.args.self.now text first _ behind))
+      | then-piece-len+in_ok-flush w ↦ front_of_more name text piece first _ (front_of_all name text first _ (ap g.F.Store.files w.store-is
+          ∙ w.in_ok-flush.ensures.ok text first behind))
+      | else-piece-len w ↦ front_of_more name text piece first _
+          (rw (← w.store-is) at (front_of_behind c.args.self.now text first _ behind))
     ])

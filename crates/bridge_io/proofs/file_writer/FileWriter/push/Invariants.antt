@@ -10,7 +10,8 @@ invariant-loop-rest g l =
     record {
       target : target l.self ≡ target l.fn.self;
       taken : (front : List ℕ) × (front ++ l.rest ≡ l.fn.piece)
-          × ((text : List ℕ) (first : Option Files) → IsBehind l.fn.self text first (store.files l.fn.store) → IsBehind l.self (text ++ front) first (store.files l.store));
+          × ((text : List ℕ) (first : Option Files) → IsBehind l.fn.self text first (store.files l.fn.store)
+          → IsBehind l.self (text ++ front) first (store.files l.store));
       never_falls : store.write_faults l.fn.store ≤ store.write_faults l.store;
       reads : store.read_faults l.store ≡ store.read_faults l.fn.store;
     }

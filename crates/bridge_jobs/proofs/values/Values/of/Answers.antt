@@ -5,7 +5,8 @@ use Rattle.bridge_jobs.proofs.values.Values.of.Goals as goal
 
 pub returns-in-Ok : goal.returns-in-Ok
 returns-in-Ok c =
-    taken (app_of c.in_ok-syntax.field-0) c.args.verb (map (λ word. word.now) c.args.words.now) (rows_of (found_of c.in-Ok.matches)) c.in_ok-syntax.ensures
+    taken (app_of c.in_ok-syntax.field-0) c.args.verb (map (λ word. word.now) c.args.words.now)
+    (rows_of (found_of c.in-Ok.matches)) c.in_ok-syntax.ensures
     c.in-Ok.ensures.kinds (λ simple. (c.in-Ok.ensures.matches simple).0)
 
 pub returns : goal.returns

@@ -8,7 +8,8 @@ use Rattle.bridge_jobs.specs.Parameters.{rule_of_parameter, with_parameter}
 use Rattle.bridge_jobs.specs.Verbs.{app_with, word_of}
 use Rattle.bridge_jobs.proofs.verb.Verb.syntax.Goals as goal
 
-rules_in_turn : (app : App) (parameters : List Parameter) → fold with_parameter app parameters ≡ fold with_rule app (map rule_of_parameter parameters)
+rules_in_turn : (app : App) (parameters : List Parameter) → fold with_parameter app parameters
+    ≡ fold with_rule app (map rule_of_parameter parameters)
 rules_in_turn app [] = refl
 rules_in_turn app (parameter ∷ rest) = rules_in_turn (with_parameter app parameter) rest
 
@@ -16,7 +17,8 @@ pub loop-parameter-preserved : goal.loop-parameter-preserved
 loop-parameter-preserved c =
     c.in_ok-command.ensures.shape c.argument.ensures.local
     ∙ ap₂ with_rule c.loop-parameter.invariant c.argument.ensures.rule
-    ∙ sym (fold_more with_parameter (new_app (word_of c.args.self)) c.parameters-parameter-items.result.now c.loop-parameter.parameter-index _ (omega arith))
+    ∙ sym (fold_more with_parameter (new_app (word_of c.args.self)) c.parameters-parameter-items.result.now
+    c.loop-parameter.parameter-index _ (omega arith))
 
 pub returns : goal.returns
 returns c =

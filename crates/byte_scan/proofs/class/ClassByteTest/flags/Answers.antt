@@ -10,5 +10,6 @@ returns c =
     let xs = c.args.lanes in elim c.match-self.branch [
       | in-Xml w ↦ w.result-is ∙ w.low_controls.ensures ∙ ap (λ class. flags (is_outside class) xs) (sym w.in-Xml.is)
       | in-Playlist w ↦
-          w.result-is ∙ either is_low_control (λ lane. lane == 127) xs w.low_controls-in-Playlist.ensures w.equal_to.ensures ∙ ap (λ class. flags (is_outside class) xs) (sym w.in-Playlist.is)
+          w.result-is ∙ either is_low_control (λ lane. lane == 127) xs w.low_controls-in-Playlist.ensures w.equal_to.ensures
+          ∙ ap (λ class. flags (is_outside class) xs) (sym w.in-Playlist.is)
     ]

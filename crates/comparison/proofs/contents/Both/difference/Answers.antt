@@ -1,6 +1,6 @@
 use Rattle.std.proofs.Common.{◌<◌, ◌^◌, ap, arith, length}
+use Rattle.presentation.proofs.FirstSome.{none_here, some_here}
 use Rattle.comparison.specs.Comparing.{contents_difference, difference_of}
-use Rattle.comparison.proofs.Firsts.{none_here, some_here}
 use Rattle.comparison.proofs.contents.Both.difference.Goals as goal
 
 pub returns-in-Some : goal.returns-in-Some

@@ -6,7 +6,8 @@ use Rattle.comparison.proofs.contents.Both.entry_of_mpd.Goals as goal
 
 pub segments-requires-clause-reached : goal.segments-requires-clause-reached
 segments-requires-clause-reached c = let v = c.requires.comparable in
-    verified_are_counted c.args.self.now.mpd.now (10 ^ c.args.self.now.digits) c.args.section c.args.track v.longest v.verified c.requires.section c.requires.track
+    verified_are_counted c.args.self.now.mpd.now (10 ^ c.args.self.now.digits) c.args.section c.args.track v.longest v.verified
+    c.requires.section c.requires.track
 
 pub over-requires : goal.over-requires
 over-requires c = let v = c.requires.comparable in let p = c.args.self.now.mpd.now in let unit = 10 ^ c.args.self.now.digits in
@@ -15,4 +16,5 @@ over-requires c = let v = c.requires.comparable in let p = c.args.self.now.mpd.n
 
 pub returns : goal.returns
 returns c = ap (entry_made c.initialization.result.now) c.over.ensures
-    ∙ entry_is c.args.self.now.mpd.now c.args.section c.args.track (10 ^ c.args.self.now.digits) c.segments.result c.initialization.result.now c.initialization.ensures c.segments.ensures
+    ∙ entry_is c.args.self.now.mpd.now c.args.section c.args.track
+    (10 ^ c.args.self.now.digits) c.segments.result c.initialization.result.now c.initialization.ensures c.segments.ensures

@@ -8,4 +8,5 @@ pub returns : goal.returns
 returns c = let p = c.args.self.now.playlists.now in let s = c.args.section in let t = c.args.track in
     let counted = rw c.window-window.ensures at c.count.ensures in
     c.unwrap_or.ensures ∙ ap (λ r. result_unwrap_or r 0) counted
-    ∙ counted_at p s t c.runs.result.now c.runs.ensures.content (counted_are_listed p _ s t c.requires.comparable.counted c.requires.section c.requires.track)
+    ∙ counted_at p s t c.runs.result.now c.runs.ensures.content
+    (counted_are_listed p _ s t c.requires.comparable.counted c.requires.section c.requires.track)

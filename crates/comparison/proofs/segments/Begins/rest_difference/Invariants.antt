@@ -9,6 +9,7 @@ invariant-loop-segment g l =
     let unit = 10 ^ l.self.digits in let t = l.spot.track in let s = l.spot.section in
     let mine = time_of l.self.mine in let theirs = time_of l.self.theirs in
     record {
-      same : segments_difference unit t s 1 mine theirs l.initial.mine l.initial.theirs ≡ segments_difference unit t s l.segment mine theirs l.mine l.theirs;
+      same : segments_difference unit t s 1 mine theirs l.initial.mine l.initial.theirs
+          ≡ segments_difference unit t s l.segment mine theirs l.mine l.theirs;
       listed : l.segment + length l.theirs ≡ l.listed;
     }

@@ -4,4 +4,5 @@ use Rattle.comparison.proofs.Ratios.{negative_floor}
 use Rattle.comparison.proofs.stretch.Stretch.floor.Goals as goal
 
 pub returns-in-Less : goal.returns-in-Less
-returns-in-Less c = sym (negative_floor c.args.unit (time_of c.args.self.end) (time_of c.args.self.begin) c.args.self.end.positive c.args.self.begin.positive c.in-Less.ensures.order)
+returns-in-Less c = sym (negative_floor c.args.unit (time_of c.args.self.end)
+    (time_of c.args.self.begin) c.args.self.end.positive c.args.self.begin.positive c.in-Less.ensures.order)

@@ -1,6 +1,6 @@
 use Rattle.std.proofs.Common.{length, All}
 use Rattle.presentation.specs.Laws.{HasAddress}
-use Rattle.file_pieces.specs.Adding.{shown}
+use Rattle.bridge_io.specs.Adding.{shown}
 use Rattle.dash_writer.specs.Written.{elements_text}
 use Rattle.dash_writer.proofs.Progress.{Progress}
 use Rattle.dash_writer.proofs.Urls.{urls_left}

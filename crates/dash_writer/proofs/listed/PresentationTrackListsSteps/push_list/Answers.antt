@@ -1,5 +1,5 @@
 use Rattle.std.proofs.Common.{ap, sym, option_to_list, ◌*◌, ◌+◌, ◌∙◌, length}
-use Rattle.file_pieces.proofs.Adding.{adds_same}
+use Rattle.bridge_io.proofs.Adding.{adds_same}
 use Rattle.presentation.specs.Presented.{content_at, listed_in, window_of}
 use Rattle.presentation.proofs.OwnListed.{addressed_at}
 use Rattle.dash_writer.specs.Segments.{segment_list}

@@ -1,5 +1,5 @@
 use Rattle.std.proofs.Common.{sym, ap, ◌∙◌}
-use Rattle.file_pieces.proofs.Adding.{adds_same}
+use Rattle.bridge_io.proofs.Adding.{adds_same}
 use Rattle.dash_writer.specs.declared.live.LivePeriod.{LivePeriod}
 use Rattle.dash_writer.specs.Written.{elements_text}
 use Rattle.dash_writer.proofs.LiveTracks.{list_read}

@@ -1,5 +1,5 @@
 use Rattle.std.proofs.Common.{List, drop, map}
-use Rattle.file_pieces.specs.Adding.{shown}
+use Rattle.bridge_io.specs.Adding.{shown}
 use Rattle.dash_writer.specs.declared.live.LiveSegment.{LiveSegment}
 use Rattle.dash_writer.specs.Live.{part_of}
 use Rattle.dash_writer.specs.Segments.{segment_url}

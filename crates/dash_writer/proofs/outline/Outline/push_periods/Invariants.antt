@@ -1,5 +1,5 @@
 use Rattle.std.proofs.Common.{drop}
-use Rattle.file_pieces.specs.Adding.{shown}
+use Rattle.bridge_io.specs.Adding.{shown}
 use Rattle.dash_writer.specs.Given.{outline_of}
 use Rattle.dash_writer.specs.Outline.{heads_from, period_elements}
 use Rattle.dash_writer.specs.Written.{elements_text}

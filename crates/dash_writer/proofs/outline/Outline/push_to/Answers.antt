@@ -1,5 +1,5 @@
 use Rattle.std.proofs.Common.{codes, sym, ◌∙◌}
-use Rattle.file_pieces.proofs.Adding.{adds_stop_at, adds_then}
+use Rattle.bridge_io.proofs.Adding.{adds_stop_at, adds_then}
 use Rattle.dash_writer.specs.Given.{outline_of, text_with}
 use Rattle.dash_writer.specs.Outline.{period_elements}
 use Rattle.dash_writer.proofs.Nodes.{adds_node, stops_at_children, stops_at_start}

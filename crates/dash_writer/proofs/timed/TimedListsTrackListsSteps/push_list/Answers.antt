@@ -1,6 +1,6 @@
 use Rattle.std.proofs.Common.{◌*◌, ◌+◌, get_or, slice_get, length, refl, sym, ap, ◌∙◌}
 use Rattle.std.proofs.lemmas.Option.{slice_get_read}
-use Rattle.file_pieces.proofs.Adding.{adds_same}
+use Rattle.bridge_io.proofs.Adding.{adds_same}
 use Rattle.presentation.specs.Presented.{content_at, window_of}
 use Rattle.presentation.proofs.OwnListed.{addressed_at}
 use Rattle.dash_writer.specs.Timed.{list_of}

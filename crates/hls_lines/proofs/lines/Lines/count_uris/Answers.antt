@@ -9,7 +9,12 @@ loop-rest-init c = let few = few_lines c.self.inside.place c.self.inside.rest.no
   search rules,
   zero-add _ ∙ ap (count_by is_uri) c.self.view_is,
   c.self.invariant,
-  rw (← c.self.view_is) (omega (arith, few, count_by-le-length is_uri (text_lines c.self.inside.place c.self.inside.rest.now), c.self.invariant.few)),
+  rw (← c.self.view_is) (omega (
+    arith,
+    few,
+    count_by-le-length is_uri (text_lines c.self.inside.place c.self.inside.rest.now),
+    c.self.invariant.few,
+  )),
 )
 
 pub returns-clause-few : goal.returns-clause-few

@@ -7,6 +7,8 @@ use Rattle.hls_media.proofs.state.Reader.read_uri.Goals as goal
 pub returns : goal.returns
 returns c =
     let segment = c.in_ok-segment.segment in
-    let told = segment_told c.args.base.now (state_of c.args.self.now) c.args.text.now c.args.place segment c.in_ok-segment.ensures.segment in
-    let same = ap (λ (s : State). record s { duration = None; range = None; segments = s.segments ++ segment ∷ [] }) c.in_ok-segment.ensures.state in
+    let told = segment_told c.args.base.now (state_of c.args.self.now) c.args.text.now c.args.place segment
+    c.in_ok-segment.ensures.segment in
+    let same = ap (λ (s : State). record s { duration = None; range = None; segments = s.segments ++ segment ∷ [] })
+    c.in_ok-segment.ensures.state in
     (rw c.in_ok-segment.ensures.segment refl, rw (c.in_ok-push.ensures.items, told) same)

@@ -7,5 +7,6 @@ use Rattle.hls_presentation.proofs.contents.Ticks.contents.Given as goal
 abbrev pub invariant-loop-place : goal.invariant-loop-place
 invariant-loop-place l = record {
   short : list_any is_too_long (rows_from l.tracks l.place (section_count l.tracks - l.place)) ≡ false;
-  told : behind l.contents (contents_of l.self.nanos (rows_from l.tracks l.place (section_count l.tracks - l.place))) ≡ contents_of l.self.nanos (rows_of l.tracks);
+  told : behind l.contents (contents_of l.self.nanos (rows_from l.tracks l.place (section_count l.tracks - l.place)))
+      ≡ contents_of l.self.nanos (rows_of l.tracks);
 }

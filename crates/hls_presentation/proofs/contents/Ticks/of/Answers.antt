@@ -5,7 +5,9 @@ use Rattle.hls_presentation.specs.Views.{source_of}
 use Rattle.hls_presentation.proofs.contents.Ticks.of.Goals as goal
 
 pub returns-then-are_all_micros : goal.returns-then-are_all_micros
-returns-then-are_all_micros c = ap (λ b. cond b 1000 1) (sym (list_all-map are_micros source_of c.args.tracks.now ∙ sym c.are_all_micros.ensures ∙ c.if-are_all_micros.true))
+returns-then-are_all_micros c = ap (λ b. cond b 1000 1) (sym (list_all-map are_micros source_of c.args.tracks.now
+    ∙ sym c.are_all_micros.ensures ∙ c.if-are_all_micros.true))
 
 pub returns : goal.returns
-returns c = ap (λ b. cond b 1000 1) (sym (list_all-map are_micros source_of c.args.tracks.now ∙ sym c.are_all_micros.ensures ∙ c.if-are_all_micros.false))
+returns c = ap (λ b. cond b 1000 1) (sym (list_all-map are_micros source_of c.args.tracks.now ∙ sym c.are_all_micros.ensures
+    ∙ c.if-are_all_micros.false))

@@ -9,6 +9,7 @@ use Rattle.hls_presentation.proofs.contents.Ticks.spans.Given as goal
 abbrev pub invariant-loop-segment : goal.invariant-loop-segment
 invariant-loop-segment l = record {
   start : time_of l.start ≡ in_units (ticks_by_second l.self.nanos) (l.time / l.self.nanos);
-  told : map extent_of l.spans.items ++ extents_from l.self.nanos l.time (drop l.segment-index l.group) ≡ extents_from l.self.nanos 0 l.group;
+  told : map extent_of l.spans.items ++ extents_from l.self.nanos l.time (drop l.segment-index l.group)
+      ≡ extents_from l.self.nanos 0 l.group;
   sum : l.time + length_of (drop l.segment-index l.group) ≡ length_of l.group;
 }

@@ -7,10 +7,12 @@ returns-then-len c = sym (unlike c.args.self.now c.args.other.now (λ same. c.if
 
 pub returns-then-not-starts_alike : goal.returns-then-not-starts_alike
 returns-then-not-starts_alike c =
-    sym (sym c.loop-place.invariant ∙ alike_turn c.args.self.now c.args.other.now c.loop-place.place c.at.result.now c.at-in-loop-place.result.now false
+    sym (sym c.loop-place.invariant ∙ alike_turn c.args.self.now c.args.other.now c.loop-place.place c.at.result.now
+    c.at-in-loop-place.result.now false
     (omega arith) (omega arith) c.at.ensures c.at-in-loop-place.ensures (sym c.starts_alike.ensures ∙ c.if-not-starts_alike.true))
 
 pub loop-place-preserved : goal.loop-place-preserved
 loop-place-preserved c =
     sym (alike_turn c.args.self.now c.args.other.now c.loop-place.place c.at.result.now c.at-in-loop-place.result.now true
-    (omega arith) (omega arith) c.at.ensures c.at-in-loop-place.ensures (sym c.starts_alike.ensures ∙ c.if-not-starts_alike.false)) ∙ c.loop-place.invariant
+    (omega arith) (omega arith) c.at.ensures c.at-in-loop-place.ensures (sym c.starts_alike.ensures ∙ c.if-not-starts_alike.false))
+    ∙ c.loop-place.invariant

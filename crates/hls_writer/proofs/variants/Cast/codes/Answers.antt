@@ -14,4 +14,5 @@ returns c =
     let tracks = c.args.self.now.tracks.now in
     let places = c.in_ok-places.places.items in
     rw (c.in_ok-merged.ensures, c.deref-2.ensures.value, c.args.self.now.told)
-    (codes_found tracks places (rw (c.have_codes.ensures, c.deref.ensures.value) at c.if-not-have_codes.false) ∙ ap (codes_of tracks) c.in_ok-places.ensures)
+    (codes_found tracks places (rw (c.have_codes.ensures, c.deref.ensures.value) at c.if-not-have_codes.false)
+    ∙ ap (codes_of tracks) c.in_ok-places.ensures)

@@ -18,5 +18,8 @@ returns-in-Ok-clause-value c =
     let nanos = to_z_pos w32 f.nanos (omega (arith, c.requires.nanos)) in
     let exists = simp (year, month, day, hour, minute, second, nanos) at (c.in-Ok.ensures.succeeds.0 refl) in
     let v = simp (year, month, day, hour, minute, second, nanos) at c.in-Ok.ensures.value in
-    let fits : FitsSigned w128 c.to_nanosecond.result = omega (arith, signed_arith, c.to_nanosecond.ensures.bound) in
-    (exists, to_z-of_z w128 _ fits ∙ c.to_nanosecond.ensures.value ∙ ap jiff_nanos c.to_plain.ensures ∙ civil_nanos-is f c.in-Ok.local v.0 v.1)
+    let fits : FitsSigned w128 c.to_nanosecond.result = omega (arith, signed_arith, c.to_nanosecond.ensures.bound) in (
+      exists,
+      to_z-of_z w128 _ fits ∙ c.to_nanosecond.ensures.value ∙ ap jiff_nanos c.to_plain.ensures
+          ∙ civil_nanos-is f c.in-Ok.local v.0 v.1,
+    )

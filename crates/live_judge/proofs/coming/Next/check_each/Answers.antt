@@ -7,7 +7,8 @@ use Rattle.live_judge.proofs.coming.Next.check_each.Goals as goal
 pub returns-then-count-gt-TRACK_LIMIT : goal.returns-then-count-gt-TRACK_LIMIT
 returns-then-count-gt-TRACK_LIMIT c = let n = c.args.self.now in (
   first_over (coming_of n) n.tracks.now c.loop-track.track c.of.result.track.now c.kept_count-count.result c.of.ensures.there
-      (c.kept_count-count.ensures.kept ∙ count_for c.of.result n c.loop-track.track c.of.ensures.next c.of.ensures.index) (omega arith) c.loop-track.invariant,
+      (c.kept_count-count.ensures.kept ∙ count_for c.of.result n c.loop-track.track c.of.ensures.next c.of.ensures.index)
+      (omega arith) c.loop-track.invariant,
   refl,
 )
 
@@ -15,8 +16,10 @@ pub loop-track-preserved : goal.loop-track-preserved
 loop-track-preserved c = let n = c.args.self.now in
     none_next (over_at (coming_of n)) n.tracks.now c.loop-track.track c.of.result.track.now c.of.ensures.there c.loop-track.invariant
     (within_limit 20000 c.kept_count-count.result (count_at (coming_of n) c.loop-track.track c.of.result.track.now) c.loop-track.track
-    (c.kept_count-count.ensures.kept ∙ count_for c.of.result n c.loop-track.track c.of.ensures.next c.of.ensures.index) (λ over. omega (arith, over)))
+    (c.kept_count-count.ensures.kept ∙ count_for c.of.result n c.loop-track.track c.of.ensures.next c.of.ensures.index)
+    (λ over. omega (arith, over)))
 
 pub returns : goal.returns
 returns c = let n = c.args.self.now in
-    over_each (coming_of n) 0 n.tracks.now ∙ none_left (over_at (coming_of n)) n.tracks.now c.loop-track.track (omega arith) c.loop-track.invariant
+    over_each (coming_of n) 0 n.tracks.now ∙ none_left (over_at (coming_of n)) n.tracks.now c.loop-track.track
+    (omega arith) c.loop-track.invariant

@@ -12,15 +12,19 @@ loop-track-init c = refl
 
 pub loop-track-preserved : goal.loop-track-preserved
 loop-track-preserved c =
-    none_next (long_at (coming_of c.args.self.now)) c.args.self.now.tracks.now c.loop-track.track c.of.result.track.now c.of.ensures.there c.loop-track.invariant
+    none_next (long_at (coming_of c.args.self.now)) c.args.self.now.tracks.now c.loop-track.track c.of.result.track.now c.of.ensures.there
+    c.loop-track.invariant
     (sym (long_for c.of.result c.args.self.now c.loop-track.track c.of.ensures.next c.of.ensures.index) ∙ c.in_ok-check_long.ensures)
 
 pub returns-in_err-check_long : goal.returns-in_err-check_long
 returns-in_err-check_long c =
     let p = err_from_is_err_and c.from_residual.result c.from_residual.ensures.1 in
-    let tells = subst (λ (xs : List Refusal). Tells c.in_err-check_long.field-0.0 xs) (long_for c.of.result c.args.self.now c.loop-track.track c.of.ensures.next c.of.ensures.index) c.in_err-check_long.ensures in
-    rw (p.1, p.2) (subst (λ (xs : List Refusal). Tells c.in_err-check_long.field-0.0 xs) (sym (long_each (coming_of c.args.self.now) 0 c.args.self.now.tracks.now))
-    (first_next (long_at (coming_of c.args.self.now)) c.args.self.now.tracks.now c.loop-track.track c.of.result.track.now c.in_err-check_long.field-0.0 c.of.ensures.there c.loop-track.invariant tells))
+    let tells = subst (λ (xs : List Refusal). Tells c.in_err-check_long.field-0.0 xs)
+    (long_for c.of.result c.args.self.now c.loop-track.track c.of.ensures.next c.of.ensures.index) c.in_err-check_long.ensures in
+    rw (p.1, p.2) (subst (λ (xs : List Refusal). Tells c.in_err-check_long.field-0.0 xs)
+    (sym (long_each (coming_of c.args.self.now) 0 c.args.self.now.tracks.now))
+    (first_next (long_at (coming_of c.args.self.now)) c.args.self.now.tracks.now c.loop-track.track c.of.result.track.now
+    c.in_err-check_long.field-0.0 c.of.ensures.there c.loop-track.invariant tells))
 
 pub returns : goal.returns
 returns c =

@@ -18,7 +18,8 @@ second_of-second-requires-clause-near c = let t = c.args.self.now in
 
 pub next_equal-others-requires-clause-near : goal.next_equal-others-requires-clause-near
 next_equal-others-requires-clause-near c = let t = c.args.self.now in
-    rw c.next-first.ensures.kept (others_near t.rounder t.walk c.next_run.new.self c.in_ok-spans.spans c.in_ok-spans.ensures c.requires.paced)
+    rw c.next-first.ensures.kept (others_near t.rounder t.walk c.next_run.new.self c.in_ok-spans.spans c.in_ok-spans.ensures
+    c.requires.paced)
 
 pub returns : goal.returns
 returns c =
@@ -47,5 +48,6 @@ returns c =
         even = rw kept at c.next_equal-others.ensures.even;
         second = told_second (time_of t.first) t.unit r walk new run is c.requires c.second_of-second.result c.second_of-second.ensures;
       };
-      paced = subst (λ (q : Rounding). IsPacedBy new q (time_of t.first) t.unit) (sym behind) (paced_next (time_of t.first) t.unit r walk new run is c.requires);
+      paced = subst (λ (q : Rounding). IsPacedBy new q (time_of t.first) t.unit) (sym behind)
+          (paced_next (time_of t.first) t.unit r walk new run is c.requires);
     }

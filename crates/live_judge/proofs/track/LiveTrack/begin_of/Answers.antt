@@ -10,5 +10,6 @@ loop-begin-preserved c =
     record {
       rises = omega (arith, c.loop-begin.invariant.rises);
       all = of_more c.args.self.now (begin - 1) k c.get.ensures c.args.place c.args.section begin c.args.end refl
-          (of_both c.args.place c.args.section k.segment (omega (arith, c.if-fact-place.false)) (omega (arith, c.if-item-section.false))) c.loop-begin.invariant.all;
+          (of_both c.args.place c.args.section k.segment (omega (arith, c.if-fact-place.false))
+          (omega (arith, c.if-item-section.false))) c.loop-begin.invariant.all;
     }

@@ -7,7 +7,8 @@ use Rattle.live_judge.proofs.track.LiveTrack.latest.Goals as goal
 pub returns-then-end-eq0 : goal.returns-then-end-eq0
 returns-then-end-eq0 c =
     let end = c.end_of-end.result in
-    none_before_it c.args.self.now c.args.place (record { begin = end; end = end }) c.requires.paired c.requires.ordered c.end_of-end.ensures refl (omega (arith, c.if-end-eq0.true))
+    none_before_it c.args.self.now c.args.place (record { begin = end; end = end }) c.requires.paired c.requires.ordered
+    c.end_of-end.ensures refl (omega (arith, c.if-end-eq0.true))
 
 pub get-requires-clause-within : goal.get-requires-clause-within
 get-requires-clause-within c =
@@ -20,6 +21,9 @@ pub returns : goal.returns
 returns c =
     let end = c.end_of-end.result in
     let k = kept_of c.get.result.0.now c.get.result.1.now in
-    block_is c.args.self.now c.args.place (record { begin = c.begin_of-begin.result; end = end }) c.requires.paired c.requires.ordered c.end_of-end.ensures
+    block_is c.args.self.now c.args.place (record {
+      begin = c.begin_of-begin.result;
+      end = end;
+    }) c.requires.paired c.requires.ordered c.end_of-end.ensures
     c.get.result.0.now.section c.begin_of-begin.ensures
     (λ w some at. ap (λ (y : Segment). y.section) (is_it c.args.self.now (end - 1) k c.get.ensures (end - 1) w at refl))

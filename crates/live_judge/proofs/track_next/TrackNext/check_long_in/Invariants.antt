@@ -9,7 +9,8 @@ use Rattle.live_judge.proofs.track_next.TrackNext.check_long_in.Given as goal
 abbrev pub invariant-loop-run : goal.invariant-loop-run
 invariant-loop-run l = record {
   paced : IsPaced l.times;
-  none : longs_told (unit_of (c_of l.self).terms) (c_of l.self).target (durs l.self l.section) ≡ longs_told (unit_of (c_of l.self).terms) (c_of l.self).target (left_of l.times);
+  none : longs_told (unit_of (c_of l.self).terms) (c_of l.self).target (durs l.self l.section)
+      ≡ longs_told (unit_of (c_of l.self).terms) (c_of l.self).target (left_of l.times);
 }
 
 abbrev pub decreases-loop-run : goal.decreases-loop-run

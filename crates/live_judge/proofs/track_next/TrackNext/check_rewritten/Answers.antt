@@ -15,7 +15,8 @@ returns-in_err-check_block c =
     let l = c.args.self.now in
     let end = ap length c.sections.ensures in
     let p = err_from_is_err_and c.from_residual.result c.from_residual.ensures.1 in
-    rw (p.1, p.2) (first_here (rewritten_in (common_shown l.next.now.standing.now) (p_of l.next.now) l.index (t_of l)) (length (p_of l.next.now).sections) c.loop-section.section _
+    rw (p.1, p.2) (first_here (rewritten_in (common_shown l.next.now.standing.now) (p_of l.next.now) l.index (t_of l))
+    (length (p_of l.next.now).sections) c.loop-section.section _
     (omega (arith, end)) c.loop-section.invariant.none c.in_err-check_block.ensures)
 
 pub loop-section-preserved : goal.loop-section-preserved
@@ -25,6 +26,7 @@ loop-section-preserved c =
     record {
       within = c.latest-block.ensures.inside.within;
       before = λ i x at less. omega (arith, c.latest-block.ensures.before i x at less);
-      none = none_here (rewritten_in (common_shown l.next.now.standing.now) (p_of l.next.now) l.index (t_of l)) (length (p_of l.next.now).sections) c.loop-section.section
+      none = none_here (rewritten_in (common_shown l.next.now.standing.now) (p_of l.next.now) l.index (t_of l))
+          (length (p_of l.next.now).sections) c.loop-section.section
           (omega (arith, end)) c.loop-section.invariant.none c.in_ok-check_block.ensures;
     }

@@ -10,5 +10,6 @@ abbrev pub invariant-loop-section : goal.invariant-loop-section
 invariant-loop-section l = record {
   within : l.from ≤ length l.self.track.now.facts.items;
   before : StandBefore (l.self.next.now.place + l.section) (segments_in l.self.track.now) l.from;
-  none : IsNoneBefore (rewritten_in (common_shown l.self.next.now.standing.now) (p_of l.self.next.now) l.self.index (t_of l.self)) (length (p_of l.self.next.now).sections) l.section;
+  none : IsNoneBefore (rewritten_in (common_shown l.self.next.now.standing.now) (p_of l.self.next.now) l.self.index (t_of l.self))
+      (length (p_of l.self.next.now).sections) l.section;
 }

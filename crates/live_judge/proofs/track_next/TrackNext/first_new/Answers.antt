@@ -12,7 +12,8 @@ loop-section-init c = ap (flat_map (news_in c.args.self.now)) (sym (from_on-star
 pub returns-in-Some : goal.returns-in-Some
 returns-in-Some c =
     let end = ap length c.sections.ensures in
-    first_new_is c.args.self.now c.loop-section.section c.number-number.result (timing_of c.in-Some.span) c.requires (omega (arith, end)) c.loop-section.invariant
+    first_new_is c.args.self.now c.loop-section.section c.number-number.result (timing_of c.in-Some.span) c.requires
+    (omega (arith, end)) c.loop-section.invariant
     c.in-Some.ensures.0 c.in-Some.ensures.1 c.number-number.ensures
 
 pub loop-section-preserved : goal.loop-section-preserved

@@ -21,7 +21,9 @@ loop-section-preserved c =
     let end = ap length c.sections.ensures in
     let fits : Fits w64 c.new_count_in.result = search rules in
     record {
-      summed = summed_next (count_in c.args.self.now) (length (p_of c.args.self.now.next.now).sections) c.loop-section.count c.from-count.result c.loop-section.section (omega (arith, end))
+      summed = summed_next (count_in c.args.self.now)
+          (length (p_of c.args.self.now.next.now).sections) c.loop-section.count c.from-count.result c.loop-section.section
+          (omega (arith, end))
           (c.from-count.ensures ∙ c.new_count_in.ensures) c.loop-section.invariant.summed;
       bound = omega (arith, fits.fits, c.loop-section.invariant.bound, c.from-count.ensures);
     }
@@ -29,7 +31,8 @@ loop-section-preserved c =
 pub returns-clause-count : goal.returns-clause-count
 returns-clause-count c =
     let end = ap length c.sections.ensures in
-    summed_all (count_in c.args.self.now) (length (p_of c.args.self.now.next.now).sections) c.loop-section.count c.loop-section.section (omega (arith, end)) c.loop-section.invariant.summed
+    summed_all (count_in c.args.self.now) (length (p_of c.args.self.now.next.now).sections) c.loop-section.count c.loop-section.section
+    (omega (arith, end)) c.loop-section.invariant.summed
     ∙ sym (count_there c.args.self.now c.requires)
 
 pub returns-clause-bounded : goal.returns-clause-bounded

@@ -8,6 +8,7 @@ use Rattle.live_judge.proofs.track_next.TrackNext.removed.Goals as goal
 pub returns : goal.returns
 returns c = let l = c.args.self.now in
     removed_there l c.saturating_sub-least.result c.removed_of.result
-    (least_left (least_length (c_of l)) (sum (new_durations (c_of l) l.index (t_of l))) c.saturating_sub-least.result c.least_length.result c.total.result c.least_length.ensures (omega arith)
+    (least_left (least_length (c_of l)) (sum (new_durations (c_of l) l.index (t_of l))) c.saturating_sub-least.result c.least_length.result
+    c.total.result c.least_length.ensures (omega arith)
     c.total.ensures (omega (arith, c.saturating_sub-least.ensures)))
     c.removed_of.ensures

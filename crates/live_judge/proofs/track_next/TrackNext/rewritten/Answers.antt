@@ -34,17 +34,22 @@ returns c =
     let end : block.begin + (block.end - block.begin - 1) ≡ block.end - 1 = omega (arith, some) in
     let place : length olds - 1 ≡ block.end - block.begin - 1 = omega (arith, long) in
     let at_first = time_at block track inside 0 one (omega (arith, some)) (ap (slice_get (kept_in track)) begin ∙ c.get.ensures) in
-    let at_last = ap (slice_get olds) place ∙ time_at block track inside (block.end - block.begin - 1) other (omega (arith, some)) (ap (slice_get (kept_in track)) end ∙ c.get-2.ensures) in
+    let at_last = ap (slice_get olds) place ∙ time_at block track inside (block.end - block.begin - 1) other (omega (arith, some))
+    (ap (slice_get (kept_in track)) end ∙ c.get-2.ensures) in
     let begins = (segment_there l c.requires.next block.begin one.segment (segment_at track block.begin one c.get.ensures)).listed in
     let there = segment_at track (block.end - 1) other c.get-2.ensures in
     let within : is_until w.until last.end ≡ true =
     ap (λ (v : Window). is_until v.until last.end) c.window.ensures
-    ∙ until_there l c.requires.next c.args.section c.requires.section c.requires.unmoved (block.end - 1) other.segment there (c.requires.block.last other.segment some there) in
+    ∙ until_there l c.requires.next c.args.section c.requires.section c.requires.unmoved (block.end - 1) other.segment there
+    (c.requires.block.last other.segment some there) in
     let same : expansion_at (p_of l.next.now) l.index c.args.section ≡ xs =
-    expansion_is l c.requires.next c.args.section c.requires.section c.runs.result.now w c.closed_ends.ensures.until c.runs.ensures.content (ap (λ (v : Window). v.until) c.window.ensures) in
+    expansion_is l c.requires.next c.args.section c.requires.section c.runs.result.now w c.closed_ends.ensures.until c.runs.ensures.content
+    (ap (λ (v : Window). v.until) c.window.ensures) in
     let timed = subst (λ (ys : List Timing). All (λ x. IsTime x.end) ys) same (c.requires.timed l.index c.args.section) in
     c.last_other.ensures
-    ∙ held_last first.end olds (listed w xs) last.end (c.len.result + 1) c.last_ended-ended.result (omega (arith, long, c.len.ensures)) c.last_ended-ended.ensures
-    ∙ ap (λ (ys : List Timing). first_other (reverse olds) (reverse ys)) (sym (within_are w first.end last.end refl begins (c.get-2.result.1.now.span.end).positive within xs timed))
+    ∙ held_last first.end olds (listed w xs) last.end (c.len.result + 1) c.last_ended-ended.result
+    (omega (arith, long, c.len.ensures)) c.last_ended-ended.ensures
+    ∙ ap (λ (ys : List Timing). first_other (reverse olds) (reverse ys))
+    (sym (within_are w first.end last.end refl begins (c.get-2.result.1.now.span.end).positive within xs timed))
     ∙ sym (rewritten_is olds xs first last at_first at_last)
     ∙ ap (rewritten_by olds) (sym same)

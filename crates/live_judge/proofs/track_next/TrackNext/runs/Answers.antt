@@ -10,4 +10,5 @@ pub returns-clause-fits : goal.returns-clause-fits
 returns-clause-fits c = c.runs.ensures.fits_from (c.args.self.now.next.now).now (start_of (p_of c.args.self.now.next.now) c.args.section)
 
 pub returns-clause-reached : goal.returns-clause-reached
-returns-clause-reached c = reached_there c.args.self.now c.requires.next c.args.section c.runs.result.now c.requires.section c.runs.ensures.content
+returns-clause-reached c = reached_there c.args.self.now c.requires.next c.args.section c.runs.result.now c.requires.section
+    c.runs.ensures.content

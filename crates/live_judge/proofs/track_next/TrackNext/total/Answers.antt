@@ -8,12 +8,14 @@ loop-section-preserved c =
     let end = ap length c.sections.ensures in
     let l = c.args.self.now in
     let s = c.loop-section.section in
-    sums_next c.loop-section.total c.total_in.result c.saturating_add-total.result (durs l s) (durs_from l s) (durs_from l (s + 1)) (all_durs l) (durs_next l s (omega (arith, end))) c.total_in.ensures
+    sums_next c.loop-section.total c.total_in.result c.saturating_add-total.result (durs l s) (durs_from l s) (durs_from l (s + 1))
+    (all_durs l) (durs_next l s (omega (arith, end))) c.total_in.ensures
     (omega (arith, c.saturating_add-total.ensures)) c.loop-section.invariant
 
 pub returns : goal.returns
 returns c =
     let end = ap length c.sections.ensures in
     let l = c.args.self.now in
-    sums_all c.loop-section.total (durs_from l c.loop-section.section) (all_durs l) (durs_end l c.loop-section.section (omega (arith, end))) c.loop-section.invariant
+    sums_all c.loop-section.total (durs_from l c.loop-section.section) (all_durs l)
+    (durs_end l c.loop-section.section (omega (arith, end))) c.loop-section.invariant
     ∙ ap (λ (ds : List ℕ). capped (sum ds)) (sym (durations_there l c.requires.next))

@@ -1,7 +1,8 @@
 use Rattle.std.proofs.Common.{ap, arith, length}
 use Rattle.live_judge.specs.Shown.{track_shown}
 use Rattle.live_session.specs.Made.{all_made}
-use Rattle.live_session.proofs.TrackMaking.{begun_as, joins_as, made_as, none_yet, not_made_as, section_made, section_makeable, section_refused, track_made}
+use Rattle.live_session.proofs.TrackMaking.{begun_as, joins_as, made_as, none_yet, not_made_as, section_made, section_makeable}
+use Rattle.live_session.proofs.TrackMaking.{section_refused, track_made}
 use Rattle.live_session.proofs.maker.Maker.make_track.Goals as goal
 
 pub loop-section-init : goal.loop-section-init

@@ -13,7 +13,13 @@ returns-clause-says c = λ above says.
     let template = c.in_ok-template.ensures.shows (elements_used template_name above) says.template in
     let list = c.in_ok-list.ensures.shows (elements_used list_name above) (Shows-grows c.below.ensures.grows says.list) in
     record {
-      means = means ∙ rw (c.means_of-means.ensures, says.means, c.child_named-template_node.ensures, c.child_named-list_node.ensures, c.child_named-base_node.ensures) refl;
+      means = means ∙ rw (
+        c.means_of-means.ensures,
+        says.means,
+        c.child_named-template_node.ensures,
+        c.child_named-list_node.ensures,
+        c.child_named-base_node.ensures,
+      ) refl;
       template = Shows-grows c.below-2.ensures.grows (rw c.child_named-template_node.ensures at template);
       list = rw c.child_named-list_node.ensures at list;
       base = c.in_ok-base.ensures ∙ rw (c.child_named-base_node.ensures, says.base) refl;

@@ -8,8 +8,11 @@ use Rattle.mpd_levels.proofs.level.Level.segments.Goals as goal
 pub returns-in_ok-of-in-Some-Template : goal.returns-in_ok-of-in-Some-Template
 returns-in_ok-of-in-Some-Template c = λ tables levels says.
     let is : used levels ≡ Some means.Template = rw (← says.means) (search rules) in
-    let values = values_in false (elements_used template_name levels) in
-    (told false values, segments_is levels (Some means.Template) is, row_tells tables _ false _ values c.in_ok-of-in-Some-Template.ensures says.template)
+    let values = values_in false (elements_used template_name levels) in (
+      told false values,
+      segments_is levels (Some means.Template) is,
+      row_tells tables _ false _ values c.in_ok-of-in-Some-Template.ensures says.template,
+    )
 
 pub returns-in_ok-of-in-Some-List : goal.returns-in_ok-of-in-Some-List
 returns-in_ok-of-in-Some-List c = λ tables levels says.

@@ -2,9 +2,10 @@ use Rattle.std.proofs.Common.{◌≡◌, List, Some}
 use Rattle.mpd_text.specs.Nodes.{attributes_left}
 use Rattle.mpd_text.specs.Trees.{Head}
 use Rattle.std.specs.Prelude.{flat_map}
+use Rattle.bridge_io.specs.Firsts.{first_fault}
 use Rattle.mpd_profile.specs.Behind.{IsBehind}
 use Rattle.mpd_profile.specs.Passes.{visit_shown}
-use Rattle.mpd_profile.specs.Refusals.{attribute_told, attributes_told, first_of}
+use Rattle.mpd_profile.specs.Refusals.{attribute_told, attributes_told}
 use Rattle.mpd_profile.proofs.visit.Visit.check_attribute_values.Given as goal
 
 abbrev pub invariant-loop-attr : goal.invariant-loop-attr
@@ -12,5 +13,5 @@ invariant-loop-attr l =
     (goal.iterator-loop-attr).can_next l.attr-iterator ×
     (goal.iterator-loop-attr).is_finite l.attr-iterator ×
     ((before : List Head) → IsBehind l.self.siblings.now l.self.dynamic before →
-    first_of (flat_map (attribute_told l.addressing (visit_shown l.self before) l.listed) (attributes_left l.attr-iterator))
-    ≡ first_of (attributes_told l.addressing (visit_shown l.self before) (Some l.listed)))
+    first_fault (flat_map (attribute_told l.addressing (visit_shown l.self before) l.listed) (attributes_left l.attr-iterator))
+    ≡ first_fault (attributes_told l.addressing (visit_shown l.self before) (Some l.listed)))

@@ -7,10 +7,13 @@ pub returns-in-Some : goal.returns-in-Some
 returns-in-Some c = λ before behind.
     let visit = visit_shown c.args.self.now before in
     rw (c.at.ensures, c.place.ensures)
-    (some_feature visit.head.place (parent_feature visit.parent before visit.head.name) (codes_feature visit.listed visit.parent visit.head) (attributes_told visit.listed visit.dynamic visit.head.attributes) c.in-Some.feature (c.in-Some.ensures before behind))
+    (some_feature visit.head.place (parent_feature visit.parent before visit.head.name)
+    (codes_feature visit.listed visit.parent visit.head)
+    (attributes_told visit.listed visit.dynamic visit.head.attributes) c.in-Some.feature (c.in-Some.ensures before behind))
 
 pub returns-in-None : goal.returns-in-None
 returns-in-None c = λ before behind.
     let visit = visit_shown c.args.self.now before in
     rw c.check_attribute_features.ensures
-    (no_feature visit.head.place (parent_feature visit.parent before visit.head.name) (codes_feature visit.listed visit.parent visit.head) (attributes_told visit.listed visit.dynamic visit.head.attributes) (c.in-None.ensures before behind))
+    (no_feature visit.head.place (parent_feature visit.parent before visit.head.name) (codes_feature visit.listed visit.parent visit.head)
+    (attributes_told visit.listed visit.dynamic visit.head.attributes) (c.in-None.ensures before behind))

@@ -12,4 +12,5 @@ returns-in-Some c = λ before behind.
 pub returns-in-None : goal.returns-in-None
 returns-in-None c = λ before behind.
     let visit = visit_shown c.args.self.now before in
-    c.feature_by_codes.ensures ∙ ap (λ own. or_else own (codes_feature visit.listed visit.parent visit.head)) (c.in-None.ensures before behind)
+    c.feature_by_codes.ensures ∙ ap (λ own. or_else own (codes_feature visit.listed visit.parent visit.head))
+    (c.in-None.ensures before behind)

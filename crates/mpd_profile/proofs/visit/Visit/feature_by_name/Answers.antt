@@ -9,7 +9,8 @@ use Rattle.mpd_text.specs.Nodes.{element_of}
 use Rattle.mpd_text.specs.Trees.{Head}
 use Rattle.mpd_profile.proofs.visit.Visit.feature_by_name.Goals as goal
 
-named : (o : Option (Bor parents.Parent)) (parent : Bor parents.Parent) (before : List Head) (said name : List ℕ) (second : Bool) (feature : Option Feature)
+named : (o : Option (Bor parents.Parent)) (parent : Bor parents.Parent) (before : List Head) (said name : List ℕ) (second : Bool)
+    (feature : Option Feature)
     → o ≡ Some parent → said ≡ name → second ≡ is_second before said → feature ≡ feature_if parent.now.listed second said
     → feature ≡ parent_feature (option_map (λ (p : Bor parents.Parent). parent_shown p.now) o) before name
 named o parent before said name second feature is says two by_name =
@@ -17,7 +18,8 @@ named o parent before said name second feature is says two by_name =
 
 pub returns-in-Some : goal.returns-in-Some
 returns-in-Some c = λ before behind.
-    named c.args.self.now.parent c.in-Some.parent before c.name-name.result.now (element_of c.args.self.now.node).head.name c.is_second.result c.element_feature.result
+    named c.args.self.now.parent c.in-Some.parent before c.name-name.result.now
+    (element_of c.args.self.now.node).head.name c.is_second.result c.element_feature.result
     c.in-Some.is c.name-name.ensures (c.is_second.ensures c.args.self.now.dynamic before behind) c.element_feature.ensures
 
 pub returns-then-is_short : goal.returns-then-is_short

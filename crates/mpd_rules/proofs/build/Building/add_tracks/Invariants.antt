@@ -13,8 +13,12 @@ invariant-loop-representation g l = record {
   grows : Grows l.initial.self.tables l.self.tables;
   left_out : l.self.left_out ≡ l.initial.self.left_out;
   refused : (levels : List Element) → Says l.initial.self.tables l.above levels
-      → flat_map (refused_in g.X.Told.refused g.X.Told.of levels) (map element_of (drop l.representation-index l.representations)) ≡ flat_map (refused_in g.X.Told.refused g.X.Told.of levels) (map element_of l.representations);
+      → flat_map (refused_in g.X.FromLevels.refused g.X.FromLevels.of levels)
+      (map element_of (drop l.representation-index l.representations))
+      ≡ flat_map (refused_in g.X.FromLevels.refused g.X.FromLevels.of levels) (map element_of l.representations);
   rows : (levels : List Element) (later : Tables) → Says l.initial.self.tables l.above levels → Grows l.self.tables later
-      → tracks_shown g.X.Told.shown later l.tracks ++ map (track_in g.X.Told.of l.common levels) (map element_of (drop l.representation-index l.representations))
-      ≡ tracks_shown g.X.Told.shown later l.initial.tracks ++ map (track_in g.X.Told.of l.common levels) (map element_of l.representations);
+      → tracks_shown g.X.FromLevels.shown later l.tracks ++ map (track_in g.X.FromLevels.of l.common levels)
+      (map element_of (drop l.representation-index l.representations))
+      ≡ tracks_shown g.X.FromLevels.shown later l.initial.tracks ++ map (track_in g.X.FromLevels.of l.common levels)
+      (map element_of l.representations);
 }

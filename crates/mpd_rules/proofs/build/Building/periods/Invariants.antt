@@ -9,8 +9,11 @@ use Rattle.mpd_rules.proofs.build.Building.periods.Given as goal
 
 abbrev pub invariant-loop-place : goal.invariant-loop-place
 invariant-loop-place g l = record {
-  left_out : length l.self.left_out + sum_by left_in_period (map element_of (drop l.place l.periods)) ≡ length l.initial.self.left_out + sum_by left_in_period (map element_of l.periods);
-  refused : periods_refused l.many g.X.Told.refused g.X.Told.of l.place (map element_of (drop l.place l.periods)) ≡ periods_refused l.many g.X.Told.refused g.X.Told.of 0 (map element_of l.periods);
+  left_out : length l.self.left_out + sum_by left_in_period (map element_of (drop l.place l.periods))
+      ≡ length l.initial.self.left_out + sum_by left_in_period (map element_of l.periods);
+  refused : periods_refused l.many g.X.FromLevels.refused g.X.FromLevels.of l.place (map element_of (drop l.place l.periods))
+      ≡ periods_refused l.many g.X.FromLevels.refused g.X.FromLevels.of 0 (map element_of l.periods);
   rows : (later : Tables) → Grows l.self.tables later
-      → periods_shown g.X.Told.shown later l.rows ++ periods_in g.X.Told.of l.bases (map element_of (drop l.place l.periods)) (drop l.place l.bounds) ≡ periods_in g.X.Told.of l.bases (map element_of l.periods) l.bounds;
+      → periods_shown g.X.FromLevels.shown later l.rows ++ periods_in g.X.FromLevels.of l.bases (map element_of (drop l.place l.periods))
+      (drop l.place l.bounds) ≡ periods_in g.X.FromLevels.of l.bases (map element_of l.periods) l.bounds;
 }

@@ -26,14 +26,16 @@ returns-in_err-add_set-clause-grows g c = Grows-then c.loop-place.invariant.grow
 pub returns-in_err-add_set-clause-refused : goal.returns-in_err-add_set-clause-refused
 returns-in_err-add_set-clause-refused g c = λ levels says.
     let p = err_from_is_err_and c.from_residual.result c.from_residual.ensures.1 in
-    let here = one_left element_of c.args.sets.now c.loop-place.place c.index-sets-place.result c.loop-place-test.true c.index-sets-place.is in
+    let here = one_left element_of c.args.sets.now c.loop-place.place c.index-sets-place.result c.loop-place-test.true
+    c.index-sets-place.is in
     rw (p.1, p.2) (first_of_more c.in_err-add_set.field-0.0 _ _ _ (rw here at (c.loop-place.invariant.refused levels says))
     (c.in_err-add_set.ensures.refused levels (Says-grows c.loop-place.invariant.grows says)))
 
 pub loop-place-preserved : goal.loop-place-preserved
 loop-place-preserved g c =
     let i = c.loop-place.invariant in
-    let here = one_left element_of c.args.sets.now c.loop-place.place c.index-sets-place.result c.loop-place-test.true c.index-sets-place.is in
+    let here = one_left element_of c.args.sets.now c.loop-place.place c.index-sets-place.result c.loop-place-test.true
+    c.index-sets-place.is in
     record {
       grows = Grows-then i.grows c.add_set.ensures.grows;
       left_out = omega (arith, c.in_ok-add_set.ensures.left_out, rw (here, sum_by-cons left_in_set) at i.left_out);
@@ -41,13 +43,16 @@ loop-place-preserved g c =
           let none = none_first _ (c.in_ok-add_set.ensures.refused levels (Says-grows i.grows says)) in
           rw none at (rw here at (i.refused levels says));
       rows = λ levels later says grows.
-          let rest = sets_tracks g.X.Told.of (c.loop-place.place + 1) c.args.above.now.bases levels (map element_of (drop (c.loop-place.place + 1) c.args.sets.now)) in
+          let rest = sets_tracks g.X.FromLevels.of (c.loop-place.place + 1) c.args.above.now.bases levels
+          (map element_of (drop (c.loop-place.place + 1) c.args.sets.now)) in
           ap (λ rows. rows ++ rest) (c.in_ok-add_set.ensures.rows levels later (Says-grows i.grows says) grows)
-          ∙ append_assoc (tracks_shown g.X.Told.shown later c.loop-place.tracks) (set_tracks g.X.Told.of c.loop-place.place c.args.above.now.bases levels (element_of c.index-sets-place.result)) rest
+          ∙ append_assoc (tracks_shown g.X.FromLevels.shown later c.loop-place.tracks)
+          (set_tracks g.X.FromLevels.of c.loop-place.place c.args.above.now.bases levels (element_of c.index-sets-place.result)) rest
           ∙ rw here at (i.rows levels later says (Grows-then c.add_set.ensures.grows grows));
     }
 
 pub returns-clause-rows : goal.returns-clause-rows
 returns-clause-rows g c = λ levels later says grows.
-    sym (append-nil (tracks_shown g.X.Told.shown later c.loop-place.tracks))
-    ∙ rw (at_drop_all (map element_of) c.args.sets.now c.loop-place.place c.loop-place-test.false) at (c.loop-place.invariant.rows levels later says grows)
+    sym (append-nil (tracks_shown g.X.FromLevels.shown later c.loop-place.tracks))
+    ∙ rw (at_drop_all (map element_of) c.args.sets.now c.loop-place.place c.loop-place-test.false) at
+    (c.loop-place.invariant.rows levels later says grows)

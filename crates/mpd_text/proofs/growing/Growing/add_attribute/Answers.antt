@@ -43,7 +43,8 @@ returns-clause-ok c =
     record {
       row = row;
       row_is = subst (λ k. slice_get g.elements.items k ≡ Some row) last is;
-      elements = ap (λ k. set g.elements.items k (with_attributes_end row c.in_ok-end.end)) last ∙ ap (λ n. set g.elements.items (vec_len g.elements - 1) (with_attributes_end row n)) end;
+      elements = ap (λ k. set g.elements.items k (with_attributes_end row c.in_ok-end.end)) last
+          ∙ ap (λ n. set g.elements.items (vec_len g.elements - 1) (with_attributes_end row n)) end;
       attributes = c.in_ok-push.ensures.items;
       entries = refl;
     }

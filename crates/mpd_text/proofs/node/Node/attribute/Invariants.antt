@@ -4,4 +4,5 @@ use Rattle.mpd_text.specs.Views.{attribute_named}
 use Rattle.mpd_text.proofs.node.Node.attribute.Given as goal
 
 abbrev pub invariant-loop-row : goal.invariant-loop-row
-invariant-loop-row l = attribute_named l.name (map (attribute_in l.self.tree.now) (drop l.row-index l.row-items)) ≡ attribute_named l.name (map (attribute_in l.self.tree.now) l.row-items)
+invariant-loop-row l = attribute_named l.name (map (attribute_in l.self.tree.now) (drop l.row-index l.row-items))
+    ≡ attribute_named l.name (map (attribute_in l.self.tree.now) l.row-items)

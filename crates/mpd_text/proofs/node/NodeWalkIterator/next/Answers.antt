@@ -8,7 +8,8 @@ returns-then-self-clause-steps c =
     (none, none)
 
 pub returns-clause-steps : goal.returns-clause-steps
-returns-clause-steps c = one_left c.args.self.now.tree.now c.args.self.now.at c.args.self.now.end c.row.result.now (omega arith) c.row.ensures
+returns-clause-steps c = one_left c.args.self.now.tree.now c.args.self.now.at c.args.self.now.end c.row.result.now
+    (omega arith) c.row.ensures
 
 pub returns-clause-goes : goal.returns-clause-goes
 returns-clause-goes c =

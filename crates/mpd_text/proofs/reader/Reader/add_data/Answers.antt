@@ -10,4 +10,5 @@ invariant_of-self-clause-have_data c =
     data_grown (string_bytes r.loose) (string_bytes c.read_data.new.read) r.growing.open.items c.read_data.ensures.appends r.have_data
 
 pub returns-clause-read : goal.returns-clause-read
-returns-clause-read c o os is shown = read_then c.read_data.result _ (c.read_data.ensures.data o os is) (λ at more. data_is_shown c.args.self.now _ at o os refl refl refl shown more)
+returns-clause-read c o os is shown = read_then c.read_data.result _ (c.read_data.ensures.data o os is)
+    (λ at more. data_is_shown c.args.self.now _ at o os refl refl refl shown more)

@@ -4,7 +4,8 @@ use Rattle.std.specs.List.{All}
 use Rattle.mpd_text.specs.Growth.{HasEnded, HasStayed}
 use Rattle.mpd_text.specs.Opening.{HaveData, HaveDataInOrder, IsNameWithin}
 use Rattle.mpd_text.specs.Rows.{IsElementKept, IsAttributeKept}
-use Rattle.mpd_text.proofs.HoldingLemmas.{by_result, elements_stay, attributes_stay, entries_stay, elements_ended, names_ended, data_ended, order_ended}
+use Rattle.mpd_text.proofs.HoldingLemmas.{by_result, elements_stay, attributes_stay, entries_stay, elements_ended, names_ended, data_ended}
+use Rattle.mpd_text.proofs.HoldingLemmas.{order_ended}
 use Rattle.mpd_text.proofs.reader.Reader.end_with.Goals as goal
 
 pub invariant_of-self-clause-elements_kept : goal.invariant_of-self-clause-elements_kept

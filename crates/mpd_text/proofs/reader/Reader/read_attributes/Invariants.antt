@@ -16,7 +16,8 @@ invariant-attributes l = record {
   opened : vec_len l.self.growing.open ≡ vec_len l.fn.self.growing.open;
   behind : l.fn.from ≤ l.at;
   within : l.at ≤ length l.fn.self.text.now;
-  so_far : (os : List Opened) (t : Tag) (m : Mode) → t.attributes ≡ [] → IsInTag os t m → IsAt l.fn.self.text.now l.fn.from m → ((byte : ℕ) → slice_get l.fn.self.text.now l.fn.from ≡ Some byte → goes_on_name byte ≡ false) → TagShown (view_of l.fn.self) t os →
+  so_far : (os : List Opened) (t : Tag) (m : Mode) → t.attributes ≡ [] → IsInTag os t m → IsAt l.fn.self.text.now l.fn.from m
+      → ((byte : ℕ) → slice_get l.fn.self.text.now l.fn.from ≡ Some byte → goes_on_name byte ≡ false) → TagShown (view_of l.fn.self) t os →
       IsTagSoFar l.fn.self.text.now l.at os l.self l.many;
 }
 

@@ -4,4 +4,5 @@ use Rattle.mpd_text.specs.Views.{element_at}
 use Rattle.mpd_text.proofs.tree.Tree.root.Goals as goal
 
 pub returns : goal.returns
-returns c = ap (λ t. element_at (root_of t) c.at.result.index) c.at.ensures.tree ∙ ap (λ k. element_at (root_of c.args.self.now) k) c.at.ensures.index
+returns c = ap (λ t. element_at (root_of t) c.at.result.index) c.at.ensures.tree
+    ∙ ap (λ k. element_at (root_of c.args.self.now) k) c.at.ensures.index

@@ -12,7 +12,9 @@ present_checked-requires c = none_before _ tt _ (rw c.is_some.ensures at c.in-Ok
 pub returns-in-Ok : goal.returns-in-Ok
 returns-in-Ok c =
     subst (Gives (λ presentation. presentation) refusal c.present_checked.result)
-    (sym (presented_checked (segments_mpd c.args.mpd.now) c.args.base.now c.args.now _ (rw c.is_some.ensures at c.in-Ok.ensures))) c.present_checked.ensures
+    (sym (presented_checked (segments_mpd c.args.mpd.now) c.args.base.now c.args.now _ (rw c.is_some.ensures at c.in-Ok.ensures)))
+    c.present_checked.ensures
 
 pub returns-in-Err : goal.returns-in-Err
-returns-in-Err c = presented_refused (segments_mpd c.args.mpd.now) c.args.base.now c.args.now c.in-Err.fault (rw c.is_some.ensures at c.in-Err.ensures)
+returns-in-Err c = presented_refused (segments_mpd c.args.mpd.now) c.args.base.now c.args.now c.in-Err.fault
+    (rw c.is_some.ensures at c.in-Err.ensures)

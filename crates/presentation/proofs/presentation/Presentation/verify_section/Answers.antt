@@ -15,8 +15,12 @@ longest-requires-clause-listed g c = let p = c.args.self.now in let s = c.args.s
 
 pub returns-clause-longest : goal.returns-clause-longest
 returns-clause-longest g c = let p = c.args.self.now in let s = c.args.section in let t = c.args.track in
-    subst (Gives (λ n. n) refusal c.longest.result) (verified_as p s t (10 ^ c.args.digits) c.segments-segments.result c.content.result.now c.content.ensures.content c.segments-segments.ensures) c.longest.ensures.longest
+    subst (Gives (λ n. n) refusal c.longest.result)
+    (verified_as p s t (10 ^ c.args.digits) c.segments-segments.result c.content.result.now c.content.ensures.content
+    c.segments-segments.ensures) c.longest.ensures.longest
 
 pub returns-clause-made : goal.returns-clause-made
 returns-clause-made g c = let p = c.args.self.now in let s = c.args.section in let t = c.args.track in
-    subst (λ n. OnOk c.longest.result (c.longest.new.steps ≡ c.args.steps.now + n)) (left_as_many p s t (10 ^ c.args.digits) c.segments-segments.result c.content.result.now c.content.ensures.content c.segments-segments.ensures) c.longest.ensures.made
+    subst (λ n. OnOk c.longest.result (c.longest.new.steps ≡ c.args.steps.now + n))
+    (left_as_many p s t (10 ^ c.args.digits) c.segments-segments.result c.content.result.now c.content.ensures.content
+    c.segments-segments.ensures) c.longest.ensures.made

@@ -6,4 +6,5 @@ use Rattle.presentation.proofs.segments.PrintedSegments.next.Goals as goal
 
 pub returns-in-Err-clause-segment : goal.returns-in-Err-clause-segment
 returns-in-Err-clause-segment g c = let r = c.self.inside.rounder in
-    subst (λ old. spec.IsHeld old c.in-Err.fault (printed_rest c.next.new.self r)) c.self.view_is (held c.self.inside.listing c.next.new.self r c.in-Err.fault c.in-Err.ensures.segment)
+    subst (λ old. spec.IsHeld old c.in-Err.fault (printed_rest c.next.new.self r)) c.self.view_is
+    (held c.self.inside.listing c.next.new.self r c.in-Err.fault c.in-Err.ensures.segment)

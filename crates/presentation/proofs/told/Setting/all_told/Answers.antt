@@ -25,7 +25,9 @@ loop-period-preserved c =
     record {
       can_next = tt;
       finite = tt;
-      shared = All-rest (λ (period : PeriodRow (Keyed SegmentRow)). AreOf c.args.self.now.shared.now period.tracks) (period_in c.in-Some.period) (periods_left c.next.new.self) (periods_left c.loop-period.period-iterator) c.in-Some.ensures.steps c.loop-period.invariant.shared;
+      shared = All-rest (λ (period : PeriodRow (Keyed SegmentRow)). AreOf c.args.self.now.shared.now period.tracks)
+          (period_in c.in-Some.period) (periods_left c.next.new.self)
+          (periods_left c.loop-period.period-iterator) c.in-Some.ensures.steps c.loop-period.invariant.shared;
       told = rw c.in_ok-add_to-in-Ok.ensures
           (sym (goes_on give (period_of c.in-Some.period) (all_left c.next.new.self) c.loop-period.tolds.items _ c.in-Ok.ensures)
           ∙ ap (λ periods. behind c.loop-period.tolds.items (gathered give periods)) (sym periods) ∙ c.loop-period.invariant.told);

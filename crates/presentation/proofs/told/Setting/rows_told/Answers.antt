@@ -17,7 +17,8 @@ returns-in-Err c =
     let rows = ap (map (track_with shown)) c.in-Some.ensures.steps in
     stops give (row_of c.in-Some.row) (rows_left c.next.new.self) c.loop-row.tolds.items c.in-Err.fault _
     (ap (λ rows. behind c.loop-row.tolds.items (gathered give rows)) (sym rows) ∙ c.loop-row.invariant.told)
-    (step_told (told_of c.args.self.now.base.now c.args.self.now.live c.args.end.now (row_of c.in-Some.row)) _ c.in-Err.fault c.in-Err.ensures)
+    (step_told (told_of c.args.self.now.base.now c.args.self.now.live c.args.end.now (row_of c.in-Some.row)) _ c.in-Err.fault
+    c.in-Err.ensures)
 
 pub loop-row-init : goal.loop-row-init
 loop-row-init c = rw (c.into_iter-row-iterator.ensures.into_iter_gives, c.new-tolds.ensures.items) (record {
@@ -35,7 +36,9 @@ loop-row-preserved c =
     record {
       can_next = tt;
       finite = tt;
-      shared = All-rest (λ (row : TrackRow (Keyed SegmentRow)). IsShared row.segments.tables c.args.self.now.shared.now) (track_in c.in-Some.row) (tracks_left c.next.new.self) (tracks_left c.loop-row.row-iterator) c.in-Some.ensures.steps c.loop-row.invariant.shared;
+      shared = All-rest (λ (row : TrackRow (Keyed SegmentRow)). IsShared row.segments.tables c.args.self.now.shared.now)
+          (track_in c.in-Some.row) (tracks_left c.next.new.self)
+          (tracks_left c.loop-row.row-iterator) c.in-Some.ensures.steps c.loop-row.invariant.shared;
       told = rw c.in_ok-push-in-Ok.ensures.items
           (sym (goes_on give (row_of c.in-Some.row) (rows_left c.next.new.self) c.loop-row.tolds.items (c.in-Ok.told ∷ []) one)
           ∙ ap (λ rows. behind c.loop-row.tolds.items (gathered give rows)) (sym rows) ∙ c.loop-row.invariant.told);

@@ -5,4 +5,5 @@ use Rattle.template_ids.proofs.template.Template.push_name.Given as goal
 
 -- the text so far ends in what the pieces so far stand for
 abbrev pub invariant-loop-piece : goal.invariant-loop-piece
-invariant-loop-piece l = string_bytes l.text ≡ string_bytes l.fn.text ++ flat_map (piece_text l.template (ids_of l.ids)) (take l.piece-index l.piece-items)
+invariant-loop-piece l = string_bytes l.text ≡ string_bytes l.fn.text ++ flat_map (piece_text l.template (ids_of l.ids))
+    (take l.piece-index l.piece-items)

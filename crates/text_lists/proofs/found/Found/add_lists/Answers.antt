@@ -5,7 +5,8 @@ use Rattle.text_lists.proofs.Numbers.{list_by_numbers, numbers_below, merged_mor
 use Rattle.text_lists.proofs.found.Found.add_lists.Goals as goal
 
 pub add_all-requires-clause-below : goal.add_all-requires-clause-below
-add_all-requires-clause-below c = rw c.numbers_at.ensures (numbers_below (λ v. v.items) (texts_of c.args.texts.now) c.args.lists.now (get_or c.args.places.now c.loop-place.place-index 0) c.requires.below)
+add_all-requires-clause-below c = rw c.numbers_at.ensures (numbers_below (λ v. v.items) (texts_of c.args.texts.now) c.args.lists.now
+    (get_or c.args.places.now c.loop-place.place-index 0) c.requires.below)
 
 pub loop-place-preserved : goal.loop-place-preserved
 loop-place-preserved c =

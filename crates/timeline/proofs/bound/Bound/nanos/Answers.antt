@@ -1,6 +1,6 @@
 use Rattle.std.proofs.Common.{arith}
 use Rattle.std.proofs.lemmas.Int.{ints, clamps}
-use Rattle.timeline.proofs.BoundLemmas.{at_most-clamped}
+use Rattle.timeline.proofs.LimitLemmas.{at_most-clamped}
 use Rattle.timeline.proofs.bound.Bound.nanos.Goals as goal
 
 pub returns : goal.returns

@@ -1,5 +1,4 @@
 use Rattle.std.proofs.Common.{◌+◌, ◌<◌, ◌^◌, pos, ◌+ℤ◌, refl, arith}
-use Rattle.timeline.specs.declared.builder.RunsBuilder.{RunsBuilder}
 use Rattle.timeline.specs.declared.run_table.RunTable.{RunTable}
 use Rattle.timeline.specs.Ratios.{natural}
 use Rattle.timeline.specs.RunSegments.{one_extent, timed}
@@ -8,15 +7,16 @@ use Rattle.timeline.proofs.builder.RunsBuilder.add_one.Goals as goal
 
 pub returns-clause-ok : goal.returns-clause-ok
 returns-clause-ok c =
-    let mid : RunsBuilder = c.last_with-run.new.self in
+    let mid = c.last_with-run.new.self in
     let table : RunTable = record { laid = mid.table.laid; own = c.push.new.self } in
     let pushed = pushed_own mid.limits.ticks mid.limits.origin mid.table table c.last_with-run.result refl c.in_ok-push.ensures.items in
-    with_members c.args.self.now mid (one_extent c.args.start c.args.end) (timed c.last_with-run.result) c.last_with-run.ensures _ pushed c.requires.closed
+    with_members c.args.self.now mid (one_extent c.args.start c.args.end)
+    (timed c.last_with-run.result) c.last_with-run.ensures _ pushed c.requires.closed
 
 pub returns-clause-laid : goal.returns-clause-laid
 returns-clause-laid c =
-    let old : RunsBuilder = c.args.self.now in
-    let mid : RunsBuilder = c.last_with-run.new.self in
+    let old = c.args.self.now in
+    let mid = c.last_with-run.new.self in
     let is = c.last_with-run.ensures in
     let table : RunTable = record { laid = mid.table.laid; own = c.push.new.self } in
     let pushed = pushed_own mid.limits.ticks mid.limits.origin mid.table table c.last_with-run.result refl c.in_ok-push.ensures.items in
@@ -24,5 +24,7 @@ returns-clause-laid c =
       laid = rw is.total_is (with_laid old mid (one_extent c.args.start c.args.end) (timed c.last_with-run.result) is _ pushed);
       follows = none_follows mid.limits.ticks mid.limits.origin (mid.total + 1) mid.endless (rw is.endless_is c.requires.closed);
       countable = omega (arith, is.total_is, c.requires.countable);
-      timed = with_timed old mid (one_extent c.args.start c.args.end) (timed c.last_with-run.result) is _ pushed (λ y. natural (y.start.ticks +ℤ pos mid.limits.origin) < 2 ^ 64) (rw is.limits_are c.requires.laid.timed) (rw is.limits_are c.requires.timed);
+      timed = with_timed old mid (one_extent c.args.start c.args.end) (timed c.last_with-run.result) is _ pushed
+          (λ y. natural (y.start.ticks +ℤ pos mid.limits.origin) < 2 ^ 64) (rw is.limits_are c.requires.laid.timed)
+          (rw is.limits_are c.requires.timed);
     }

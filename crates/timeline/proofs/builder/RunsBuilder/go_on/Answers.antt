@@ -2,16 +2,16 @@ use Rattle.std.proofs.Common.{◌≡◌, ◌*◌, ◌+◌, ◌≤◌, pos, ◌+�
 use Rattle.std.proofs.lemmas.Int.{ints}
 use Rattle.exact_time.specs.Time.{Time}
 use Rattle.timeline.specs.Ratios.{natural}
-use Rattle.timeline.specs.declared.builder.RunsBuilder.{RunsBuilder}
 use Rattle.timeline.proofs.Laid.{room_before}
 use Rattle.timeline.proofs.builder.RunsBuilder.go_on.Goals as goal
 
 pub returns-clause-laid : goal.returns-clause-laid
 returns-clause-laid c =
-    let old : RunsBuilder = c.args.self.now in
+    let old = c.args.self.now in
     let start : c.placed-start.result.n ≡ pos c.args.start -ℤ pos old.limits.origin = ap (λ (a : Time). a.ticks) c.placed-start.ensures in
     let media : c.placed-start.result.n +ℤ pos old.limits.origin ≡ pos c.args.start = omega (arith, ints) in
-    let room : 2 * old.total ≤ 2 * c.args.start + c.args.step = room_before old c.args.start c.args.step (sym c.is_apart.ensures ∙ c.if-is_apart.false) c.requires.laid.room in
+    let room : 2 * old.total ≤ 2 * c.args.start + c.args.step = room_before old c.args.start c.args.step (sym c.is_apart.ensures
+    ∙ c.if-is_apart.false) c.requires.laid.room in
     record {
       laid = c.requires.laid.laid.laid;
       follows = record {

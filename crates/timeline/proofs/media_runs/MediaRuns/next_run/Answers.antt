@@ -1,11 +1,12 @@
 use Rattle.std.proofs.Common.{◌≡◌, ℕ, ◌*◌, ◌<◌, refl, ap, arith}
-use Rattle.timeline.proofs.Media.{any_scale_at}
+use Rattle.timeline.proofs.Reached.{any_scale_at}
 use Rattle.timeline.proofs.media_runs.MediaRuns.next_run.Goals as goal
 
 pub returns : goal.returns
 returns c =
     let some : 0 < c.args.entry.now.d = omega (arith, c.if-entry-eq0.false) in
-    let product : c.in-Count.count * c.from-2.result ≡ c.in-Count.count * c.args.entry.now.d = ap (λ (n : ℕ). c.in-Count.count * n) c.from-2.ensures in
+    let product : c.in-Count.count * c.from-2.result ≡ c.in-Count.count * c.args.entry.now.d =
+    ap (λ (n : ℕ). c.in-Count.count * n) c.from-2.ensures in
     let lasts : c.in_ok-lasts.lasts ≡ c.in-Count.count * c.args.entry.now.d = omega (arith, c.in_ok-lasts.ensures, product) in
     let late = c.ends_late.ensures c.if-ends_late.false in
     let joined = c.is_apart.ensures c.if-is_apart.false in
@@ -16,7 +17,8 @@ returns c =
       lasting = some;
       before = refl;
       some = found.0;
-      reach = λ scale end. any_scale_at c.any_scale.result scale c.from.result c.unwrap_or-start.result c.args.entry.now.d c.in-Count.count some c.from.ensures end c.args.entry.now.r c.args.later.now found;
+      reach = λ scale end. any_scale_at c.any_scale.result scale c.from.result c.unwrap_or-start.result c.args.entry.now.d c.in-Count.count
+          some c.from.ensures end c.args.entry.now.r c.args.later.now found;
       near = omega (arith, late, lasts);
       late_enough = λ has. (joined has).0;
       early_enough = λ has. (joined has).1;

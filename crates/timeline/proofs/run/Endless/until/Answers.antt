@@ -1,4 +1,4 @@
-use Rattle.std.proofs.Common.{◌≡◌, ℕ, ◌+◌, ◌*◌, ◌<◌, [], ap, sym, refl, arith}
+use Rattle.std.proofs.Common.{◌≡◌, ℕ, ◌+◌, ◌*◌, ◌<◌, ap, sym, refl, arith, []}
 use Rattle.std.proofs.lemmas.Int.{ints}
 use Rattle.timeline.specs.Bounds.{time_of_bound}
 use Rattle.timeline.specs.Expansions.{Extent, repeated}
@@ -11,14 +11,16 @@ none n x zero = sym (ap (λ (k : ℕ). repeated k x) zero)
 
 pub returns-then-count-eq0-clause-extents : goal.returns-then-count-eq0-clause-extents
 returns-then-count-eq0-clause-extents c =
-    none (endless_count c.args.self.now (time_of_bound c.args.bound)) (first_of c.args.self.now) (omega (arith, c.ended_by-count.ensures.count, c.if-count-eq0.true))
+    none (endless_count c.args.self.now (time_of_bound c.args.bound)) (first_of c.args.self.now)
+    (omega (arith, c.ended_by-count.ensures.count, c.if-count-eq0.true))
 
 pub returns-clause-tail : goal.returns-clause-tail
 returns-clause-tail c =
     let e = c.args.self.now in
-    let count : ℕ = c.ended_by-count.result in
+    let count = c.ended_by-count.result in
     let same : count ≡ endless_count e (time_of_bound c.args.bound) = c.ended_by-count.ensures.count in
-    let times : (count + 1) * e.step ≡ (endless_count e (time_of_bound c.args.bound) + 1) * e.step = ap (λ (n : ℕ). (n + 1) * e.step) same in
+    let times : (count + 1) * e.step ≡ (endless_count e (time_of_bound c.args.bound) + 1) * e.step =
+    ap (λ (n : ℕ). (n + 1) * e.step) same in
     let some : 0 < count = omega (arith, c.if-count-eq0.false) in
     let room = c.requires.room.near (omega arith) in (
       refl,

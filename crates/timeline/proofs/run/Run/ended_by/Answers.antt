@@ -1,16 +1,15 @@
-use Rattle.std.proofs.Common.{◌≡◌, ℕ, ℤ, pos, ◌+ℤ◌, ◌≤ℤ◌, ◌<ℤ◌, ◌/◌, ap, arith}
+use Rattle.std.proofs.Common.{◌≡◌, ℕ, pos, ◌+ℤ◌, ◌≤ℤ◌, ◌<ℤ◌, ◌/◌, ap, arith}
 use Rattle.std.proofs.lemmas.Int.{ints}
 use Rattle.timeline.specs.Bounds.{time_of_bound}
 use Rattle.timeline.proofs.Ratios.{floor_ticks}
-use Rattle.timeline.proofs.Repeats.{ends_by-before, ends_by-at}
+use Rattle.timeline.proofs.Repeats.{ends_by-before, ends_by-at, count_ended-run}
 use Rattle.timeline.specs.RunSegments.{timed}
-use Rattle.timeline.proofs.RunLemmas.{count_ended-run}
 use Rattle.timeline.proofs.run.Run.ended_by.Goals as goal
 
 pub returns-then-last-self : goal.returns-then-last-self
 returns-then-last-self c =
     let e = count_ended-run (time_of_bound c.args.bound) (timed c.args.self.now) c.args.bound.positive c.requires in
-    let last : ℤ = floor_ticks (time_of_bound c.args.bound) c.args.self.now.end.scale in
+    let last = floor_ticks (time_of_bound c.args.bound) c.args.self.now.end.scale in
     let l : c.ticks-last.result ≡ last = c.ticks-last.ensures in
     let t : c.ticks-last.result <ℤ c.args.self.now.end.n = grind (arith, ints) in
     let past = ends_by-before last c.args.self.now.end.n c.args.self.now.step (omega (arith, ints, t, l)) in
@@ -19,7 +18,7 @@ returns-then-last-self c =
 pub returns : goal.returns
 returns c =
     let e = count_ended-run (time_of_bound c.args.bound) (timed c.args.self.now) c.args.bound.positive c.requires in
-    let last : ℤ = floor_ticks (time_of_bound c.args.bound) c.args.self.now.end.scale in
+    let last = floor_ticks (time_of_bound c.args.bound) c.args.self.now.end.scale in
     let l : c.ticks-last.result ≡ last = c.ticks-last.ensures in
     let t : c.args.self.now.end.n ≤ℤ c.ticks-last.result = grind (arith, ints) in
     let gap : last ≡ c.args.self.now.end.n +ℤ pos c.abs_diff.result = omega (arith, ints) in

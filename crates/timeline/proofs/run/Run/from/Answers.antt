@@ -1,14 +1,15 @@
-use Rattle.std.proofs.Common.{◌≡◌, ℕ, ◌-◌, ◌*◌, ap, ◌∙◌, arith}
+use Rattle.std.proofs.Common.{◌≡◌, ◌-◌, ◌*◌, arith}
 use Rattle.std.proofs.lemmas.Int.{ints}
 use Rattle.exact_time.specs.Tick.{time_of}
 use Rattle.timeline.specs.RunSegments.{timed}
-use Rattle.timeline.proofs.RunLemmas.{moved_to}
+use Rattle.timeline.proofs.Repeats.{moved_to}
 use Rattle.timeline.proofs.run.Run.from.Goals as goal
 
 pub returns : goal.returns
 returns c =
     let s = timed c.args.self in
-    let k : ℕ = c.args.place - s.before in
-    let times : c.from.result * c.from-2.result ≡ k * s.step = ap (λ (n : ℕ). n * c.from-2.result) c.from.ensures ∙ ap (λ (n : ℕ). k * n) c.from-2.ensures in
+    let k = c.args.place - s.before in
+    let times : c.from.result * c.from-2.result ≡ k * s.step = cc (c.from.ensures, c.from-2.ensures) in
     moved_to s c.args.place k (time_of c.later.result) (time_of c.later-2.result) c.requires.is (omega arith) (omega arith) (omega arith)
-    (omega (arith, ints)) c.later.ensures.scale (omega (arith, ints)) c.later-2.ensures.scale c.later.result.bounded c.later-2.result.bounded
+    (omega (arith, ints)) c.later.ensures.scale (omega (arith, ints)) c.later-2.ensures.scale c.later.result.bounded
+    c.later-2.result.bounded

@@ -1,5 +1,5 @@
 use Rattle.timeline.specs.RunSegments.{placed_run, timed}
-use Rattle.timeline.proofs.SliceLemmas.{skip_front, skip_all}
+use Rattle.timeline.proofs.WalkLemmas.{skip_front, skip_all}
 use Rattle.std.proofs.Common.{arith}
 use Rattle.timeline.proofs.run_slice.RunSlice.skip.Goals as goal
 

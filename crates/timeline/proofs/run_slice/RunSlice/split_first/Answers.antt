@@ -1,8 +1,9 @@
 use Rattle.std.proofs.Common.{arith}
 use Rattle.timeline.specs.RunSegments.{timed}
 use Rattle.timeline.specs.RunTables.{slice_runs}
-use Rattle.timeline.proofs.SliceLemmas.{first_rest}
+use Rattle.timeline.proofs.WalkLemmas.{first_rest}
 use Rattle.timeline.proofs.run_slice.RunSlice.split_first.Goals as goal
 
 pub returns : goal.returns
-returns c = first_rest (slice_runs c.args.self.now) (timed c.get.result) (slice_runs c.skip.result) (omega arith) c.get.ensures c.skip.ensures
+returns c = first_rest (slice_runs c.args.self.now) (timed c.get.result) (slice_runs c.skip.result)
+    (omega arith) c.get.ensures c.skip.ensures

@@ -1,18 +1,17 @@
-use Rattle.std.proofs.Common.{◌≡◌, ℕ, ◌-◌, Ok, Err, Result, length, sym, ap, ◌∙◌}
+use Rattle.std.proofs.Common.{◌≡◌, ℕ, Ok, Err, Result, length, sym, ap, ◌∙◌}
 use Rattle.std.proofs.lemmas.Bool.{cond-false}
-use Rattle.timeline.specs.declared.fault.TimeFault.{TimeFault}
-use Rattle.timeline.specs.declared.fault.TimeFault.TheVariants.{Range}
+use Rattle.timeline.specs.declared.{fault.TimeFault.TimeFault, fault.TimeFault.TheVariants.Range}
 use Rattle.timeline.specs.Listed.{IsReached, is_out_of_range, listed, expansion}
-use Rattle.timeline.specs.Places.{count_until}
-use Rattle.timeline.proofs.SeekLemmas.{count_is}
+use Rattle.timeline.proofs.RunsLemmas.{count_is}
 use Rattle.timeline.proofs.runs.Runs.count.Goals as goal
 
 pub returns : goal.returns
 returns c =
     let reached : IsReached c.args.self.now c.args.window.now = sym c.is_broken.ensures ∙ c.if-is_broken.false in
-    let n = count_is c.self.inside c.self.invariant c.args.self.now c.self.view_is c.args.window.now c.requires reached c.low.result c.low.ensures in
+    let n = count_is c.self.inside c.self.invariant c.args.self.now c.self.view_is c.args.window.now c.requires reached c.low.result
+    c.low.ensures in
     let same : c.saturating_sub.result ≡ length (listed c.args.window.now (expansion c.args.self.now c.args.window.now)) =
-    c.saturating_sub.ensures ∙ ap (λ (k : ℕ). k - c.place.result) c.finish-finish.ensures ∙ ap (λ (k : ℕ). count_until c.args.self.now c.args.window.now - k) c.place.ensures ∙ n in
+    cc (c.saturating_sub.ensures, c.finish-finish.ensures, c.place.ensures) in
     let answer : Result ℕ TimeFault = Ok (length (listed c.args.window.now (expansion c.args.self.now c.args.window.now))) in
     let made : ℕ → Result ℕ TimeFault = λ k. Ok k in
     ap made same ∙ sym (cond-false (is_out_of_range c.args.self.now c.args.window.now) (Err Range) answer reached)

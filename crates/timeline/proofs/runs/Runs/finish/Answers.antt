@@ -1,14 +1,15 @@
 use Rattle.std.proofs.Common.{◌∙◌}
-use Rattle.timeline.proofs.RunsLemmas.{some_high, none_high, finish_none_is, finish_some_is}
+use Rattle.timeline.proofs.RunsLemmas.{some_high, none_high, finish_none, finish_some}
 use Rattle.timeline.proofs.runs.Runs.finish.Goals as goal
 
 pub returns-in-Some : goal.returns-in-Some
 returns-in-Some c =
     c.place.ensures
-    ∙ finish_some_is c.self.inside c.self.invariant c.args.self.now c.self.view_is c.args.window.now c.requires.window c.requires.reached c.in-Some.high
+    ∙ finish_some c.self.inside c.self.invariant c.args.self.now c.self.view_is c.args.window.now c.requires.window c.requires.reached
+    c.in-Some.high
     (some_high c.args.window.now.until c.in-Some.high c.in-Some.ensures)
 
 pub returns-in-None : goal.returns-in-None
 returns-in-None c =
-    finish_none_is c.self.inside c.self.invariant c.args.self.now c.self.view_is c.args.window.now c.requires.window c.requires.reached
+    finish_none c.self.inside c.self.invariant c.args.self.now c.self.view_is c.args.window.now c.requires.window c.requires.reached
     (none_high c.args.window.now.until c.in-None.ensures)

@@ -10,15 +10,21 @@ returns-in_default-2-clause-extents c =
 
 pub until-requires-clause-room : goal.until-requires-clause-room
 until-requires-clause-room c =
-    tail_room c.self.inside c.self.invariant c.args.self.now c.self.view_is c.args.window.now c.requires.window c.in-Some-Some.endless c.in-Some-Some.high c.in-Some-Some.is-0 (some_high c.args.window.now.until c.in-Some-Some.high c.in-Some-Some.ensures) c.requires.reached
+    tail_room c.self.inside c.self.invariant c.args.self.now c.self.view_is c.args.window.now c.requires.window c.in-Some-Some.endless
+    c.in-Some-Some.high c.in-Some-Some.is-0 (some_high c.args.window.now.until c.in-Some-Some.high c.in-Some-Some.ensures)
+    c.requires.reached
 
 pub returns-clause-extents : goal.returns-clause-extents
 returns-clause-extents c =
     c.until.ensures.extents ∙
-    tail_extents c.self.inside c.self.invariant c.args.self.now c.self.view_is c.args.window.now c.requires.window c.in-Some-Some.endless c.in-Some-Some.high c.in-Some-Some.is-0 (some_high c.args.window.now.until c.in-Some-Some.high c.in-Some-Some.ensures) c.requires.reached
+    tail_extents c.self.inside c.self.invariant c.args.self.now c.self.view_is c.args.window.now c.requires.window c.in-Some-Some.endless
+    c.in-Some-Some.high c.in-Some-Some.is-0 (some_high c.args.window.now.until c.in-Some-Some.high c.in-Some-Some.ensures)
+    c.requires.reached
 
 pub returns-clause-tail : goal.returns-clause-tail
 returns-clause-tail c =
     subst (λ (n : ℕ). IsTail n (option_map timed c.until.result))
-    (tail_before c.self.inside c.self.invariant c.args.self.now c.self.view_is c.args.window.now c.requires.window c.in-Some-Some.endless c.in-Some-Some.high c.in-Some-Some.is-0 (some_high c.args.window.now.until c.in-Some-Some.high c.in-Some-Some.ensures) c.requires.reached)
+    (tail_before c.self.inside c.self.invariant c.args.self.now c.self.view_is c.args.window.now c.requires.window c.in-Some-Some.endless
+    c.in-Some-Some.high c.in-Some-Some.is-0 (some_high c.args.window.now.until c.in-Some-Some.high c.in-Some-Some.ensures)
+    c.requires.reached)
     c.until.ensures.tail

@@ -13,8 +13,11 @@ returns-in-Some-behind_first c =
     let walk = c.self.inside in
     let s = timed c.in-Some.current in
     let stands = stands_in walk s (ap (option_map timed) c.in-Some.is) c.self.invariant in
-    ap (λ (n : ℕ). numbered (walk.first_number + (timed c.in-Some-behind_first.rest).before) (take n (extents_of (timed c.in-Some-behind_first.rest) ++ (all_extents (slice_runs walk.later) ++ extents_of_some (option_map timed walk.tail))))) c.saturating_sub-self-inside.ensures
-    ∙ goes_on_in walk.first_number walk.left s (timed c.in-Some-behind_first.rest) (slice_runs walk.later) (option_map timed walk.tail) stands.0 c.in-Some-behind_first.ensures
+    ap (λ (n : ℕ). numbered (walk.first_number + (timed c.in-Some-behind_first.rest).before)
+    (take n (extents_of (timed c.in-Some-behind_first.rest) ++ (all_extents (slice_runs walk.later)
+    ++ extents_of_some (option_map timed walk.tail))))) c.saturating_sub-self-inside.ensures
+    ∙ goes_on_in walk.first_number walk.left s (timed c.in-Some-behind_first.rest) (slice_runs walk.later)
+    (option_map timed walk.tail) stands.0 c.in-Some-behind_first.ensures
     ∙ ap (drop 1) (sym (left_in walk s (ap (option_map timed) c.in-Some.is)) ∙ c.self.view_is)
 
 pub returns-in-None : goal.returns-in-None
@@ -22,8 +25,12 @@ returns-in-None c =
     let walk = c.self.inside in
     let s = timed c.in-Some.current in
     let stands = stands_in walk s (ap (option_map timed) c.in-Some.is) c.self.invariant in
-    ap (λ (n : ℕ). numbered (walk.first_number + place_of (option_map timed c.go_on.new.now)) (take n (extents_of_some (option_map timed c.go_on.new.now) ++ (all_extents (slice_runs c.go_on.new.later) ++ extents_of_some (option_map timed c.go_on.new.tail))))) c.saturating_sub-self-inside.ensures
-    ∙ goes_on_behind walk.first_number walk.left s (slice_runs walk.later) (slice_runs c.go_on.new.later) (option_map timed walk.tail) (option_map timed c.go_on.new.now) (option_map timed c.go_on.new.tail) stands.0 c.in-None.ensures stands.2 c.go_on.ensures
+    ap (λ (n : ℕ). numbered (walk.first_number + place_of (option_map timed c.go_on.new.now))
+    (take n (extents_of_some (option_map timed c.go_on.new.now)
+    ++ (all_extents (slice_runs c.go_on.new.later) ++ extents_of_some (option_map timed c.go_on.new.tail)))))
+    c.saturating_sub-self-inside.ensures
+    ∙ goes_on_behind walk.first_number walk.left s (slice_runs walk.later) (slice_runs c.go_on.new.later) (option_map timed walk.tail)
+    (option_map timed c.go_on.new.now) (option_map timed c.go_on.new.tail) stands.0 c.in-None.ensures stands.2 c.go_on.ensures
     ∙ ap (drop 1) (sym (left_in walk s (ap (option_map timed) c.in-Some.is)) ∙ c.self.view_is)
 
 pub invariant_of-self-in-None : goal.invariant_of-self-in-None
@@ -32,7 +39,13 @@ invariant_of-self-in-None c =
     let s = timed c.in-Some.current in
     let stands = stands_in walk s (ap (option_map timed) c.in-Some.is) c.self.invariant in
     record {
-      stands = stands_behind (record { now = c.go_on.new.now; later = c.go_on.new.later; tail = c.go_on.new.tail; left = c.saturating_sub-self-inside.result; first_number = walk.first_number })
+      stands = stands_behind (record {
+        now = c.go_on.new.now;
+        later = c.go_on.new.later;
+        tail = c.go_on.new.tail;
+        left = c.saturating_sub-self-inside.result;
+        first_number = walk.first_number;
+      })
           (option_map timed c.go_on.new.now) walk.left s (slice_runs walk.later) (option_map timed walk.tail) stands.0 stands.2
           c.go_on.ensures (omega (arith, c.saturating_sub-self-inside.ensures, stands.0, c.in-None.ensures));
       countable = λ some.

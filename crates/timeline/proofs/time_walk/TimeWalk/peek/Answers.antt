@@ -12,4 +12,5 @@ returns-clause-next c =
     let s = timed c.in_ok-current.current in
     let stands = stands_in walk s (ap (option_map timed) c.in_ok-current.was) c.self.invariant in
     ap (λ (xs : List Timing). slice_get xs 0) (sym c.self.view_is ∙ left_in walk s (ap (option_map timed) c.in_ok-current.was))
-    ∙ first_timing _ walk.left s (all_extents (slice_runs walk.later) ++ extents_of_some (option_map timed walk.tail)) stands.0 (omega (arith, c.if-self-eq0.false))
+    ∙ first_timing _ walk.left s (all_extents (slice_runs walk.later) ++ extents_of_some (option_map timed walk.tail)) stands.0
+    (omega (arith, c.if-self-eq0.false))

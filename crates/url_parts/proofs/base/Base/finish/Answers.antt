@@ -8,5 +8,9 @@ range_from-reference-requires c =
     let folder = c.folder.result.now in
     let text = c.as_str.result.now in
     let begins : take (length folder) text ≡ folder = rw (c.folder.ensures.text, c.as_str.ensures.value) c.requires in
-    let inside : length folder ≤ length text = omega (arith, ap length (whole_from_front folder text begins), length-append folder (drop (length folder) text)) in
+    let inside : length folder ≤ length text = omega (
+      arith,
+      ap length (whole_from_front folder text begins),
+      length-append folder (drop (length folder) text),
+    ) in
     λ _. IsCharBoundary-from_take text (length folder) c.as_str.utf8 inside (rw begins c.folder.utf8)

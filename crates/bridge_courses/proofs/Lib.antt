@@ -1,0 +1,5 @@
+pub mod Statuses
+pub mod Others
+pub mod ExecutionLaws
+pub mod Stepping
+pub mod StepLaws

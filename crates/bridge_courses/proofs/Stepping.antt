@@ -1,0 +1,375 @@
+-- A course that is worked off a step at a time.
+use Rattle.std.proofs.Common.{◌≡◌, ◌⊎◌, ℕ, suc, IsTrue, List, [], ◌∷◌, ◌++◌, take, length, slice_get, Option, None, Some, option_map, inl}
+use Rattle.std.proofs.Common.{inr, refl, sym, ap, ◌∙◌, subst, arith, append_assoc}
+use Rattle.std.specs.Io.KnownBytes.{append_known}
+use Rattle.std.proofs.lemmas.List.{append-nil}
+use Rattle.std.proofs.lemmas.List.Sums.{sum_by-cons}
+use Rattle.bridge_io.specs.Fault.{Rose}
+use Rattle.bridge_io.specs.Outside.{Files, put, Changes, Appends}
+use Rattle.bridge_io.specs.InOrder.{put_all}
+use Rattle.bridge_io.specs.declared.outside.Fail.TheVariants as fail
+use Rattle.bridge_courses.specs.declared.status.Verdict.{Verdict}
+use Rattle.bridge_courses.specs.declared.status.Verdict.TheVariants as verdict
+use Rattle.bridge_courses.specs.declared.ending.Ending.{Ending}
+use Rattle.bridge_courses.specs.declared.ending.Ending.TheVariants as ending
+use Rattle.bridge_courses.specs.Courses.{Step, End, Course, World, Whole, Reaches, last_step, files_to, lines_to}
+use Rattle.bridge_courses.specs.Executions.{Works, Finishes, NeverFalls, words_line}
+use Rattle.bridge_courses.proofs.Statuses.{rose_later}
+use Rattle.bridge_courses.specs.Steps.{with_step, only_end, first_in, first_step, StepIsDone, Outside, IsCutOff, Halts, Stops, Leads}
+use Rattle.bridge_courses.specs.Steps.{IsCaused, Work}
+
+-- ---- one after another
+
+pub put_all-both : (fs gs : List (List ℕ × List ℕ)) (files : Files) → put_all (fs ++ gs) files ≡ put_all gs (put_all fs files)
+put_all-both [] gs files = refl
+put_all-both (f ∷ fs) gs files = put_all-both fs gs (put f.0 f.1 files)
+
+changes_both : (fs gs : List (List ℕ × List ℕ)) (a b c : Option Files) → Changes (put_all fs) a b → Changes (put_all gs) b c
+    → Changes (put_all (fs ++ gs)) a c
+changes_both fs gs None b c one two = two ∙ ap (option_map (put_all gs)) one
+changes_both fs gs (Some files) b c one two = two ∙ ap (option_map (put_all gs)) one ∙ ap Some (sym (put_all-both fs gs files))
+
+pub appends_both : (one two : List ℕ) (r r' r'' : Option (List ℕ)) → Appends one r r' → Appends two r' r'' → Appends (one ++ two) r r''
+appends_both one two None r' r'' a b = b ∙ ap (option_map (λ xs. xs ++ two)) a
+appends_both one two (Some r) r' r'' a b = b ∙ ap (option_map (λ xs. xs ++ two)) a ∙ ap Some (append_assoc r one two)
+
+pub none_put : (before after : Option Files) → after ≡ before → Changes (put_all []) before after
+none_put None after same = same
+none_put (Some files) after same = same
+
+pub none_told : (before after : Option (List ℕ)) → after ≡ before → Appends [] before after
+none_told None after same = same
+none_told (Some bytes) after same = same ∙ ap Some (sym (append-nil bytes))
+
+pub falls_then : (a b c : World) → NeverFalls a b → NeverFalls b c → NeverFalls a c
+falls_then a b c one two = record {
+  input = omega (arith, one.input, two.input);
+  reads = omega (arith, one.reads, two.reads);
+  writes = omega (arith, one.writes, two.writes);
+  report = omega (arith, one.report, two.report);
+}
+
+-- ---- a step before others
+
+module _ (step : Step) (course : Course) (before mid after : World) (done : StepIsDone step before mid) where
+  whole_then : (n : ℕ) → Whole n course mid after → Whole (suc n) (with_step step course) before after
+  whole_then n whole = record {
+    files = changes_both step.files (files_to n course) before.files mid.files after.files done.files whole.files;
+    report = appends_both step.lines (lines_to n course) before.report mid.report after.report done.report whole.report;
+    made = λ counts. let made = whole.made counts in (
+      omega (arith, done.least, made.0, sum_by-cons (λ s. s.least) step (take n course.steps)),
+      omega (arith, done.most, made.1, sum_by-cons (λ s. s.most) step (take n course.steps)),
+    );
+  }
+
+abbrev reaches_then : (step next : Step) (course : Course) (before mid after : World) → StepIsDone step before mid
+    → Reaches course mid after next → Reaches (with_step step course) before after next
+reaches_then step next course before mid after done reaches =
+    record { n = suc reaches.n; next = reaches.next; whole = whole_then step course before mid after done reaches.n reaches.whole }
+
+finishes_then : (step : Step) (course : Course) (v : Verdict) (line : List ℕ) (before mid after : World) → StepIsDone step before mid
+    → Finishes course v line mid after → Finishes (with_step step course) v line before after
+finishes_then step course v line before mid after done works =
+    record {
+      whole = whole_then step course before mid after done (length course.steps) works.whole;
+      verdict = works.verdict;
+      lines = works.lines;
+    }
+
+works_then : (step : Step) (course : Course) (told : Ending) (before mid after : World) → StepIsDone step before mid
+    → NeverFalls before mid → Works course told mid after → Works (with_step step course) told before after
+works_then step course (ending.Ended v line) before mid after done falls works =
+    finishes_then step course v line before mid after done works
+works_then step course ending.Words before mid after done falls works =
+    finishes_then step course verdict.Words words_line before mid after done works
+works_then step course ending.ReadFault before mid after done falls works = record {
+  mid = works.mid;
+  step = works.step;
+  reaches = reaches_then step works.step course before mid works.mid done works.reaches;
+  reads = works.reads;
+  rose = elim works.rose [
+    | inl rose ↦ inl (rose_later before.read_faults mid.read_faults after.read_faults falls.reads rose)
+    | inr rose ↦ inr (rose_later before.input_faults mid.input_faults after.input_faults falls.input rose)
+  ];
+  files = works.files;
+  made = works.made;
+  report = works.report;
+}
+works_then step course ending.WriteFault before mid after done falls works = record {
+  mid = works.mid;
+  step = works.step;
+  reaches = reaches_then step works.step course before mid works.mid done works.reaches;
+  rose = rose_later before.write_faults mid.write_faults after.write_faults falls.writes works.rose;
+  files = works.files;
+  made = works.made;
+  report = works.report;
+}
+works_then step course ending.Memory before mid after done falls works = record {
+  mid = works.mid;
+  step = works.step;
+  reaches = reaches_then step works.step course before mid works.mid done works.reaches;
+  left = works.left;
+  report = works.report;
+}
+works_then step course (ending.Cut fail.Failed) before mid after done falls works = (
+  record {
+    mid = works.0.mid;
+    step = works.0.step;
+    reaches = reaches_then step works.0.step course before mid works.0.mid done works.0.reaches;
+    owed = omega (arith, works.0.owed);
+    files = works.0.files;
+    made = works.0.made;
+    report = works.0.report;
+  },
+  rose_later before.report_faults mid.report_faults after.report_faults falls.report works.1,
+)
+works_then step course (ending.Cut fail.Memory) before mid after done falls works = record {
+  mid = works.mid;
+  step = works.step;
+  reaches = reaches_then step works.step course before mid works.mid done works.reaches;
+  owed = omega (arith, works.owed);
+  files = works.files;
+  made = works.made;
+  report = works.report;
+}
+
+-- a step that is done leads on to the rest of the course
+pub leads_on : (step : Step) (course : Course) (before mid : World) → StepIsDone step before mid → NeverFalls before mid
+    → Leads (with_step step course) course before mid
+leads_on step course before mid done falls = λ told after work. record {
+  works = works_then step course told before mid after done falls work.works;
+  never_falls = falls_then before mid after falls work.never_falls;
+}
+
+-- ---- reading before others
+
+-- nothing was done but reading
+pub record IsIdle (before after : World) : Type 0 where
+  pub files : after.files ≡ before.files
+  pub report : after.report ≡ before.report
+  pub made : after.made ≡ before.made
+
+module _ (course : Course) (before mid after : World) (idle : IsIdle before mid) where
+  whole_later : (n : ℕ) → Whole n course mid after → Whole n course before after
+  whole_later n whole = record {
+    files = whole.files ∙ ap (option_map (put_all (files_to n course))) idle.files;
+    report = whole.report ∙ ap (λ report. append_known report (lines_to n course)) idle.report;
+    made = λ counts. let made = whole.made counts in (omega (arith, made.0, idle.made), omega (arith, made.1, idle.made));
+  }
+
+abbrev reaches_later : (step : Step) (course : Course) (before mid after : World) → IsIdle before mid → Reaches course mid after step
+    → Reaches course before after step
+reaches_later step course before mid after idle reaches =
+    record { n = reaches.n; next = reaches.next; whole = whole_later course before mid after idle reaches.n reaches.whole }
+
+-- work that goes on behind reading is work of the whole
+works_later : (course : Course) (told : Ending) (before mid after : World) → IsIdle before mid → NeverFalls before mid
+    → Works course told mid after → Works course told before after
+works_later course (ending.Ended v line) before mid after idle falls works = record {
+  whole = whole_later course before mid after idle (length course.steps) works.whole;
+  verdict = works.verdict;
+  lines = works.lines;
+}
+works_later course ending.Words before mid after idle falls works = record {
+  whole = whole_later course before mid after idle (length course.steps) works.whole;
+  verdict = works.verdict;
+  lines = works.lines;
+}
+works_later course ending.ReadFault before mid after idle falls works = record {
+  mid = works.mid;
+  step = works.step;
+  reaches = reaches_later works.step course before mid works.mid idle works.reaches;
+  reads = works.reads;
+  rose = elim works.rose [
+    | inl rose ↦ inl (rose_later before.read_faults mid.read_faults after.read_faults falls.reads rose)
+    | inr rose ↦ inr (rose_later before.input_faults mid.input_faults after.input_faults falls.input rose)
+  ];
+  files = works.files;
+  made = works.made;
+  report = works.report;
+}
+works_later course ending.WriteFault before mid after idle falls works = record {
+  mid = works.mid;
+  step = works.step;
+  reaches = reaches_later works.step course before mid works.mid idle works.reaches;
+  rose = rose_later before.write_faults mid.write_faults after.write_faults falls.writes works.rose;
+  files = works.files;
+  made = works.made;
+  report = works.report;
+}
+works_later course ending.Memory before mid after idle falls works = record {
+  mid = works.mid;
+  step = works.step;
+  reaches = reaches_later works.step course before mid works.mid idle works.reaches;
+  left = works.left;
+  report = works.report;
+}
+works_later course (ending.Cut fail.Failed) before mid after idle falls works = (
+  record {
+    mid = works.0.mid;
+    step = works.0.step;
+    reaches = reaches_later works.0.step course before mid works.0.mid idle works.0.reaches;
+    owed = works.0.owed;
+    files = works.0.files;
+    made = works.0.made;
+    report = works.0.report;
+  },
+  rose_later before.report_faults mid.report_faults after.report_faults falls.report works.1,
+)
+works_later course (ending.Cut fail.Memory) before mid after idle falls works = record {
+  mid = works.mid;
+  step = works.step;
+  reaches = reaches_later works.step course before mid works.mid idle works.reaches;
+  owed = works.owed;
+  files = works.files;
+  made = works.made;
+  report = works.report;
+}
+
+pub work_later : (course : Course) (told : Ending) (before mid after : World) → IsIdle before mid → NeverFalls before mid
+    → Work course told mid after → Work course told before after
+work_later course told before mid after idle falls work = record {
+  works = works_later course told before mid after idle falls work.works;
+  never_falls = falls_then before mid after falls work.never_falls;
+}
+
+-- ---- the end of the work
+
+first_next : (steps : List Step) (end : End) → slice_get (steps ++ last_step end ∷ []) 0 ≡ Some (first_in steps end)
+first_next [] end = refl
+first_next (step ∷ steps) end = refl
+
+abbrev first_reached : (course : Course) (w : World) → Reaches course w w (first_step course)
+first_reached course w = record {
+  n = 0;
+  next = first_next course.steps course.end;
+  whole =
+      record {
+        files = none_put w.files w.files refl;
+        report = none_told w.report w.report refl;
+        made = λ counts. (omega arith, omega arith);
+      };
+}
+
+pub memory_first : (course : Course) (before after : World) → IsIdle before after → Works course ending.Memory before after
+memory_first course before after idle = record {
+  mid = before;
+  step = first_step course;
+  reaches = first_reached course before;
+  left = inl (idle.files, λ counts. (omega (arith, idle.made), omega (arith, idle.made)));
+  report = idle.report;
+}
+
+pub read_fault_first : (course : Course) (before after : World) → IsTrue (first_step course).reads
+    → Rose before.read_faults after.read_faults ⊎ Rose before.input_faults after.input_faults → IsIdle before after
+    → Works course ending.ReadFault before after
+read_fault_first course before after reads rose idle = record {
+  mid = before;
+  step = first_step course;
+  reaches = first_reached course before;
+  reads = reads;
+  rose = rose;
+  files = idle.files;
+  made = λ counts. (omega (arith, idle.made), omega (arith, idle.made));
+  report = idle.report;
+}
+
+pub ends : (end : End) (told : Ending) (before after : World) → (told ≡ ending.Ended end.verdict end.lines) ⊎ (told ≡ ending.Memory)
+    → IsIdle before after → Works (only_end end) told before after
+ends end told before after (inl is) idle = subst (λ t. Works (only_end end) t before after) (sym is) (record {
+  whole = record {
+    files = none_put before.files after.files idle.files;
+    report = none_told before.report after.report idle.report;
+    made = λ counts. (omega (arith, idle.made), omega (arith, idle.made));
+  };
+  verdict = refl;
+  lines = refl;
+})
+ends end told before after (inr is) idle =
+    subst (λ t. Works (only_end end) t before after) (sym is) (memory_first (only_end end) before after idle)
+
+pub stops : (step : Step) (course : Course) (told : Ending) (before after : World) → Stops step told before after
+    → Works (with_step step course) told before after
+stops step course told before after (inr m) = subst (λ t. Works (with_step step course) t before after) (sym m.0) (record {
+  mid = before;
+  step = step;
+  reaches = first_reached (with_step step course) before;
+  left = inl (m.1, λ counts. (omega (arith, m.3), m.4));
+  report = m.2;
+})
+stops step course (ending.Ended v line) before after (inl h) = absurd h.0
+stops step course ending.Words before after (inl h) = absurd h.0
+stops step course ending.ReadFault before after (inl h) = absurd h.0
+stops step course ending.WriteFault before after (inl h) = record {
+  mid = before;
+  step = step;
+  reaches = first_reached (with_step step course) before;
+  rose = h.0.0;
+  files = h.0.1;
+  made = λ counts. (h.1, h.2);
+  report = h.0.2;
+}
+stops step course ending.Memory before after (inl h) = record {
+  mid = before;
+  step = step;
+  reaches = first_reached (with_step step course) before;
+  left = elim h.0.0 [
+    | inl same ↦ inl (same, λ counts. (omega (arith, h.1), h.2))
+    | inr left ↦ inr (left, λ counts. (h.1, h.2))
+  ];
+  report = h.0.1;
+}
+stops step course (ending.Cut fail.Failed) before after (inl h) = (
+  record {
+    mid = before;
+    step = step;
+    reaches = first_reached (with_step step course) before;
+    owed = omega arith;
+    files = h.0.0;
+    made = λ counts. (h.1, h.2);
+    report = h.0.1.1;
+  },
+  h.0.1.0,
+)
+stops step course (ending.Cut fail.Memory) before after (inl h) = record {
+  mid = before;
+  step = step;
+  reaches = first_reached (with_step step course) before;
+  owed = omega arith;
+  files = h.0.0;
+  made = λ counts. (h.1, h.2);
+  report = h.0.1;
+}
+
+-- a line that was cut off halts the work behind its files
+pub halts_cut : (files : List (List ℕ × List ℕ)) (lines : List ℕ) (told : Ending) (o o' : Outside)
+    → Changes (put_all files) o.files o'.files
+    → IsCutOff lines told o.report_faults o'.report_faults o.report o'.report → Halts files lines told o o'
+halts_cut files lines (ending.Ended v line) o o' put cut = absurd cut
+halts_cut files lines ending.Words o o' put cut = absurd cut
+halts_cut files lines ending.ReadFault o o' put cut = absurd cut
+halts_cut files lines ending.WriteFault o o' put cut = absurd cut
+halts_cut files lines ending.Memory o o' put cut = absurd cut
+halts_cut files lines (ending.Cut f) o o' put cut = (put, cut)
+
+-- a fault of a step has its cause
+pub stops_caused : (step : Step) (told : Ending) (before after : World) → Stops step told before after → IsCaused told before after
+stops_caused step told before after (inr m) = subst (λ t. IsCaused t before after) (sym m.0) tt
+stops_caused step (ending.Ended v line) before after (inl h) = absurd h.0
+stops_caused step ending.Words before after (inl h) = absurd h.0
+stops_caused step ending.ReadFault before after (inl h) = absurd h.0
+stops_caused step ending.WriteFault before after (inl h) = h.0.0
+stops_caused step ending.Memory before after (inl h) = tt
+stops_caused step (ending.Cut fail.Failed) before after (inl h) = h.0.1.0
+stops_caused step (ending.Cut fail.Memory) before after (inl h) = tt
+
+pub caused_later : (told : Ending) (before mid after : World) → NeverFalls before mid → IsCaused told mid after → IsCaused told before after
+caused_later (ending.Ended v line) before mid after falls is = is
+caused_later ending.Words before mid after falls is = is
+caused_later ending.ReadFault before mid after falls is = rose_later before.input_faults mid.input_faults after.input_faults falls.input is
+caused_later ending.WriteFault before mid after falls is =
+    rose_later before.write_faults mid.write_faults after.write_faults falls.writes is
+caused_later ending.Memory before mid after falls is = tt
+caused_later (ending.Cut fail.Failed) before mid after falls is =
+    rose_later before.report_faults mid.report_faults after.report_faults falls.report is
+caused_later (ending.Cut fail.Memory) before mid after falls is = tt

@@ -1,0 +1,17 @@
+-- The first of what stands in a list.
+use Rattle.std.specs.Prelude.{List, [], ◌∷◌, Option, None, Result, Ok, Err}
+use Rattle.std.specs.List.{slice_get}
+use Rattle.std.specs.Option.{option_or}
+
+abbrev pub first_of : {X : Type 0} → List X → Option X
+first_of xs = slice_get xs 0
+
+-- the first of those that are there
+abbrev pub first_some : {X : Type 0} → List (Option X) → Option X
+first_some [] = None
+first_some (found ∷ later) = option_or found (first_some later)
+
+-- nothing, or else the first of some faults
+abbrev pub first_fault : {F : Type 0} → List F → Result (Unit {0}) F
+first_fault [] = Ok tt
+first_fault (fault ∷ faults) = Err fault

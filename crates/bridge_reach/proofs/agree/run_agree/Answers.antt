@@ -1,0 +1,24 @@
+use Rattle.bridge_playlists.specs.Places.{store_place_of}
+use Rattle.bridge_steps.proofs.Endings.{at_place, tells, told_never_writes, unplaced, unplaced_never_writes}
+use Rattle.bridge_reach.specs.Agree.{agree_at, agree_outcome, judged}
+use Rattle.bridge_reach.proofs.agree.run_agree.Goals as goal
+
+pub returns-in-Ok-clause-ends : goal.returns-in-Ok-clause-ends
+unfolding agree_outcome
+returns-in-Ok-clause-ends g c =
+    let job = c.args.job.now in let place = c.in-Ok.place in let read = c.judged.ensures in
+    at_place (store_place_of job.base job.mpd) place (agree_at (g.F.Store.files c.args.store.now)) c.told.result _ _ c.in-Ok.ensures
+    (tells (judged place) c.judged.result c.told.result _ _ read.told read.verdict read.cause read.files read.writes c.told.ensures)
+
+pub returns-in-Ok-clause-never_writes : goal.returns-in-Ok-clause-never_writes
+returns-in-Ok-clause-never_writes g c = told_never_writes c.judged.result c.told.result _ _ c.told.ensures c.judged.ensures.writes
+
+pub returns-in-Err-clause-ends : goal.returns-in-Err-clause-ends
+unfolding agree_outcome
+returns-in-Err-clause-ends g c =
+    let job = c.args.job.now in
+    unplaced (store_place_of job.base job.mpd) (agree_at (g.F.Store.files c.args.store.now)) c.in-Err.told _ c.in-Err.ensures
+
+pub returns-in-Err-clause-never_writes : goal.returns-in-Err-clause-never_writes
+returns-in-Err-clause-never_writes g c =
+    unplaced_never_writes (store_place_of c.args.job.now.base c.args.job.now.mpd) c.in-Err.told _ c.in-Err.ensures

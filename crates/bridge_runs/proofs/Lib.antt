@@ -1,5 +1,0 @@
-pub mod Statuses
-pub mod Others
-pub mod RunLaws
-pub mod Stepping
-pub mod StepLaws

@@ -1,5 +1,0 @@
-use Rattle.bridge_runs.proofs.RunLaws.{read_fault_keeps_files}
-use Rattle.bridge_runs.proofs.laws.a_read_fault_keeps_the_files.Goals as goal
-
-pub returns : goal.returns
-returns c = read_fault_keeps_files

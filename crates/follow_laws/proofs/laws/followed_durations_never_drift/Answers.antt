@@ -1,5 +1,0 @@
-use Rattle.follow_laws.proofs.Ends.{never_drift}
-use Rattle.follow_laws.proofs.laws.followed_durations_never_drift.Goals as goal
-
-pub returns : goal.returns
-returns c = never_drift c.histories_go_on.ensures.accepted c.accepted_never_drift.ensures.sums

@@ -1,5 +1,0 @@
-pub mod Entries
-pub mod Meant
-pub mod Presented
-pub mod Sound
-pub mod Written

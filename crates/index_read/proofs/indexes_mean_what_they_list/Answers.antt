@@ -1,5 +1,0 @@
-use Rattle.index_read.proofs.Meant.{indexed_are_meant, indexed_texts_are_meant}
-use Rattle.index_read.proofs.indexes_mean_what_they_list.Goals as goal
-
-pub returns : goal.returns
-returns c = record { mpd = indexed_are_meant; text = indexed_texts_are_meant }

@@ -1,0 +1,19 @@
+pub mod Bodies
+mod Counted
+mod Courses
+mod Ends
+mod FewDigits
+mod FewFrames
+mod Followed
+mod FollowedFiles
+mod FrameStates
+pub mod History
+mod JudgedFrames
+mod Lasting
+mod Periods
+mod Readings
+mod Reloads
+mod Scales
+mod Segments
+mod Steps
+mod Timed

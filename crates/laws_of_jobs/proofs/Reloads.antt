@@ -1,0 +1,120 @@
+-- Files of the history, and their reloads.
+use Rattle.std.proofs.Common.{◌≡◌, ◌⊎◌, ℕ, zero, suc, List, [], ◌∷◌, ◌++◌, length, take, Option, None, Some, option_map, Result, Ok, Err}
+use Rattle.std.proofs.Common.{inl, inr, refl, sym, ap, ◌∙◌, subst, arith, length-take}
+use Rattle.std.specs.Prelude.{slice_get}
+use Rattle.std.specs.Result.{result_err}
+use Rattle.std.proofs.lemmas.List.Sums.{fold-append}
+use Rattle.std.proofs.lemmas.Option.{none-some, same_Some}
+use Rattle.bridge_io.specs.InOrder.{put_all}
+use Rattle.bridge_io.specs.Outside.{Files}
+use Rattle.bridge_jobs.specs.declared.frame.Frame.{Frame}
+use Rattle.bridge_courses.specs.Courses.{files_to}
+use Rattle.presentation.specs.PresentedLaws.{PresentedAreFew}
+use Rattle.laws_of_playlists.specs.Origins.{OwnTextsAreAddresses}
+use Rattle.live_meaning.specs.Updates.{Terms, Update}
+use Rattle.live_meaning.specs.States.{State, Track, state_of}
+use Rattle.live_meaning.specs.Playlists.{FollowedPlaylist, live_text, playlist_with}
+use Rattle.live_meaning.specs.Laws.{AcceptedAreAccepted, HistoriesBegin, HistoriesGoOn, HistoriesRefuse, accepted_of, with_accepted}
+use Rattle.laws_of_reloads.specs.First.{HoldState}
+use Rattle.laws_of_reloads.specs.Laws.{AreRead, FollowedTextsReload}
+use Rattle.bridge_report.specs.Refusals.{refusal_text}
+use Rattle.bridge_report.specs.declared.refusal.Refusal.{Refusal}
+use Rattle.bridge_playlists.specs.declared.place.StorePlace.{StorePlace}
+use Rattle.bridge_steps.specs.LiveMpds.{next_state}
+use Rattle.bridge_core.specs.Follow.{terms_at}
+use Rattle.bridge_core.specs.declared.follow.Follow.{Follow}
+use Rattle.laws_of_jobs.specs.Histories.{frames_in, history_to, state_to, updates_to}
+use Rattle.laws_of_jobs.specs.Files.{FollowedFilesAreOfTheHistory, FollowedFilesReload, HoldsHistory, prefix_of}
+use Rattle.laws_of_jobs.proofs.Courses.{course_is, line_at_end}
+use Rattle.laws_of_jobs.proofs.FewDigits.{few_digits}
+use Rattle.laws_of_jobs.proofs.FewFrames.{few_frames}
+use Rattle.laws_of_jobs.proofs.FollowedFiles.{HoldsIfAny, IsBehind, frames_behind}
+use Rattle.laws_of_jobs.proofs.FrameStates.{IsLeft, accepting, next_is, state_goes_on}
+use Rattle.laws_of_jobs.proofs.Readings.{are_read, no_more, one_more}
+
+-- ---- the files of the history
+
+module _ (job : Follow) (place : StorePlace) (files : Files) where
+  held_by : (history : List Update) (state : Option State) → IsLeft (terms_at job place) history state → HoldsIfAny job.out state files
+      → (history ≡ []) ⊎ ((s : State) × (state_of (terms_at job place) history ≡ Some s) × HoldState files (prefix_of job) s)
+  held_by history None left holds = inl left
+  held_by history (Some s) left holds = inr (s, left.leaves, holds.1)
+
+  held_at : (n : ℕ) (input : List ℕ) (s : State) → HoldsHistory job place n input files → state_to (terms_at job place) n input ≡ Some s
+      → HoldState files (prefix_of job) s
+  unfolding state_of
+  held_at n input s (inl none) is = absurd (none-some s (ap (state_of (terms_at job place)) (sym none) ∙ is))
+  held_at n input s (inr some) is = subst (HoldState files (prefix_of job)) (same_Some _ _ (sym some.1 ∙ is)) some.2
+
+-- ---- one update more
+
+-- where one of two states with as many tracks has a playlist, the other has too
+there_too : (xs ys : List Track) (t : ℕ) (f g : Track → FollowedPlaylist) (old : FollowedPlaylist) → length ys ≡ length xs
+    → option_map f (slice_get xs t) ≡ Some old → (new : FollowedPlaylist) × (option_map g (slice_get ys t) ≡ Some new)
+there_too [] ys t f g old same is = absurd (cc)
+there_too (x ∷ xs) [] t f g old same is = absurd (omega (arith, same))
+there_too (x ∷ xs) (y ∷ ys) zero f g old same is = (g y, refl)
+there_too (x ∷ xs) (y ∷ ys) (suc t) f g old same is = there_too xs ys t f g old (omega (arith, same)) is
+
+not_refused : (judged : Result State Refusal) → option_map refusal_text (result_err judged) ≡ None → (after : State) × (judged ≡ Ok after)
+not_refused (Ok after) none = (after, refl)
+not_refused (Err r) none = absurd (cc)
+
+module _ (begins : HistoriesBegin) (goes_on : HistoriesGoOn) (refuse : HistoriesRefuse) (few : PresentedAreFew) where
+  pub files_are_of_the_history : FollowedFilesAreOfTheHistory
+  files_are_of_the_history words job place input course n first last is changes =
+      let terms : Terms = terms_at job place in
+      let at = course_is words job place input course is in
+      let same : put_all (files_to n course) first ≡ last = sym (same_Some _ _ changes) in
+      let behind : IsBehind terms job.out (history_to terms n input) last =
+      subst (IsBehind terms job.out (history_to terms n input)) (ap (λ c. put_all (files_to n c) first) (sym at.is) ∙ same)
+      (frames_behind begins goes_on refuse few terms job.out (frames_in input) n None 0 0 (line_at_end input) [] first refl tt) in
+      held_by job place last (history_to terms n input) behind.state behind.left behind.holds
+
+  -- ---- reloads
+
+  module _ (accepted : AcceptedAreAccepted) (texts : FollowedTextsReload) (own : OwnTextsAreAddresses) where
+    pub files_reload : FollowedFilesReload
+    files_reload words job place input course n first before after s t old from is another there was then =
+        let terms : Terms = terms_at job place in
+        let updates : List Update = updates_to n input in
+        let frames : List Frame = frames_in input in
+        let judged = not_refused (next_state s another.frame) another.accepted in
+        let next = next_is s another.frame judged.0 judged.1 in
+        let more : updates_to (suc n) input ≡ updates ++ next.update ∷ [] =
+        one_more frames n another.frame next.update another.next next.is in
+        let shows = goes_on terms (accepted_of terms updates) next.update s judged.0
+        (record { accepted = accepted terms updates; leaves = another.leaves }) next.next in
+        let none = shows.accepted (accepted_of terms updates) next.update [] refl in
+        let leaves : state_of terms (accepted_of terms (updates ++ next.update ∷ [])) ≡ Some judged.0 =
+        ap (state_of terms) (fold-append (accepting terms) [] updates (next.update ∷ [])
+        ∙ ap (with_accepted terms (accepted_of terms updates) next.update) none)
+        ∙ shows.leaves in
+        let new = there_too s.tracks judged.0.tracks t (playlist_with s.common) (playlist_with judged.0.common) old
+        (state_goes_on s next.update judged.0 next.next).tracks there in
+        let held = held_at job place before n input s
+        (files_are_of_the_history words job place input course n first before is was) another.leaves in
+        let held_more = held_at job place after (suc n) input judged.0
+        (files_are_of_the_history words job place input course (suc n) first after is then)
+        (ap (λ us. state_of terms (accepted_of terms us)) more ∙ leaves) in
+        record {
+          old = live_text old;
+          new = live_text new.0;
+          was = held.playlists t old there;
+          is = held_more.playlists t new.0 new.1;
+          reloads = texts terms updates next.update t old new.0 from (record {
+            followed = record {
+              url = own place.url (course_is words job place input course is).own;
+              digits = few_digits words job is.asks;
+              read = subst AreRead more (are_read (take (suc n) frames));
+              few = omega (arith, ap length more, no_more (take (suc n) frames), length-take (suc n) frames, few_frames input);
+            };
+            accepted = none;
+            before = s;
+            leaves = another.leaves;
+            after = judged.0;
+            leaves_more = leaves;
+            old_is = there;
+            new_is = new.1;
+          });
+        }

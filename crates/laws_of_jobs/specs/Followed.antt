@@ -1,0 +1,36 @@
+-- What is read of the MPD that rounds of playlists leave.
+use Rattle.std.specs.Prelude.{◌≡◌, ℕ, List, map, All, Some, None, option_map, Ok}
+use Rattle.std.specs.Result.{result_ok}
+use Rattle.iso_time.specs.Instant.{IsReadable}
+use Rattle.mpd_text.specs.Meaning.{reading_of}
+use Rattle.mpd_rules.specs.Rules.{dash_values}
+use Rattle.hls_master.specs.declared.track.MasterTrack.{MasterTrack}
+use Rattle.hls_master.specs.Masters.{master_of}
+use Rattle.hls_master.specs.SeenTracks.{track_seen}
+use Rattle.dash_writer.specs.Live.{live_text}
+use Rattle.hls_follow.specs.declared.state.Followed.{Followed}
+use Rattle.hls_follow.specs.Histories.{AreAccepted, Playlists}
+use Rattle.laws_of_mpds.specs.Live.{IsReadableMpd, live_shown}
+use Rattle.laws_of_mpds.specs.Shown.{shown_of}
+use Rattle.laws_of_mpds.specs.Written.{HaveAddresses}
+
+-- A round at an instant that can be read, whose playlists have addresses as those that are read.
+pub record IsReadRound (round : Playlists) : Type 0 where
+  pub instant : IsReadable round.0
+  pub addresses : All HaveAddresses round.1
+
+-- A master was read, and rounds were accepted one behind another, of which the first one had none before it.
+pub record AreFollowed (master url : List ℕ) (tracks : List MasterTrack) (rounds : List Playlists) (new : Followed) : Type 0 where
+  pub read : master_of master url ≡ Ok (map track_seen tracks)
+  pub accepted : AreAccepted tracks None rounds new
+  pub each : All IsReadRound rounds
+
+abbrev pub FollowedCanBeRead : Type 0
+FollowedCanBeRead = (master url : List ℕ) (tracks : List MasterTrack) (rounds : List Playlists) (new : Followed)
+    → AreFollowed master url tracks rounds new → IsReadableMpd new.mpd
+
+-- The text says what the MPD says, whatever may be played at an instant.
+abbrev pub FollowedAreRead : Type 0
+FollowedAreRead = (master url : List ℕ) (tracks : List MasterTrack) (rounds : List Playlists) (new : Followed)
+    → AreFollowed master url tracks rounds new
+    → option_map (λ tree. shown_of (dash_values tree)) (result_ok (reading_of (live_text new.mpd))) ≡ Some (live_shown new.mpd)

@@ -1,0 +1,65 @@
+-- What a run follows, and the history of what it accepts.
+use Rattle.std.specs.Prelude.{◌≡◌, ℕ, List, flat_map, take, Option, Some, option_to_list}
+use Rattle.std.specs.Result.{result_ok}
+use Rattle.bridge_io.specs.Outside.{Files}
+use Rattle.bridge_jobs.specs.Frames.{frames_of}
+use Rattle.bridge_jobs.specs.Jobs.{job_of}
+use Rattle.bridge_jobs.specs.declared.frame.Frame.{Frame}
+use Rattle.bridge_jobs.specs.declared.jobs.Job.{Job}
+use Rattle.bridge_jobs.specs.declared.jobs.Job.TheVariants as jobs
+use Rattle.bridge_courses.specs.Courses.{Course}
+use Rattle.live_meaning.specs.Updates.{Terms, Update}
+use Rattle.live_meaning.specs.States.{State, state_of}
+use Rattle.live_meaning.specs.Laws.{NeverDrifts, accepted_of}
+use Rattle.bridge_report.specs.Following.{Followed}
+use Rattle.bridge_playlists.specs.Places.{store_place_of}
+use Rattle.bridge_playlists.specs.declared.place.StorePlace.{StorePlace}
+use Rattle.bridge_steps.specs.LiveMpds.{followed_mpd, update_of}
+use Rattle.bridge_core.specs.Courses.{course_of}
+use Rattle.bridge_core.specs.Follow.{terms_at}
+use Rattle.bridge_core.specs.declared.follow.Follow.{Follow}
+
+-- ---- what is followed
+
+-- the words ask to follow an MPD
+abbrev pub follow_asked : Follow → Job
+follow_asked job = jobs.Follow job.name job.base job.out job.digits
+
+-- These words ask to follow the MPD at this place, and over this input that is this course.
+pub record IsFollowing (words : List (List ℕ)) (job : Follow) (place : StorePlace) (input : List ℕ) (course : Course) : Type 0 where
+  pub asks : job_of words ≡ Some (follow_asked job)
+  pub at : store_place_of job.base job.name ≡ Some place
+  pub files : Option Files
+  pub goes : course_of words files (Some input) ≡ Some course
+
+abbrev pub followed_at : Follow → StorePlace → Followed (Option State) Frame
+followed_at job place = followed_mpd (terms_at job place) job.out
+
+-- ---- what is accepted
+
+-- the frames of an input
+abbrev pub frames_in : (input : List ℕ) → List Frame
+frames_in input = (frames_of input).frames
+
+-- the updates that frames are; one whose bytes are no MPD is none
+abbrev pub updates_of : List Frame → List Update
+updates_of frames = flat_map (λ x. option_to_list (result_ok (update_of x))) frames
+
+-- those of the first n frames of an input
+abbrev pub updates_to : (n : ℕ) (input : List ℕ) → List Update
+updates_to n input = updates_of (take n (frames_in input))
+
+-- the accepted ones among them, each accepted behind those before it
+abbrev pub history_to : Terms → (n : ℕ) (input : List ℕ) → List Update
+history_to terms n input = accepted_of terms (updates_to n input)
+
+-- what these leave
+abbrev pub state_to : Terms → (n : ℕ) (input : List ℕ) → Option State
+state_to terms n input = state_of terms (history_to terms n input)
+
+-- ---- durations
+
+-- Printed durations never drift, although the front of a playlist was removed long ago: up to each segment ever listed of a
+-- section they sum to the time from its first segment's start, rounded down.
+abbrev pub FollowedNeverDrift : Type 0
+FollowedNeverDrift = (terms : Terms) (n : ℕ) (input : List ℕ) → NeverDrifts terms (history_to terms n input)

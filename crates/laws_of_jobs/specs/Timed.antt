@@ -1,0 +1,54 @@
+-- What is read of an MPD that is written of playlists with the times of their media files.
+use Rattle.std.specs.Prelude.{◌≡◌, ◌<◌, ℕ, ℤ, List, map, All, Option, Some, option_map, Ok}
+use Rattle.std.specs.Result.{result_ok}
+use Rattle.bridge_io.specs.Outside.{Files}
+use Rattle.mpd_text.specs.Meaning.{reading_of}
+use Rattle.mpd_rules.specs.Rules.{dash_values}
+use Rattle.hls_master.specs.declared.track.MasterTrack.{MasterTrack}
+use Rattle.hls_master.specs.Masters.{master_of}
+use Rattle.hls_master.specs.SeenTracks.{track_seen}
+use Rattle.hls_media.specs.Laws.{IsBounded}
+use Rattle.hls_media.specs.declared.media.Media.{Media}
+use Rattle.hls_presentation.specs.Presenting.{hls_presented_of}
+use Rattle.presentation.specs.Meanings.{dash_meaning, meaning_of}
+use Rattle.presentation.specs.Presented.{Presented}
+use Rattle.fragment_times.specs.Durations.{durations_of}
+use Rattle.fragment_times.specs.Times.{times_of}
+use Rattle.fragment_times.specs.declared.times.SegmentTimes.{SegmentTimes}
+use Rattle.dash_writer.specs.Timed.{timed_text}
+use Rattle.bridge_reach.specs.DashTimes.{runs_of}
+use Rattle.laws_of_mpds.specs.Shown.{shown_of}
+use Rattle.laws_of_mpds.specs.Timed.{IsTimed, timed_as, timed_shown}
+use Rattle.laws_of_mpds.specs.Written.{HaveAddresses}
+
+abbrev pub AreOfBytes : Files → Type 0
+AreOfBytes files = (name bytes : List ℕ) → files name ≡ Some bytes → All (λ b. b < 256) bytes
+
+-- A master and playlists like those that are read are presented, and their media files, whose folder has a URL, state times.
+pub record HaveTimes (master url : List ℕ) (tracks : List MasterTrack) (medias : List Media) (folder : List ℕ) (files : Files)
+    (p : Presented) (times : List SegmentTimes) (rows : List (List ℕ)) : Type 0 where
+  pub read : master_of master url ≡ Ok (map track_seen tracks)
+  pub bounded : All IsBounded medias
+  pub addresses : All HaveAddresses medias
+  pub presented : hls_presented_of tracks medias ≡ Ok p
+  pub of_bytes : AreOfBytes files
+  pub stated : times_of folder files p ≡ Ok times
+  pub lasting : durations_of p times ≡ Ok rows
+
+abbrev pub TimedCanBeRead : Type 0
+TimedCanBeRead = (master url : List ℕ) (tracks : List MasterTrack) (medias : List Media) (folder : List ℕ) (files : Files)
+    (p : Presented) (times : List SegmentTimes) (rows : List (List ℕ)) → HaveTimes master url tracks medias folder files p times rows
+    → IsTimed p (runs_of times rows)
+
+-- at any URL and instant
+abbrev pub TimedMeanTheirTimes : Type 0
+TimedMeanTheirTimes = (master url : List ℕ) (tracks : List MasterTrack) (medias : List Media) (folder : List ℕ) (files : Files)
+    (p : Presented) (times : List SegmentTimes) (rows : List (List ℕ)) (at : List ℕ) (now : Option ℤ)
+    → HaveTimes master url tracks medias folder files p times rows
+    → dash_meaning (timed_text p (runs_of times rows)) at now ≡ Some (meaning_of (timed_as p (runs_of times rows)))
+
+abbrev pub TimedAreRead : Type 0
+TimedAreRead = (master url : List ℕ) (tracks : List MasterTrack) (medias : List Media) (folder : List ℕ) (files : Files)
+    (p : Presented) (times : List SegmentTimes) (rows : List (List ℕ)) → HaveTimes master url tracks medias folder files p times rows
+    → option_map (λ tree. shown_of (dash_values tree)) (result_ok (reading_of (timed_text p (runs_of times rows))))
+    ≡ Some (timed_shown p (runs_of times rows))

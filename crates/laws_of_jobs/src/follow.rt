@@ -1,0 +1,69 @@
+//! Laws of runs that follow an MPD. The functions do nothing: what they ensure is the law.
+ghost use Rattle.laws_of_jobs.specs.Counts.{FollowCountsSegments};
+ghost use Rattle.laws_of_jobs.specs.Ends.{FollowLeavesHistory, FollowedToAFault, FollowedToTheEnd};
+ghost use Rattle.laws_of_jobs.specs.Files.{FollowedFilesAreOfTheHistory, FollowedFilesReload};
+ghost use Rattle.laws_of_jobs.specs.Frames.{FramesAreOfTheHistory};
+ghost use Rattle.laws_of_jobs.specs.Histories.{FollowedNeverDrift};
+
+use bridge_courses::{a_verdict_keeps_the_steps, an_execution_leaves_its_steps};
+use laws_of_playlists::read_trees_are_of_bytes;
+use laws_of_reloads::followed_texts_reload;
+use live_meaning::{accepted_never_drift, histories_go_on};
+use presentation::presentations_show_their_mpd;
+
+/// Each frame of a followed MPD is accepted or refused, written, told and counted by what the whole history of the frames
+/// accepted before it left.
+pub fn frames_are_judged_by_the_history()
+    ensures { FramesAreOfTheHistory }
+{
+    histories_go_on();
+}
+
+/// After every accepted frame of a followed MPD each track's file is the playlist of the whole history of accepted frames, and
+/// the master that of the first one.
+pub fn followed_files_are_of_the_history()
+    ensures { FollowedFilesAreOfTheHistory }
+{
+    histories_go_on();
+    presentations_show_their_mpd();
+}
+
+/// From the second accepted frame on each track's file lawfully reloads the one before (RFC 8216, 6.2): both are read as
+/// playlists, and the one may take the place of the other.
+pub fn followed_files_reload()
+    ensures { FollowedFilesReload }
+{
+    histories_go_on();
+    presentations_show_their_mpd();
+    followed_texts_reload();
+    read_trees_are_of_bytes();
+}
+
+/// However a run ends, its files are those of the accepted ones among some first frames, and of the next frame nothing, or what
+/// was begun, or all. Where it is done, or its stream is refused, they are those of all frames; where a read of the input
+/// failed, those of some first frames alone.
+pub fn a_followed_execution_leaves_its_history()
+    ensures ends { FollowLeavesHistory }
+    ensures verdict { FollowedToTheEnd }
+    ensures read_fault { FollowedToAFault }
+{
+    followed_files_are_of_the_history();
+    an_execution_leaves_its_steps();
+    a_verdict_keeps_the_steps();
+}
+
+/// However a run ends, it made exactly the segments that the accepted frames appended whose lines are told, exactly those of an
+/// accepted frame whose files or line failed, and of each refused frame at most those that it was to append: none, but where
+/// a segment's address was refused or memory was wanting.
+pub fn a_followed_execution_counts_its_segments()
+    ensures { FollowCountsSegments }
+{}
+
+/// The printed durations of a section sum from its first segment ever listed to the exact time rounded down, although the front
+/// of the playlist was removed long ago.
+pub fn followed_durations_never_drift()
+    ensures { FollowedNeverDrift }
+{
+    histories_go_on();
+    accepted_never_drift();
+}

@@ -1,0 +1,13 @@
+//! What whole runs leave: the files of `follow` by its frames, the MPDs of `dash-times` and `follow-hls`. Laws: the functions do
+//! nothing, and what they ensure is the law.
+#![tactic(auto)]
+
+mod follow;
+mod mpds;
+
+pub use follow::{
+    a_followed_execution_counts_its_segments, a_followed_execution_leaves_its_history,
+    followed_durations_never_drift, followed_files_are_of_the_history, followed_files_reload,
+    frames_are_judged_by_the_history,
+};
+pub use mpds::{followed_mpds_are_read, listed_segments_stay, timed_mpds_mean_their_times};

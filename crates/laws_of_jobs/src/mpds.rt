@@ -1,0 +1,52 @@
+//! Laws of MPDs that are written of playlists that are read. The functions do nothing: what they ensure is the law.
+ghost use Rattle.laws_of_jobs.specs.Followed.{FollowedAreRead, FollowedCanBeRead};
+ghost use Rattle.laws_of_jobs.specs.Rounds.{LeftIsOfTheHistory, ListedSegmentsStay};
+ghost use Rattle.laws_of_jobs.specs.Timed.{TimedAreRead, TimedCanBeRead, TimedMeanTheirTimes};
+
+use hls_follow::segments_stay;
+use hls_media::what_is_read_is_bounded;
+use hls_presentation::what_is_read_is_silent;
+use laws_of_mpds::{
+    live_texts_are_read, read_tracks_can_be_written, timed_texts_are_read,
+    timed_texts_mean_their_times,
+};
+
+/// After every list of accepted rounds, from the first on, the text of the live MPD says what the MPD says, where the master was
+/// read, the rounds are at instants that can be read, and their playlists are bounded and have addresses as those that are read
+/// (`hls_media::what_is_read_is_bounded`, `laws_of_mpds::what_is_read_has_addresses`). Until all playlists are ended it says
+/// that the MPD is dynamic, when the presentation begins and when the last round was read, in whole milliseconds; then the id and
+/// the start of each Period, and of each track in each Period the list of its segments: the time of the first one, each one's
+/// duration, address and range, and the initialization part (ISO/IEC 23009-1, 5.3.1 to 5.3.9; RFC 8216 4.3 and 6.2).
+pub fn followed_mpds_are_read()
+    ensures readable { FollowedCanBeRead }
+    ensures said { FollowedAreRead }
+{
+    live_texts_are_read();
+    read_tracks_can_be_written();
+}
+
+/// The MPD that is written of a master and playlists that are read with the times that their media files state means, at any URL
+/// and instant, the tracks, files and initialization parts of the playlists, where each segment begins at its decode time less
+/// that of its section's first one (ISO/IEC 23009-1, 5.3.9.2 and 5.3.9.6; ISO/IEC 14496-12, 8.4.2 and 8.8.12). Of each track in
+/// each section its text says the timescale that the initialization part states, the decode time of the first segment, and each
+/// one's duration, address and range, with the initialization part. Files are of bytes, so that a timescale has 32 bits.
+pub fn timed_mpds_mean_their_times()
+    ensures readable { TimedCanBeRead }
+    ensures meaning { TimedMeanTheirTimes }
+    ensures said { TimedAreRead }
+{
+    timed_texts_are_read();
+    timed_texts_mean_their_times();
+    read_tracks_can_be_written();
+    what_is_read_is_silent();
+}
+
+/// Over every stream of rounds the MPD is that of the whole history of accepted rounds, and a segment that a later accepted round
+/// lists again stays in it as it was: its time, and the id and the start of its Period (ISO/IEC 23009-1, 5.3.2 and 5.3.9.6).
+pub fn listed_segments_stay()
+    ensures history { LeftIsOfTheHistory }
+    ensures stay { ListedSegmentsStay }
+{
+    what_is_read_is_bounded();
+    segments_stay();
+}

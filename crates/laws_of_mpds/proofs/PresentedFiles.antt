@@ -1,0 +1,87 @@
+-- What the files of a master and of its media playlists mean.
+use Rattle.std.proofs.Common.{◌≡◌, ℕ, List, [], ◌∷◌, map, All, Option, Some, None, option_map, option_and_then, Result, Ok, Err, refl, ◌∙◌}
+use Rattle.std.proofs.Common.{ap}
+use Rattle.std.proofs.lemmas.List.Elements.{All-cons, All-nil}
+use Rattle.bridge_io.specs.Firsts.{first_some}
+use Rattle.bridge_io.specs.Outside.{Files}
+use Rattle.bridge_io.specs.declared.place.Place.{Place}
+use Rattle.hls_lines.specs.Lines.{PlaylistLine, lines_of}
+use Rattle.hls_lines.specs.declared.fault.LineFault.{LineFault}
+use Rattle.hls_master.specs.declared.fault.MasterFault.{MasterFault}
+use Rattle.hls_master.specs.declared.track.MasterTrack.{MasterTrack}
+use Rattle.hls_master.specs.Faults.{answer}
+use Rattle.hls_master.specs.Masters.{faults_of, master_by, master_in, master_of, master_values, values_by}
+use Rattle.hls_master.specs.SeenTracks.{track_seen}
+use Rattle.hls_master.specs.Tracks.{TrackValue}
+use Rattle.hls_media.specs.Laws.{IsBounded}
+use Rattle.hls_media.specs.declared.media.Media.{Media}
+use Rattle.hls_media.proofs.Bounded.{read_is_bounded, read_is_meant}
+use Rattle.hls_meaning.specs.Meanings.{Source as Told, hls_meaning, meaning_by, meaning_of_sources, media_at, media_by, source_of}
+use Rattle.hls_meaning.specs.Meanings.{sources_of}
+use Rattle.hls_presentation.specs.Tracks.{sources}
+use Rattle.hls_presentation.proofs.Silent.{read_are_silent}
+use Rattle.laws_of_mpds.specs.PresentedFiles.{ArePlaylists, IsPlaylist, PresentedMeanTheirFiles}
+use Rattle.laws_of_mpds.specs.PresentedLaws.{told_by}
+use Rattle.laws_of_mpds.proofs.PresentedMeant.{presented_mean_what_is_told}
+
+-- ---- the master
+
+answer_is : (fault : Option MasterFault) (values tracks : List TrackValue) → answer fault values ≡ Ok tracks → values ≡ tracks
+answer_is None values tracks is = cc
+answer_is (Some fault) values tracks is = absurd (cc)
+
+values_are : (url : List ℕ) (end : Place) (lines : Result (List PlaylistLine) LineFault) (tracks : List TrackValue)
+    → master_by url end lines ≡ Ok tracks → values_by url lines ≡ Some tracks
+unfolding master_in
+values_are url end (Ok lines) tracks is = ap Some (answer_is (first_some (faults_of url end lines)) _ tracks is)
+values_are url end (Err fault) tracks is = absurd (cc)
+
+master_is : (bytes url : List ℕ) (tracks : List TrackValue) → master_of bytes url ≡ Ok tracks → master_values bytes url ≡ Some tracks
+unfolding master_of master_values
+master_is bytes url tracks is = values_are url _ (lines_of bytes) tracks is
+
+-- ---- the media playlists
+
+module _ (files : Files) (folder : List ℕ) where
+  media_is : (address : List ℕ) (media : Media) → IsPlaylist files folder address media → media_at files folder address ≡ Some media
+  media_is address media is =
+      let meant = read_is_meant is.bytes address media is.read in
+      ap (option_and_then (λ bytes. media_by address (lines_of bytes))) is.found ∙ ap (media_by address) meant.1.0 ∙ ap Some meant.1.1
+
+  sources_are : (tracks : List MasterTrack) (medias : List Media) → ArePlaylists files folder tracks medias
+      → sources_of files folder (map track_seen tracks) ≡ Some (map told_by (sources tracks medias))
+  sources_are [] [] are = refl
+  sources_are [] (media ∷ medias) are = absurd are
+  sources_are (track ∷ tracks) [] are = absurd are
+  sources_are (track ∷ tracks) (media ∷ medias) are =
+      let one : source_of files folder (track_seen track) ≡ Some (told_by (record { track = track; media = media })) =
+      ap (option_map (λ (media : Media). record { track = track_seen track; media = media })) (media_is track.address media are.0) in
+      ap (option_and_then (λ (source : Told). option_map (λ (others : List Told). source ∷ others)
+      (sources_of files folder (map track_seen tracks)))) one
+      ∙ ap (option_map (λ (others : List Told). told_by (record { track = track; media = media }) ∷ others))
+      (sources_are tracks medias are.1)
+
+  all_bounded : (tracks : List MasterTrack) (medias : List Media) → ArePlaylists files folder tracks medias → All IsBounded medias
+  all_bounded [] [] are = All-nil IsBounded
+  all_bounded [] (media ∷ medias) are = absurd are
+  all_bounded (track ∷ tracks) [] are = absurd are
+  all_bounded (track ∷ tracks) (media ∷ medias) are = All-cons IsBounded media medias
+      (read_is_bounded are.0.bytes track.address media are.0.read) (all_bounded tracks medias are.1)
+
+-- ---- the whole
+
+pub presented_mean_their_files : PresentedMeanTheirFiles
+unfolding hls_meaning
+presented_mean_their_files files folder url tracks medias p master playlists is =
+    let values = master_is master.bytes url (map track_seen tracks) master.read in
+    let meaning = meaning_of_sources (map told_by (sources tracks medias)) in
+    let meant : hls_meaning files folder url ≡ Some meaning =
+    ap (option_and_then (λ bytes. meaning_by files folder (master_values bytes url))) master.found ∙ ap (meaning_by files folder) values
+    ∙ ap (option_map meaning_of_sources) (sources_are files folder tracks medias playlists) in (
+      meaning,
+      (
+        meant,
+        presented_mean_what_is_told tracks medias p (all_bounded files folder tracks medias playlists)
+            (read_are_silent master.bytes url tracks master.read) is,
+      ),
+    )

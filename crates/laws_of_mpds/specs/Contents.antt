@@ -1,0 +1,60 @@
+-- What is read of a track in a section means what was written.
+use Rattle.std.specs.Prelude.{◌≡◌, ℕ, ◌+◌, ◌<◌, List, [], length, map}
+use Rattle.std.specs.List.{AllByRecursion}
+use Rattle.url_parts.specs.Addresses.{IsAddress}
+use Rattle.url_parts.specs.declared.address.Part.{Part}
+use Rattle.timeline.specs.declared.entry.End.{End}
+use Rattle.timeline.specs.declared.names.Names.TheVariants.{Addresses}
+use Rattle.timeline.specs.Expansions.{Closed}
+use Rattle.mpd_rules.specs.declared.rows.Description.{Description}
+use Rattle.presentation.specs.declared.parts.Content.{Content}
+use Rattle.presentation.specs.Presented.{listed_in, whole_window}
+use Rattle.presentation.specs.Meanings.{content_meant, entry_of}
+use Rattle.laws_of_mpds.specs.Rows.{in_row}
+use Rattle.laws_of_mpds.specs.Told.{IsReadable, IsShort, list_told, told_of}
+
+-- a file, or some bytes of one, by an address that is resolved to itself
+pub record IsOwnPart (part : Part) : Type 0 where
+  pub address : IsAddress part.address
+  pub readable : IsReadable part
+
+-- segments one behind another from the section's start on, each with a duration above 0 and its own address
+pub record IsPlain (c : Content) : Type 0 where
+  pub parts : List Part
+  pub durations : List ℕ
+  pub named : c.runs.names ≡ Addresses parts
+  pub members : c.runs.members ≡ map Closed (in_row c.runs.ticks 0 durations)
+  pub paired : length durations ≡ length parts
+  pub positive : 0 < c.runs.ticks
+  pub lasting : AllByRecursion (λ d. 0 < d) durations
+  pub ticks : IsShort c.runs.ticks
+  pub short : AllByRecursion IsShort durations
+  pub few : IsShort (length durations)
+  pub initialization : IsOwnPart c.initialization
+  pub own : AllByRecursion IsOwnPart parts
+
+-- the same, where the first segment begins so many ticks behind the section's start
+pub record IsPlainFrom (from : ℕ) (c : Content) : Type 0 where
+  pub parts : List Part
+  pub durations : List ℕ
+  pub named : c.runs.names ≡ Addresses parts
+  pub members : c.runs.members ≡ map Closed (in_row c.runs.ticks from durations)
+  pub paired : length durations ≡ length parts
+  pub positive : 0 < c.runs.ticks
+  pub lasting : AllByRecursion (λ d. 0 < d) durations
+  pub initialization : IsOwnPart c.initialization
+  pub own : AllByRecursion IsOwnPart parts
+
+-- whatever the URL of the MPD and the end of the Period
+abbrev pub ContentsAreMeant : Type 0
+ContentsAreMeant = (c : Content) (url : List ℕ) (end : End) (d : Description) → IsPlain c → d.bases ≡ []
+    → entry_of whole_window (content_meant url end d (told_of c.runs c.initialization (listed_in whole_window c.runs)))
+    ≡ entry_of whole_window c
+
+-- and at any media time of the section's start
+abbrev pub TimedContentsAreMeant : Type 0
+TimedContentsAreMeant = (c : Content) (offset from : ℕ) (url : List ℕ) (end : End) (d : Description) (plain : IsPlainFrom from c)
+    → d.bases ≡ []
+    → entry_of whole_window (content_meant url end d (list_told c.runs.ticks offset
+    (offset + from) c.initialization plain.durations plain.parts))
+    ≡ entry_of whole_window c

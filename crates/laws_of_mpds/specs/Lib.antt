@@ -1,0 +1,11 @@
+pub mod Contents
+pub mod Live
+pub mod Meant
+pub mod PresentedFiles
+pub mod PresentedLaws
+pub mod Rows
+pub mod Shown
+pub mod Texts
+pub mod Timed
+pub mod Told
+pub mod Written

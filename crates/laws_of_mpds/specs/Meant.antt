@@ -1,0 +1,68 @@
+-- What a written MPD means is what its presentation means.
+use Rattle.std.specs.Prelude.{◌≡◌, ℕ, ◌+◌, ◌<◌, ℤ, Bool, true, false, List, [], ◌∷◌, length, map, All, Option, None}
+use Rattle.bridge_io.specs.declared.media.Kind.{Kind}
+use Rattle.bridge_io.specs.declared.media.Kind.TheVariants.{Video, Audio, Text}
+use Rattle.meaning.specs.Meanings.{Entry}
+use Rattle.timeline.specs.declared.entry.End.{End}
+use Rattle.mpd_rules.specs.Rules.{dash_values}
+use Rattle.presentation.specs.declared.track.Track.{Track}
+use Rattle.presentation.specs.Presented.{Presented, AreFilled, whole_window}
+use Rattle.presentation.specs.Meanings.{content_of_row, entry_at, entry_of, meaning_of, mpd_meaning}
+use Rattle.presentation.specs.Rows.{Row}
+use Rattle.mpd_markup.specs.Placed.{root_place}
+use Rattle.dash_writer.specs.Manifest.{root_of}
+use Rattle.laws_of_mpds.specs.Told.{read_at}
+use Rattle.laws_of_mpds.specs.Contents.{IsPlain}
+
+-- ---- what counts of a Representation
+
+pub record Seen : Type 0 where
+  pub kind : Kind
+  pub language : Option (List ℕ)
+  pub entry : Option Entry
+
+abbrev pub seen_of : (url : List ℕ) → End → Row → Seen
+seen_of url end row = record {
+  kind = row.description.kind;
+  language = row.description.language;
+  entry = entry_of whole_window (content_of_row url end row);
+}
+
+-- tracks in a section, of which the first one has a place
+abbrev pub seen_from : Presented → (section place : ℕ) → List Track → List Seen
+seen_from p section place [] = []
+seen_from p section place (track ∷ tracks) =
+    record { kind = track.kind; language = track.language; entry = entry_at p section place } ∷ seen_from p section (place + 1) tracks
+
+-- ---- presentations that are written and read
+
+abbrev pub are_text : List Kind → Bool
+are_text [] = true
+are_text (Text ∷ kinds) = are_text kinds
+are_text (Audio ∷ kinds) = false
+are_text (Video ∷ kinds) = false
+
+abbrev pub are_audio_then_text : List Kind → Bool
+are_audio_then_text [] = true
+are_audio_then_text (Audio ∷ kinds) = are_audio_then_text kinds
+are_audio_then_text (Text ∷ kinds) = are_text kinds
+are_audio_then_text (Video ∷ kinds) = false
+
+-- video, then audio, then text
+abbrev pub are_in_order : List Kind → Bool
+are_in_order [] = true
+are_in_order (Video ∷ kinds) = are_in_order kinds
+are_in_order (Audio ∷ kinds) = are_audio_then_text kinds
+are_in_order (Text ∷ kinds) = are_text kinds
+
+pub record IsWritable (p : Presented) : Type 0 where
+  pub finished : p.following ≡ None
+  pub some : 0 < length p.sections
+  pub filled : AreFilled (length p.sections) (length p.tracks) (length p.contents)
+  pub plain : All IsPlain p.contents
+  pub ordered : are_in_order (map (λ (track : Track). track.kind) p.tracks) ≡ true
+
+-- at any URL and instant
+abbrev pub TreesMean : Type 0
+TreesMean = (p : Presented) (url : List ℕ) (now : Option ℤ) → IsWritable p
+    → mpd_meaning (dash_values (read_at root_place (root_of p))) url now ≡ meaning_of p

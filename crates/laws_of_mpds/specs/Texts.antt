@@ -1,0 +1,23 @@
+-- What the text of a written MPD means.
+use Rattle.std.specs.Prelude.{◌≡◌, ℕ, ℤ, nat_le, IsTrue, List, All, Option, Some, IfSome}
+use Rattle.std.specs.List.{list_all}
+use Rattle.mpd_text.specs.Grammar.{IsClean}
+use Rattle.presentation.specs.declared.track.Track.{Track}
+use Rattle.presentation.specs.Presented.{Presented}
+use Rattle.presentation.specs.Meanings.{dash_meaning, meaning_of}
+use Rattle.dash_writer.specs.Manifest.{manifest_text}
+use Rattle.laws_of_mpds.specs.Meant.{IsWritable}
+
+-- a text that a value can carry: no character that a text may not have, and no tab, LF and CR
+pub record IsCarried (text : List ℕ) : Type 0 where
+  pub clean : IsClean text
+  pub no_controls : IsTrue (list_all (λ b. nat_le 32 b) text)
+
+pub record IsTellable (track : Track) : Type 0 where
+  pub language : IfSome track.language IsCarried
+  pub codecs : IfSome track.codecs IsCarried
+
+-- at any URL and instant
+abbrev pub TextsMean : Type 0
+TextsMean = (p : Presented) (url : List ℕ) (now : Option ℤ) → IsWritable p → All IsTellable p.tracks
+    → dash_meaning (manifest_text p) url now ≡ Some (meaning_of p)

@@ -1,0 +1,92 @@
+-- What the text of an MPD with the times of its files means.
+use Rattle.std.specs.Prelude.{◌≡◌, ℕ, ◌+◌, ◌*◌, ◌<◌, ℤ, false, List, [], ◌∷◌, All, length, map, slice_get, decimal, Option, Some, None}
+use Rattle.std.specs.Prelude.{option_map, option_and_then}
+use Rattle.std.specs.List.{AllByRecursion}
+use Rattle.std.specs.Result.{result_ok}
+use Rattle.url_parts.specs.declared.address.Part.{Part}
+use Rattle.timeline.specs.declared.names.Names.TheVariants.{Addresses}
+use Rattle.timeline.specs.Expansions.{Closed}
+use Rattle.mpd_text.specs.Meaning.{reading_of}
+use Rattle.mpd_levels.specs.Segments.{Segments}
+use Rattle.mpd_rules.specs.Rules.{dash_values}
+use Rattle.presentation.specs.declared.parts.Content.{Content}
+use Rattle.presentation.specs.declared.track.Section.{Section}
+use Rattle.presentation.specs.Presented.{Presented, content_at, listed_in, whole_window}
+use Rattle.presentation.specs.Meanings.{dash_meaning, meaning_of}
+use Rattle.dash_writer.specs.Lists.{parts_of}
+use Rattle.dash_writer.specs.Timed.{CanBeTimed, timed_sections, timed_text}
+use Rattle.dash_writer.specs.declared.timed.TickRun.{TickRun}
+use Rattle.laws_of_mpds.specs.Meant.{IsWritable}
+use Rattle.laws_of_mpds.specs.Rows.{in_row}
+use Rattle.laws_of_mpds.specs.Shown.{Shown, shown_of, shown_periods}
+use Rattle.laws_of_mpds.specs.Texts.{IsTellable}
+use Rattle.laws_of_mpds.specs.Told.{IsShort, list_told}
+
+-- ---- a presentation by the times of its files
+
+-- the files of all segments
+abbrev pub files_of : Content → List Part
+files_of c = parts_of c.runs (listed_in whole_window c.runs)
+
+-- The same files, each of which begins where the one before it ends: the first one with the section, and the others after the sums
+-- of the durations, in ticks of the run's scale. So each begins at its media time less the first one's.
+abbrev pub content_with : Content → TickRun → Content
+content_with c run = record {
+  initialization = c.initialization;
+  runs = record {
+    members = map Closed (in_row run.scale 0 run.durations);
+    ticks = run.scale;
+    origin = 0;
+    offset = run.first;
+    first_number = 1;
+    names = Addresses (files_of c);
+  };
+}
+
+abbrev pub contents_with : List Content → List TickRun → List Content
+contents_with [] times = []
+contents_with (c ∷ contents) [] = []
+contents_with (c ∷ contents) (run ∷ times) = content_with c run ∷ contents_with contents times
+
+-- the same tracks, in sections that last as long as the longest one
+abbrev pub timed_as : Presented → List TickRun → Presented
+timed_as p times = record p { sections = timed_sections p times; contents = contents_with p.contents times }
+
+-- a duration above 0 for each file, and a scale of at most 64 digits
+pub record AreTimesOf (c : Content) (run : TickRun) : Type 0 where
+  pub one_each : length run.durations ≡ length (files_of c)
+  pub lasting : AllByRecursion (λ d. 0 < d) run.durations
+  pub scale : IsShort run.scale
+
+pub record IsTimed (p : Presented) (times : List TickRun) : Type 0 where
+  pub can : CanBeTimed p times
+  pub each : (i : ℕ) (c : Content) (run : TickRun) → slice_get p.contents i ≡ Some c → slice_get times i ≡ Some run → AreTimesOf c run
+
+-- at any URL and instant
+abbrev pub TimedTextsMean : Type 0
+TimedTextsMean = (p : Presented) (times : List TickRun) (url : List ℕ) (now : Option ℤ) → IsWritable p → All IsTellable p.tracks
+    → IsTimed p times → dash_meaning (timed_text p times) url now ≡ Some (meaning_of (timed_as p times))
+
+-- ---- the lists that are read
+
+-- Media time is at the first segment's time where the Period begins, which is what the first S tells.
+abbrev pub run_told : Content → TickRun → Segments
+run_told c run = list_told run.scale run.first run.first c.initialization run.durations (files_of c)
+
+abbrev pub told_in : Presented → List TickRun → (section place : ℕ) → Option Segments
+told_in p times section place = option_and_then (λ (c : Content). option_map (run_told c) (slice_get times
+    (section * length p.tracks + place)))
+    (content_at p section place)
+
+abbrev pub timed_shown : Presented → List TickRun → Shown
+timed_shown p times = record {
+  dynamic = false;
+  availability_start = None;
+  publish_time = None;
+  periods = shown_periods (λ place (section : Section). decimal place) (λ (section : Section). section.start) (told_in p times)
+      p.tracks 0 (timed_sections p times);
+}
+
+abbrev pub TimedTextsAreRead : Type 0
+TimedTextsAreRead = (p : Presented) (times : List TickRun) → IsWritable p → All IsTellable p.tracks → IsTimed p times
+    → option_map (λ tree. shown_of (dash_values tree)) (result_ok (reading_of (timed_text p times))) ≡ Some (timed_shown p times)

@@ -1,0 +1,9 @@
+use Rattle.laws_of_playlists.proofs.OriginListed.{static_are_in_pace}
+use Rattle.laws_of_playlists.proofs.OriginPace.{are_short_in_pace}
+use Rattle.laws_of_playlists.proofs.origins.static_segments_are_in_pace.Goals as goal
+
+pub returns : goal.returns
+returns c = let ends = c.closed_ends.ensures in record {
+  paced = static_are_in_pace ends.timelines ends.durations ends.reached c.counted_segments_are_in_pace.ensures;
+  short = are_short_in_pace;
+}

@@ -1,0 +1,11 @@
+pub mod IndexMeant
+pub mod IndexOrigins
+pub mod IndexWritten
+pub mod Master
+pub mod Origins
+pub mod ReadLines
+pub mod ReadMedia
+pub mod Same
+pub mod SameFiles
+pub mod SameStatic
+pub mod Tracks

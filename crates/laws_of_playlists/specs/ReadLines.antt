@@ -1,0 +1,75 @@
+-- What written lines say to a reader (RFC 8216, 4.1).
+use Rattle.std.specs.Prelude.{◌≡◌, ℕ, ◌==◌, ◌&&◌, not, nat_le, Bool, true, false, ⊤, List, [], ◌∷◌, ◌++◌, codes, decimal, All, Ok}
+use Rattle.std.specs.List.{list_all}
+use Rattle.bridge_io.specs.declared.place.Place.{Place}
+use Rattle.iso_time.specs.Civil.{instant_text}
+use Rattle.iso_time.specs.Digits.{optional_text}
+use Rattle.url_parts.specs.declared.address.Part.{Part}
+use Rattle.hls_lines.specs.Lines.{PlaylistLine, behind, lines_of, start}
+use Rattle.hls_lines.specs.Lines as said
+use Rattle.hls_writer.specs.Attributes.{attributes_bytes}
+use Rattle.hls_writer.specs.Lines.{WrittenLine, header, version, target_duration, media_sequence, discontinuity_sequence, on_demand}
+use Rattle.hls_writer.specs.Lines.{discontinuity, initialization, program_date_time, duration, byte_range, uri, end_list, rendition}
+use Rattle.hls_writer.specs.Lines.{variant, line_bytes, lines_text, range_attribute, range_bytes, seconds_bytes}
+
+-- ---- lines that are read as they were written
+
+-- a space or a visible character of ASCII
+abbrev pub is_printable : ℕ → Bool
+is_printable b = nat_le 32 b && nat_le b 126
+
+-- a text doesn't end by a space
+abbrev pub ends_visibly : List ℕ → Bool
+ends_visibly [] = true
+ends_visibly (b ∷ []) = not (b == 32)
+ends_visibly (b ∷ (c ∷ bs)) = ends_visibly (c ∷ bs)
+
+-- a line is no blank one, no tag and no comment
+abbrev pub begins_uri : List ℕ → Bool
+begins_uri [] = false
+begins_uri (b ∷ bs) = not (b == 35)
+
+abbrev pub IsUriOrTag : WrittenLine → Type 0
+IsUriOrTag (uri address) = begins_uri address ≡ true
+IsUriOrTag _ = ⊤
+
+pub record IsReadable (line : WrittenLine) : Type 0 where
+  pub printable : list_all is_printable (line_bytes line) ≡ true
+  pub ends : ends_visibly (line_bytes line) ≡ true
+  pub whole : IsUriOrTag line
+
+-- ---- what they say
+
+-- what follows `EXT-X-MAP:`
+abbrev pub map_bytes : Part → List ℕ
+map_bytes part = codes "URI=\"" ++ part.address ++ codes "\"" ++ optional_text range_attribute part.range
+
+-- what a line at a place says
+abbrev pub said_at : WrittenLine → Place → PlaylistLine
+said_at header place = said.tag (codes "EXTM3U") [] place
+said_at (version number) place = said.tag (codes "EXT-X-VERSION") (decimal number) place
+said_at (target_duration seconds) place = said.tag (codes "EXT-X-TARGETDURATION") (decimal seconds) place
+said_at (media_sequence number) place = said.tag (codes "EXT-X-MEDIA-SEQUENCE") (decimal number) place
+said_at (discontinuity_sequence number) place = said.tag (codes "EXT-X-DISCONTINUITY-SEQUENCE") (decimal number) place
+said_at on_demand place = said.tag (codes "EXT-X-PLAYLIST-TYPE") (codes "VOD") place
+said_at discontinuity place = said.tag (codes "EXT-X-DISCONTINUITY") [] place
+said_at (initialization part) place = said.tag (codes "EXT-X-MAP") (map_bytes part) place
+said_at (program_date_time instant) place = said.tag (codes "EXT-X-PROGRAM-DATE-TIME") (instant_text instant) place
+said_at (duration digits units) place = said.tag (codes "EXTINF") (seconds_bytes digits units ++ codes ",") place
+said_at (byte_range range) place = said.tag (codes "EXT-X-BYTERANGE") (range_bytes range) place
+said_at (uri address) place = said.uri address place
+said_at end_list place = said.tag (codes "EXT-X-ENDLIST") [] place
+said_at (rendition first others) place = said.tag (codes "EXT-X-MEDIA") (attributes_bytes first others) place
+said_at (variant first others) place = said.tag (codes "EXT-X-STREAM-INF") (attributes_bytes first others) place
+
+-- what lines say of which the first stands at a place
+abbrev pub said_from_place : Place → List WrittenLine → List PlaylistLine
+said_from_place place [] = []
+said_from_place place (line ∷ lines) = said_at line place ∷ said_from_place (behind (line_bytes line) place) lines
+
+-- ---- law
+
+-- written lines are read as they were written
+abbrev pub WrittenLinesAreRead : Type 0
+WrittenLinesAreRead = (lines : List WrittenLine) → All IsReadable lines → lines_of (lines_text (header ∷ lines))
+    ≡ Ok (said_from_place start (header ∷ lines))

@@ -1,0 +1,5 @@
+pub mod FirstFiles
+pub mod FirstItems
+pub mod Located
+pub mod Targets
+pub mod Texts

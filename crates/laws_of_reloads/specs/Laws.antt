@@ -1,0 +1,80 @@
+-- What is read of the written playlists of a followed presentation.
+use Rattle.std.specs.Prelude.{◌≡◌, ℕ, ◌≤◌, All, List, [], ◌∷◌, ◌++◌, length, Option, Some, None, Ok}
+use Rattle.url_parts.specs.Addresses.{IsAddress}
+use Rattle.mpd_text.specs.Trees.{Element}
+use Rattle.mpd_text.specs.Meaning.{reading_of}
+use Rattle.mpd_rules.specs.Rules.{typed_mpd_of}
+use Rattle.hls_media.specs.Media.{media_of as read_media}
+use Rattle.hls_media.specs.declared.media.Media.{Media}
+use Rattle.reload_law.specs.Laws.{IsLawful}
+use Rattle.live_meaning.specs.Updates.{Terms, Update, Values, mpd_of}
+use Rattle.live_meaning.specs.States.{State, state_of}
+use Rattle.live_meaning.specs.Refusals.{update_refusal}
+use Rattle.live_meaning.specs.Playlists.{FollowedPlaylist, live_text, playlist_of}
+use Rattle.live_meaning.specs.Laws.{Shows, accepted_of, media_of}
+use Rattle.laws_of_playlists.specs.Origins.{IsOfBytes}
+use Rattle.laws_of_playlists.specs.ReadMedia.{ReadsAs}
+
+-- ---- what a run follows
+
+-- an MPD that was read of bytes, and of which no rule refuses anything
+pub record IsRead (mpd : Values) : Type 0 where
+  pub bytes : List ℕ
+  pub are : IsOfBytes bytes
+  pub tree : Element
+  pub reading : reading_of bytes ≡ Ok tree
+  pub typed : typed_mpd_of tree ≡ Ok mpd
+
+abbrev pub IsReadIfAny : Option Values → Type 0
+IsReadIfAny None = Unit {0}
+IsReadIfAny (Some mpd) = IsRead mpd
+
+abbrev pub AreRead : List Update → Type 0
+AreRead updates = All (λ u. IsReadIfAny (mpd_of u)) updates
+
+-- MPDs from an address, with at most 9 decimals of a second and at most 10,000,000 updates
+pub record IsFollowed (terms : Terms) (updates : List Update) : Type 0 where
+  pub url : IsAddress terms.url
+  pub digits : terms.digits ≤ 9
+  pub read : AreRead updates
+  pub few : length updates ≤ 10_000_000
+
+-- ---- laws
+
+-- each text is read as the playlist of an accepted history
+abbrev pub FollowedTextsAreRead : Type 0
+FollowedTextsAreRead = (terms : Terms) (history : List Update) (s : State) (t : ℕ) (playlist : FollowedPlaylist) (url : List ℕ)
+    → IsFollowed terms history → Shows terms history s → playlist_of s t ≡ Some playlist
+    → ReadsAs (live_text playlist) url (media_of playlist)
+
+-- two texts are read as playlists of which the second may take the first one's place
+pub record Reloads (old new url : List ℕ) : Type 0 where
+  pub before : Media
+  pub after : Media
+  pub old_is : ReadsAs old url before
+  pub new_is : ReadsAs new url after
+  pub lawful : IsLawful before after
+
+-- Some updates come one after another, of which those are accepted that may follow the accepted ones before, and then one that is
+-- accepted: the playlists of a track before and behind that one.
+pub record IsUpdate (terms : Terms) (updates : List Update) (u : Update) (t : ℕ) (old new : FollowedPlaylist) : Type 0 where
+  pub followed : IsFollowed terms (updates ++ u ∷ [])
+  pub accepted : update_refusal terms (accepted_of terms updates) u ≡ None
+  pub before : State
+  pub leaves : state_of terms (accepted_of terms updates) ≡ Some before
+  pub after : State
+  pub leaves_more : state_of terms (accepted_of terms (updates ++ u ∷ [])) ≡ Some after
+  pub old_is : playlist_of before t ≡ Some old
+  pub new_is : playlist_of after t ≡ Some new
+
+-- the new text lawfully reloads the former one
+abbrev pub FollowedTextsReload : Type 0
+FollowedTextsReload = (terms : Terms) (updates : List Update) (u : Update) (t : ℕ) (old new : FollowedPlaylist) (url : List ℕ)
+    → IsUpdate terms updates u t old new → Reloads (live_text old) (live_text new) url
+
+-- so does what a reader gives that refuses neither
+abbrev pub ReadTextsReload : Type 0
+ReadTextsReload =
+    (terms : Terms) (updates : List Update) (u : Update) (t : ℕ) (old new : FollowedPlaylist) (url : List ℕ) (before after : Media)
+    → IsUpdate terms updates u t old new → read_media (live_text old) url ≡ Ok before → read_media (live_text new) url ≡ Ok after
+    → IsLawful before after

@@ -1,0 +1,59 @@
+//! Laws of the definitions. The functions do nothing: what they ensure is the law.
+ghost use Rattle.laws_of_reloads.specs.First.{FirstFilesMeanTheSame};
+ghost use Rattle.laws_of_reloads.specs.Laws.{FollowedTextsAreRead, FollowedTextsReload, ReadTextsReload};
+
+use laws_of_playlists::{
+    counted_segments_are_in_pace, parts_are_located, playlists_are_read_again,
+    read_trees_are_of_bytes, static_segments_are_in_pace, tracks_are_writable,
+    tracks_mean_the_same,
+};
+use live_meaning::{
+    accepted_never_drift, histories_go_on, playlists_are_never_empty, reloads_are_lawful,
+    sections_have_one_map,
+};
+use mpd_rules::laws::period_ids_differ;
+use presentation::{presentations_mean_what_they_list, presentations_show_their_mpd};
+use reload_law::rules_are_sentences;
+
+/// The text of each playlist of an accepted history of MPDs that were read is read as the playlist that it was written
+/// from, whatever the URL that it was got from.
+pub fn followed_texts_are_read()
+    ensures { FollowedTextsAreRead }
+{
+    accepted_never_drift();
+    sections_have_one_map();
+    playlists_are_never_empty();
+    presentations_mean_what_they_list();
+    counted_segments_are_in_pace();
+    static_segments_are_in_pace();
+    parts_are_located();
+    read_trees_are_of_bytes();
+    playlists_are_read_again();
+}
+
+/// Where an update is accepted after others, what the new text of each track is read as may take the place of what the
+/// former text is read as (RFC 8216, 6.2). So may what a reader of playlists gives, where it refuses neither.
+pub fn followed_texts_reload()
+    ensures texts { FollowedTextsReload }
+    ensures read { ReadTextsReload }
+{
+    followed_texts_are_read();
+    histories_go_on();
+    reloads_are_lawful();
+    rules_are_sentences();
+}
+
+/// The master and the playlists that are written of a first MPD that was read mean what its presentation means at its instant,
+/// with each time rounded down to the unit that durations are written in.
+pub fn first_files_mean_the_same()
+    ensures { FirstFilesMeanTheSame }
+{
+    period_ids_differ();
+    presentations_show_their_mpd();
+    histories_go_on();
+    presentations_mean_what_they_list();
+    tracks_are_writable();
+    counted_segments_are_in_pace();
+    followed_texts_are_read();
+    tracks_mean_the_same();
+}

@@ -1,5 +1,0 @@
-use Rattle.mpd_read_back.proofs.Timed as timed
-use Rattle.mpd_read_back.proofs.laws.timed_texts_mean_their_times.Goals as goal
-
-pub returns : goal.returns
-returns c = timed.texts_mean c.printed_trees_are_read.ensures

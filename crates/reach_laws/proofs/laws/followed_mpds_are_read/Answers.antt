@@ -1,8 +1,0 @@
-use Rattle.reach_laws.proofs.Followed.{are_read, can_be_read}
-use Rattle.reach_laws.proofs.laws.followed_mpds_are_read.Goals as goal
-
-pub returns : goal.returns
-returns c = record {
-  readable = can_be_read c.read_tracks_can_be_written.ensures.told;
-  said = are_read c.live_texts_are_read.ensures c.read_tracks_can_be_written.ensures.told;
-}

@@ -1,8 +1,0 @@
-use Rattle.reach_laws.proofs.History as history
-use Rattle.reach_laws.proofs.laws.listed_segments_stay.Goals as goal
-
-pub returns-clause-history : goal.returns-clause-history
-returns-clause-history c = history.left_is c.what_is_read_is_bounded.ensures
-
-pub returns-clause-stay : goal.returns-clause-stay
-returns-clause-stay c = history.segments_stay c.what_is_read_is_bounded.ensures c.segments_stay.ensures

@@ -1,5 +1,0 @@
-use Rattle.read_back.proofs.WrittenLines.{written_are_read}
-use Rattle.read_back.proofs.lines.written_lines_are_read.Goals as goal
-
-pub returns : goal.returns
-returns c = written_are_read

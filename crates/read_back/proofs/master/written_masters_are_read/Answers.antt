@@ -1,6 +1,0 @@
-use Rattle.read_back.proofs.MasterRead.{master_is_read}
-use Rattle.read_back.proofs.WrittenLines.{written_are_read}
-use Rattle.read_back.proofs.master.written_masters_are_read.Goals as goal
-
-pub returns : goal.returns
-returns c = master_is_read written_are_read

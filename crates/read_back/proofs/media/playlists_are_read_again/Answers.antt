@@ -1,5 +1,0 @@
-use Rattle.read_back.proofs.Items.{finished_are_read, followed_are_read}
-use Rattle.read_back.proofs.media.playlists_are_read_again.Goals as goal
-
-pub returns : goal.returns
-returns c = record { finished = finished_are_read; followed = followed_are_read }

@@ -1,6 +1,0 @@
-use Rattle.read_back.proofs.OriginParts.{own_texts_are_addresses}
-use Rattle.read_back.proofs.OriginReadings.{readings_are_of_bytes}
-use Rattle.read_back.proofs.origins.read_trees_are_of_bytes.Goals as goal
-
-pub returns : goal.returns
-returns c = record { readings = readings_are_of_bytes c.one_reading.ensures; addresses = own_texts_are_addresses }

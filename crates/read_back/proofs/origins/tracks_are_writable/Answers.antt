@@ -1,5 +1,0 @@
-use Rattle.read_back.proofs.OriginTracks.{have_few_tracks, have_sections, have_tracks, tracks_are_writable}
-use Rattle.read_back.proofs.origins.tracks_are_writable.Goals as goal
-
-pub returns : goal.returns
-returns c = record { writable = tracks_are_writable; tracks = have_tracks; few = have_few_tracks; sections = have_sections }
