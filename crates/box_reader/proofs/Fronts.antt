@@ -1,15 +1,11 @@
 -- What is found in a front of some bytes is found in the whole.
 use Rattle.std.proofs.Common.{◌≡◌, ◌≤◌, ◌<◌, ◌+◌, ◌-◌, ◌==◌, ℕ, zero, suc, Bool, true, false, List, [], ◌∷◌, length, take, drop, Option}
 use Rattle.std.proofs.Common.{Some, None, Result, Ok, Err, nat_lt, if◌then◌else◌, refl, sym, ap, ◌∙◌, arith, subst}
+use Rattle.std.proofs.{lemmas.Bool.Decides.nat_tests, lemmas.List.{drop-take, length-drop, length-take}}
 use Rattle.std.specs.Int.{from_be_bytes, w32, w64}
-use Rattle.std.proofs.lemmas.Bool.Decides.{nat_tests}
-use Rattle.std.proofs.lemmas.List.{drop-take, length-drop, length-take}
 use Rattle.box_reader.specs.Boxes.{Found, Left, behind, boxes_of, first_in, fitted, found_by, found_with, head_at, next_of, wide_head_at}
-use Rattle.box_reader.specs.Laws.{FrontsTell, front_of}
-use Rattle.box_reader.specs.Numbers.{bytes_at, u32_at, u64_at}
-use Rattle.box_reader.specs.declared.head.BoxHead.{BoxHead}
-use Rattle.box_reader.specs.declared.head.BoxFault.{BoxFault}
-use Rattle.box_reader.specs.declared.head.BoxFault.TheVariants.{Cut, Size}
+use Rattle.box_reader.specs.{Laws.{FrontsTell, front_of}, Numbers.{bytes_at, u32_at, u64_at}, declared.head.BoxHead.BoxHead}
+use Rattle.box_reader.specs.{declared.head.BoxFault.BoxFault, declared.head.BoxFault.TheVariants.{Cut, Size}}
 use Rattle.box_reader.proofs.Walks.{first_broken, first_ends, first_later, first_passes, next_fits}
 
 -- ---- bytes of a front

@@ -1,18 +1,15 @@
 -- What words say of the folder and the digits of a job.
-use Rattle.std.proofs.Common.{◌≡◌, ℕ, ℤ, ◌-◌, ◌≤◌, ◌&&◌, IsTrue, List, [], ◌∷◌, Option, None, Some, IfSome, refl, arith, inl, inr}
-use Rattle.std.specs.Prelude.{nat_le, codes, unwrap_or}
-use Rattle.std.proofs.lemmas.Bool.{cases_Bool}
-use Rattle.std.proofs.lemmas.Bool.Decides.{nat_tests}
-use Rattle.bridge_jobs.specs.declared.jobs.Job.{Job}
 use Rattle.bridge_jobs.specs.declared.jobs.Job.TheVariants as job
-use Rattle.bridge_jobs.specs.declared.verb.Verb.{Verb}
 use Rattle.bridge_jobs.specs.declared.verb.Verb.TheVariants as verb
+use Rattle.std.proofs.Common.{◌≡◌, ℕ, ℤ, ◌-◌, ◌≤◌, ◌&&◌, IsTrue, List, [], ◌∷◌, Option, None, Some, IfSome, refl, arith, inl, inr}
+use Rattle.std.proofs.{lemmas.Bool.cases_Bool, lemmas.Bool.Decides.nat_tests}
+use Rattle.std.specs.Prelude.{nat_le, codes, unwrap_or}
+use Rattle.bridge_jobs.specs.{declared.jobs.Job.Job, declared.verb.Verb.Verb, Jobs.{◌>>=◌, name_in, job_of, job_by, hls_of, dash_of}}
+use Rattle.bridge_jobs.specs.Jobs.{follow_of, show_of, check_of, reload_of, make_of, hls_index_of, dash_times_of, agree_of, follow_hls_of}
+use Rattle.bridge_jobs.specs.Jobs.{is_folder, folder_in, digits_in, digits_of, digits_or_six, file_of, base_of, now_of, out_of, seed_of}
+use Rattle.bridge_jobs.specs.{Jobs.first_verb, Verbs.values_of}
 use Rattle.clap.specs.Words.{Row, first_of}
 use Rattle.bridge_io.specs.Names.{is_name}
-use Rattle.bridge_jobs.specs.Jobs.{◌>>=◌, name_in, job_of, job_by, hls_of, dash_of, follow_of, show_of, check_of, reload_of, make_of}
-use Rattle.bridge_jobs.specs.Jobs.{hls_index_of, dash_times_of, agree_of, follow_hls_of, is_folder, folder_in, digits_in, digits_of}
-use Rattle.bridge_jobs.specs.Jobs.{digits_or_six, file_of, base_of, now_of, out_of, seed_of, first_verb}
-use Rattle.bridge_jobs.specs.Verbs.{values_of}
 
 -- a job's folder leaves room for the names of its files, its digits are few, and a master's file has a name
 abbrev pub IsBounded : Job → Type 0

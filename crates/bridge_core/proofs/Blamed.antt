@@ -1,18 +1,14 @@
 -- Faults of a run have their causes.
-use Rattle.std.proofs.Common.{◌≡◌, ◌⊎◌, ℕ, ℤ, ◌≤◌, List, Option, None, Some, option_map, inl, inr, refl, subst, arith}
-use Rattle.bridge_io.specs.Fault.{Rose}
-use Rattle.bridge_io.specs.Outside.{Files}
 use Rattle.bridge_io.specs.declared.outside.Fail.TheVariants as fail
-use Rattle.bridge_jobs.specs.declared.jobs.Job.{Job}
 use Rattle.bridge_jobs.specs.declared.jobs.Job.TheVariants as job
-use Rattle.bridge_courses.specs.declared.ending.Ending.{Ending}
 use Rattle.bridge_courses.specs.declared.ending.Ending.TheVariants as ending
 use Rattle.bridge_courses.specs.declared.status.Status.TheVariants as status
 use Rattle.bridge_courses.specs.declared.status.Verdict.TheVariants as verdict
-use Rattle.bridge_courses.specs.Courses.{World}
-use Rattle.bridge_courses.specs.declared.status.Status.{Status}
-use Rattle.bridge_courses.specs.Executions.{NeverFalls, TellsAs, status_of}
-use Rattle.bridge_courses.specs.Steps.{IsCaused}
+use Rattle.std.proofs.Common.{◌≡◌, ◌⊎◌, ℕ, ℤ, ◌≤◌, List, Option, None, Some, option_map, inl, inr, refl, subst, arith}
+use Rattle.bridge_io.specs.{Fault.Rose, Outside.Files}
+use Rattle.bridge_jobs.specs.declared.jobs.Job.{Job}
+use Rattle.bridge_courses.specs.{declared.ending.Ending.Ending, Courses.World, declared.status.Status.Status, Executions.NeverFalls}
+use Rattle.bridge_courses.specs.{Executions.{TellsAs, status_of}, Steps.IsCaused}
 use Rattle.bridge_courses.proofs.Statuses.{no_fault, rose_later}
 use Rattle.bridge_report.specs.Outcomes.{Outcome, course_by}
 use Rattle.bridge_steps.specs.Endings.{JobEndsAs}

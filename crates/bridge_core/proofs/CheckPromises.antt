@@ -1,40 +1,23 @@
 -- What `check` promises, from what its parts say.
+use Rattle.bridge_courses.specs.declared.status.Verdict.TheVariants as verdict
 use Rattle.std.proofs.Common.{◌≡◌, ◌^◌, ℕ, List, IsTrue, Option, None, Some, IfSome, option_map, Result, Ok, Err, refl, sym, ◌∙◌, ap, subst}
 use Rattle.std.specs.Prelude.{◌↔◌}
 use Rattle.bridge_io.proofs.AndThen.{steps_of}
-use Rattle.bridge_io.specs.Names.{is_name}
-use Rattle.bridge_io.specs.Outside.{Files}
-use Rattle.laws_of_mpds.specs.PresentedFiles.{PresentedMeanTheirFiles}
-use Rattle.meaning.specs.Differences.{first_difference}
-use Rattle.meaning.specs.Meanings.{Meaning}
-use Rattle.meaning.specs.Same.{Agrees}
-use Rattle.meaning.specs.declared.difference.Difference.{Difference}
-use Rattle.laws_of_mpds.specs.Written.{ReadHaveRates}
+use Rattle.bridge_io.specs.{Names.is_name, Outside.Files}
+use Rattle.laws_of_mpds.specs.{PresentedFiles.PresentedMeanTheirFiles, Written.ReadHaveRates}
+use Rattle.meaning.specs.{Differences.first_difference, Meanings.Meaning, Same.Agrees, declared.difference.Difference.Difference}
 use Rattle.presentation.proofs.Filling.{ok_under}
-use Rattle.presentation.specs.MeaningLaws.{TextsAreMeant}
-use Rattle.presentation.specs.Meanings.{dash_meaning, meaning_of}
-use Rattle.presentation.specs.Presented.{Presented}
-use Rattle.presentation.specs.Told.{presented_of}
-use Rattle.bridge_courses.specs.Courses.{Course}
-use Rattle.bridge_courses.specs.Laws.{VerdictKeepsSteps}
-use Rattle.bridge_courses.specs.declared.status.Verdict.{Verdict}
-use Rattle.bridge_courses.specs.declared.status.Verdict.TheVariants as verdict
-use Rattle.bridge_report.specs.Outcomes.{base_refused, course_by, outcome_told}
-use Rattle.bridge_report.specs.Reading.{Named, content_of}
+use Rattle.presentation.specs.{MeaningLaws.TextsAreMeant, Meanings.{dash_meaning, meaning_of}, Presented.Presented, Told.presented_of}
+use Rattle.bridge_courses.specs.{Courses.Course, Laws.VerdictKeepsSteps, declared.status.Verdict.Verdict}
+use Rattle.bridge_report.specs.{Outcomes.{base_refused, course_by, outcome_told}, Reading.{Named, content_of}}
 use Rattle.bridge_report.specs.declared.refusal.Refusal.TheVariants.{NotStatic}
-use Rattle.bridge_playlists.specs.Places.{store_place_of}
-use Rattle.bridge_playlists.specs.Playlists.{presented_at}
-use Rattle.bridge_playlists.specs.declared.place.StorePlace.{StorePlace}
+use Rattle.bridge_playlists.specs.{Places.store_place_of, Playlists.presented_at, declared.place.StorePlace.StorePlace}
 use Rattle.bridge_core.specs.Check.{check_at, check_outcome, compared, differ_line, judged, places_of, both_with, verdict_of}
-use Rattle.bridge_core.specs.Courses.{course_of, course_of_job, outcome_of_job}
-use Rattle.bridge_steps.specs.Endings.{placed}
-use Rattle.bridge_steps.specs.Manifests.{checked_presentation, mpd_at, mpd_in}
-use Rattle.bridge_core.specs.Promises.{AreMeant, DifferIsApart, DoneIsAgreed, check_asked}
-use Rattle.bridge_core.specs.declared.check.Check.{Check}
+use Rattle.bridge_core.specs.{Courses.{course_of, course_of_job, outcome_of_job}, Promises.{AreMeant, DifferIsApart, DoneIsAgreed}}
+use Rattle.bridge_core.specs.{Promises.check_asked, declared.check.Check.Check}
+use Rattle.bridge_steps.specs.{Endings.placed, Manifests.{checked_presentation, mpd_at, mpd_in}}
 use Rattle.meaning.proofs.AlikeLemmas.{first_alike}
-use Rattle.bridge_core.proofs.Asked.{IsBounded, bounded}
-use Rattle.bridge_core.proofs.Lies.{content_read, in_folder_is, lies_of}
-use Rattle.bridge_core.proofs.MpdPromises.{presentation_read}
+use Rattle.bridge_core.proofs.{Asked.{IsBounded, bounded}, Lies.{content_read, in_folder_is, lies_of}, MpdPromises.presentation_read}
 use Rattle.bridge_steps.proofs.Static.{static_read}
 
 -- ---- a course that isn't refused

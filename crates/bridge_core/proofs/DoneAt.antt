@@ -1,13 +1,10 @@
 -- Runs that are done, of commands that write what they read.
-use Rattle.std.proofs.Common.{◌≡◌, ℕ, Bool, List, Option, None, Some, option_map, Result, Ok, Err, refl, ◌∙◌, ap, subst}
-use Rattle.bridge_io.specs.Outside.{Files}
-use Rattle.bridge_courses.specs.Courses.{Course, World}
-use Rattle.bridge_courses.specs.Laws.{VerdictKeepsSteps}
-use Rattle.bridge_courses.specs.Executions.{IsExecution}
 use Rattle.bridge_courses.specs.declared.status.Status.TheVariants as status
 use Rattle.bridge_courses.specs.declared.status.Verdict.TheVariants as verdict
-use Rattle.bridge_report.specs.Outcomes.{Ends, Outcome, base_refused, course_by}
-use Rattle.bridge_report.specs.Reading.{Named}
+use Rattle.std.proofs.Common.{◌≡◌, ℕ, Bool, List, Option, None, Some, option_map, Result, Ok, Err, refl, ◌∙◌, ap, subst}
+use Rattle.bridge_io.specs.Outside.{Files}
+use Rattle.bridge_courses.specs.{Courses.{Course, World}, Laws.VerdictKeepsSteps, Executions.IsExecution}
+use Rattle.bridge_report.specs.{Outcomes.{Ends, Outcome, base_refused, course_by}, Reading.Named}
 use Rattle.bridge_steps.specs.Endings.{outcome_written, placed}
 
 -- its files have a place, and this is read there and written

@@ -1,28 +1,19 @@
 -- The files that are written, by their names.
 use Rattle.std.proofs.Common.{◌≡◌, ℕ, zero, suc, ◌+◌, ◌^◌, ◌<◌, ◌≤◌, List, [], ◌∷◌, ◌++◌, map, length, None, Option, Some, bytes_eq, eqb}
-use Rattle.std.proofs.Common.{refl, sym, ◌∙◌, ap, arith, inl, inr, append_assoc}
-use Rattle.std.specs.Prelude.{codes, decimal, option_map, slice_get}
-use Rattle.std.specs.List.{range_with_len}
-use Rattle.std.specs.Option.{option_map_or}
-use Rattle.std.proofs.lemmas.Bool.{cases_Bool, eqb-true}
-use Rattle.std.proofs.lemmas.Bool.Decides.{nat_tests}
-use Rattle.std.proofs.lemmas.Fmt.{decimal_injective}
-use Rattle.std.proofs.lemmas.List.{append_cancel_left, append_cancel_right}
+use Rattle.std.proofs.{Common.{refl, sym, ◌∙◌, ap, arith, inl, inr, append_assoc}, lemmas.Bool.{cases_Bool, eqb-true}}
+use Rattle.std.proofs.{lemmas.Bool.Decides.nat_tests, lemmas.Fmt.decimal_injective, lemmas.List.{append_cancel_left, append_cancel_right}}
 use Rattle.std.proofs.lemmas.Option.{slice_get_within}
+use Rattle.std.specs.{Prelude.{codes, decimal, option_map, slice_get}, List.range_with_len, Option.option_map_or}
 use Rattle.bridge_io.proofs.Texts.{same_bytes, equals_itself}
-use Rattle.bridge_io.specs.InOrder.{put_all}
-use Rattle.bridge_io.specs.Outside.{Files, put}
+use Rattle.bridge_io.specs.{InOrder.put_all, Outside.{Files, put}}
 use Rattle.bridge_jobs.specs.Laws.{in_folder, playlist_of}
 use Rattle.presentation.specs.Presented.{Presented}
-use Rattle.hls_writer.specs.Finished.{media_text}
-use Rattle.hls_writer.specs.Master.{master_text}
+use Rattle.hls_writer.specs.{Finished.media_text, Master.master_text}
 use Rattle.laws_of_playlists.specs.SameFiles.{AreWritten, master_name}
-use Rattle.live_meaning.specs.States.{State, Track}
-use Rattle.live_meaning.specs.Playlists.{FollowedPlaylist, live_text, playlist_of as followed_of, playlist_with}
+use Rattle.live_meaning.specs.{States.{State, Track}, Playlists.{FollowedPlaylist, live_text, playlist_of as followed_of, playlist_with}}
 use Rattle.laws_of_reloads.specs.First.{HoldState}
 use Rattle.live_session.specs.Sessions.{text_of}
-use Rattle.bridge_steps.specs.LiveMpds.{live_files}
-use Rattle.bridge_steps.specs.Playlists.{playlists}
+use Rattle.bridge_steps.specs.{LiveMpds.live_files, Playlists.playlists}
 use Rattle.bridge_steps.proofs.LiveFiles.{files_first}
 
 -- ---- one file

@@ -1,34 +1,23 @@
 -- What is written means what an MPD and the indexes of its media files mean.
+use Rattle.bridge_courses.specs.declared.status.Status.TheVariants as status
 use Rattle.std.proofs.Common.{◌≡◌, ℕ, ◌^◌, List, [], ◌∷◌, ◌++◌, length, Some, option_map, IfSome, sym, ◌∙◌, ap, subst, append_assoc}
 use Rattle.std.proofs.lemmas.List.{append-nil}
-use Rattle.bridge_io.specs.InOrder.{put_all}
-use Rattle.bridge_io.specs.Outside.{Files}
+use Rattle.bridge_io.specs.{InOrder.put_all, Outside.Files}
 use Rattle.bridge_jobs.specs.Laws.{FoldersHoldTheirFiles}
-use Rattle.bridge_courses.specs.Courses.{Course, World, files_of}
-use Rattle.bridge_courses.specs.Laws.{DoneIsWhole, VerdictKeepsSteps}
-use Rattle.bridge_courses.specs.Executions.{IsExecution}
-use Rattle.bridge_courses.specs.declared.status.Status.TheVariants as status
+use Rattle.bridge_courses.specs.{Courses.{Course, World, files_of}, Laws.{DoneIsWhole, VerdictKeepsSteps}, Executions.IsExecution}
 use Rattle.hls_meaning.specs.Meanings.{hls_meaning}
 use Rattle.hls_writer.specs.Verified.{IsVerified}
 use Rattle.index_parts.specs.Meanings.{indexed_meaning}
-use Rattle.laws_of_playlists.specs.IndexMeant.{IndexedTextsAreMeant}
-use Rattle.laws_of_playlists.specs.IndexOrigins.{IndexedAreFew}
-use Rattle.laws_of_playlists.specs.IndexWritten.{WrittenMeansTheIndex}
+use Rattle.laws_of_playlists.specs.{IndexMeant.IndexedTextsAreMeant, IndexOrigins.IndexedAreFew, IndexWritten.WrittenMeansTheIndex}
+use Rattle.laws_of_playlists.specs.{Origins.{IsFound, OwnTextsAreAddresses, ReadingsAreOfBytes}, SameFiles.{AreWritten, FoldersHoldFiles}}
+use Rattle.laws_of_playlists.specs.SameFiles.{master_name}
 use Rattle.presentation.specs.Meanings.{meaning_of}
-use Rattle.laws_of_playlists.specs.Origins.{IsFound, OwnTextsAreAddresses, ReadingsAreOfBytes}
-use Rattle.laws_of_playlists.specs.SameFiles.{AreWritten, FoldersHoldFiles, master_name}
 use Rattle.bridge_playlists.specs.Places.{store_place_of}
-use Rattle.bridge_steps.specs.Done.{done_line}
-use Rattle.bridge_steps.specs.Playlists.{playlists}
-use Rattle.bridge_reach.specs.declared.index.HlsIndex.{HlsIndex}
-use Rattle.bridge_reach.specs.Index.{index_outcome, outcome_of, presented}
+use Rattle.bridge_steps.specs.{Done.done_line, Playlists.playlists}
+use Rattle.bridge_reach.specs.{declared.index.HlsIndex.HlsIndex, Index.{index_outcome, outcome_of, presented}}
 use Rattle.bridge_reach.proofs.Came.{came_from, is_indexed}
-use Rattle.bridge_core.specs.Courses.{course_of, course_of_job}
-use Rattle.bridge_core.specs.IndexPromises.{IndexMeansTheSame, WrittenMeansTheIndexes, index_asked}
-use Rattle.bridge_core.proofs.Asked.{IsBounded, bounded}
-use Rattle.bridge_core.proofs.DoneAt.{IsDoneAt, done_at}
-use Rattle.bridge_core.proofs.FileNames.{are_written}
-use Rattle.bridge_core.proofs.Lies.{content_read, lies_of}
+use Rattle.bridge_core.specs.{Courses.{course_of, course_of_job}, IndexPromises.{IndexMeansTheSame, WrittenMeansTheIndexes, index_asked}}
+use Rattle.bridge_core.proofs.{Asked.{IsBounded, bounded}, DoneAt.{IsDoneAt, done_at}, FileNames.are_written, Lies.{content_read, lies_of}}
 use Rattle.bridge_core.proofs.Promises.{base_folder, holds, spelled_bytes}
 
 module _ (done : DoneIsWhole) (keeps : VerdictKeepsSteps) (names : FoldersHoldTheirFiles) (hold : FoldersHoldFiles)

@@ -1,20 +1,15 @@
 -- Where a file lies under a base, and what is read there.
 use Rattle.std.proofs.Common.{◌≡◌, ◌&&◌, ℕ, List, ◌++◌, length, Option, None, Some, option_map, Result, Ok, Err, bytes_eq, inl, inr, refl}
-use Rattle.std.proofs.Common.{sym, ◌∙◌, ap, subst}
-use Rattle.std.specs.Prelude.{is_some, nat_lt, true}
-use Rattle.std.specs.Option.{option_and_then}
-use Rattle.std.proofs.lemmas.Bool.{cases_Bool}
+use Rattle.std.proofs.{Common.{sym, ◌∙◌, ap, subst}, lemmas.Bool.cases_Bool}
+use Rattle.std.specs.{Prelude.{is_some, nat_lt, true}, Option.option_and_then}
 use Rattle.bridge_io.proofs.Texts.{same_bytes}
-use Rattle.bridge_io.specs.Outside.{Files}
-use Rattle.bridge_io.specs.Slurped.{whole_file, within}
+use Rattle.bridge_io.specs.{Outside.Files, Slurped.{whole_file, within}}
 use Rattle.presentation.specs.Told.{told_as}
 use Rattle.presentation.proofs.Filling.{ok_under}
 use Rattle.url_parts.specs.Addresses.{absolute}
-use Rattle.bridge_report.specs.Bases.{file_url, folder_url, if_written_so, is_folder, own_address}
-use Rattle.bridge_report.specs.Reading.{content_of, manifest_limit}
+use Rattle.bridge_report.specs.{Bases.{file_url, folder_url, if_written_so, is_folder, own_address}, Reading.{content_of, manifest_limit}}
 use Rattle.bridge_report.specs.Refusals.{refusal_of_file}
-use Rattle.bridge_playlists.specs.declared.place.StorePlace.{StorePlace}
-use Rattle.bridge_playlists.specs.Places.{store_place_of, store_place_with}
+use Rattle.bridge_playlists.specs.{declared.place.StorePlace.StorePlace, Places.{store_place_of, store_place_with}}
 
 -- ---- what is read
 

@@ -1,61 +1,39 @@
 -- What `dash` promises, from what its parts say.
+use Rattle.bridge_report.specs.declared.refusal.Refusal.TheVariants as refusal
+use Rattle.bridge_courses.specs.declared.status.Status.TheVariants as status
 use Rattle.std.proofs.Common.{◌≡◌, ◌<◌, ℕ, List, [], ◌∷◌, ◌++◌, map, All, IsTrue, Option, None, Some, IfSome, option_map, Ok, inl, inr}
-use Rattle.std.proofs.Common.{refl, sym, ◌∙◌, ap, subst, append_assoc, arith}
-use Rattle.std.specs.Prelude.{codes, nat_lt}
-use Rattle.std.specs.Option.{option_and_then}
-use Rattle.std.proofs.lemmas.Bool.{cases_Bool}
-use Rattle.std.proofs.lemmas.List.{append-nil}
+use Rattle.std.proofs.{Common.{refl, sym, ◌∙◌, ap, subst, append_assoc, arith}, lemmas.Bool.cases_Bool, lemmas.List.append-nil}
 use Rattle.std.proofs.lemmas.List.Elements.{All-nil, All-cons, All-head, All-tail}
+use Rattle.std.specs.{Prelude.{codes, nat_lt}, Option.option_and_then}
 use Rattle.bridge_io.proofs.AndThen.{steps_of}
-use Rattle.bridge_io.specs.Answer.{and_then}
-use Rattle.bridge_io.specs.InOrder.{put_all}
-use Rattle.bridge_io.specs.Names.{is_name}
-use Rattle.bridge_io.specs.Outside.{Files}
+use Rattle.bridge_io.specs.{Answer.and_then, InOrder.put_all, Names.is_name, Outside.Files}
 use Rattle.exact_time.specs.Time.{IsSame}
 use Rattle.url_parts.specs.Addresses.{local_name_of}
-use Rattle.hls_media.specs.Laws.{IsBounded as IsBoundedMedia, ReadIsBounded}
-use Rattle.hls_media.specs.Media.{media_of}
-use Rattle.hls_media.specs.declared.media.Media.{Media}
-use Rattle.hls_master.specs.declared.track.MasterTrack.{MasterTrack}
-use Rattle.hls_master.specs.Masters.{master_of}
-use Rattle.hls_master.specs.SeenTags.{rate_seen}
-use Rattle.hls_master.specs.SeenTracks.{track_seen}
+use Rattle.hls_media.specs.{Laws.{IsBounded as IsBoundedMedia, ReadIsBounded}, Media.media_of, declared.media.Media.Media}
+use Rattle.hls_master.specs.{declared.track.MasterTrack.MasterTrack, Masters.master_of, SeenTags.rate_seen, SeenTracks.track_seen}
 use Rattle.hls_master.specs.Tracks.{TrackValue}
 use Rattle.hls_presentation.specs.Presenting.{hls_presented_of}
 use Rattle.hls_meaning.specs.Meanings.{file_at}
-use Rattle.laws_of_mpds.specs.PresentedFiles.{ArePlaylists, IsMaster, IsPlaylist, PresentedMeanTheirFiles}
+use Rattle.laws_of_mpds.specs.{PresentedFiles.{ArePlaylists, IsMaster, IsPlaylist, PresentedMeanTheirFiles}, Written.HaveAddresses}
+use Rattle.laws_of_mpds.specs.Written.{ReadHaveAddresses, ReadHaveRates, ReadMeanTheSame, TracksAreOfBytes}
 use Rattle.meaning.specs.Same.{IsSameTime}
 use Rattle.meaning.proofs.SameLemmas.{Same-wider}
-use Rattle.presentation.specs.Presented.{Presented}
-use Rattle.presentation.specs.Scales.{rate_of}
-use Rattle.presentation.specs.Told.{told_as}
+use Rattle.presentation.specs.{Presented.Presented, Scales.rate_of, Told.told_as, Meanings.meaning_of}
 use Rattle.presentation.proofs.Filling.{ok_under}
 use Rattle.laws_of_playlists.proofs.SameFolders.{file_under}
-use Rattle.bridge_report.specs.Reading.{content_of, media_at, media_in}
-use Rattle.bridge_report.specs.declared.refusal.Refusal.TheVariants as refusal
-use Rattle.bridge_playlists.specs.declared.medias.Medias.{Medias}
-use Rattle.bridge_playlists.specs.declared.place.StorePlace.{StorePlace}
-use Rattle.bridge_playlists.specs.Playlists.{master_in, media_named, media_under, medias_of, medias_with, none_read, presented_at}
-use Rattle.bridge_playlists.specs.Playlists.{presented_by, presented_with, segment_limit, track_kept, tracks_of, with_media, within_limit}
+use Rattle.bridge_report.specs.{Reading.{content_of, media_at, media_in}, Outcomes.course_by}
+use Rattle.bridge_playlists.specs.{declared.medias.Medias.Medias, declared.place.StorePlace.StorePlace, Playlists.{master_in, media_named}}
+use Rattle.bridge_playlists.specs.Playlists.{media_under, medias_of, medias_with, none_read, presented_at, presented_by, presented_with}
+use Rattle.bridge_playlists.specs.{Playlists.{segment_limit, track_kept, tracks_of, with_media, within_limit}, Places.store_place_of}
 use Rattle.bridge_jobs.specs.Laws.{in_folder}
-use Rattle.bridge_courses.specs.Courses.{Course, World, files_of as course_files}
-use Rattle.bridge_courses.specs.Laws.{DoneIsWhole, VerdictKeepsSteps}
+use Rattle.bridge_courses.specs.{Courses.{Course, World, files_of as course_files}, Laws.{DoneIsWhole, VerdictKeepsSteps}}
 use Rattle.bridge_courses.specs.Executions.{IsExecution}
-use Rattle.bridge_courses.specs.declared.status.Status.TheVariants as status
 use Rattle.dash_writer.specs.Manifest.{manifest_text}
-use Rattle.laws_of_mpds.specs.Written.{HaveAddresses, ReadHaveAddresses, ReadHaveRates, ReadMeanTheSame, TracksAreOfBytes}
-use Rattle.presentation.specs.Meanings.{meaning_of}
-use Rattle.bridge_report.specs.Outcomes.{course_by}
-use Rattle.bridge_playlists.specs.Places.{store_place_of}
 use Rattle.bridge_steps.specs.Done.{done_line}
-use Rattle.bridge_core.specs.Courses.{course_of, course_of_job, outcome_of_job}
-use Rattle.bridge_core.specs.Dash.{dash_outcome, files_of, outcome_of}
+use Rattle.bridge_core.specs.{Courses.{course_of, course_of_job, outcome_of_job}, Dash.{dash_outcome, files_of, outcome_of}}
+use Rattle.bridge_core.specs.{Promises.{MpdMeansTheSame, WrittenMpdMeansThePlaylists, mpd_asked}, declared.dash.Dash.Dash}
 use Rattle.laws_of_playlists.specs.Origins.{OwnTextsAreAddresses}
-use Rattle.bridge_core.specs.Promises.{MpdMeansTheSame, WrittenMpdMeansThePlaylists, mpd_asked}
-use Rattle.bridge_core.specs.declared.dash.Dash.{Dash}
-use Rattle.bridge_core.proofs.Asked.{IsBounded, bounded as bounded_words}
-use Rattle.bridge_core.proofs.FileNames.{put_there}
-use Rattle.bridge_core.proofs.DoneAt.{IsDoneAt, done_at}
+use Rattle.bridge_core.proofs.{Asked.{IsBounded, bounded as bounded_words}, FileNames.put_there, DoneAt.{IsDoneAt, done_at}}
 use Rattle.bridge_core.proofs.Lies.{content_read, in_folder_is, lies_of}
 
 -- ---- the files that are read

@@ -1,68 +1,39 @@
 -- What is written means what the MPD means.
+use Rattle.bridge_courses.specs.declared.status.Status.TheVariants as status
 use Rattle.std.proofs.Common.{◌≡◌, ◌⊎◌, ℕ, ℤ, ◌+◌, ◌-◌, ◌^◌, ◌<◌, ◌≤◌, not, Bool, true, false, IsTrue, List, [], ◌∷◌, ◌++◌, length, map}
 use Rattle.std.proofs.Common.{take, if◌then◌else◌, Option, None, Some, option_map, Result, Ok, Err, IfSome, refl, sym, ◌∙◌, ap, subst}
-use Rattle.std.proofs.Common.{arith, inl, inr, append_assoc, take_all}
-use Rattle.std.specs.Prelude.{nat_le, nat_lt}
-use Rattle.std.proofs.lemmas.Bool.{cases_Bool, and_parts}
-use Rattle.std.proofs.lemmas.List.{append-nil, take_more, length-map}
-use Rattle.std.proofs.lemmas.List.Elements.{All-cons, All-nil}
-use Rattle.std.proofs.lemmas.List.Folds.{list_all-append}
-use Rattle.std.proofs.lemmas.List.FromFn.{length-range_with_len}
-use Rattle.std.specs.Prelude.{◌==◌, slice_index}
-use Rattle.std.specs.List.{list_all, list_any}
-use Rattle.std.specs.Str.{is_utf8}
-use Rattle.std.proofs.lemmas.Bool.{ltb-true, eqb-true}
-use Rattle.std.proofs.lemmas.Str.{IsUtf8-from_is_utf8}
+use Rattle.std.proofs.{Common.{arith, inl, inr, append_assoc, take_all}, lemmas.Bool.{cases_Bool, and_parts, ltb-true, eqb-true}}
+use Rattle.std.proofs.{lemmas.List.{append-nil, take_more, length-map}, lemmas.List.Elements.{All-cons, All-nil}}
+use Rattle.std.proofs.{lemmas.List.Folds.list_all-append, lemmas.List.FromFn.length-range_with_len, lemmas.Str.IsUtf8-from_is_utf8}
+use Rattle.std.specs.{Prelude.{nat_le, nat_lt, ◌==◌, slice_index}, List.{list_all, list_any}, Str.is_utf8}
 use Rattle.bridge_io.proofs.AndThen.{steps_of}
-use Rattle.bridge_io.specs.InOrder.{put_all}
-use Rattle.bridge_io.specs.Names.{is_name}
-use Rattle.bridge_io.specs.Outside.{Files}
-use Rattle.bridge_jobs.specs.Jobs.{is_folder}
-use Rattle.bridge_jobs.specs.Laws.{FoldersHoldTheirFiles}
-use Rattle.bridge_courses.specs.Courses.{Course, World, files_of as course_files}
-use Rattle.bridge_courses.specs.Laws.{DoneIsWhole, VerdictKeepsSteps}
+use Rattle.bridge_io.specs.{InOrder.put_all, Names.is_name, Outside.Files}
+use Rattle.bridge_jobs.specs.{Jobs.is_folder, Laws.FoldersHoldTheirFiles}
+use Rattle.bridge_courses.specs.{Courses.{Course, World, files_of as course_files}, Laws.{DoneIsWhole, VerdictKeepsSteps}}
 use Rattle.bridge_courses.specs.Executions.{IsExecution}
-use Rattle.bridge_courses.specs.declared.status.Status.TheVariants as status
 use Rattle.mpd_text.proofs.NameLemmas.{not_true}
-use Rattle.mpd_text.specs.Meaning.{reading_of}
-use Rattle.mpd_text.specs.Trees.{Element}
-use Rattle.mpd_text.specs.declared.fault.TextFault.{TextFault}
+use Rattle.mpd_text.specs.{Meaning.reading_of, Trees.Element, declared.fault.TextFault.TextFault}
 use Rattle.laws_of_mpds.proofs.Bytes.{all_bytes, utf8_bytes}
 use Rattle.presentation.proofs.Filling.{ok_under}
-use Rattle.presentation.specs.Counting.{tracks_of}
-use Rattle.presentation.specs.MeaningLaws.{TextsAreMeant}
-use Rattle.presentation.specs.Meanings.{dash_meaning, meaning_of}
-use Rattle.presentation.specs.Presented.{Presented}
+use Rattle.presentation.specs.{Counting.tracks_of, MeaningLaws.TextsAreMeant, Meanings.{dash_meaning, meaning_of}, Presented.Presented}
 use Rattle.presentation.specs.Told.{presented_of, told_as}
 use Rattle.url_parts.specs.Addresses.{IsAddress, folder_of, is_tail}
 use Rattle.laws_of_playlists.proofs.SameFolders.{no_tail, own_with_slash}
 use Rattle.hls_meaning.specs.Meanings.{hls_meaning}
 use Rattle.laws_of_playlists.specs.Origins.{HaveFewTracks, IsFound, IsOfBytes, ReadingsAreOfBytes, OwnTextsAreAddresses, of_static}
-use Rattle.laws_of_playlists.specs.SameFiles.{FoldersHoldFiles, HoldsFiles, MeanTheSame, master_name}
-use Rattle.laws_of_playlists.specs.SameStatic.{WrittenMeansTheSame}
-use Rattle.live_meaning.specs.Updates.{Refresh, Update, Values, mpd_of, unit_of}
-use Rattle.live_meaning.specs.Histories.{Common, begun_common, begun_past, begun_with}
-use Rattle.live_meaning.specs.States.{State, shown, track_of}
-use Rattle.live_meaning.specs.Refusals.{begun_of}
-use Rattle.laws_of_reloads.specs.First.{FirstFilesMeanTheSame}
-use Rattle.laws_of_reloads.specs.Laws.{IsFollowed, IsRead, IsReadIfAny}
+use Rattle.laws_of_playlists.specs.{SameFiles.{FoldersHoldFiles, HoldsFiles, MeanTheSame, master_name}, SameStatic.WrittenMeansTheSame}
+use Rattle.live_meaning.specs.{Updates.{Refresh, Update, Values, mpd_of, unit_of}, Histories.{Common, begun_common, begun_past, begun_with}}
+use Rattle.live_meaning.specs.{States.{State, shown, track_of}, Refusals.begun_of}
+use Rattle.laws_of_reloads.specs.{First.FirstFilesMeanTheSame, Laws.{IsFollowed, IsRead, IsReadIfAny}}
 use Rattle.laws_of_reloads.proofs.FirstFiles.{begun_is}
-use Rattle.bridge_report.specs.Bases.{ends_in_slash, is_folder as is_base}
-use Rattle.bridge_core.specs.Courses.{course_of, course_of_job}
-use Rattle.bridge_core.specs.Hls.{Live, Static, Translation, files_of, hls_outcome, line_of, live_translation, outcome_of}
-use Rattle.bridge_core.specs.Hls.{static_translation, terms_at, translation_at, translation_by, translation_of}
-use Rattle.bridge_report.specs.Reading.{content_of, of_file}
-use Rattle.bridge_playlists.specs.declared.place.StorePlace.{StorePlace}
-use Rattle.bridge_playlists.specs.Places.{store_place_of}
-use Rattle.bridge_steps.specs.LiveMpds.{live_files, told_of}
-use Rattle.bridge_steps.specs.Manifests.{ready_of, values_of}
-use Rattle.bridge_steps.specs.Playlists.{playlists}
-use Rattle.bridge_core.specs.Promises.{job_asked, MeansTheSame, WrittenMeansTheMpd}
-use Rattle.bridge_core.specs.declared.hls.Hls.{Hls}
-use Rattle.bridge_core.proofs.Asked.{IsBounded, bounded}
-use Rattle.bridge_core.proofs.FileNames.{are_written, first_written}
-use Rattle.bridge_core.proofs.DoneAt.{IsDoneAt, done_at}
-use Rattle.bridge_core.proofs.Lies.{Lies, content_read, lies_of}
+use Rattle.bridge_report.specs.{Bases.{ends_in_slash, is_folder as is_base}, Reading.{content_of, of_file}}
+use Rattle.bridge_core.specs.{Courses.{course_of, course_of_job}, Hls.{Live, Static, Translation, files_of, hls_outcome, line_of}}
+use Rattle.bridge_core.specs.Hls.{live_translation, outcome_of, static_translation, terms_at, translation_at, translation_by}
+use Rattle.bridge_core.specs.{Hls.translation_of, Promises.{job_asked, MeansTheSame, WrittenMeansTheMpd}, declared.hls.Hls.Hls}
+use Rattle.bridge_playlists.specs.{declared.place.StorePlace.StorePlace, Places.store_place_of}
+use Rattle.bridge_steps.specs.{LiveMpds.{live_files, told_of}, Manifests.{ready_of, values_of}, Playlists.playlists}
+use Rattle.bridge_core.proofs.{Asked.{IsBounded, bounded}, FileNames.{are_written, first_written}, DoneAt.{IsDoneAt, done_at}, Lies.Lies}
+use Rattle.bridge_core.proofs.Lies.{content_read, lies_of}
 use Rattle.bridge_steps.proofs.Static.{IsSpelled, IsStatic, spelled_of, static_ready}
 
 -- ---- what is written

@@ -1,6 +1,5 @@
 -- Texts that are added one after another.
-use Rattle.std.proofs.Common.{◌≡◌, ℕ, ◌+◌, ◌<◌, List, ◌++◌, flat_map, sym, ◌∙◌, ap, append_assoc}
-use Rattle.std.proofs.lemmas.List.{append-nil}
+use Rattle.std.proofs.{Common.{◌≡◌, ℕ, ◌+◌, ◌<◌, List, ◌++◌, flat_map, sym, ◌∙◌, ap, append_assoc}, lemmas.List.append-nil}
 use Rattle.presentation.proofs.Counts.{from_on, from_on-end, from_on-first}
 
 module _ (text : ℕ → List ℕ) (whole : List ℕ) where

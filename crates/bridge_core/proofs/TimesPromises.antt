@@ -1,26 +1,20 @@
 -- What is written has the times that media files state, and what `agree` tells of these.
+use Rattle.bridge_courses.specs.declared.status.Status.TheVariants as status
+use Rattle.bridge_courses.specs.declared.status.Verdict.TheVariants as verdict
 use Rattle.std.proofs.Common.{◌≡◌, ℕ, Bool, true, false, List, Option, None, Some, option_map, Result, Ok, Err, refl, sym, ◌∙◌, ap, subst}
 use Rattle.std.proofs.lemmas.List.{append-nil}
-use Rattle.bridge_io.specs.InOrder.{put_all}
-use Rattle.bridge_io.specs.Outside.{Files}
-use Rattle.bridge_courses.specs.Courses.{Course, World, files_of}
-use Rattle.bridge_courses.specs.Laws.{DoneIsWhole, VerdictKeepsSteps}
-use Rattle.bridge_courses.specs.Executions.{IsExecution, status_by}
-use Rattle.bridge_courses.specs.declared.status.Status.TheVariants as status
-use Rattle.bridge_courses.specs.declared.status.Verdict.{Verdict}
-use Rattle.bridge_courses.specs.declared.status.Verdict.TheVariants as verdict
-use Rattle.bridge_report.specs.Outcomes.{Ends, Outcome, Writes, base_refused, course_by, outcome_told}
-use Rattle.bridge_report.specs.Reading.{Named}
-use Rattle.bridge_playlists.specs.declared.place.StorePlace.{StorePlace}
-use Rattle.bridge_playlists.specs.Places.{store_place_of}
+use Rattle.bridge_io.specs.{InOrder.put_all, Outside.Files}
+use Rattle.bridge_courses.specs.{Courses.{Course, World, files_of}, Laws.{DoneIsWhole, VerdictKeepsSteps}, Executions.IsExecution}
+use Rattle.bridge_courses.specs.{Executions.status_by, declared.status.Verdict.Verdict}
+use Rattle.bridge_report.specs.{Outcomes.{Ends, Outcome, Writes, base_refused, course_by, outcome_told}, Reading.Named}
+use Rattle.bridge_playlists.specs.{declared.place.StorePlace.StorePlace, Places.store_place_of}
 use Rattle.bridge_steps.specs.Endings.{placed}
-use Rattle.bridge_reach.specs.Agree.{agree_at, agree_outcome, judged}
-use Rattle.bridge_reach.specs.DashTimes.{Timed, dash_times_at, dash_times_outcome, files_of as timed_files, line_of, outcome_of, timed_at}
-use Rattle.bridge_reach.specs.Promises.{AllAgree, DifferIsApart, DoneAgrees, IsFirstApart, IsRead, IsWrittenTimed, WrittenAreFileTimes}
-use Rattle.bridge_reach.specs.declared.agree.Agree.{Agree}
+use Rattle.bridge_reach.specs.{Agree.{agree_at, agree_outcome, judged}, DashTimes.{Timed, dash_times_at, dash_times_outcome}}
+use Rattle.bridge_reach.specs.{DashTimes.{files_of as timed_files, line_of, outcome_of, timed_at}, Promises.{AllAgree, DifferIsApart}}
+use Rattle.bridge_reach.specs.{Promises.{DoneAgrees, IsFirstApart, IsRead, IsWrittenTimed, WrittenAreFileTimes}, declared.agree.Agree.Agree}
 use Rattle.bridge_reach.specs.declared.dash_times.DashTimes.{DashTimes}
-use Rattle.bridge_core.specs.Courses.{course_of, course_of_job}
-use Rattle.bridge_core.specs.TimesPromises.{DifferHasAnother, DoneHasTheFilesTimes, HasTheFilesTimes, WrittenHasTheFilesTimes}
+use Rattle.bridge_core.specs.{Courses.{course_of, course_of_job}, TimesPromises.{DifferHasAnother, DoneHasTheFilesTimes, HasTheFilesTimes}}
+use Rattle.bridge_core.specs.TimesPromises.{WrittenHasTheFilesTimes}
 use Rattle.bridge_core.proofs.DoneAt.{IsDoneAt, done_at}
 
 -- ---- `dash-times`

@@ -1,18 +1,15 @@
 -- Work of words that are no job, and of commands.
+use Rattle.bridge_courses.specs.declared.ending.Ending.TheVariants as ending
 use Rattle.std.proofs.Common.{◌≡◌, ℕ, List, Option, None, Some, refl, subst, sym}
 use Rattle.std.specs.Option.{ForSome}
 use Rattle.bridge_io.specs.Outside.{Files}
 use Rattle.bridge_jobs.specs.declared.jobs.Job.{Job}
-use Rattle.bridge_courses.specs.declared.ending.Ending.{Ending}
-use Rattle.bridge_courses.specs.declared.ending.Ending.TheVariants as ending
-use Rattle.bridge_courses.specs.Courses.{Course, World}
-use Rattle.bridge_courses.specs.Steps.{Work}
+use Rattle.bridge_courses.specs.{declared.ending.Ending.Ending, Courses.{Course, World}, Steps.Work}
 use Rattle.bridge_report.specs.Outcomes.{course_by}
 use Rattle.bridge_steps.specs.Endings.{JobEndsAs}
-use Rattle.bridge_steps.proofs.Works.{met, work_of, works}
+use Rattle.bridge_steps.proofs.{Works.{met, work_of, works}, Unplaced.stays}
 use Rattle.bridge_core.specs.Courses.{Follows, course_of_job, no_job, outcome_of_job}
 use Rattle.bridge_core.proofs.Blamed.{other_course}
-use Rattle.bridge_steps.proofs.Unplaced.{stays}
 
 pub none_worked : (w : World) → Work (course_by no_job) ending.Words w w
 none_worked w = record {

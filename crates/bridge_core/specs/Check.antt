@@ -1,25 +1,16 @@
 -- Whether an MPD and a master with its playlists agree.
+use Rattle.meaning.specs.declared.difference.Aspect.TheVariants as aspect
+use Rattle.bridge_courses.specs.declared.status.Verdict.TheVariants as verdict
+use Rattle.bridge_report.specs.declared.refusal.Refusal.TheVariants as refusal
 use Rattle.std.specs.Prelude.{ℕ, ◌^◌, List, ◌++◌, length, codes, decimal, Option, Some, None, option_map, Result, Ok}
 use Rattle.std.specs.Option.{option_and_then}
-use Rattle.bridge_io.specs.Answer.{and_then}
-use Rattle.bridge_io.specs.Outside.{Files}
-use Rattle.meaning.specs.Differences.{first_difference}
-use Rattle.meaning.specs.declared.difference.Aspect.{Aspect}
-use Rattle.meaning.specs.declared.difference.Aspect.TheVariants as aspect
-use Rattle.meaning.specs.declared.difference.Difference.{Difference}
-use Rattle.presentation.specs.Counting.{count_of_all}
-use Rattle.presentation.specs.Meanings.{meaning_of}
-use Rattle.presentation.specs.Presented.{Presented}
+use Rattle.bridge_io.specs.{Answer.and_then, Outside.Files}
+use Rattle.meaning.specs.{Differences.first_difference, declared.difference.Aspect.Aspect, declared.difference.Difference.Difference}
+use Rattle.presentation.specs.{Counting.count_of_all, Meanings.meaning_of, Presented.Presented}
 use Rattle.bridge_courses.specs.declared.status.Verdict.{Verdict}
-use Rattle.bridge_courses.specs.declared.status.Verdict.TheVariants as verdict
-use Rattle.bridge_report.specs.Outcomes.{Outcome, outcome_told}
-use Rattle.bridge_report.specs.Reading.{Named}
-use Rattle.bridge_report.specs.declared.refusal.Refusal.TheVariants as refusal
-use Rattle.bridge_playlists.specs.declared.place.StorePlace.{StorePlace}
-use Rattle.bridge_playlists.specs.Places.{store_place_of}
-use Rattle.bridge_playlists.specs.Playlists.{presented_at}
-use Rattle.bridge_steps.specs.Endings.{placed}
-use Rattle.bridge_steps.specs.Manifests.{mpd_at}
+use Rattle.bridge_report.specs.{Outcomes.{Outcome, outcome_told}, Reading.Named}
+use Rattle.bridge_playlists.specs.{declared.place.StorePlace.StorePlace, Places.store_place_of, Playlists.presented_at}
+use Rattle.bridge_steps.specs.{Endings.placed, Manifests.mpd_at}
 use Rattle.bridge_core.specs.declared.check.Check.{Check}
 
 -- ---- the report

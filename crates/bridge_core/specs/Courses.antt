@@ -1,27 +1,16 @@
 -- What a run does where nothing fails, by its words, the store's files and the input.
-use Rattle.std.specs.Prelude.{◌≡◌, ◌⊎◌, ◌≤◌, ℕ, true, false, List, Option, Some, None, option_map}
-use Rattle.bridge_io.specs.Fault.{Rose}
-use Rattle.bridge_io.specs.Outside.{Files}
-use Rattle.bridge_jobs.specs.declared.jobs.Job.{Job}
 use Rattle.bridge_jobs.specs.declared.jobs.Job.TheVariants as job
-use Rattle.bridge_jobs.specs.Jobs.{job_of}
 use Rattle.bridge_courses.specs.declared.status.Verdict.TheVariants as verdict
-use Rattle.bridge_courses.specs.declared.ending.Ending.{Ending}
 use Rattle.bridge_courses.specs.declared.status.Status.TheVariants as status
-use Rattle.bridge_courses.specs.Executions.{status_of, words_line}
-use Rattle.bridge_courses.specs.Courses.{Course, World}
+use Rattle.std.specs.Prelude.{◌≡◌, ◌⊎◌, ◌≤◌, ℕ, true, false, List, Option, Some, None, option_map}
+use Rattle.bridge_io.specs.{Fault.Rose, Outside.Files}
+use Rattle.bridge_jobs.specs.{declared.jobs.Job.Job, Jobs.job_of}
+use Rattle.bridge_courses.specs.{declared.ending.Ending.Ending, Executions.{status_of, words_line}, Courses.{Course, World}}
 use Rattle.bridge_report.specs.Outcomes.{Outcome, Ends, course_by}
-use Rattle.bridge_core.specs.Check.{check_outcome}
-use Rattle.bridge_core.specs.Dash.{dash_outcome}
-use Rattle.bridge_core.specs.Follow.{followed_course}
-use Rattle.bridge_core.specs.Hls.{hls_outcome}
-use Rattle.bridge_core.specs.Make.{make_outcome}
+use Rattle.bridge_core.specs.{Check.check_outcome, Dash.dash_outcome, Follow.followed_course, Hls.hls_outcome, Make.make_outcome}
 use Rattle.bridge_core.specs.Show.{show_outcome}
 use Rattle.bridge_playlists.specs.Reload.{reload_outcome}
-use Rattle.bridge_reach.specs.Agree.{agree_outcome}
-use Rattle.bridge_reach.specs.DashTimes.{dash_times_outcome}
-use Rattle.bridge_reach.specs.Index.{index_outcome}
-use Rattle.bridge_reach.specs.Rounds.{rounds_course}
+use Rattle.bridge_reach.specs.{Agree.agree_outcome, DashTimes.dash_times_outcome, Index.index_outcome, Rounds.rounds_course}
 
 abbrev pub no_job : Outcome
 no_job = Ends verdict.Words words_line false true

@@ -4,13 +4,9 @@ use Rattle.bridge_io.specs.Outside.{Files}
 use Rattle.bridge_jobs.specs.Laws.{in_folder}
 use Rattle.dash_writer.specs.Manifest.{manifest_text}
 use Rattle.presentation.specs.Presented.{Presented}
-use Rattle.bridge_report.specs.Outcomes.{Outcome}
-use Rattle.bridge_report.specs.Reading.{Named}
-use Rattle.bridge_playlists.specs.declared.place.StorePlace.{StorePlace}
-use Rattle.bridge_playlists.specs.Places.{store_place_of}
-use Rattle.bridge_playlists.specs.Playlists.{presented_at}
-use Rattle.bridge_steps.specs.Done.{done_line}
-use Rattle.bridge_steps.specs.Endings.{outcome_written, placed}
+use Rattle.bridge_report.specs.{Outcomes.Outcome, Reading.Named}
+use Rattle.bridge_playlists.specs.{declared.place.StorePlace.StorePlace, Places.store_place_of, Playlists.presented_at}
+use Rattle.bridge_steps.specs.{Done.done_line, Endings.{outcome_written, placed}}
 use Rattle.bridge_core.specs.declared.dash.Dash.{Dash}
 
 -- the MPD: its name and its text

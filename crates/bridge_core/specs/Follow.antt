@@ -1,11 +1,9 @@
 -- The run of a followed MPD.
 use Rattle.std.specs.Prelude.{ℕ, List, Option, None, option_map}
 use Rattle.bridge_courses.specs.Courses.{Course}
-use Rattle.bridge_playlists.specs.declared.place.StorePlace.{StorePlace}
-use Rattle.bridge_playlists.specs.Places.{store_place_of}
+use Rattle.bridge_playlists.specs.{declared.place.StorePlace.StorePlace, Places.store_place_of}
 use Rattle.live_meaning.specs.Updates.{Terms}
-use Rattle.bridge_steps.specs.Follow.{course_placed, follow_course}
-use Rattle.bridge_steps.specs.LiveMpds.{followed_mpd, frame_stream}
+use Rattle.bridge_steps.specs.{Follow.{course_placed, follow_course}, LiveMpds.{followed_mpd, frame_stream}}
 use Rattle.bridge_core.specs.declared.follow.Follow.{Follow}
 
 abbrev pub terms_at : Follow → StorePlace → Terms

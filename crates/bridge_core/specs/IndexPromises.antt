@@ -1,17 +1,13 @@
 -- What `hls-index` promises of the files that it writes.
+use Rattle.bridge_jobs.specs.declared.jobs.Job.TheVariants as jobs
+use Rattle.bridge_courses.specs.declared.status.Status.TheVariants as status
 use Rattle.std.specs.Prelude.{◌≡◌, ℕ, ◌^◌, List, ◌++◌, codes, Option, Some}
 use Rattle.bridge_io.specs.Outside.{Files}
-use Rattle.bridge_jobs.specs.Jobs.{job_of}
-use Rattle.bridge_jobs.specs.Laws.{in_folder}
-use Rattle.bridge_jobs.specs.declared.jobs.Job.{Job}
-use Rattle.bridge_jobs.specs.declared.jobs.Job.TheVariants as jobs
-use Rattle.bridge_courses.specs.Courses.{Course, World}
-use Rattle.bridge_courses.specs.Executions.{IsExecution}
-use Rattle.bridge_courses.specs.declared.status.Status.TheVariants as status
+use Rattle.bridge_jobs.specs.{Jobs.job_of, Laws.in_folder, declared.jobs.Job.Job}
+use Rattle.bridge_courses.specs.{Courses.{Course, World}, Executions.IsExecution}
 use Rattle.hls_meaning.specs.Meanings.{hls_meaning}
 use Rattle.index_parts.specs.Meanings.{indexed_meaning}
-use Rattle.meaning.specs.Meanings.{Meaning}
-use Rattle.meaning.specs.Same.{SameFloor}
+use Rattle.meaning.specs.{Meanings.Meaning, Same.SameFloor}
 use Rattle.bridge_report.specs.Bases.{file_url}
 use Rattle.bridge_reach.specs.declared.index.HlsIndex.{HlsIndex}
 use Rattle.bridge_core.specs.Courses.{course_of}

@@ -1,22 +1,15 @@
 -- From a made MPD to playlists.
+use Rattle.bridge_courses.specs.declared.status.Verdict.TheVariants as verdict
 use Rattle.std.specs.Prelude.{ℕ, ◌^◌, ◌&&◌, nat_lt, false, List, ◌∷◌, ◌++◌, length, codes, if◌then◌else◌, Option, Some, None, Result, Ok}
 use Rattle.std.specs.Prelude.{Err}
 use Rattle.bridge_jobs.specs.Laws.{in_folder}
 use Rattle.hls_writer.specs.Lines.{seconds_bytes}
-use Rattle.presentation.specs.Presented.{Presented, listed_at}
-use Rattle.presentation.specs.Verifying.{length_of}
-use Rattle.bridge_courses.specs.declared.status.Verdict.TheVariants as verdict
-use Rattle.bridge_report.specs.Outcomes.{Outcome, Ends, Writes}
-use Rattle.bridge_report.specs.Reading.{Named}
-use Rattle.bridge_report.specs.Refusals.{refusal_line}
+use Rattle.presentation.specs.{Presented.{Presented, listed_at}, Verifying.length_of}
+use Rattle.bridge_report.specs.{Outcomes.{Outcome, Ends, Writes}, Reading.Named, Refusals.refusal_line}
 use Rattle.bridge_report.specs.declared.refusal.Refusal.TheVariants.{NotStatic}
-use Rattle.bridge_playlists.specs.declared.place.StorePlace.{StorePlace}
-use Rattle.bridge_playlists.specs.Places.{store_place_of}
-use Rattle.bridge_steps.specs.Endings.{placed}
-use Rattle.bridge_steps.specs.Manifests.{mpd_in}
-use Rattle.bridge_steps.specs.Playlists.{playlists}
-use Rattle.bridge_core.specs.Source.{source_text}
-use Rattle.bridge_core.specs.declared.make.Make.{Make}
+use Rattle.bridge_playlists.specs.{declared.place.StorePlace.StorePlace, Places.store_place_of}
+use Rattle.bridge_steps.specs.{Endings.placed, Manifests.mpd_in, Playlists.playlists}
+use Rattle.bridge_core.specs.{Source.source_text, declared.make.Make.Make}
 
 -- ---- the report
 

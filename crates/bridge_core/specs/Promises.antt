@@ -1,27 +1,18 @@
 -- What `hls` and `dash` promise of the files that they write, and `check` of those that it reads.
+use Rattle.bridge_jobs.specs.declared.jobs.Job.TheVariants as jobs
+use Rattle.bridge_courses.specs.declared.status.Status.TheVariants as status
 use Rattle.std.specs.Prelude.{◌≡◌, ℕ, ℤ, ◌^◌, List, ◌++◌, codes, Option, Some, None}
 use Rattle.bridge_io.specs.Outside.{Files}
-use Rattle.bridge_jobs.specs.Jobs.{job_of}
-use Rattle.bridge_jobs.specs.Laws.{in_folder}
-use Rattle.bridge_jobs.specs.declared.jobs.Job.{Job}
-use Rattle.bridge_jobs.specs.declared.jobs.Job.TheVariants as jobs
-use Rattle.bridge_courses.specs.Courses.{Course, World}
-use Rattle.bridge_courses.specs.Executions.{IsExecution}
-use Rattle.bridge_courses.specs.declared.status.Status.TheVariants as status
+use Rattle.bridge_jobs.specs.{Jobs.job_of, Laws.in_folder, declared.jobs.Job.Job}
+use Rattle.bridge_courses.specs.{Courses.{Course, World}, Executions.IsExecution}
 use Rattle.hls_meaning.specs.Meanings.{hls_meaning}
-use Rattle.meaning.specs.Meanings.{Meaning}
-use Rattle.meaning.specs.Differences.{first_difference}
-use Rattle.meaning.specs.Same.{Agrees, SameExact, SameFloor}
+use Rattle.meaning.specs.{Meanings.Meaning, Differences.first_difference, Same.{Agrees, SameExact, SameFloor}}
 use Rattle.meaning.specs.declared.difference.Difference.{Difference}
 use Rattle.presentation.specs.Meanings.{dash_meaning}
-use Rattle.bridge_playlists.specs.declared.place.StorePlace.{StorePlace}
-use Rattle.bridge_playlists.specs.Places.{store_place_of}
-use Rattle.bridge_core.specs.Check.{differ_line}
-use Rattle.bridge_core.specs.declared.check.Check.{Check}
-use Rattle.bridge_core.specs.declared.dash.Dash.{Dash}
-use Rattle.bridge_core.specs.declared.hls.Hls.{Hls}
-use Rattle.bridge_report.specs.Bases.{file_url}
+use Rattle.bridge_playlists.specs.{declared.place.StorePlace.StorePlace, Places.store_place_of}
+use Rattle.bridge_core.specs.{Check.differ_line, declared.check.Check.Check, declared.dash.Dash.Dash, declared.hls.Hls.Hls}
 use Rattle.bridge_core.specs.Courses.{course_of}
+use Rattle.bridge_report.specs.Bases.{file_url}
 
 -- where the master lies
 abbrev pub master_url : Hls → List ℕ

@@ -1,9 +1,7 @@
 -- What a run tells, whatever the store tells.
 use Rattle.std.specs.Prelude.{ℕ, List, Option}
 use Rattle.bridge_io.specs.Outside.{Appends}
-use Rattle.bridge_courses.specs.Executions.{TellsAs}
-use Rattle.bridge_courses.specs.declared.ending.Ending.{Ending}
-use Rattle.bridge_courses.specs.declared.status.Status.{Status}
+use Rattle.bridge_courses.specs.{Executions.TellsAs, declared.ending.Ending.Ending, declared.status.Status.Status}
 
 -- lines, if any, and behind them how the run ends, as its status says
 pub record TellsItsEnd (end : Status) (faults faults' : ℕ) (report report' : Option (List ℕ)) : Type 0 where

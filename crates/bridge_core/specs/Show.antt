@@ -1,26 +1,15 @@
 -- What is told of the tracks and sections of an MPD or of a master.
+use Rattle.bridge_courses.specs.declared.status.Verdict.TheVariants as verdict
 use Rattle.std.specs.Prelude.{ℕ, ◌^◌, ◌==◌, ◌&&◌, ◌||◌, nat_le, Bool, false, List, [], ◌∷◌, ◌++◌, length, codes, decimal, drop, flat_map}
-use Rattle.std.specs.Prelude.{slice_get, slice_index, if◌then◌else◌, Option, Some, None, option_map, Result, Ok}
-use Rattle.std.specs.Option.{option_map_or}
-use Rattle.bridge_io.specs.Answer.{and_then}
-use Rattle.bridge_io.specs.Outside.{Files}
-use Rattle.bridge_io.specs.declared.media.Kind.{Kind}
-use Rattle.bridge_io.specs.declared.media.Kind.TheVariants.{Video, Audio, Text}
+use Rattle.std.specs.{Prelude.{slice_get, slice_index, if◌then◌else◌, Option, Some, None, option_map, Result, Ok}, Option.option_map_or}
+use Rattle.bridge_io.specs.{Answer.and_then, Outside.Files, declared.media.Kind.Kind, declared.media.Kind.TheVariants.{Video, Audio, Text}}
 use Rattle.hls_writer.specs.Lines.{seconds_bytes}
-use Rattle.presentation.specs.Counting.{sections_of, tracks_of}
-use Rattle.presentation.specs.Presented.{Presented, listed_at}
-use Rattle.presentation.specs.Verifying.{length_of}
+use Rattle.presentation.specs.{Counting.{sections_of, tracks_of}, Presented.{Presented, listed_at}, Verifying.length_of}
 use Rattle.presentation.specs.declared.track.Track.{Track}
 use Rattle.bridge_courses.specs.declared.status.Verdict.{Verdict}
-use Rattle.bridge_courses.specs.declared.status.Verdict.TheVariants as verdict
-use Rattle.bridge_report.specs.Outcomes.{Outcome, outcome_told}
-use Rattle.bridge_report.specs.Reading.{Named, content_of}
-use Rattle.bridge_playlists.specs.declared.place.StorePlace.{StorePlace}
-use Rattle.bridge_playlists.specs.Places.{store_place_of}
-use Rattle.bridge_playlists.specs.Playlists.{presented_in}
-use Rattle.bridge_steps.specs.Done.{counts_line}
-use Rattle.bridge_steps.specs.Endings.{placed}
-use Rattle.bridge_steps.specs.Manifests.{mpd_in}
+use Rattle.bridge_report.specs.{Outcomes.{Outcome, outcome_told}, Reading.{Named, content_of}}
+use Rattle.bridge_playlists.specs.{declared.place.StorePlace.StorePlace, Places.store_place_of, Playlists.presented_in}
+use Rattle.bridge_steps.specs.{Done.counts_line, Endings.placed, Manifests.mpd_in}
 use Rattle.bridge_core.specs.declared.show.Show.{Show}
 
 -- ---- which manifest it is

@@ -1,8 +1,6 @@
 -- The text of a made MPD.
-use Rattle.std.specs.Prelude.{ℕ, ◌+◌, ◌*◌, ◌%◌, ◌==◌, List, ◌++◌, codes, decimal, flat_map, if◌then◌else◌}
-use Rattle.std.specs.List.{range_with_len}
-use Rattle.bridge_core.specs.declared.source.Side.{Side}
-use Rattle.bridge_core.specs.declared.source.Side.TheVariants.{Video, Audio}
+use Rattle.std.specs.{Prelude.{ℕ, ◌+◌, ◌*◌, ◌%◌, ◌==◌, List, ◌++◌, codes, decimal, flat_map, if◌then◌else◌}, List.range_with_len}
+use Rattle.bridge_core.specs.{declared.source.Side.Side, declared.source.Side.TheVariants.{Video, Audio}}
 
 -- a hundred segments of so many ticks
 unfoldable pub run_text : (ticks : ℕ) → List ℕ

@@ -1,16 +1,11 @@
 -- What runs of `dash-times` promise of the MPD that they write, and those of `agree` of what they tell.
-use Rattle.std.specs.Prelude.{◌≡◌, ℕ, List, Option, Some}
-use Rattle.bridge_io.specs.InOrder.{put_all}
-use Rattle.bridge_io.specs.Outside.{Files}
-use Rattle.bridge_jobs.specs.Jobs.{job_of}
-use Rattle.bridge_jobs.specs.declared.jobs.Job.{Job}
 use Rattle.bridge_jobs.specs.declared.jobs.Job.TheVariants as jobs
-use Rattle.bridge_courses.specs.Courses.{Course, World}
-use Rattle.bridge_courses.specs.Executions.{IsExecution}
-use Rattle.bridge_courses.specs.declared.status.Status.{Status}
 use Rattle.bridge_courses.specs.declared.status.Status.TheVariants as status
-use Rattle.bridge_reach.specs.Promises.{AllAgree, IsFirstApart, IsRead, IsWrittenTimed}
-use Rattle.bridge_reach.specs.declared.agree.Agree.{Agree}
+use Rattle.std.specs.Prelude.{◌≡◌, ℕ, List, Option, Some}
+use Rattle.bridge_io.specs.{InOrder.put_all, Outside.Files}
+use Rattle.bridge_jobs.specs.{Jobs.job_of, declared.jobs.Job.Job}
+use Rattle.bridge_courses.specs.{Courses.{Course, World}, Executions.IsExecution, declared.status.Status.Status}
+use Rattle.bridge_reach.specs.{Promises.{AllAgree, IsFirstApart, IsRead, IsWrittenTimed}, declared.agree.Agree.Agree}
 use Rattle.bridge_reach.specs.declared.dash_times.DashTimes.{DashTimes}
 use Rattle.bridge_core.specs.Courses.{course_of}
 

@@ -1,22 +1,16 @@
 -- The laws of runs.
-use Rattle.std.proofs.Common.{◌≡◌, ◌⊎◌, length, take, flat_map, option_map, inl, inr, refl, ◌∙◌, ap}
-use Rattle.std.proofs.Math.Seq.{take-length}
-use Rattle.bridge_io.specs.Outside.{Changes, Appends}
 use Rattle.bridge_io.specs.declared.outside.Fail.TheVariants as fail
-use Rattle.bridge_courses.specs.declared.status.Status.{Status}
 use Rattle.bridge_courses.specs.declared.status.Status.TheVariants as status
-use Rattle.bridge_courses.specs.declared.status.Verdict.{Verdict}
 use Rattle.bridge_courses.specs.declared.status.Verdict.TheVariants as verdict
-use Rattle.bridge_courses.specs.declared.ending.Ending.{Ending}
 use Rattle.bridge_courses.specs.declared.ending.Ending.TheVariants as ending
-use Rattle.bridge_io.specs.InOrder.{put_all}
-use Rattle.bridge_courses.specs.Courses.{Course, World, files_of, files_to, report_of}
-use Rattle.bridge_courses.specs.Executions.{status_by, status_of, line_of, Works, Finishes, FailsReading, IsExecution, Tells}
-use Rattle.bridge_courses.specs.Laws.{DoneIsWhole, VerdictKeepsSteps, ReadFaultKeepsFiles, ReadFaultRose, WriteFaultRose, IsCalm}
-use Rattle.bridge_courses.specs.Laws.{IsComplete, OthersStay}
+use Rattle.std.proofs.{Common.{◌≡◌, ◌⊎◌, length, take, flat_map, option_map, inl, inr, refl, ◌∙◌, ap}, Math.Seq.take-length}
+use Rattle.bridge_io.specs.{Outside.{Changes, Appends}, InOrder.put_all}
+use Rattle.bridge_courses.specs.{declared.status.Status.Status, declared.status.Verdict.Verdict, declared.ending.Ending.Ending}
+use Rattle.bridge_courses.specs.{Courses.{Course, World, files_of, files_to, report_of}, Executions.{status_by, status_of, line_of, Works}}
+use Rattle.bridge_courses.specs.{Executions.{Finishes, FailsReading, IsExecution, Tells}, Laws.{DoneIsWhole, VerdictKeepsSteps}}
+use Rattle.bridge_courses.specs.Laws.{ReadFaultKeepsFiles, ReadFaultRose, WriteFaultRose, IsCalm, IsComplete, OthersStay}
 use Rattle.bridge_courses.proofs.Statuses.{told_as, finished, fails_reading, rose_in_writing, rose_first, rose_later, told_whole, no_fault}
-use Rattle.bridge_courses.proofs.Stepping.{appends_both}
-use Rattle.bridge_courses.proofs.Others.{Keeps_same, Keeps-then, Keeps_read, Keeps-works}
+use Rattle.bridge_courses.proofs.{Stepping.appends_both, Others.{Keeps_same, Keeps-then, Keeps_read, Keeps-works}}
 
 -- the first of as many steps as there are
 all_files : (course : Course) → files_to (length course.steps) course ≡ files_of course

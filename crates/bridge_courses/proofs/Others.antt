@@ -1,18 +1,14 @@
 -- Files that a course doesn't name stay as they are.
-use Rattle.std.proofs.Common.{◌≡◌, ◌≢◌, ℕ, Bool, true, false, List, [], ◌∷◌, ◌++◌, take, length, Option, None, Some, option_map, slice_get}
-use Rattle.std.proofs.Common.{flat_map, All, bytes_eq, inl, inr, refl, sym, ◌∙◌, ap, subst}
-use Rattle.std.proofs.lemmas.List.Elements.{All-nil, All-head, All-tail, All-take, All-append, All-push, All-get_or}
-use Rattle.std.proofs.lemmas.Option.{slice_get_cases}
-use Rattle.std.proofs.lemmas.Slice.Eq.{bytes_eq-Decides}
-use Rattle.bridge_io.specs.Outside.{Files, put, Changes}
 use Rattle.bridge_io.specs.declared.outside.Fail.TheVariants as fail
-use Rattle.bridge_courses.specs.declared.ending.Ending.{Ending}
 use Rattle.bridge_courses.specs.declared.ending.Ending.TheVariants as ending
-use Rattle.bridge_io.specs.InOrder.{put_all, MayBegin, AreBegun}
-use Rattle.bridge_courses.specs.Courses.{Step, Course, World, files_to, last_step, Reaches}
-use Rattle.bridge_courses.specs.declared.status.Verdict.{Verdict}
 use Rattle.bridge_courses.specs.declared.status.Verdict.TheVariants as verdict
-use Rattle.bridge_courses.specs.Executions.{Works, Finishes, WantsMemory, FailsTelling, words_line}
+use Rattle.std.proofs.Common.{◌≡◌, ◌≢◌, ℕ, Bool, true, false, List, [], ◌∷◌, ◌++◌, take, length, Option, None, Some, option_map, slice_get}
+use Rattle.std.proofs.{Common.{flat_map, All, bytes_eq, inl, inr, refl, sym, ◌∙◌, ap, subst}, lemmas.List.Elements.{All-nil, All-head}}
+use Rattle.std.proofs.{lemmas.List.Elements.{All-tail, All-take, All-append, All-push, All-get_or}, lemmas.Option.slice_get_cases}
+use Rattle.std.proofs.lemmas.Slice.Eq.{bytes_eq-Decides}
+use Rattle.bridge_io.specs.{Outside.{Files, put, Changes}, InOrder.{put_all, MayBegin, AreBegun}}
+use Rattle.bridge_courses.specs.{declared.ending.Ending.Ending, Courses.{Step, Course, World, files_to, last_step, Reaches}}
+use Rattle.bridge_courses.specs.{declared.status.Verdict.Verdict, Executions.{Works, Finishes, WantsMemory, FailsTelling, words_line}}
 use Rattle.bridge_courses.specs.Laws.{IsAnother, IsNotIn, IsElsewhere}
 
 -- told files are told again, with the same file of this name

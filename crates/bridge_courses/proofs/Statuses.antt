@@ -1,17 +1,13 @@
 -- What the status of a run tells of how its work ended.
-use Rattle.std.proofs.Common.{◌≡◌, ◌⊎◌, ℕ, ◌≤◌, Bool, true, false, List, Option, inl, inr, refl, sym, ◌∙◌, ap, subst, arith}
-use Rattle.bridge_io.specs.Fault.{Rose}
-use Rattle.bridge_io.specs.Outside.{Appends}
 use Rattle.bridge_io.specs.declared.outside.Fail.TheVariants as fail
-use Rattle.bridge_courses.specs.declared.status.Status.{Status}
 use Rattle.bridge_courses.specs.declared.status.Status.TheVariants as status
-use Rattle.bridge_courses.specs.declared.status.Verdict.{Verdict}
 use Rattle.bridge_courses.specs.declared.status.Verdict.TheVariants as verdict
-use Rattle.bridge_courses.specs.declared.ending.Ending.{Ending}
 use Rattle.bridge_courses.specs.declared.ending.Ending.TheVariants as ending
-use Rattle.bridge_courses.specs.Courses.{Course, World}
-use Rattle.bridge_courses.specs.Executions.{status_by, status_of, status_untold, line_of, words_line, TellsAs, Works, Finishes}
-use Rattle.bridge_courses.specs.Executions.{FailsReading}
+use Rattle.std.proofs.Common.{◌≡◌, ◌⊎◌, ℕ, ◌≤◌, Bool, true, false, List, Option, inl, inr, refl, sym, ◌∙◌, ap, subst, arith}
+use Rattle.bridge_io.specs.{Fault.Rose, Outside.Appends}
+use Rattle.bridge_courses.specs.{declared.status.Status.Status, declared.status.Verdict.Verdict, declared.ending.Ending.Ending}
+use Rattle.bridge_courses.specs.{Courses.{Course, World}, Executions.{status_by, status_of, status_untold, line_of, words_line, TellsAs}}
+use Rattle.bridge_courses.specs.Executions.{Works, Finishes, FailsReading}
 
 -- ---- the statuses of verdicts
 

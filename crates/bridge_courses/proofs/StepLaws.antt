@@ -1,27 +1,20 @@
 -- The laws of runs, step by step.
-use Rattle.std.proofs.Common.{◌≡◌, ◌⊎◌, ℕ, zero, suc, ◌+◌, ◌≤◌, IsTrue, List, [], ◌∷◌, ◌++◌, take, drop, length, slice_get, flat_map}
-use Rattle.std.proofs.Common.{Option, None, Some, inl, inr, refl, sym, ap, ◌∙◌, subst, arith, append_assoc}
-use Rattle.std.specs.Prelude.{sum_by}
-use Rattle.std.proofs.Math.Seq.{take-append_seam}
-use Rattle.std.proofs.lemmas.List.{append-nil, take-append-drop}
-use Rattle.std.proofs.lemmas.List.Sums.{sum_by-cons}
-use Rattle.bridge_io.specs.Fault.{Rose}
-use Rattle.bridge_io.specs.Outside.{Files, Changes, Appends, AppendsFront}
-use Rattle.bridge_io.specs.InOrder.{put_all, AreBegun}
 use Rattle.bridge_io.specs.declared.outside.Fail.TheVariants as fail
-use Rattle.bridge_courses.specs.declared.ending.Ending.{Ending}
 use Rattle.bridge_courses.specs.declared.ending.Ending.TheVariants as ending
-use Rattle.bridge_courses.specs.declared.status.Status.{Status}
 use Rattle.bridge_courses.specs.declared.status.Status.TheVariants as status
-use Rattle.bridge_courses.specs.declared.status.Verdict.{Verdict}
 use Rattle.bridge_courses.specs.declared.status.Verdict.TheVariants as verdict
-use Rattle.bridge_courses.specs.Courses.{Step, Course, World, Reaches, lines_to, report_of, last_step}
-use Rattle.bridge_courses.specs.Executions.{Works, Finishes, FailsWriting, FailsTelling, status_of, status_untold, line_of, words_line}
-use Rattle.bridge_courses.specs.Laws.{LeavesSteps, VerdictTellsSteps, ReadFaultTellsSteps, WriteFaultTellsSteps, ExecutionLeavesSteps}
+use Rattle.std.proofs.Common.{◌≡◌, ◌⊎◌, ℕ, zero, suc, ◌+◌, ◌≤◌, IsTrue, List, [], ◌∷◌, ◌++◌, take, drop, length, slice_get, flat_map}
+use Rattle.std.proofs.{Common.{Option, None, Some, inl, inr, refl, sym, ap, ◌∙◌, subst, arith, append_assoc}, Math.Seq.take-append_seam}
+use Rattle.std.proofs.{lemmas.List.{append-nil, take-append-drop}, lemmas.List.Sums.sum_by-cons}
+use Rattle.std.specs.Prelude.{sum_by}
+use Rattle.bridge_io.specs.{Fault.Rose, Outside.{Files, Changes, Appends, AppendsFront}, InOrder.{put_all, AreBegun}}
+use Rattle.bridge_courses.specs.{declared.ending.Ending.Ending, declared.status.Status.Status, declared.status.Verdict.Verdict}
+use Rattle.bridge_courses.specs.{Courses.{Step, Course, World, Reaches, lines_to, report_of, last_step}, Executions.{Works, Finishes}}
+use Rattle.bridge_courses.specs.{Executions.{FailsWriting, FailsTelling, status_of, status_untold, line_of, words_line}, Laws.LeavesSteps}
+use Rattle.bridge_courses.specs.Laws.{VerdictTellsSteps, ReadFaultTellsSteps, WriteFaultTellsSteps, ExecutionLeavesSteps}
 use Rattle.bridge_courses.specs.Laws.{ReadFaultLeavesSteps, MadeSteps, ExecutionMakesSteps, TellsFronts, ExecutionTellsFronts, fault_line}
-use Rattle.bridge_courses.proofs.Statuses.{fails_reading, no_fault, rose_first, rose_later}
-use Rattle.bridge_courses.proofs.ExecutionLaws.{files_told, reading, report_of_whole}
-use Rattle.bridge_courses.proofs.Stepping.{appends_both, none_told}
+use Rattle.bridge_courses.proofs.{Statuses.{fails_reading, no_fault, rose_first, rose_later}, ExecutionLaws.{files_told, reading}}
+use Rattle.bridge_courses.proofs.{ExecutionLaws.report_of_whole, Stepping.{appends_both, none_told}}
 
 -- ---- the files
 

@@ -1,22 +1,16 @@
 -- A course that is worked off a step at a time.
-use Rattle.std.proofs.Common.{◌≡◌, ◌⊎◌, ℕ, suc, IsTrue, List, [], ◌∷◌, ◌++◌, take, length, slice_get, Option, None, Some, option_map, inl}
-use Rattle.std.proofs.Common.{inr, refl, sym, ap, ◌∙◌, subst, arith, append_assoc}
-use Rattle.std.specs.Io.KnownBytes.{append_known}
-use Rattle.std.proofs.lemmas.List.{append-nil}
-use Rattle.std.proofs.lemmas.List.Sums.{sum_by-cons}
-use Rattle.bridge_io.specs.Fault.{Rose}
-use Rattle.bridge_io.specs.Outside.{Files, put, Changes, Appends}
-use Rattle.bridge_io.specs.InOrder.{put_all}
 use Rattle.bridge_io.specs.declared.outside.Fail.TheVariants as fail
-use Rattle.bridge_courses.specs.declared.status.Verdict.{Verdict}
 use Rattle.bridge_courses.specs.declared.status.Verdict.TheVariants as verdict
-use Rattle.bridge_courses.specs.declared.ending.Ending.{Ending}
 use Rattle.bridge_courses.specs.declared.ending.Ending.TheVariants as ending
-use Rattle.bridge_courses.specs.Courses.{Step, End, Course, World, Whole, Reaches, last_step, files_to, lines_to}
-use Rattle.bridge_courses.specs.Executions.{Works, Finishes, NeverFalls, words_line}
-use Rattle.bridge_courses.proofs.Statuses.{rose_later}
+use Rattle.std.proofs.Common.{◌≡◌, ◌⊎◌, ℕ, suc, IsTrue, List, [], ◌∷◌, ◌++◌, take, length, slice_get, Option, None, Some, option_map, inl}
+use Rattle.std.proofs.{Common.{inr, refl, sym, ap, ◌∙◌, subst, arith, append_assoc}, lemmas.List.append-nil, lemmas.List.Sums.sum_by-cons}
+use Rattle.std.specs.Io.KnownBytes.{append_known}
+use Rattle.bridge_io.specs.{Fault.Rose, Outside.{Files, put, Changes, Appends}, InOrder.put_all}
+use Rattle.bridge_courses.specs.{declared.status.Verdict.Verdict, declared.ending.Ending.Ending, Courses.{Step, End, Course, World, Whole}}
+use Rattle.bridge_courses.specs.{Courses.{Reaches, last_step, files_to, lines_to}, Executions.{Works, Finishes, NeverFalls, words_line}}
 use Rattle.bridge_courses.specs.Steps.{with_step, only_end, first_in, first_step, StepIsDone, Outside, IsCutOff, Halts, Stops, Leads}
 use Rattle.bridge_courses.specs.Steps.{IsCaused, Work}
+use Rattle.bridge_courses.proofs.Statuses.{rose_later}
 
 -- ---- one after another
 

@@ -1,7 +1,6 @@
 -- What a run does where nothing fails: steps one after another, and an end.
 use Rattle.std.specs.Prelude.{◌≡◌, ℕ, ◌+◌, ◌≤◌, Bool, IsTrue, List, [], ◌∷◌, ◌++◌, take, slice_get, flat_map, sum_by, Option, Some}
-use Rattle.bridge_io.specs.Outside.{Files, Changes, Appends}
-use Rattle.bridge_io.specs.InOrder.{put_all}
+use Rattle.bridge_io.specs.{Outside.{Files, Changes, Appends}, InOrder.put_all}
 use Rattle.bridge_courses.specs.declared.status.Verdict.{Verdict}
 
 -- Files that are put in order, each a name and a text, and then lines of the report. `least` and `most` bound the

@@ -1,15 +1,11 @@
 -- What each status of a run tells.
+use Rattle.bridge_courses.specs.declared.status.Status.TheVariants as status
+use Rattle.bridge_courses.specs.declared.ending.Ending.TheVariants as ending
 use Rattle.std.specs.Prelude.{◌≡◌, ◌≢◌, ◌⊎◌, ℕ, suc, ◌+◌, ◌≤◌, IsTrue, List, [], ◌∷◌, ◌++◌, take, length, slice_get, sum_by, All, Option}
 use Rattle.std.specs.Prelude.{Some}
-use Rattle.bridge_io.specs.Fault.{Rose}
-use Rattle.bridge_io.specs.Outside.{Files, Changes, Appends, AppendsFront}
-use Rattle.bridge_courses.specs.declared.status.Status.{Status}
-use Rattle.bridge_courses.specs.declared.status.Status.TheVariants as status
-use Rattle.bridge_courses.specs.declared.status.Verdict.{Verdict}
-use Rattle.bridge_io.specs.InOrder.{put_all, AreBegun}
-use Rattle.bridge_courses.specs.declared.ending.Ending.TheVariants as ending
-use Rattle.bridge_courses.specs.Courses.{Step, Course, World, files_of, files_to, lines_to, report_of, last_step, Reaches}
-use Rattle.bridge_courses.specs.Executions.{IsExecution, status_by, line_of}
+use Rattle.bridge_io.specs.{Fault.Rose, Outside.{Files, Changes, Appends, AppendsFront}, InOrder.{put_all, AreBegun}}
+use Rattle.bridge_courses.specs.{declared.status.Status.Status, declared.status.Verdict.Verdict, Courses.{Step, Course, World, files_of}}
+use Rattle.bridge_courses.specs.{Courses.{files_to, lines_to, report_of, last_step, Reaches}, Executions.{IsExecution, status_by, line_of}}
 
 -- the whole course is done: its files are put and its report is told
 pub record IsDone (course : Course) (before after : World) : Type 0 where

@@ -1,14 +1,11 @@
 -- One step of a course, as a loop goes through them.
-use Rattle.std.specs.Prelude.{◌≡◌, ◌≢◌, ◌⊎◌, ℕ, ◌+◌, ◌≤◌, true, List, [], ◌∷◌, Option}
-use Rattle.bridge_io.specs.Fault.{Rose}
-use Rattle.bridge_io.specs.Outside.{Files, Changes, Appends, AppendsFront}
-use Rattle.bridge_io.specs.InOrder.{put_all, AreBegun}
 use Rattle.bridge_io.specs.declared.outside.Fail.TheVariants as fail
 use Rattle.bridge_courses.specs.declared.status.Verdict.TheVariants as verdict
-use Rattle.bridge_courses.specs.declared.ending.Ending.{Ending}
 use Rattle.bridge_courses.specs.declared.ending.Ending.TheVariants as ending
-use Rattle.bridge_courses.specs.Courses.{Step, End, Course, World, last_step}
-use Rattle.bridge_courses.specs.Executions.{Works, NeverFalls}
+use Rattle.std.specs.Prelude.{◌≡◌, ◌≢◌, ◌⊎◌, ℕ, ◌+◌, ◌≤◌, true, List, [], ◌∷◌, Option}
+use Rattle.bridge_io.specs.{Fault.Rose, Outside.{Files, Changes, Appends, AppendsFront}, InOrder.{put_all, AreBegun}}
+use Rattle.bridge_courses.specs.{declared.ending.Ending.Ending, Courses.{Step, End, Course, World, last_step}, Executions.Works}
+use Rattle.bridge_courses.specs.Executions.{NeverFalls}
 
 -- a course with one more step before the others
 abbrev pub with_step : Step → Course → Course

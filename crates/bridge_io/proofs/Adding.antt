@@ -1,16 +1,11 @@
 -- Texts that are added one after another.
 use Rattle.std.proofs.Common.{◌≡◌, ℕ, ◌+◌, ◌<◌, List, [], ◌∷◌, ◌++◌, length, take, drop, get_or, flat_map, Option, Result, Ok, Err, OnOk}
-use Rattle.std.proofs.Common.{OnErr, IsErrAnd, refl, sym, ap, subst, ◌∙◌, inl, inr, arith, append_assoc}
-use Rattle.std.proofs.lemmas.List.{append-nil, take_more, take-append-drop}
-use Rattle.std.proofs.lemmas.List.Concat.{flat_map-append}
-use Rattle.std.proofs.lemmas.Result.{on_ok_weaker, on_err_weaker, err_from_is_err_and}
-use Rattle.bridge_io.specs.Written.{target, IsBehind, HasFront, front_of_behind, front_of_more, front_of_whole}
-use Rattle.bridge_io.specs.Outside.{Files}
-use Rattle.bridge_io.specs.Fault.{HasCause}
-use Rattle.bridge_io.specs.declared.file_writer.FileWriter.{FileWriter}
-use Rattle.bridge_io.specs.declared.outside.Fail.{Fail}
-use Rattle.bridge_io.specs.declared.outside.Fail.TheVariants.{Failed, Memory}
-use Rattle.bridge_io.specs.Adding.{Shown, Adds}
+use Rattle.std.proofs.{Common.{OnErr, IsErrAnd, refl, sym, ap, subst, ◌∙◌, inl, inr, arith, append_assoc}, lemmas.List.append-nil}
+use Rattle.std.proofs.{lemmas.List.{take_more, take-append-drop}, lemmas.List.Concat.flat_map-append, lemmas.Result.on_ok_weaker}
+use Rattle.std.proofs.lemmas.Result.{on_err_weaker, err_from_is_err_and}
+use Rattle.bridge_io.specs.{Written.{target, IsBehind, HasFront, front_of_behind, front_of_more, front_of_whole}, Outside.Files}
+use Rattle.bridge_io.specs.{Fault.HasCause, declared.file_writer.FileWriter.FileWriter, declared.outside.Fail.Fail}
+use Rattle.bridge_io.specs.{declared.outside.Fail.TheVariants.{Failed, Memory}, Adding.{Shown, Adds}}
 
 -- what `push` says of a piece
 pub adds_pushed : {piece : List ℕ} {old new : FileWriter} {before after : Shown} {result : Result (Unit {0}) Fail}

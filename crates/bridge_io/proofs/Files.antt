@@ -1,7 +1,6 @@
 -- Files that are alike at each name are the same files.
 use Rattle.std.proofs.Common.{◌≡◌, ℕ, List, ◌++◌, [], Option, Some, true, false, ap, ◌∙◌, refl, Result, Ok, Err, OnOk, OnErr, bytes_eq}
-use Rattle.std.proofs.Common.{unwrap_or, cond}
-use Rattle.std.proofs.lemmas.Slice.Eq.{bytes_eq-Decides}
+use Rattle.std.proofs.{Common.{unwrap_or, cond}, lemmas.Slice.Eq.bytes_eq-Decides}
 use Rattle.std.specs.Bool.{Decides}
 use Rattle.bridge_io.specs.Outside.{Files, put, extended}
 

@@ -1,12 +1,8 @@
 -- Which names an ordered set has.
 use Rattle.std.proofs.Common.{◌≡◌, ℕ, Bool, true, false, ◌||◌, List, [], ◌∷◌, ◌++◌, map, refl, sym, ◌∙◌, ap, Bor, bytes_eq, Less, Equal}
-use Rattle.std.proofs.Common.{Greater, Ordering}
-use Rattle.std.specs.List.{list_any}
-use Rattle.std.specs.Ordering.{nat_cmp, is_eq, match_ordering}
-use Rattle.std.specs.Cmp.Lexicographic.{slice_cmp}
-use Rattle.std.specs.BTreeMap.{is_at}
+use Rattle.std.proofs.{Common.{Greater, Ordering}, lemmas.Map.Text.is_eq-slice_cmp}
+use Rattle.std.specs.{List.list_any, Ordering.{nat_cmp, is_eq, match_ordering}, Cmp.Lexicographic.slice_cmp, BTreeMap.is_at}
 use Rattle.std.specs.BTreeSet.{insert_key}
-use Rattle.std.proofs.lemmas.Map.Text.{is_eq-slice_cmp}
 use Rattle.bridge_io.specs.Texts.{is_among}
 use Rattle.bridge_io.proofs.Texts.{same_bytes, or_nothing}
 

@@ -1,10 +1,8 @@
 -- What a file's first bytes say of the whole.
 use Rattle.std.proofs.Common.{◌≡◌, ◌<◌, ◌≤◌, ℕ, List, [], length, take, drop, ◌++◌, nat_lt, Option, Some, None, Ok, Err, is_some, true}
-use Rattle.std.proofs.Common.{false, unwrap_or, refl, sym, ap, ◌∙◌, arith}
-use Rattle.std.proofs.lemmas.Bool.{le-ltb, lt-ltb}
-use Rattle.std.proofs.lemmas.List.{take-append-drop, take-append-le, length-take}
-use Rattle.bridge_io.specs.Places.{place_of}
-use Rattle.bridge_io.specs.Slurped.{within, IsFront, Long, Missing}
+use Rattle.std.proofs.{Common.{false, unwrap_or, refl, sym, ap, ◌∙◌, arith}, lemmas.Bool.{le-ltb, lt-ltb}, lemmas.List.take-append-drop}
+use Rattle.std.proofs.lemmas.List.{take-append-le, length-take}
+use Rattle.bridge_io.specs.{Places.place_of, Slurped.{within, IsFront, Long, Missing}}
 
 pub absent_file : (limit : ℕ) (file : Option (List ℕ)) → is_some file ≡ false → within limit file ≡ Err Missing
 absent_file limit None missing = refl

@@ -1,10 +1,7 @@
 -- What comes to a file's end while a text is written.
 use Rattle.std.proofs.Common.{◌≡◌, ℕ, List, [], ◌+◌, ◌++◌, length, take, Option, None, Some, true, false, cond, bytes_eq, unwrap_or, inl}
-use Rattle.std.proofs.Common.{inr, refl, sym, ap, ◌∙◌}
-use Rattle.std.proofs.lemmas.Slice.Eq.{bytes_eq-Decides}
-use Rattle.std.proofs.Math.Seq.{take-append-add}
-use Rattle.bridge_io.specs.Outside.{Files, put, extended, Changes, MayExtend}
-use Rattle.bridge_io.specs.Written.{HasFront, front_of_more, front_of_all}
+use Rattle.std.proofs.{Common.{inr, refl, sym, ap, ◌∙◌}, lemmas.Slice.Eq.bytes_eq-Decides, Math.Seq.take-append-add}
+use Rattle.bridge_io.specs.{Outside.{Files, put, extended, Changes, MayExtend}, Written.{HasFront, front_of_more, front_of_all}}
 use Rattle.bridge_io.proofs.Files.{same_files}
 
 -- a file that is put is there

@@ -1,11 +1,7 @@
 -- What a call adds to a file that is written piece by piece.
 use Rattle.std.specs.Prelude.{◌≡◌, ℕ, List, ◌++◌, Option, Result, OnOk, OnErr}
-use Rattle.bridge_io.specs.Fault.{HasCause}
-use Rattle.bridge_io.specs.Outside.{Files}
-use Rattle.bridge_io.specs.Written.{target, IsBehind, HasFront}
-use Rattle.bridge_io.specs.declared.file_writer.FileWriter.{FileWriter}
-use Rattle.bridge_io.specs.declared.outside.Fail.{Fail}
-use Rattle.bridge_io.specs.declared.outside.Fail.TheVariants.{Failed}
+use Rattle.bridge_io.specs.{Fault.HasCause, Outside.Files, Written.{target, IsBehind, HasFront}, declared.file_writer.FileWriter.FileWriter}
+use Rattle.bridge_io.specs.{declared.outside.Fail.Fail, declared.outside.Fail.TheVariants.Failed}
 
 -- what a store shows: its files, where it tells them, and how often a read and a write have failed
 pub record Shown : Type 0 where

@@ -1,7 +1,5 @@
 -- The first of what stands in a list.
-use Rattle.std.specs.Prelude.{List, [], ◌∷◌, Option, None, Result, Ok, Err}
-use Rattle.std.specs.List.{slice_get}
-use Rattle.std.specs.Option.{option_or}
+use Rattle.std.specs.{Prelude.{List, [], ◌∷◌, Option, None, Result, Ok, Err}, List.slice_get, Option.option_or}
 
 abbrev pub first_of : {X : Type 0} → List X → Option X
 first_of xs = slice_get xs 0

@@ -1,11 +1,7 @@
 -- What the objects in memory hold.
-use Rattle.std.specs.Prelude.{ℕ, List, drop}
-use Rattle.std.specs.BTreeMap.{get_by_text}
-use Rattle.bridge_io.specs.Outside.{Files}
-use Rattle.bridge_io.specs.declared.schedule.Schedule.{Schedule}
-use Rattle.bridge_io.specs.declared.mem_source.MemSource.{MemSource}
-use Rattle.bridge_io.specs.declared.mem_sink.MemSink.{MemSink}
-use Rattle.bridge_io.specs.declared.mem_store.MemStore.{MemStore}
+use Rattle.std.specs.{Prelude.{ℕ, List, drop}, BTreeMap.get_by_text}
+use Rattle.bridge_io.specs.{Outside.Files, declared.schedule.Schedule.Schedule, declared.mem_source.MemSource.MemSource}
+use Rattle.bridge_io.specs.{declared.mem_sink.MemSink.MemSink, declared.mem_store.MemStore.MemStore}
 
 -- the bytes that a source has left
 abbrev pub left_in : MemSource → List ℕ

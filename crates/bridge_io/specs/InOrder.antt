@@ -1,12 +1,8 @@
 -- Files that are put one after another, each a name and a text, and what is left of them where that stops.
-use Rattle.std.specs.Prelude.{◌≡◌, ◌⊎◌, ℕ, ◌+◌, List, [], ◌∷◌, ◌++◌, take, Option, None, Some}
-use Rattle.std.specs.List.{slice_get}
-use Rattle.std.specs.Option.{option_map}
-use Rattle.std.proofs.Common.{◌∙◌, ap, sym, refl, inl, inr}
-use Rattle.std.proofs.lemmas.List.{take_more}
-use Rattle.std.proofs.lemmas.Option.{slice_get_within, get_or_from_slice_get}
-use Rattle.bridge_io.specs.Outside.{Files, put, Changes}
-use Rattle.bridge_io.specs.Written.{HasFront, front_of_all}
+use Rattle.std.specs.{Prelude.{◌≡◌, ◌⊎◌, ℕ, ◌+◌, List, [], ◌∷◌, ◌++◌, take, Option, None, Some}, List.slice_get, Option.option_map}
+use Rattle.std.proofs.{Common.{◌∙◌, ap, sym, refl, inl, inr}, lemmas.List.take_more, lemmas.Option.slice_get_within}
+use Rattle.std.proofs.lemmas.Option.{get_or_from_slice_get}
+use Rattle.bridge_io.specs.{Outside.{Files, put, Changes}, Written.{HasFront, front_of_all}}
 
 -- the files with some files put, the first of them first
 abbrev pub put_all : List (List ℕ × List ℕ) → Files → Files

@@ -1,9 +1,7 @@
 -- Which texts are names of files in a store.
 use Rattle.std.specs.Prelude.{ℕ, ◌==◌, ◌&&◌, ◌||◌, not, nat_le, Bool, List, [], ◌∷◌, ◌++◌, length, if◌then◌else◌, Result, Ok, Err, Option}
-use Rattle.std.specs.Prelude.{Some, None}
-use Rattle.std.specs.List.{list_all}
-use Rattle.bridge_io.specs.declared.name.NameFault.{NameFault}
-use Rattle.bridge_io.specs.declared.name.NameFault.TheVariants.{Shape, Memory}
+use Rattle.std.specs.{Prelude.{Some, None}, List.list_all}
+use Rattle.bridge_io.specs.{declared.name.NameFault.NameFault, declared.name.NameFault.TheVariants.{Shape, Memory}}
 
 -- `A`-`Z`, `a`-`z`, `0`-`9`, `-`, `.`, `_`, `~`, `+`, `=`, `,`, `@` and `/`
 abbrev pub is_name_byte : ℕ → Bool

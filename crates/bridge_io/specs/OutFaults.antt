@@ -1,8 +1,7 @@
 -- Faults of a file that is written.
-use Rattle.bridge_io.specs.declared.outside.Fail.{Fail}
 use Rattle.bridge_io.specs.declared.outside.Fail.TheVariants as fail
-use Rattle.bridge_io.specs.declared.out_fault.OutFault.{OutFault}
 use Rattle.bridge_io.specs.declared.out_fault.OutFault.TheVariants as fault
+use Rattle.bridge_io.specs.{declared.outside.Fail.Fail, declared.out_fault.OutFault.OutFault}
 
 -- what is answered where a call on the store fails
 abbrev pub out_fault_of : Fail → OutFault

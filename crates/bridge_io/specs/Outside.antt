@@ -1,8 +1,6 @@
 -- What calls do to a source, a sink and a store, where these tell what they hold.
 use Rattle.std.specs.Prelude.{◌≡◌, ◌⊎◌, ℕ, ◌≤◌, ◌↔◌, List, [], ◌++◌, length, take, drop, Option, Some, Result, Ok, Err, bytes_eq, unwrap_or}
-use Rattle.std.specs.Prelude.{if◌then◌else◌}
-use Rattle.std.specs.Option.{option_map}
-use Rattle.std.specs.Io.KnownBytes.{append_known, prepend_known, IsAtEnd}
+use Rattle.std.specs.{Prelude.if◌then◌else◌, Option.option_map, Io.KnownBytes.{append_known, prepend_known, IsAtEnd}}
 
 -- A folder's files: the bytes of each name that has some.
 abbrev pub Files : Type 0

@@ -1,8 +1,6 @@
 -- The pieces of which a line is put together.
-use Rattle.std.specs.Prelude.{ℕ, List, decimal}
-use Rattle.std.specs.List.{flat_map}
-use Rattle.bridge_io.specs.declared.piece.Piece.{Piece}
-use Rattle.bridge_io.specs.declared.piece.Piece.TheVariants.{Text, Number, Wide}
+use Rattle.std.specs.{Prelude.{ℕ, List, decimal}, List.flat_map}
+use Rattle.bridge_io.specs.{declared.piece.Piece.Piece, declared.piece.Piece.TheVariants.{Text, Number, Wide}}
 
 abbrev pub piece_text : Piece → List ℕ
 piece_text (Text bytes) = bytes.now

@@ -1,6 +1,5 @@
 -- Which calls of an object in memory fail.
-use Rattle.std.specs.Prelude.{◌≡◌, ◌+◌, ◌-◌, ◌^◌, ◌==◌, Bool, min, if◌then◌else◌}
-use Rattle.std.specs.List.{list_any}
+use Rattle.std.specs.{Prelude.{◌≡◌, ◌+◌, ◌-◌, ◌^◌, ◌==◌, Bool, min, if◌then◌else◌}, List.list_any}
 use Rattle.bridge_io.specs.declared.schedule.Schedule.{Schedule}
 
 -- whether the next call is listed to fail

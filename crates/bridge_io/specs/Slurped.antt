@@ -1,12 +1,9 @@
 -- What reading a whole file answers.
-use Rattle.std.specs.Prelude.{◌≡◌, ℕ, List, length, take, nat_lt, if◌then◌else◌, Option, Some, None, Result, Ok, Err}
-use Rattle.bridge_io.specs.Outside.{Files}
-use Rattle.bridge_io.specs.Places.{place_of}
-use Rattle.bridge_io.specs.declared.outside.Fail.{Fail}
 use Rattle.bridge_io.specs.declared.outside.Fail.TheVariants as fail
-use Rattle.bridge_io.specs.declared.place.Place.{Place}
-use Rattle.bridge_io.specs.declared.read_error.Slurp.{Slurp}
 use Rattle.bridge_io.specs.declared.read_error.Slurp.TheVariants as slurp
+use Rattle.std.specs.Prelude.{◌≡◌, ℕ, List, length, take, nat_lt, if◌then◌else◌, Option, Some, None, Result, Ok, Err}
+use Rattle.bridge_io.specs.{Outside.Files, Places.place_of, declared.outside.Fail.Fail, declared.place.Place.Place}
+use Rattle.bridge_io.specs.declared.read_error.Slurp.{Slurp}
 
 -- why a file isn't read whole: it is longer than the limit, at a place, or it isn't there
 pub data Unread : Type 0 where

@@ -1,10 +1,7 @@
 -- A file that is written in pieces.
 use Rattle.std.specs.Prelude.{◌≡◌, ℕ, List, ◌++◌, length, take, min, Option}
-use Rattle.std.proofs.Common.{◌∙◌, append_assoc, arith}
-use Rattle.std.proofs.lemmas.List.{take-append-le, take_min}
-use Rattle.std.proofs.Math.Seq.{take-length}
-use Rattle.bridge_io.specs.Outside.{Files, put, Changes}
-use Rattle.bridge_io.specs.declared.file_writer.FileWriter.{FileWriter}
+use Rattle.std.proofs.{Common.{◌∙◌, append_assoc, arith}, lemmas.List.{take-append-le, take_min}, Math.Seq.take-length}
+use Rattle.bridge_io.specs.{Outside.{Files, put, Changes}, declared.file_writer.FileWriter.FileWriter}
 
 -- the name of the file that is written
 abbrev pub target : FileWriter → List ℕ

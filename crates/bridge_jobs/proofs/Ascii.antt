@@ -1,18 +1,12 @@
 -- Instants and numbers are ASCII, so that bytes that are no text are neither.
 use Rattle.std.proofs.Common.{◌≡◌, ◌<◌, ℕ, Bool, true, false, List, [], ◌∷◌, ◌++◌, Option, Some, None, Result, Ok, Err, refl, arith}
-use Rattle.std.specs.Prelude.{ℤ, IfSome, if◌then◌else◌}
-use Rattle.std.specs.Result.{result_ok}
-use Rattle.std.specs.Str.{IsAscii, IsUtf8, all_ascii_digits}
-use Rattle.std.proofs.lemmas.Bool.Decides.{nat_tests}
-use Rattle.std.proofs.lemmas.Str.{IsAscii-append, IsUtf8-from_ascii}
-use Rattle.std.proofs.lemmas.Str.Ascii.{IsAscii-nil, IsAscii-cons}
-use Rattle.std.proofs.lemmas.Str.Parse.{tells_all_ascii_digits}
-use Rattle.iso_time.specs.Digits.{AreDigits, optional_text, fraction_text}
-use Rattle.iso_time.specs.declared.instant.InstantFault.{InstantFault}
+use Rattle.std.proofs.{lemmas.Bool.Decides.nat_tests, lemmas.Str.{IsAscii-append, IsUtf8-from_ascii}, lemmas.Str.Ascii.IsAscii-nil}
+use Rattle.std.proofs.{lemmas.Str.Ascii.IsAscii-cons, lemmas.Str.Parse.tells_all_ascii_digits}
+use Rattle.std.specs.{Prelude.{ℤ, IfSome, if◌then◌else◌}, Result.result_ok, Str.{IsAscii, IsUtf8, all_ascii_digits}}
+use Rattle.iso_time.specs.{Digits.{AreDigits, optional_text, fraction_text}, declared.instant.InstantFault.InstantFault}
 use Rattle.iso_time.specs.Instant.{InstantParts, IsInstant, IsZone, Zone, instant_of, parts_text, zone_text, unstated, utc, shifted}
 use Rattle.iso_time.proofs.InstantLemmas.{denoted}
-use Rattle.bridge_jobs.specs.Numbers.{decimal_of}
-use Rattle.bridge_jobs.specs.Jobs.{instant_in}
+use Rattle.bridge_jobs.specs.{Numbers.decimal_of, Jobs.instant_in}
 
 run : (digits : List ℕ) → all_ascii_digits digits ≡ true → IsAscii digits
 run [] all = IsAscii-nil

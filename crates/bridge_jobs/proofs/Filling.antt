@@ -1,9 +1,8 @@
 -- A buffer that is filled from its front.
 use Rattle.std.proofs.Common.{◌≡◌, ◌≤◌, ◌+◌, ℕ, List, [], ◌++◌, length, take, Option, Some, None, refl, sym, ap, ◌∙◌, subst, arith}
-use Rattle.std.proofs.Common.{append_assoc, length-append}
+use Rattle.std.proofs.{Common.{append_assoc, length-append}, lemmas.List.{append-nil, length-take, length-take-le, take_all}}
+use Rattle.std.proofs.{lemmas.List.take-append-le, Math.Seq.{take-append-add, take-append_seam}}
 use Rattle.std.specs.Io.KnownBytes.{prepend_known, IsAtEnd}
-use Rattle.std.proofs.lemmas.List.{append-nil, length-take, length-take-le, take_all, take-append-le}
-use Rattle.std.proofs.Math.Seq.{take-append-add, take-append_seam}
 use Rattle.bridge_jobs.specs.Inputs.{TakesFront}
 
 -- so many bytes at a buffer's front were read

@@ -1,21 +1,14 @@
 -- Frames one after another.
 use Rattle.std.proofs.Common.{◌≡◌, ◌<◌, ◌+◌, ◌==◌, ℕ, zero, suc, Bool, true, false, List, [], ◌∷◌, ◌++◌, length, take, drop, Option, Some}
 use Rattle.std.proofs.Common.{None, Result, Ok, Err, nat_le, count_by, if◌then◌else◌, refl, sym, ap, ap₂, subst, ◌∙◌, arith, append_assoc}
-use Rattle.std.proofs.Common.{add_assoc, length-append}
-use Rattle.std.proofs.lemmas.List.{take-append-drop}
-use Rattle.std.proofs.lemmas.List.Sums.{sum_by-append}
+use Rattle.std.proofs.{Common.{add_assoc, length-append}, lemmas.List.take-append-drop, lemmas.List.Sums.sum_by-append}
 use Rattle.std.proofs.Math.Seq.{take-append_seam}
-use Rattle.bridge_io.specs.Places.{place_of}
-use Rattle.bridge_io.specs.declared.place.Place.{Place}
+use Rattle.bridge_io.specs.{Places.place_of, declared.place.Place.Place}
 use Rattle.bridge_jobs.specs.Frames.{Framed, behind, body_of, by_next, counted, frame_by_line, framed_if, framed_as, frames_from}
 use Rattle.bridge_jobs.specs.Frames.{frames_within, header_at, line_within, most_header, next_line, piece_of, most_frames, next_frame}
-use Rattle.bridge_jobs.specs.Frames.{some_of, stream_by, with_body, with_frame}
-use Rattle.bridge_jobs.specs.Headers.{body_length, header_of}
-use Rattle.bridge_jobs.specs.Laws.{FramesFollow, PlacesAreOfTheStream}
-use Rattle.bridge_jobs.specs.declared.frame.FramePos.{FramePos}
-use Rattle.bridge_jobs.specs.declared.frame.FrameFault.{FrameFault}
-use Rattle.bridge_jobs.specs.declared.frame.FrameFault.TheVariants.{TooMany}
-use Rattle.bridge_jobs.specs.declared.header.Header.{Header}
+use Rattle.bridge_jobs.specs.{Frames.{some_of, stream_by, with_body, with_frame}, Headers.{body_length, header_of}, Laws.FramesFollow}
+use Rattle.bridge_jobs.specs.{Laws.PlacesAreOfTheStream, declared.frame.FramePos.FramePos, declared.frame.FrameFault.FrameFault}
+use Rattle.bridge_jobs.specs.{declared.frame.FrameFault.TheVariants.TooMany, declared.header.Header.Header}
 
 abbrev is_lf : ℕ → Bool
 is_lf b = b == 10

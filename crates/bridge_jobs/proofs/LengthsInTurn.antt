@@ -1,11 +1,8 @@
 -- Lengths that are read one behind another.
 use Rattle.std.proofs.Common.{◌≡◌, ◌<◌, ◌≤◌, ◌-◌, ◌+◌, ℕ, suc, List, [], ◌∷◌, ◌++◌, length, Option, Some, None, option_map, refl, sym, ap}
-use Rattle.std.proofs.Common.{◌∙◌, arith, append_assoc, length-append}
+use Rattle.std.proofs.{Common.{◌∙◌, arith, append_assoc, length-append}, lemmas.List.append-nil, lemmas.List.Sums.sum_by-append}
 use Rattle.std.specs.Prelude.{sum}
-use Rattle.std.proofs.lemmas.List.{append-nil}
-use Rattle.std.proofs.lemmas.List.Sums.{sum_by-append}
-use Rattle.bridge_jobs.specs.Jobs.{◌>>=◌}
-use Rattle.bridge_jobs.specs.Rounds.{lengths_of, most_bodies, next_length, none_left}
+use Rattle.bridge_jobs.specs.{Jobs.◌>>=◌, Rounds.{lengths_of, most_bodies, next_length, none_left}}
 
 -- some lengths were read, and the others go on with what is left of the text
 pub record IsSoFar (tracks : ℕ) (text : Option (List ℕ)) (i : ℕ) (lengths : List ℕ) (room : ℕ) (rest : Option (List ℕ)) : Type 0 where

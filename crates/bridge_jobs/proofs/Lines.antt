@@ -1,11 +1,9 @@
 -- A line that is read byte by byte.
 use Rattle.std.proofs.Common.{◌≡◌, ◌≢◌, ◌<◌, ◌≤◌, ◌-◌, ◌==◌, ℕ, zero, suc, List, [], ◌∷◌, ◌++◌, length, Option, Some, None, true, false}
-use Rattle.std.proofs.Common.{refl, sym, ap, ◌∙◌, subst, arith, append_assoc, length-append}
-use Rattle.std.specs.Io.KnownBytes.{prepend_known, IsAtEnd}
-use Rattle.std.proofs.lemmas.List.{append-nil}
+use Rattle.std.proofs.{Common.{refl, sym, ap, ◌∙◌, subst, arith, append_assoc, length-append}, lemmas.List.append-nil}
 use Rattle.std.proofs.lemmas.Bool.Decides.{nat_tests}
-use Rattle.bridge_jobs.specs.Frames.{line_within}
-use Rattle.bridge_jobs.specs.Inputs.{TakesFront}
+use Rattle.std.specs.Io.KnownBytes.{prepend_known, IsAtEnd}
+use Rattle.bridge_jobs.specs.{Frames.line_within, Inputs.TakesFront}
 
 -- some bytes of a line were read, and the line goes on with what is there
 abbrev pub IsLineSoFar : ℕ → List ℕ → Option (List ℕ) → Option (List ℕ) → Type 0

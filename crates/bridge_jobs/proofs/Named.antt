@@ -1,13 +1,10 @@
 -- Names of files in folders.
 use Rattle.std.proofs.Common.{◌≡◌, ◌<◌, ◌≤◌, ◌+◌, ◌==◌, ◌&&◌, ℕ, zero, suc, Bool, true, false, List, [], ◌∷◌, ◌++◌, length, codes}
-use Rattle.std.proofs.Common.{if◌then◌else◌, nat_le, refl, ap, ◌∙◌, arith, length-append}
-use Rattle.std.specs.List.{list_all}
-use Rattle.std.specs.Fmt.{digits}
-use Rattle.std.proofs.lemmas.Bool.{le-leb}
+use Rattle.std.proofs.{Common.{if◌then◌else◌, nat_le, refl, ap, ◌∙◌, arith, length-append}, lemmas.Bool.le-leb}
 use Rattle.std.proofs.lemmas.Bool.Decides.{nat_tests}
+use Rattle.std.specs.{List.list_all, Fmt.digits}
 use Rattle.bridge_io.specs.Names.{is_name, is_name_byte, is_proper_part, parts_after}
-use Rattle.bridge_jobs.specs.Jobs.{is_folder}
-use Rattle.bridge_jobs.specs.Laws.{FoldersHoldTheirFiles, in_folder, playlist_of}
+use Rattle.bridge_jobs.specs.{Jobs.is_folder, Laws.{FoldersHoldTheirFiles, in_folder, playlist_of}}
 
 -- the parts on both sides of a slash
 parts_of-both : (front folder file : List ℕ) → parts_after front (in_folder folder file) ≡ parts_after front folder ++ parts_after [] file

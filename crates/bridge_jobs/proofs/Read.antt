@@ -1,43 +1,31 @@
 -- What `clap` reads of words, and the plain reading.
+use Rattle.clap.specs.Takes as takes
 use Rattle.std.proofs.Common.{◌≡◌, ◌∙◌, ◌==◌, ◌+◌, ◌≤◌, ◌&&◌, ◌||◌, ℕ, suc, min, drop, nat_lt, Bool, true, false, not, List, [], ◌∷◌, ◌++◌}
 use Rattle.std.proofs.Common.{map, length, Option, Some, None, is_some, codes, inl, inr, ◌⊎◌, refl, sym, ap, subst, arith, if◌then◌else◌}
-use Rattle.std.proofs.Common.{true≢false, append_assoc, length-append}
-use Rattle.std.specs.Option.{IfSome, option_map, option_map_or}
-use Rattle.std.specs.Char.{encode_utf8}
-use Rattle.std.specs.Str.{IsUtf8, bytes_eq, chars, encode_utf8_all}
-use Rattle.std.proofs.lemmas.Str.{chars_past_char, encodes-chars}
+use Rattle.std.proofs.{Common.{true≢false, append_assoc, length-append}, lemmas.Str.{chars_past_char, encodes-chars}, lemmas.Bool.and_right}
+use Rattle.std.proofs.{lemmas.Bool.{eq-eqb, eqb-true, ne_eqb}, lemmas.List.{append-nil, map-append}, lemmas.List.Folds.list_any-append}
+use Rattle.std.proofs.{lemmas.Slice.Eq.bytes_eq-Decides, lemmas.Bool.Decides.same_from_decides}
+use Rattle.std.specs.{Option.{IfSome, option_map, option_map_or}, Char.encode_utf8, Str.{IsUtf8, bytes_eq, chars, encode_utf8_all}}
 use Rattle.std.specs.List.{All, fold, list_all, list_any}
-use Rattle.std.proofs.lemmas.Bool.{and_right, eq-eqb, eqb-true, ne_eqb}
-use Rattle.std.proofs.lemmas.List.{append-nil, map-append}
-use Rattle.std.proofs.lemmas.List.Folds.{list_any-append}
-use Rattle.std.proofs.lemmas.Slice.Eq.{bytes_eq-Decides}
-use Rattle.std.proofs.lemmas.Bool.Decides.{same_from_decides}
 use Rattle.clap.specs.Faults.{built_fault, bundle_fault, entered_fault, level_fault, check_fault, flag_word_fault, flags_fault, react_fault}
 use Rattle.clap.specs.Faults.{short_fault, step_fault, default_fault, defaults_fault, given_default_fault, long_fault, positional_fault}
-use Rattle.clap.specs.Faults.{settle_fault, turn_fault, use_fault, walk_fault}
-use Rattle.clap.specs.Kinds.{Kinds, or_else}
-use Rattle.clap.specs.Lexer.{long_of, short_of, usize_max}
-use Rattle.clap.specs.Takes as takes
-use Rattle.clap.specs.Walk.{Held, Row, Rule, Waiting, Walk, arg_by_id, arg_by_index, arg_by_long, arg_by_short, at_row, finished, has_long}
-use Rattle.clap.specs.Walk.{has_row, has_short, idle, option, settled, after_flag, after_step, is_pending, nothing_held, option_word}
-use Rattle.clap.specs.Walk.{rows_after, walk, long_met, long_or_other, short_or_plain, positional, pushed, reacted, Step, trailing}
-use Rattle.clap.specs.Walk.{settled_rows, subcommand_met, more_values, to_positional, used, walked, with_default, with_values}
-use Rattle.clap.specs.Simple.{App, Shape, argument_words, built, entered, names_of, filled, help_rule, new_rule, new_shape}
-use Rattle.clap.specs.Words.{Text, first_of}
-use Rattle.clap.specs.declared.builder.action.ArgAction.TheVariants.{Set}
-use Rattle.clap.specs.declared.builder.value_parser.ValueParser.TheVariants.{String}
-use Rattle.clap.specs.declared.error.kind.ErrorKind.{ErrorKind}
+use Rattle.clap.specs.{Faults.{settle_fault, turn_fault, use_fault, walk_fault}, Kinds.{Kinds, or_else}, Lexer.{long_of, short_of}}
+use Rattle.clap.specs.{Lexer.usize_max, Walk.{Held, Row, Rule, Waiting, Walk, arg_by_id, arg_by_index, arg_by_long, arg_by_short, at_row}}
+use Rattle.clap.specs.Walk.{finished, has_long, has_row, has_short, idle, option, settled, after_flag, after_step, is_pending, nothing_held}
+use Rattle.clap.specs.Walk.{option_word, rows_after, walk, long_met, long_or_other, short_or_plain, positional, pushed, reacted, Step}
+use Rattle.clap.specs.Walk.{trailing, settled_rows, subcommand_met, more_values, to_positional, used, walked, with_default, with_values}
+use Rattle.clap.specs.{Simple.{App, Shape, argument_words, built, entered, names_of, filled, help_rule, new_rule, new_shape}, Words.Text}
+use Rattle.clap.specs.{Words.first_of, declared.builder.action.ArgAction.TheVariants.Set}
+use Rattle.clap.specs.{declared.builder.value_parser.ValueParser.TheVariants.String, declared.error.kind.ErrorKind.ErrorKind}
 use Rattle.clap.specs.declared.error.kind.ErrorKind.TheVariants.{ArgumentConflict, DisplayHelp, InvalidValue, MissingRequiredArgument}
 use Rattle.clap.specs.declared.error.kind.ErrorKind.TheVariants.{TooManyValues, UnknownArgument}
 use Rattle.clap.specs.declared.parser.matches.ValueSource.TheVariants.{CommandLine}
-use Rattle.bridge_jobs.specs.Jobs.{◌>>=◌, job_by, job_of}
-use Rattle.bridge_jobs.specs.Verbs.{app_of_verb, unless_at_fault, values_of, verb_of, word_of}
+use Rattle.bridge_jobs.specs.{Jobs.{◌>>=◌, job_by, job_of}, Verbs.{app_of_verb, unless_at_fault, values_of, verb_of, word_of}}
 use Rattle.bridge_jobs.specs.CommandLines.{Choice, CommandLinesAreRead, Look, Reading, Syntax, Value, as_value, at_place, by_look, by_name}
 use Rattle.bridge_jobs.specs.CommandLines.{given_by, given_of, has_repeat, hyphens, is_given, is_option, is_whole, letters, look_of}
 use Rattle.bridge_jobs.specs.CommandLines.{read_job, value_of, named, plain, read_by, read_from, row_of, syntax_of}
-use Rattle.bridge_jobs.specs.declared.verb.Verb.{Verb}
-use Rattle.bridge_jobs.specs.declared.verb.Verb.TheVariants.{Hls, Dash, Follow, Show, Check, Reload, Make, HlsIndex, DashTimes, Agree}
-use Rattle.bridge_jobs.specs.declared.verb.Verb.TheVariants.{FollowHls}
+use Rattle.bridge_jobs.specs.{declared.verb.Verb.Verb, declared.verb.Verb.TheVariants.{Hls, Dash, Follow, Show, Check, Reload, Make}}
+use Rattle.bridge_jobs.specs.declared.verb.Verb.TheVariants.{HlsIndex, DashTimes, Agree, FollowHls}
 
 -- ---- the arguments of a command that is built
 

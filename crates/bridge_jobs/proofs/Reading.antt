@@ -1,19 +1,13 @@
 -- A frame that is read line first.
+use Rattle.bridge_jobs.specs.declared.frame.FrameFault.TheVariants as fault
 use Rattle.std.proofs.Common.{◌≡◌, ◌≢◌, ◌<◌, ◌≤◌, ◌+◌, ◌==◌, ℕ, zero, suc, Bool, true, false, List, [], ◌∷◌, ◌++◌, length, take, drop}
-use Rattle.std.proofs.Common.{Option, Some, None, Result, Ok, Err, nat_le, refl, sym, ap, ◌∙◌, arith, if◌then◌else◌}
+use Rattle.std.proofs.{Common.{Option, Some, None, Result, Ok, Err, nat_le, refl, sym, ap, ◌∙◌, arith, if◌then◌else◌}, lemmas.Bool.le-leb}
+use Rattle.std.proofs.{lemmas.Bool.Decides.nat_tests, lemmas.List.{length-take, take_all}, Math.Seq.drop-append_seam}
 use Rattle.std.specs.Prelude.{IfSome}
-use Rattle.std.proofs.lemmas.Bool.{le-leb}
-use Rattle.std.proofs.lemmas.Bool.Decides.{nat_tests}
-use Rattle.std.proofs.lemmas.List.{length-take, take_all}
-use Rattle.std.proofs.Math.Seq.{drop-append_seam}
 use Rattle.bridge_io.specs.declared.place.Place.{Place}
 use Rattle.bridge_jobs.specs.Frames.{behind, body_of, by_next, counted, frame_by_line, framed_as, framed_body, framed_if, header_at}
-use Rattle.bridge_jobs.specs.Frames.{line_within, most_header, next_frame, next_line, piece_of, refusal}
-use Rattle.bridge_jobs.specs.Headers.{body_length, header_of}
-use Rattle.bridge_jobs.specs.declared.frame.Frame.{Frame}
-use Rattle.bridge_jobs.specs.declared.frame.FramePos.{FramePos}
-use Rattle.bridge_jobs.specs.declared.frame.FrameFault.{FrameFault}
-use Rattle.bridge_jobs.specs.declared.frame.FrameFault.TheVariants as fault
+use Rattle.bridge_jobs.specs.{Frames.{line_within, most_header, next_frame, next_line, piece_of, refusal}, Headers.{body_length, header_of}}
+use Rattle.bridge_jobs.specs.{declared.frame.Frame.Frame, declared.frame.FramePos.FramePos, declared.frame.FrameFault.FrameFault}
 use Rattle.bridge_jobs.specs.declared.header.Header.{Header}
 
 -- a refusal of one step is the refusal of what the step leads to

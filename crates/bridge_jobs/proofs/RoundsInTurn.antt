@@ -2,14 +2,11 @@
 use Rattle.std.proofs.Common.{◌≡◌, ◌<◌, ◌≤◌, ◌+◌, ◌==◌, ℕ, zero, suc, Bool, true, false, List, [], ◌∷◌, length, take, drop, Option, Some}
 use Rattle.std.proofs.Common.{None, Result, Ok, Err, nat_le, if◌then◌else◌, refl, ap, arith, length-drop}
 use Rattle.bridge_io.specs.declared.place.Place.{Place}
-use Rattle.bridge_jobs.specs.Frames.{behind, by_next, header_at, line_within, most_frames, next_line, piece_of, some_of}
-use Rattle.bridge_jobs.specs.Rounds.{Bodies, Rounded, RoundStream, after_bodies, and_bodies, bodies_of, counted, header_of, most_header}
-use Rattle.bridge_jobs.specs.Rounds.{next_round, round_by_line, rounded_as, rounded_if, rounds_by, rounds_from, rounds_within}
-use Rattle.bridge_jobs.specs.Laws.{RoundsFollow}
-use Rattle.bridge_jobs.specs.declared.lengths.RoundHeader.{RoundHeader}
-use Rattle.bridge_jobs.specs.declared.frame.FramePos.{FramePos}
-use Rattle.bridge_jobs.specs.declared.frame.FrameFault.{FrameFault}
-use Rattle.bridge_jobs.specs.declared.frame.FrameFault.TheVariants.{Cut, TooMany}
+use Rattle.bridge_jobs.specs.{Frames.{behind, by_next, header_at, line_within, most_frames, next_line, piece_of, some_of}, Rounds.Bodies}
+use Rattle.bridge_jobs.specs.Rounds.{Rounded, RoundStream, after_bodies, and_bodies, bodies_of, counted, header_of, most_header, next_round}
+use Rattle.bridge_jobs.specs.{Rounds.{round_by_line, rounded_as, rounded_if, rounds_by, rounds_from, rounds_within}, Laws.RoundsFollow}
+use Rattle.bridge_jobs.specs.{declared.lengths.RoundHeader.RoundHeader, declared.frame.FramePos.FramePos}
+use Rattle.bridge_jobs.specs.{declared.frame.FrameFault.FrameFault, declared.frame.FrameFault.TheVariants.{Cut, TooMany}}
 use Rattle.bridge_jobs.proofs.Follows.{line-some}
 
 abbrev Piece : Type 0

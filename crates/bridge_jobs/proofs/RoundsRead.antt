@@ -1,15 +1,12 @@
 -- Rounds that are read body by body.
 use Rattle.std.proofs.Common.{◌≡◌, ◌<◌, ◌≤◌, ◌+◌, ℕ, suc, List, [], ◌∷◌, ◌++◌, length, take, drop, get_or, Option, Some, Result, Ok, Err}
-use Rattle.std.proofs.Common.{refl, sym, ap, ◌∙◌, arith, append_assoc, length-drop, drop-cons}
-use Rattle.std.specs.Prelude.{IfSome, sum}
-use Rattle.std.proofs.lemmas.List.{append-nil, take_more}
+use Rattle.std.proofs.{Common.{refl, sym, ap, ◌∙◌, arith, append_assoc, length-drop, drop-cons}, lemmas.List.{append-nil, take_more}}
 use Rattle.std.proofs.lemmas.List.Sums.{sum_by-append}
+use Rattle.std.specs.Prelude.{IfSome, sum}
 use Rattle.bridge_io.specs.declared.place.Place.{Place}
-use Rattle.bridge_jobs.specs.Frames.{IsBehind, by_next, header_at, next_line, piece_of, refusal}
-use Rattle.bridge_jobs.specs.Rounds.{Bodies, after_bodies, and_bodies, bodies_of, header_of, most_header, next_round, round_by_line}
-use Rattle.bridge_jobs.specs.Rounds.{rounded_if}
-use Rattle.bridge_jobs.specs.declared.frame.FramePos.{FramePos}
-use Rattle.bridge_jobs.specs.declared.frame.FrameFault.{FrameFault}
+use Rattle.bridge_jobs.specs.{Frames.{IsBehind, by_next, header_at, next_line, piece_of, refusal}, Rounds.{Bodies, after_bodies}}
+use Rattle.bridge_jobs.specs.Rounds.{and_bodies, bodies_of, header_of, most_header, next_round, round_by_line, rounded_if}
+use Rattle.bridge_jobs.specs.{declared.frame.FramePos.FramePos, declared.frame.FrameFault.FrameFault}
 use Rattle.bridge_jobs.specs.declared.lengths.RoundHeader.{RoundHeader}
 use Rattle.bridge_jobs.proofs.Reading.{told_on}
 

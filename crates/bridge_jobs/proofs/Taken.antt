@@ -1,12 +1,9 @@
 -- What `clap` makes of a command's words.
 use Rattle.std.proofs.Common.{◌≡◌, ◌⊎◌, List, [], ◌∷◌, true, Some, None, inl, inr, refl, sym, ap, ◌∙◌}
 use Rattle.clap.specs.Words.{App, IsAmong, Kinds, Row, Text, fault_of, is_simple, is_simple_and_free, matches_of}
-use Rattle.clap.specs.declared.error.kind.ErrorKind.{ErrorKind}
-use Rattle.clap.specs.declared.error.kind.ErrorKind.TheVariants.{OutOfMemory}
-use Rattle.bridge_jobs.specs.Verbs.{app_of_verb, unless_at_fault, values_of}
-use Rattle.bridge_jobs.specs.declared.verb.Verb.{Verb}
-use Rattle.bridge_jobs.specs.declared.verb.Verb.TheVariants.{Hls, Dash, Follow, Show, Check, Reload, Make, HlsIndex, DashTimes, Agree}
-use Rattle.bridge_jobs.specs.declared.verb.Verb.TheVariants.{FollowHls}
+use Rattle.clap.specs.{declared.error.kind.ErrorKind.ErrorKind, declared.error.kind.ErrorKind.TheVariants.OutOfMemory}
+use Rattle.bridge_jobs.specs.{Verbs.{app_of_verb, unless_at_fault, values_of}, declared.verb.Verb.Verb, declared.verb.Verb.TheVariants.Hls}
+use Rattle.bridge_jobs.specs.declared.verb.Verb.TheVariants.{Dash, Follow, Show, Check, Reload, Make, HlsIndex, DashTimes, Agree, FollowHls}
 
 simple : (verb : Verb) → is_simple (app_of_verb verb) ≡ true
 simple Hls = refl

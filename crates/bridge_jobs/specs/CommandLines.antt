@@ -1,14 +1,10 @@
 -- How the words of a command line are read, in plain words.
 use Rattle.std.specs.Prelude.{◌≡◌, ◌==◌, ◌&&◌, ◌||◌, ℕ, Bool, true, false, not, is_some, codes, bytes_eq, List, [], ◌∷◌, ◌++◌, map, drop}
-use Rattle.std.specs.Prelude.{find, if◌then◌else◌, Option, Some, None, option_map}
-use Rattle.std.specs.List.{All, after_first, before_first, list_all, list_any}
-use Rattle.std.specs.Str.{IsUtf8}
-use Rattle.clap.specs.Words.{Row, Text, first_of}
-use Rattle.clap.specs.declared.builder.value_parser.Reading.TheVariants.{AsWritten}
+use Rattle.std.specs.{Prelude.{find, if◌then◌else◌, Option, Some, None, option_map}, List.{All, after_first, before_first, list_all}}
+use Rattle.std.specs.{List.list_any, Str.IsUtf8}
+use Rattle.clap.specs.{Words.{Row, Text, first_of}, declared.builder.value_parser.Reading.TheVariants.AsWritten}
 use Rattle.clap.specs.declared.parser.matches.ValueSource.TheVariants.{CommandLine}
-use Rattle.bridge_jobs.specs.Jobs.{◌>>=◌, first_verb, job_by, job_of}
-use Rattle.bridge_jobs.specs.declared.jobs.Job.{Job}
-use Rattle.bridge_jobs.specs.declared.verb.Verb.{Verb}
+use Rattle.bridge_jobs.specs.{Jobs.{◌>>=◌, first_verb, job_by, job_of}, declared.jobs.Job.Job, declared.verb.Verb.Verb}
 use Rattle.bridge_jobs.specs.declared.verb.Verb.TheVariants.{Hls, Dash, Follow, Show, Check, Reload, Make, HlsIndex, DashTimes, Agree}
 use Rattle.bridge_jobs.specs.declared.verb.Verb.TheVariants.{FollowHls}
 

@@ -1,15 +1,12 @@
 -- Streams of frames.
+use Rattle.bridge_jobs.specs.declared.header.Header.TheVariants as header
+use Rattle.bridge_jobs.specs.declared.frame.Frame.TheVariants as frame
+use Rattle.bridge_jobs.specs.declared.frame.FrameFault.TheVariants as fault
 use Rattle.std.specs.Prelude.{◌≡◌, ℕ, ℤ, ◌+◌, ◌-◌, ◌*◌, ◌^◌, ◌<◌, ◌≤◌, ◌==◌, zero, suc, nat_le, List, [], ◌∷◌, length, take, drop, count_by}
 use Rattle.std.specs.Prelude.{bytes_eq, if◌then◌else◌, Option, Some, None, IsNone, IfSome, Result, Ok, Err, MatchResult}
 use Rattle.bridge_io.specs.declared.place.Place.{Place}
-use Rattle.bridge_jobs.specs.Headers.{header_of, body_length}
-use Rattle.bridge_jobs.specs.declared.header.Header.{Header}
-use Rattle.bridge_jobs.specs.declared.header.Header.TheVariants as header
-use Rattle.bridge_jobs.specs.declared.frame.Frame.{Frame}
-use Rattle.bridge_jobs.specs.declared.frame.Frame.TheVariants as frame
-use Rattle.bridge_jobs.specs.declared.frame.FramePos.{FramePos}
-use Rattle.bridge_jobs.specs.declared.frame.FrameFault.{FrameFault}
-use Rattle.bridge_jobs.specs.declared.frame.FrameFault.TheVariants as fault
+use Rattle.bridge_jobs.specs.{Headers.{header_of, body_length}, declared.header.Header.Header, declared.frame.Frame.Frame}
+use Rattle.bridge_jobs.specs.{declared.frame.FramePos.FramePos, declared.frame.FrameFault.FrameFault}
 
 -- a fault of the source and want of memory tell nothing of the stream
 abbrev pub refusal : FrameFault → Option FrameFault

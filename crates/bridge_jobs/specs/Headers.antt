@@ -1,9 +1,7 @@
 -- Headers of frames.
 use Rattle.std.specs.Prelude.{ℕ, ℤ, ◌+◌, ◌==◌, nat_le, codes, bytes_eq, List, take, drop, position, if◌then◌else◌, Option, Some, None}
 use Rattle.std.specs.Prelude.{option_map}
-use Rattle.bridge_jobs.specs.Numbers.{decimal_of}
-use Rattle.bridge_jobs.specs.Jobs.{◌>>=◌, instant_in}
-use Rattle.bridge_jobs.specs.declared.header.Header.{Header}
+use Rattle.bridge_jobs.specs.{Numbers.decimal_of, Jobs.{◌>>=◌, instant_in}, declared.header.Header.Header}
 use Rattle.bridge_jobs.specs.declared.header.Header.TheVariants.{Mpd, Reset, Tick}
 
 -- what stands before a text's first space, and what stands behind it

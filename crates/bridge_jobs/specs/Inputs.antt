@@ -1,6 +1,5 @@
 -- What is read of a source that tells its bytes.
-use Rattle.std.specs.Prelude.{◌≡◌, ℕ, List, [], ◌∷◌, ◌++◌, Option, Some, None}
-use Rattle.std.specs.Io.KnownBytes.{prepend_known, IsAtEnd}
+use Rattle.std.specs.{Prelude.{◌≡◌, ℕ, List, [], ◌∷◌, ◌++◌, Option, Some, None}, Io.KnownBytes.{prepend_known, IsAtEnd}}
 
 -- The front of the bytes that were there is read, and what stands behind it is there afterwards.
 abbrev pub TakesFront : (List ℕ → List ℕ) → List ℕ → Option (List ℕ) → Option (List ℕ) → Type 0

@@ -1,16 +1,12 @@
 -- The job that words are.
+use Rattle.bridge_jobs.specs.declared.verb.Verb.TheVariants as verb
+use Rattle.bridge_jobs.specs.declared.jobs.Job.TheVariants as job
 use Rattle.std.specs.Prelude.{ℕ, ℤ, ◌-◌, ◌&&◌, nat_le, Bool, codes, List, [], ◌∷◌, length, if◌then◌else◌, Option, Some, None}
-use Rattle.std.specs.Prelude.{option_and_then, option_map, unwrap_or, IfSome, IsTrue}
-use Rattle.std.specs.Result.{result_ok}
+use Rattle.std.specs.{Prelude.{option_and_then, option_map, unwrap_or, IfSome, IsTrue}, Result.result_ok}
 use Rattle.clap.specs.Words.{Row, Text, first_of}
 use Rattle.iso_time.specs.Instant.{instant_of, IsReadable}
 use Rattle.bridge_io.specs.Names.{is_name}
-use Rattle.bridge_jobs.specs.declared.verb.Verb.{Verb}
-use Rattle.bridge_jobs.specs.declared.verb.Verb.TheVariants as verb
-use Rattle.bridge_jobs.specs.declared.jobs.Job.{Job}
-use Rattle.bridge_jobs.specs.declared.jobs.Job.TheVariants as job
-use Rattle.bridge_jobs.specs.Numbers.{decimal_of}
-use Rattle.bridge_jobs.specs.Verbs.{verb_of, values_of}
+use Rattle.bridge_jobs.specs.{declared.verb.Verb.Verb, declared.jobs.Job.Job, Numbers.decimal_of, Verbs.{verb_of, values_of}}
 
 infixl 10 ◌>>=◌
 abbrev pub ◌>>=◌ : {A B : Type 0} → Option A → (A → Option B) → Option B

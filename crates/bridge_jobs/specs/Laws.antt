@@ -1,12 +1,8 @@
 -- Laws of jobs and of streams of frames.
-use Rattle.std.specs.Prelude.{◌≡◌, ℕ, ◌<◌, IsTrue, codes, List, ◌∷◌, ◌++◌, length, Some, Ok}
-use Rattle.std.specs.Fmt.{decimal}
-use Rattle.bridge_io.specs.Names.{is_name}
-use Rattle.bridge_io.specs.Places.{place_of}
-use Rattle.bridge_jobs.specs.Jobs.{is_folder}
-use Rattle.bridge_jobs.specs.Frames.{Framed, frames_from, next_frame, stream_by}
-use Rattle.bridge_jobs.specs.Rounds.{next_round, rounds_by, rounds_from}
-use Rattle.bridge_jobs.specs.declared.frame.FramePos.{FramePos}
+use Rattle.std.specs.{Prelude.{◌≡◌, ℕ, ◌<◌, IsTrue, codes, List, ◌∷◌, ◌++◌, length, Some, Ok}, Fmt.decimal}
+use Rattle.bridge_io.specs.{Names.is_name, Places.place_of}
+use Rattle.bridge_jobs.specs.{Jobs.is_folder, Frames.{Framed, frames_from, next_frame, stream_by}, Rounds.{next_round, rounds_by}}
+use Rattle.bridge_jobs.specs.{Rounds.rounds_from, declared.frame.FramePos.FramePos}
 
 -- ---- the names of the files that are written
 

@@ -1,8 +1,6 @@
 -- Decimal numbers of a few digits.
-use Rattle.std.specs.Prelude.{ℕ, ◌^◌, ◌&&◌, nat_lt, nat_le, List, length, if◌then◌else◌, Option, Some, None}
-use Rattle.std.specs.List.{list_all}
-use Rattle.std.specs.Char.{is_ascii_digit}
-use Rattle.std.specs.Str.Parse.{digits_value}
+use Rattle.std.specs.{Prelude.{ℕ, ◌^◌, ◌&&◌, nat_lt, nat_le, List, length, if◌then◌else◌, Option, Some, None}, List.list_all}
+use Rattle.std.specs.{Char.is_ascii_digit, Str.Parse.digits_value}
 
 -- the number that one digit or more write, at most so many, where it is below 2^32
 abbrev pub decimal_of : ℕ → List ℕ → Option ℕ

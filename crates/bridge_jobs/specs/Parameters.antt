@@ -1,7 +1,6 @@
 -- What `clap` reads of a parameter.
 use Rattle.clap.specs.Words.{App, Rule, with_rule}
-use Rattle.bridge_jobs.specs.declared.verb.Parameter.{Parameter}
-use Rattle.bridge_jobs.specs.declared.verb.Parameter.TheVariants.{Positional, Required, Optional}
+use Rattle.bridge_jobs.specs.{declared.verb.Parameter.Parameter, declared.verb.Parameter.TheVariants.{Positional, Required, Optional}}
 use Rattle.bridge_jobs.specs.Verbs.{positional, required_option, option}
 
 abbrev pub rule_of_parameter : Parameter → Rule

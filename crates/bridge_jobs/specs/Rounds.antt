@@ -2,13 +2,9 @@
 use Rattle.std.specs.Prelude.{ℕ, ℤ, zero, suc, ◌-◌, ◌+◌, nat_le, codes, bytes_eq, List, [], ◌∷◌, ◌++◌, length, if◌then◌else◌, Option, Some}
 use Rattle.std.specs.Prelude.{None, option_map, Result, Ok, Err}
 use Rattle.bridge_io.specs.declared.place.Place.{Place}
-use Rattle.bridge_jobs.specs.Headers.{cut_at_space, length_of}
-use Rattle.bridge_jobs.specs.Jobs.{◌>>=◌, instant_in}
-use Rattle.bridge_jobs.specs.Frames.{behind, header_at, piece_of, next_line, by_next}
-use Rattle.bridge_jobs.specs.declared.lengths.RoundHeader.{RoundHeader}
-use Rattle.bridge_jobs.specs.declared.round.Round.{Round}
-use Rattle.bridge_jobs.specs.declared.frame.FramePos.{FramePos}
-use Rattle.bridge_jobs.specs.declared.frame.FrameFault.{FrameFault}
+use Rattle.bridge_jobs.specs.{Headers.{cut_at_space, length_of}, Jobs.{◌>>=◌, instant_in}, Frames.{behind, header_at, piece_of, next_line}}
+use Rattle.bridge_jobs.specs.{Frames.by_next, declared.lengths.RoundHeader.RoundHeader, declared.round.Round.Round}
+use Rattle.bridge_jobs.specs.{declared.frame.FramePos.FramePos, declared.frame.FrameFault.FrameFault}
 
 -- a header has at most so many bytes with its LF
 abbrev pub most_header : ℕ

@@ -1,9 +1,8 @@
 -- The commands and what their words may be.
 use Rattle.std.specs.Prelude.{true, codes, bytes_eq, List, [], ◌∷◌, fold, if◌then◌else◌, Option, Some, None}
 use Rattle.clap.specs.Words.{App, Kinds, Row, Rule, Text, fault_of, matches_of, new_app, new_rule, with_rule}
-use Rattle.bridge_jobs.specs.declared.verb.Verb.{Verb}
-use Rattle.bridge_jobs.specs.declared.verb.Verb.TheVariants.{Hls, Dash, Follow, Show, Check, Reload, Make, HlsIndex, DashTimes, Agree}
-use Rattle.bridge_jobs.specs.declared.verb.Verb.TheVariants.{FollowHls}
+use Rattle.bridge_jobs.specs.{declared.verb.Verb.Verb, declared.verb.Verb.TheVariants.{Hls, Dash, Follow, Show, Check, Reload, Make}}
+use Rattle.bridge_jobs.specs.declared.verb.Verb.TheVariants.{HlsIndex, DashTimes, Agree, FollowHls}
 
 -- a word by its place, which is required
 abbrev pub positional : Text → Rule

@@ -1,8 +1,6 @@
 -- A track that is seen is the track that is kept.
 use Rattle.std.proofs.Common.{◌≡◌, List, [], ◌∷◌, map, refl, sym, ap}
-use Rattle.hls_master.specs.declared.track.MasterTrack.{MasterTrack}
-use Rattle.hls_master.specs.SeenTags.{rate_seen}
-use Rattle.hls_master.specs.SeenTracks.{track_seen}
+use Rattle.hls_master.specs.{declared.track.MasterTrack.MasterTrack, SeenTags.rate_seen, SeenTracks.track_seen}
 use Rattle.presentation.proofs.Kept.{rate_kept}
 use Rattle.bridge_playlists.specs.Playlists.{track_kept}
 

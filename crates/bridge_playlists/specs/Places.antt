@@ -1,6 +1,5 @@
 -- Where a master lies.
-use Rattle.std.specs.Prelude.{ℕ, List, Option, option_map}
-use Rattle.std.specs.Option.{option_and_then}
+use Rattle.std.specs.{Prelude.{ℕ, List, Option, option_map}, Option.option_and_then}
 use Rattle.bridge_report.specs.Bases.{file_url, folder_url}
 use Rattle.bridge_playlists.specs.declared.place.StorePlace.{StorePlace}
 

@@ -1,19 +1,14 @@
 -- Whether a media playlist may take the place of an older one.
+use Rattle.bridge_courses.specs.declared.status.Verdict.TheVariants as verdict
+use Rattle.reload_law.specs.declared.unlawful.Unlawful.TheVariants as rule
 use Rattle.std.specs.Prelude.{ℕ, ◌-◌, max, min, List, ◌++◌, codes, decimal, length, Option, Some, None, option_map, Result, Ok, Err}
 use Rattle.std.specs.Option.{option_and_then}
-use Rattle.bridge_io.specs.Answer.{and_then}
-use Rattle.bridge_io.specs.Outside.{Files}
+use Rattle.bridge_io.specs.{Answer.and_then, Outside.Files}
 use Rattle.bridge_courses.specs.declared.status.Verdict.{Verdict}
-use Rattle.bridge_courses.specs.declared.status.Verdict.TheVariants as verdict
 use Rattle.hls_media.specs.declared.media.Media.{Media}
-use Rattle.reload_law.specs.Rules.{end_of, lawful}
-use Rattle.reload_law.specs.declared.unlawful.Unlawful.{Unlawful}
-use Rattle.reload_law.specs.declared.unlawful.Unlawful.TheVariants as rule
-use Rattle.bridge_report.specs.Bases.{file_url}
-use Rattle.bridge_report.specs.Outcomes.{Outcome, base_refused, outcome_told}
-use Rattle.bridge_report.specs.Reading.{Named, media_at}
-use Rattle.bridge_playlists.specs.declared.reload.Reload.{Reload}
-use Rattle.bridge_playlists.specs.declared.reload.Urls.{Urls}
+use Rattle.reload_law.specs.{Rules.{end_of, lawful}, declared.unlawful.Unlawful.Unlawful}
+use Rattle.bridge_report.specs.{Bases.file_url, Outcomes.{Outcome, base_refused, outcome_told}, Reading.{Named, media_at}}
+use Rattle.bridge_playlists.specs.{declared.reload.Reload.Reload, declared.reload.Urls.Urls}
 
 -- ---- the report
 

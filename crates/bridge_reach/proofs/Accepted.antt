@@ -1,29 +1,20 @@
 -- What rounds leave that are accepted one behind another.
 use Rattle.std.proofs.Common.{◌≡◌, ℕ, cond, List, [], ◌∷◌, take, Option, None, Some, option_map, Result, Ok, Err, refl, sym, ap, ◌∙◌, subst}
-use Rattle.std.specs.Prelude.{IsSome, codes}
 use Rattle.std.proofs.lemmas.Slice.Eq.{bytes_eq-Decides}
-use Rattle.std.specs.Option.{option_map_or}
-use Rattle.std.specs.Result.{result_err, result_unwrap_or}
+use Rattle.std.specs.{Prelude.{IsSome, codes}, Option.option_map_or, Result.{result_err, result_unwrap_or}}
 use Rattle.bridge_io.proofs.AndThen.{steps_of}
-use Rattle.bridge_io.specs.InOrder.{put_all}
-use Rattle.bridge_io.specs.Outside.{Files, Changes}
+use Rattle.bridge_io.specs.{InOrder.put_all, Outside.{Files, Changes}}
 use Rattle.hls_master.specs.declared.track.MasterTrack.{MasterTrack}
 use Rattle.hls_follow.specs.declared.state.Followed.{Followed}
 use Rattle.dash_writer.specs.Live.{live_text}
-use Rattle.bridge_jobs.specs.Frames.{start}
-use Rattle.bridge_jobs.specs.Laws.{in_folder}
-use Rattle.bridge_jobs.specs.declared.round.Round.{Round}
+use Rattle.bridge_jobs.specs.{Frames.start, Laws.in_folder, declared.round.Round.Round}
 use Rattle.bridge_courses.specs.Courses.{files_to}
-use Rattle.bridge_report.specs.Following.{unless_refused}
-use Rattle.bridge_report.specs.Laws.{FileIsOfAccepted, IsRewritten, accepted_in, state_after}
-use Rattle.bridge_report.specs.Refusals.{refusal_text}
-use Rattle.bridge_report.specs.declared.refusal.Refusal.{Refusal}
+use Rattle.bridge_report.specs.{Following.unless_refused, Laws.{FileIsOfAccepted, IsRewritten, accepted_in, state_after}}
+use Rattle.bridge_report.specs.{Refusals.refusal_text, declared.refusal.Refusal.Refusal}
 use Rattle.bridge_steps.specs.Follow.{fault_line}
-use Rattle.bridge_reach.specs.RoundLaws.{AcceptedLeaveAnMpd, FileIsOfTheHistory, accepted_among, left_by}
-use Rattle.bridge_reach.specs.Rounds.{course_with, followed_rounds, hls_of, medias_of, mpd_text, no_rounds, round_state, round_stream}
-use Rattle.bridge_reach.specs.Rounds.{taken}
-use Rattle.bridge_reach.specs.declared.rounds.LiveHls.{LiveHls}
-use Rattle.bridge_reach.specs.declared.rounds.LiveRounds.{LiveRounds}
+use Rattle.bridge_reach.specs.{RoundLaws.{AcceptedLeaveAnMpd, FileIsOfTheHistory, accepted_among, left_by}, Rounds.course_with}
+use Rattle.bridge_reach.specs.Rounds.{followed_rounds, hls_of, medias_of, mpd_text, no_rounds, round_state, round_stream, taken}
+use Rattle.bridge_reach.specs.{declared.rounds.LiveHls.LiveHls, declared.rounds.LiveRounds.LiveRounds}
 use Rattle.bridge_reach.proofs.Rounding.{IsOneMore, one_more}
 
 abbrev HasMpd : LiveRounds → Type 0

@@ -1,25 +1,18 @@
 -- What `agree` tells is so of the times that files state.
+use Rattle.bridge_courses.specs.declared.status.Verdict.TheVariants as verdict
 use Rattle.std.proofs.Common.{◌≡◌, ℕ, List, Bool, Option, Some, None, Result, Ok, Err, refl, sym, ap}
 use Rattle.bridge_io.proofs.AndThen.{steps_of}
-use Rattle.bridge_io.specs.Answer.{and_then}
-use Rattle.bridge_io.specs.Outside.{Files}
-use Rattle.fragment_times.specs.declared.fault.SegmentSpot.{SegmentSpot}
-use Rattle.fragment_times.specs.declared.times.SegmentTimes.{SegmentTimes}
-use Rattle.fragment_times.specs.Agreeing.{first_apart}
+use Rattle.bridge_io.specs.{Answer.and_then, Outside.Files}
+use Rattle.fragment_times.specs.{declared.fault.SegmentSpot.SegmentSpot, declared.times.SegmentTimes.SegmentTimes, Agreeing.first_apart}
 use Rattle.fragment_times.specs.Times.{times_of}
 use Rattle.presentation.specs.Presented.{Presented}
 use Rattle.presentation.proofs.Filling.{ok_under}
-use Rattle.bridge_playlists.specs.declared.place.StorePlace.{StorePlace}
-use Rattle.bridge_playlists.specs.Places.{store_place_of}
-use Rattle.bridge_report.specs.Outcomes.{Ends, outcome_told}
-use Rattle.bridge_report.specs.Reading.{Named}
+use Rattle.bridge_playlists.specs.{declared.place.StorePlace.StorePlace, Places.store_place_of}
+use Rattle.bridge_report.specs.{Outcomes.{Ends, outcome_told}, Reading.Named}
 use Rattle.bridge_courses.specs.declared.status.Verdict.{Verdict}
-use Rattle.bridge_courses.specs.declared.status.Verdict.TheVariants as verdict
 use Rattle.bridge_steps.specs.Endings.{placed}
-use Rattle.bridge_reach.specs.declared.agree.Agree.{Agree}
-use Rattle.bridge_reach.specs.Agree.{agree_at, agree_outcome, apart_text, judged, mpd_read, verdict_of}
-use Rattle.bridge_reach.specs.FileTimes.{times_at}
-use Rattle.bridge_reach.specs.Promises.{DifferIsApart, DoneAgrees}
+use Rattle.bridge_reach.specs.{declared.agree.Agree.Agree, Agree.{agree_at, agree_outcome, apart_text, judged, mpd_read, verdict_of}}
+use Rattle.bridge_reach.specs.{FileTimes.times_at, Promises.{DifferIsApart, DoneAgrees}}
 use Rattle.bridge_reach.proofs.Apart.{all_agree, is_first}
 
 -- ---- what was read where a verdict is told of it

@@ -1,28 +1,16 @@
 -- The first segment whose time isn't the one that its file states.
-use Rattle.std.proofs.Common.{◌≡◌, ◌⊎◌, inl, inr, ◌<◌, ◌≤◌, ◌+◌, ℕ, zero, suc, Bool, true, false, List, [], ◌∷◌, length, map, Option}
-use Rattle.std.proofs.Common.{Some, None, Ok, if◌then◌else◌}
-use Rattle.std.proofs.Common.{refl, sym, ap, ◌∙◌, arith, subst}
-use Rattle.std.specs.List.{range_with_len}
-use Rattle.std.proofs.lemmas.Bool.{cases_lt}
-use Rattle.std.specs.Prelude.{slice_get}
-use Rattle.bridge_io.specs.Firsts.{first_some}
-use Rattle.bridge_io.specs.Outside.{Files}
-use Rattle.std.specs.Option.{option_or}
+use Rattle.std.proofs.Common.{◌≡◌, ◌⊎◌, inl, inr, ◌<◌, ◌≤◌, ◌+◌, ℕ, zero, suc, Bool, true, false, List, [], ◌∷◌, length, map, Option, Some}
+use Rattle.std.proofs.{Common.{None, Ok, if◌then◌else◌, refl, sym, ap, ◌∙◌, arith, subst}, lemmas.Bool.cases_lt}
+use Rattle.std.specs.{List.range_with_len, Prelude.slice_get, Option.option_or}
+use Rattle.bridge_io.specs.{Firsts.first_some, Outside.Files}
 use Rattle.exact_time.specs.Time.{Time}
-use Rattle.timeline.specs.Expansions.{Timing}
-use Rattle.timeline.specs.Listed.{offset_of}
-use Rattle.fragment_times.specs.declared.fault.SegmentSpot.{SegmentSpot}
-use Rattle.fragment_times.specs.declared.times.SegmentTimes.{SegmentTimes}
-use Rattle.fragment_times.specs.Agreeing.{apart_at, apart_from, apart_in, first_apart, is_same}
-use Rattle.fragment_times.specs.Parts.{start_at}
-use Rattle.fragment_times.specs.Refusals.{next_spot}
-use Rattle.fragment_times.specs.Times.{parts_of, times_of}
-use Rattle.presentation.specs.declared.parts.Content.{Content}
-use Rattle.presentation.specs.Meanings.{part_meant}
-use Rattle.presentation.specs.Presented.{Presented, content_at, listed_at}
+use Rattle.timeline.specs.{Expansions.Timing, Listed.offset_of}
+use Rattle.fragment_times.specs.{declared.fault.SegmentSpot.SegmentSpot, declared.times.SegmentTimes.SegmentTimes, Agreeing.apart_at}
+use Rattle.fragment_times.specs.{Agreeing.{apart_from, apart_in, first_apart, is_same}, Parts.start_at, Refusals.next_spot, Times.parts_of}
+use Rattle.fragment_times.specs.Times.{times_of}
+use Rattle.presentation.specs.{declared.parts.Content.Content, Meanings.part_meant, Presented.{Presented, content_at, listed_at}}
 use Rattle.bridge_reach.specs.Promises.{AllAgree, IsBefore, IsCompared}
-use Rattle.bridge_reach.proofs.Places.{each_at}
-use Rattle.bridge_reach.proofs.Stated.{IsStated, stated_at}
+use Rattle.bridge_reach.proofs.{Places.each_at, Stated.{IsStated, stated_at}}
 
 -- ---- of segments in order
 

@@ -1,20 +1,16 @@
 -- What is read of an MPD and its media files came from them.
+use Rattle.bridge_report.specs.declared.refusal.Refusal.TheVariants as refusal
 use Rattle.std.proofs.Common.{◌≡◌, ℕ, List, Option, Ok}
 use Rattle.bridge_io.proofs.AndThen.{steps_of}
 use Rattle.bridge_io.specs.Outside.{Files}
 use Rattle.index_parts.specs.Presented.{indexed_of}
 use Rattle.laws_of_playlists.specs.IndexOrigins.{CameFromIndexes}
 use Rattle.mpd_levels.specs.declared.indexed.IndexRow.{IndexRow}
-use Rattle.mpd_rules.specs.Rules.{indexed_mpd_of}
-use Rattle.mpd_rules.specs.Typed.{TypedMpd}
-use Rattle.mpd_text.specs.Meaning.{reading_of}
-use Rattle.mpd_text.specs.Trees.{Element}
+use Rattle.mpd_rules.specs.{Rules.indexed_mpd_of, Typed.TypedMpd}
+use Rattle.mpd_text.specs.{Meaning.reading_of, Trees.Element}
 use Rattle.presentation.proofs.Filling.{ok_under}
-use Rattle.presentation.specs.Presented.{Presented}
-use Rattle.presentation.specs.Told.{told_as}
-use Rattle.presentation.specs.Verifying.{verified}
+use Rattle.presentation.specs.{Presented.Presented, Told.told_as, Verifying.verified}
 use Rattle.bridge_playlists.specs.declared.place.StorePlace.{StorePlace}
-use Rattle.bridge_report.specs.declared.refusal.Refusal.TheVariants as refusal
 use Rattle.bridge_report.specs.Reading.{content_of}
 use Rattle.bridge_steps.specs.Manifests.{checked}
 use Rattle.bridge_reach.specs.Index.{checked_in, presented_by, presented_in, ready_at, ready_in, values_in, values_of}

@@ -1,26 +1,19 @@
 -- The runs that are made of what files state can be written, and begin as the files state.
-use Rattle.std.proofs.Common.{◌≡◌, ◌<◌, ◌+◌, ◌*◌, ◌/◌, ◌%◌, ℕ, zero, suc, false, List, [], length, All, get_or, Some, Ok, sym, ap}
-use Rattle.std.proofs.Common.{◌∙◌, arith, subst}
+use Rattle.std.proofs.Common.{◌≡◌, ◌<◌, ◌+◌, ◌*◌, ◌/◌, ◌%◌, ℕ, zero, suc, false, List, [], length, All, get_or, Some, Ok, sym, ap, ◌∙◌}
+use Rattle.std.proofs.{Common.{arith, subst}, lemmas.Bool.Decides.nat_tests, lemmas.List.Elements.{All-from_get_or, All-get_or}}
+use Rattle.std.proofs.{lemmas.List.FromFn.length-range_with_len, lemmas.Nat.div-add-mod', lemmas.Option.get_or_from_slice_get}
+use Rattle.std.proofs.{lemmas.Option.slice_get-get_or, Math.Nat.{div-lt_iff_lt-mul, mod-lt}}
 use Rattle.std.specs.Prelude.{slice_get}
-use Rattle.std.proofs.lemmas.Bool.Decides.{nat_tests}
-use Rattle.std.proofs.lemmas.List.Elements.{All-from_get_or, All-get_or}
-use Rattle.std.proofs.lemmas.List.FromFn.{length-range_with_len}
-use Rattle.std.proofs.lemmas.Nat.{div-add-mod'}
-use Rattle.std.proofs.lemmas.Option.{get_or_from_slice_get, slice_get-get_or}
-use Rattle.std.proofs.Math.Nat.{div-lt_iff_lt-mul, mod-lt}
 use Rattle.bridge_io.proofs.AndThen.{steps_of}
 use Rattle.dash_writer.specs.Timed.{CanBeCounted, CanBeTimed}
-use Rattle.fragment_times.specs.declared.fault.TimesFault.TheVariants.{Range}
-use Rattle.fragment_times.specs.declared.times.SegmentTimes.{SegmentTimes}
-use Rattle.fragment_times.specs.Durations.{all_ticks, durations_of, is_too_long, section_ticks, ticks_at, unless_long}
-use Rattle.fragment_times.specs.Times.{FillPlaces, IsScaled, times_with}
+use Rattle.fragment_times.specs.{declared.fault.TimesFault.TheVariants.Range, declared.times.SegmentTimes.SegmentTimes, Durations.all_ticks}
+use Rattle.fragment_times.specs.{Durations.{durations_of, is_too_long, section_ticks, ticks_at, unless_long}, Times.{FillPlaces, IsScaled}}
+use Rattle.fragment_times.specs.Times.{times_with}
 use Rattle.fragment_times.proofs.Apart.{in_place}
-use Rattle.presentation.specs.Counting.{sections_of, tracks_of}
-use Rattle.presentation.specs.Origins.{CameFromPlaylists}
-use Rattle.presentation.specs.Presented.{Presented}
+use Rattle.presentation.specs.{Counting.{sections_of, tracks_of}, Origins.CameFromPlaylists, Presented.Presented}
 use Rattle.bridge_reach.specs.DashTimes.{run_of, runs_of}
-use Rattle.bridge_reach.proofs.Places.{chunk_at, each_at, in_range, length_chunks, length_each}
-use Rattle.bridge_reach.proofs.Runs.{IsLed, are_led, length_runs, lengths_as, run_at, unless_is}
+use Rattle.bridge_reach.proofs.{Places.{chunk_at, each_at, in_range, length_chunks, length_each}, Runs.{IsLed, are_led, length_runs}}
+use Rattle.bridge_reach.proofs.Runs.{lengths_as, run_at, unless_is}
 
 -- ---- the ticks of a track in a section
 

@@ -1,18 +1,12 @@
 -- Segments that are passed on the way to one, and where that one lies.
 use Rattle.std.proofs.Common.{◌≡◌, ◌+◌, ℕ, zero, suc, List, [], ◌∷◌, All, Option, Some, None, IfSome, drop, refl, ap, ◌∙◌}
-use Rattle.std.specs.Option.{option_and_then, option_map_or}
-use Rattle.std.specs.Prelude.{MatchOption, slice_get}
-use Rattle.std.proofs.lemmas.List.{drop-drop}
-use Rattle.std.proofs.lemmas.List.Elements.{All-tail}
-use Rattle.timeline.specs.declared.span.Span.{Span}
-use Rattle.timeline.specs.Expansions.{SegmentTimeline, Timing}
-use Rattle.timeline.specs.Listed.{IsDone, IsPassed, Rest, timing_of}
+use Rattle.std.proofs.{lemmas.List.drop-drop, lemmas.List.Elements.All-tail}
+use Rattle.std.specs.{Option.{option_and_then, option_map_or}, Prelude.{MatchOption, slice_get}}
+use Rattle.timeline.specs.{declared.span.Span.Span, Expansions.{SegmentTimeline, Timing}, Listed.{IsDone, IsPassed, Rest, timing_of}}
 use Rattle.url_parts.specs.declared.address.Part.{Part}
-use Rattle.fragment_times.specs.Times.{IsTimelineAt, parts_of}
-use Rattle.fragment_times.specs.declared.fault.SegmentSpot.{SegmentSpot}
-use Rattle.presentation.specs.declared.parts.Content.{Content}
-use Rattle.presentation.specs.Laws.{HasAddress}
-use Rattle.presentation.specs.Presented.{Presented, content_at, listed_at, listed_in, window_of}
+use Rattle.fragment_times.specs.{Times.{IsTimelineAt, parts_of}, declared.fault.SegmentSpot.SegmentSpot}
+use Rattle.presentation.specs.{declared.parts.Content.Content, Laws.HasAddress, Presented.{Presented, content_at, listed_at, listed_in}}
+use Rattle.presentation.specs.Presented.{window_of}
 use Rattle.bridge_reach.specs.FileTimes.{listed_part}
 
 module _ (old new : Rest) where

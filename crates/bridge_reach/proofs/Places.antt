@@ -1,15 +1,11 @@
 -- What stands at a place of what some things give one after another.
 use Rattle.std.proofs.Common.{◌≡◌, ◌<◌, ◌+◌, ◌*◌, ℕ, zero, suc, List, [], ◌∷◌, ◌++◌, length, Option, Some, Result, Ok, get_or, refl, sym}
-use Rattle.std.proofs.Common.{ap, ◌∙◌, arith}
-use Rattle.std.proofs.Common.{length-append}
-use Rattle.std.specs.List.{range_with_len}
-use Rattle.std.specs.Prelude.{slice_get}
-use Rattle.std.proofs.lemmas.List.FromFn.{get_or-range_with_len, length-range_with_len}
+use Rattle.std.proofs.{Common.{ap, ◌∙◌, arith, length-append}, lemmas.List.FromFn.{get_or-range_with_len, length-range_with_len}}
 use Rattle.std.proofs.lemmas.Option.{slice_get-get_or}
+use Rattle.std.specs.{List.range_with_len, Prelude.slice_get}
 use Rattle.bridge_io.proofs.AndThen.{steps_of}
 use Rattle.presentation.specs.Told.{gathered}
-use Rattle.fragment_times.specs.declared.fault.TimesFault.{TimesFault}
-use Rattle.fragment_times.specs.Times.{alone, each}
+use Rattle.fragment_times.specs.{declared.fault.TimesFault.TimesFault, Times.{alone, each}}
 
 pub in_range : (n t : ℕ) → t < n → slice_get (range_with_len 0 n) t ≡ Some t
 in_range n t within =

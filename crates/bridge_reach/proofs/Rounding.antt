@@ -1,39 +1,25 @@
 -- Rounds that are read, and what they leave.
+use Rattle.bridge_jobs.specs.declared.frame.FrameFault.TheVariants as fault
+use Rattle.bridge_report.specs.declared.refusal.Refusal.TheVariants as refusals
 use Rattle.std.proofs.Common.{◌≡◌, ◌⊎◌, ℕ, ℤ, ◌+◌, List, [], ◌∷◌, length, Option, None, Some, option_map, IfSome, Result, Ok, Err, OnErr}
 use Rattle.std.proofs.Common.{OnOk, refl, sym, ap, ◌∙◌, subst, arith}
-use Rattle.std.specs.Prelude.{IfErr, IfOk, IsSome}
-use Rattle.std.specs.Option.{option_map_or}
-use Rattle.std.specs.Result.{result_err, result_ok, result_unwrap_or}
-use Rattle.bridge_io.specs.Answer.{Gives, and_then}
-use Rattle.bridge_io.specs.InOrder.{AreBegun, put_all}
-use Rattle.bridge_io.specs.Outside.{Changes, Files, put}
-use Rattle.bridge_io.specs.Written.{HasFront}
+use Rattle.std.specs.{Prelude.{IfErr, IfOk, IsSome}, Option.option_map_or, Result.{result_err, result_ok, result_unwrap_or}}
+use Rattle.bridge_io.specs.{Answer.{Gives, and_then}, InOrder.{AreBegun, put_all}, Outside.{Changes, Files, put}, Written.HasFront}
 use Rattle.bridge_io.specs.declared.out_fault.OutFault.{OutFault}
-use Rattle.dash_writer.specs.Live.{live_text}
-use Rattle.dash_writer.specs.declared.live.LiveMpd.{LiveMpd}
+use Rattle.dash_writer.specs.{Live.live_text, declared.live.LiveMpd.LiveMpd}
 use Rattle.iso_time.specs.Instant.{IsReadable}
 use Rattle.hls_media.specs.declared.media.Media.{Media}
-use Rattle.hls_follow.specs.Rounds.{Following, appended_by, followed_of, next_of}
-use Rattle.hls_follow.specs.declared.fault.LiveFault.{LiveFault}
+use Rattle.hls_follow.specs.{Rounds.{Following, appended_by, followed_of, next_of}, declared.fault.LiveFault.LiveFault}
 use Rattle.hls_follow.specs.declared.state.Followed.{Followed}
 use Rattle.presentation.specs.Told.{told_as}
-use Rattle.bridge_jobs.specs.Frames.{ReadsFrom, refusal}
-use Rattle.bridge_jobs.specs.Laws.{RoundsFollow}
-use Rattle.bridge_jobs.specs.Rounds.{RoundStream, Rounded, next_round, rounded_as, rounds_by, rounds_from}
-use Rattle.bridge_jobs.specs.declared.frame.FramePos.{FramePos}
-use Rattle.bridge_jobs.specs.declared.frame.FrameFault.{FrameFault}
-use Rattle.bridge_jobs.specs.declared.frame.FrameFault.TheVariants as fault
+use Rattle.bridge_jobs.specs.{Frames.{ReadsFrom, refusal}, Laws.RoundsFollow, Rounds.{RoundStream, Rounded, next_round, rounded_as}}
+use Rattle.bridge_jobs.specs.{Rounds.{rounds_by, rounds_from}, declared.frame.FramePos.FramePos, declared.frame.FrameFault.FrameFault}
 use Rattle.bridge_jobs.specs.declared.round.Round.{Round}
-use Rattle.bridge_report.specs.Refusals.{refusal_text, refused_in}
-use Rattle.bridge_report.specs.declared.refusal.Refusal.{Refusal}
-use Rattle.bridge_report.specs.declared.refusal.Refusal.TheVariants as refusals
-use Rattle.bridge_report.specs.declared.refusal.Stop.{Stop}
-use Rattle.bridge_steps.specs.Follow.{Accepts}
-use Rattle.bridge_steps.specs.Streams.{ReadsFirst}
+use Rattle.bridge_report.specs.{Refusals.{refusal_text, refused_in}, declared.refusal.Refusal.Refusal, declared.refusal.Stop.Stop}
+use Rattle.bridge_steps.specs.{Follow.Accepts, Streams.ReadsFirst}
 use Rattle.bridge_steps.proofs.Begun.{begun, one_put}
 use Rattle.bridge_reach.specs.Rounds.{IsKept, IsRead, followed_rounds, medias_of, mpd_text, round_appends, round_state, taken}
-use Rattle.bridge_reach.specs.declared.rounds.LiveHls.{LiveHls}
-use Rattle.bridge_reach.specs.declared.rounds.LiveRounds.{LiveRounds}
+use Rattle.bridge_reach.specs.{declared.rounds.LiveHls.LiveHls, declared.rounds.LiveRounds.LiveRounds}
 
 -- ---- a stream that is read round by round
 

@@ -1,20 +1,14 @@
 -- Runs of ticks: when their segments begin, and how long they last.
-use Rattle.std.proofs.Common.{◌≡◌, ◌<◌, ◌+◌, ◌-◌, ◌^◌, ℕ, zero, suc, max, Bool, true, false, List, [], ◌∷◌, length, drop, take, sum}
-use Rattle.std.proofs.Common.{nat_le, get_or}
-use Rattle.std.proofs.Common.{Some, Ok, Err, if◌then◌else◌, refl, ap, ◌∙◌, arith, add-one, drop-cons}
+use Rattle.std.proofs.Common.{◌≡◌, ◌<◌, ◌+◌, ◌-◌, ◌^◌, ℕ, zero, suc, max, Bool, true, false, List, [], ◌∷◌, length, drop, take, sum, nat_le}
+use Rattle.std.proofs.Common.{get_or, Some, Ok, Err, if◌then◌else◌, refl, ap, ◌∙◌, arith, add-one, drop-cons}
+use Rattle.std.proofs.{lemmas.Bool.Decides.nat_tests, lemmas.List.Sums.sum_by-cons}
 use Rattle.std.specs.Prelude.{slice_get}
-use Rattle.std.proofs.lemmas.Bool.Decides.{nat_tests}
-use Rattle.std.proofs.lemmas.List.Sums.{sum_by-cons}
 use Rattle.bridge_io.proofs.AndThen.{steps_of}
 use Rattle.dash_writer.specs.Timed.{lengths, longest}
-use Rattle.fragment_times.specs.declared.fault.SegmentSpot.{SegmentSpot}
-use Rattle.fragment_times.specs.declared.fault.TimesFault.{TimesFault}
-use Rattle.fragment_times.specs.declared.times.SegmentTimes.{SegmentTimes}
-use Rattle.fragment_times.specs.Durations.{begun_at, last_ticks_of, longest_behind, nanos_of, ticks_behind, ticks_from, ticks_of}
-use Rattle.fragment_times.specs.Durations.{lengths as own_lengths}
-use Rattle.fragment_times.specs.Refusals.{next_spot}
-use Rattle.bridge_reach.specs.DashTimes.{run_of, runs_of}
-use Rattle.bridge_reach.specs.Promises.{starts_from}
+use Rattle.fragment_times.specs.{declared.fault.SegmentSpot.SegmentSpot, declared.fault.TimesFault.TimesFault}
+use Rattle.fragment_times.specs.{declared.times.SegmentTimes.SegmentTimes, Durations.{begun_at, last_ticks_of, longest_behind, nanos_of}}
+use Rattle.fragment_times.specs.{Durations.{ticks_behind, ticks_from, ticks_of, lengths as own_lengths}, Refusals.next_spot}
+use Rattle.bridge_reach.specs.{DashTimes.{run_of, runs_of}, Promises.starts_from}
 
 -- ---- one behind another
 

@@ -1,15 +1,12 @@
 -- What files state of the segments of each track in each section.
-use Rattle.std.proofs.Common.{◌≡◌, ◌<◌, ◌+◌, ◌*◌, ℕ, List, length, Some, Ok, refl, ◌∙◌, ap}
+use Rattle.std.proofs.{Common.{◌≡◌, ◌<◌, ◌+◌, ◌*◌, ℕ, List, length, Some, Ok, refl, ◌∙◌, ap}, lemmas.List.FromFn.length-range_with_len}
 use Rattle.std.specs.Prelude.{slice_get}
-use Rattle.std.proofs.lemmas.List.FromFn.{length-range_with_len}
 use Rattle.bridge_io.proofs.AndThen.{steps_of}
 use Rattle.bridge_io.specs.Outside.{Files}
-use Rattle.fragment_times.specs.declared.times.SegmentTimes.{SegmentTimes}
-use Rattle.fragment_times.specs.Parts.{scale_at}
-use Rattle.fragment_times.specs.Times.{FillPlaces, all_starts, content_times, parts_of, section_times, times_at, times_of, times_with}
-use Rattle.presentation.specs.declared.parts.Content.{Content}
-use Rattle.presentation.specs.Counting.{sections_of, tracks_of}
-use Rattle.presentation.specs.Presented.{Presented, content_at, listed_at, listed_in, window_of}
+use Rattle.fragment_times.specs.{declared.times.SegmentTimes.SegmentTimes, Parts.scale_at, Times.{FillPlaces, all_starts, content_times}}
+use Rattle.fragment_times.specs.Times.{parts_of, section_times, times_at, times_of, times_with}
+use Rattle.presentation.specs.{declared.parts.Content.Content, Counting.{sections_of, tracks_of}, Presented.{Presented, content_at}}
+use Rattle.presentation.specs.Presented.{listed_at, listed_in, window_of}
 use Rattle.bridge_reach.proofs.Places.{chunk_at, each_at, in_range, length_chunks, length_each}
 
 pub record IsStated (folder : List ℕ) (files : Files) (p : Presented) (times : List SegmentTimes) (s t : ℕ)

@@ -1,27 +1,17 @@
 -- The MPD that `dash-times` writes begins its segments as their own files state.
-use Rattle.std.proofs.Common.{◌≡◌, ◌<◌, ◌+◌, ◌*◌, ℕ, Bool, List, length, Option, Some, None, Result, Ok, Err, refl}
-use Rattle.std.proofs.Common.{sym, ap, ◌∙◌}
+use Rattle.std.proofs.Common.{◌≡◌, ◌<◌, ◌+◌, ◌*◌, ℕ, Bool, List, length, Option, Some, None, Result, Ok, Err, refl, sym, ap, ◌∙◌}
 use Rattle.bridge_io.proofs.AndThen.{steps_of}
 use Rattle.bridge_io.specs.Outside.{Files}
 use Rattle.dash_writer.specs.declared.timed.TickRun.{TickRun}
-use Rattle.fragment_times.specs.declared.times.SegmentTimes.{SegmentTimes}
-use Rattle.fragment_times.specs.Durations.{durations_of}
-use Rattle.fragment_times.specs.Times.{times_of}
+use Rattle.fragment_times.specs.{declared.times.SegmentTimes.SegmentTimes, Durations.durations_of, Times.times_of}
 use Rattle.presentation.specs.Presented.{Presented}
 use Rattle.presentation.proofs.Filling.{ok_under}
-use Rattle.bridge_playlists.specs.declared.place.StorePlace.{StorePlace}
-use Rattle.bridge_playlists.specs.Places.{store_place_of}
-use Rattle.bridge_playlists.specs.Playlists.{presented_at}
-use Rattle.bridge_report.specs.Outcomes.{Outcome, Writes}
-use Rattle.bridge_report.specs.Reading.{Named}
+use Rattle.bridge_playlists.specs.{declared.place.StorePlace.StorePlace, Places.store_place_of, Playlists.presented_at}
+use Rattle.bridge_report.specs.{Outcomes.{Outcome, Writes}, Reading.Named}
 use Rattle.bridge_steps.specs.Endings.{outcome_written, placed}
 use Rattle.bridge_reach.specs.DashTimes.{dash_times_at, dash_times_outcome, files_of, line_of, run_of, runs_at, runs_of, timed_at}
-use Rattle.bridge_reach.specs.DashTimes.{with_runs}
-use Rattle.bridge_reach.specs.FileTimes.{durations_at, times_at}
-use Rattle.bridge_reach.specs.Promises.{IsTimed, WrittenAreFileTimes}
-use Rattle.bridge_reach.proofs.Counted.{ticked_at}
-use Rattle.bridge_reach.proofs.Runs.{run_at}
-use Rattle.bridge_reach.proofs.Stated.{are_filled, stated_at}
+use Rattle.bridge_reach.specs.{DashTimes.with_runs, FileTimes.{durations_at, times_at}, Promises.{IsTimed, WrittenAreFileTimes}}
+use Rattle.bridge_reach.proofs.{Counted.ticked_at, Runs.run_at, Stated.{are_filled, stated_at}}
 
 -- ---- what was read where something is written
 

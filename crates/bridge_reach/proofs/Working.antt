@@ -1,29 +1,21 @@
 -- Work over rounds, which the master's read goes before.
-use Rattle.std.proofs.Common.{◌≡◌, ◌⊎◌, ℕ, true, IsTrue, List, Option, None, Some, option_map, IfSome, Result, Ok, Err, inl, inr, refl, sym}
-use Rattle.std.proofs.Common.{subst, arith}
-use Rattle.std.specs.Option.{ForSome, option_and_then}
-use Rattle.std.proofs.lemmas.List.{length-map}
-use Rattle.bridge_io.specs.Fault.{Rose}
-use Rattle.bridge_io.specs.Outside.{Files}
-use Rattle.hls_master.specs.declared.track.MasterTrack.{MasterTrack}
-use Rattle.bridge_courses.specs.Courses.{Course, World}
-use Rattle.bridge_courses.specs.Executions.{NeverFalls}
-use Rattle.bridge_courses.specs.Steps.{IsCaused, Work, first_step}
-use Rattle.bridge_courses.specs.declared.ending.Ending.{Ending}
 use Rattle.bridge_courses.specs.declared.ending.Ending.TheVariants as ending
 use Rattle.bridge_courses.specs.declared.status.Verdict.TheVariants as verdict
-use Rattle.bridge_courses.proofs.Stepping.{IsIdle, caused_later, ends, memory_first, read_fault_first, work_later}
-use Rattle.bridge_report.specs.Outcomes.{Ends, IsHalt, course_by}
-use Rattle.bridge_report.specs.Reading.{Named, halted}
-use Rattle.bridge_report.specs.Refusals.{refusal_line}
-use Rattle.bridge_report.specs.declared.reading.Halt.{Halt}
 use Rattle.bridge_report.specs.declared.reading.Halt.TheVariants as halt
+use Rattle.std.proofs.Common.{◌≡◌, ◌⊎◌, ℕ, true, IsTrue, List, Option, None, Some, option_map, IfSome, Result, Ok, Err, inl, inr, refl, sym}
+use Rattle.std.proofs.{Common.{subst, arith}, lemmas.List.length-map}
+use Rattle.std.specs.Option.{ForSome, option_and_then}
+use Rattle.bridge_io.specs.{Fault.Rose, Outside.Files}
+use Rattle.hls_master.specs.declared.track.MasterTrack.{MasterTrack}
+use Rattle.bridge_courses.specs.{Courses.{Course, World}, Executions.NeverFalls, Steps.{IsCaused, Work, first_step}}
+use Rattle.bridge_courses.specs.declared.ending.Ending.{Ending}
+use Rattle.bridge_courses.proofs.Stepping.{IsIdle, caused_later, ends, memory_first, read_fault_first, work_later}
+use Rattle.bridge_report.specs.{Outcomes.{Ends, IsHalt, course_by}, Reading.{Named, halted}, Refusals.refusal_line}
+use Rattle.bridge_report.specs.declared.reading.Halt.{Halt}
 use Rattle.bridge_jobs.specs.Frames.{start}
-use Rattle.bridge_playlists.specs.Playlists.{master_at}
-use Rattle.bridge_playlists.specs.declared.place.StorePlace.{StorePlace}
+use Rattle.bridge_playlists.specs.{Playlists.master_at, declared.place.StorePlace.StorePlace}
 use Rattle.bridge_steps.specs.Follow.{fault_line}
-use Rattle.bridge_steps.proofs.Endings.{over}
-use Rattle.bridge_steps.proofs.Rest.{reads_first}
+use Rattle.bridge_steps.proofs.{Endings.over, Rest.reads_first}
 use Rattle.bridge_reach.specs.Rounds.{IsCausedByEither, IsKept, course_with, followed_rounds, hls_of, no_rounds, round_stream, rounds_at}
 use Rattle.bridge_reach.specs.Rounds.{rounds_of}
 

@@ -1,22 +1,15 @@
 -- Whether the times of an MPD are those that its media files state.
-use Rattle.std.specs.Prelude.{ℕ, ◌^◌, List, ◌++◌, length, codes, decimal, Option, Some, None, option_map, Result, Ok}
-use Rattle.bridge_io.specs.Answer.{and_then}
-use Rattle.bridge_io.specs.Outside.{Files}
-use Rattle.fragment_times.specs.declared.fault.SegmentSpot.{SegmentSpot}
-use Rattle.fragment_times.specs.Agreeing.{first_apart}
-use Rattle.presentation.specs.Counting.{count_of_all}
-use Rattle.presentation.specs.Presented.{Presented}
-use Rattle.bridge_courses.specs.declared.status.Verdict.{Verdict}
 use Rattle.bridge_courses.specs.declared.status.Verdict.TheVariants as verdict
-use Rattle.bridge_report.specs.Outcomes.{Outcome, outcome_told}
-use Rattle.bridge_report.specs.Reading.{Named}
 use Rattle.bridge_report.specs.declared.refusal.Refusal.TheVariants as refusal
-use Rattle.bridge_playlists.specs.declared.place.StorePlace.{StorePlace}
-use Rattle.bridge_playlists.specs.Places.{store_place_of}
-use Rattle.bridge_steps.specs.Endings.{placed}
-use Rattle.bridge_steps.specs.Manifests.{mpd_at}
-use Rattle.bridge_reach.specs.declared.agree.Agree.{Agree}
-use Rattle.bridge_reach.specs.FileTimes.{times_at}
+use Rattle.std.specs.Prelude.{ℕ, ◌^◌, List, ◌++◌, length, codes, decimal, Option, Some, None, option_map, Result, Ok}
+use Rattle.bridge_io.specs.{Answer.and_then, Outside.Files}
+use Rattle.fragment_times.specs.{declared.fault.SegmentSpot.SegmentSpot, Agreeing.first_apart}
+use Rattle.presentation.specs.{Counting.count_of_all, Presented.Presented}
+use Rattle.bridge_courses.specs.declared.status.Verdict.{Verdict}
+use Rattle.bridge_report.specs.{Outcomes.{Outcome, outcome_told}, Reading.Named}
+use Rattle.bridge_playlists.specs.{declared.place.StorePlace.StorePlace, Places.store_place_of}
+use Rattle.bridge_steps.specs.{Endings.placed, Manifests.mpd_at}
+use Rattle.bridge_reach.specs.{declared.agree.Agree.Agree, FileTimes.times_at}
 
 -- ---- the report
 

@@ -1,21 +1,14 @@
 -- From playlists to an MPD with the times that the media files state (ISO/IEC 23009-1, 5.3.9).
 use Rattle.std.specs.Prelude.{ℕ, List, [], ◌∷◌, codes, get_or, Option, option_map, Result, Ok}
-use Rattle.bridge_io.specs.Answer.{and_then}
-use Rattle.bridge_io.specs.Outside.{Files}
+use Rattle.bridge_io.specs.{Answer.and_then, Outside.Files}
 use Rattle.bridge_jobs.specs.Laws.{in_folder}
-use Rattle.dash_writer.specs.declared.timed.TickRun.{TickRun}
-use Rattle.dash_writer.specs.Timed.{timed_text}
+use Rattle.dash_writer.specs.{declared.timed.TickRun.TickRun, Timed.timed_text}
 use Rattle.fragment_times.specs.declared.times.SegmentTimes.{SegmentTimes}
 use Rattle.presentation.specs.Presented.{Presented}
-use Rattle.bridge_report.specs.Outcomes.{Outcome}
-use Rattle.bridge_report.specs.Reading.{Named}
-use Rattle.bridge_playlists.specs.declared.place.StorePlace.{StorePlace}
-use Rattle.bridge_playlists.specs.Places.{store_place_of}
-use Rattle.bridge_playlists.specs.Playlists.{presented_at}
-use Rattle.bridge_steps.specs.Done.{done_line}
-use Rattle.bridge_steps.specs.Endings.{outcome_written, placed}
-use Rattle.bridge_reach.specs.declared.dash_times.DashTimes.{DashTimes}
-use Rattle.bridge_reach.specs.FileTimes.{durations_at, times_at}
+use Rattle.bridge_report.specs.{Outcomes.Outcome, Reading.Named}
+use Rattle.bridge_playlists.specs.{declared.place.StorePlace.StorePlace, Places.store_place_of, Playlists.presented_at}
+use Rattle.bridge_steps.specs.{Done.done_line, Endings.{outcome_written, placed}}
+use Rattle.bridge_reach.specs.{declared.dash_times.DashTimes.DashTimes, FileTimes.{durations_at, times_at}}
 
 -- ---- media times
 

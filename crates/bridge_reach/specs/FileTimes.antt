@@ -1,22 +1,16 @@
 -- The times that the media files of a presentation state, and which file is refused for them (ISO/IEC 14496-12, 8.4.2 and 8.8.12).
+use Rattle.fragment_times.specs.declared.fault.TimesFault.TheVariants as fault
+use Rattle.bridge_report.specs.declared.refusal.Refusal.TheVariants as refusal
+use Rattle.bridge_report.specs.declared.times_refusal.TimesRefusal.TheVariants as times
 use Rattle.std.specs.Prelude.{ℕ, nat_lt, ◌&&◌, Bool, List, length, slice_get, if◌then◌else◌, Option, None, unwrap_or, Result}
 use Rattle.std.specs.Option.{option_and_then}
 use Rattle.bridge_io.specs.Outside.{Files}
-use Rattle.url_parts.specs.Addresses.{local_name_of}
-use Rattle.url_parts.specs.declared.address.Part.{Part}
-use Rattle.fragment_times.specs.declared.fault.SegmentSpot.{SegmentSpot}
-use Rattle.fragment_times.specs.declared.fault.TimesFault.{TimesFault}
-use Rattle.fragment_times.specs.declared.fault.TimesFault.TheVariants as fault
-use Rattle.fragment_times.specs.declared.times.SegmentTimes.{SegmentTimes}
-use Rattle.fragment_times.specs.Durations.{durations_of}
-use Rattle.fragment_times.specs.Times.{parts_of, times_of}
-use Rattle.presentation.specs.declared.fault.PresentationFault.TheVariants.{Memory}
-use Rattle.presentation.specs.declared.parts.Content.{Content}
-use Rattle.presentation.specs.Presented.{Presented, content_at, listed_at}
-use Rattle.presentation.specs.Told.{told_as}
+use Rattle.url_parts.specs.{Addresses.local_name_of, declared.address.Part.Part}
+use Rattle.fragment_times.specs.{declared.fault.SegmentSpot.SegmentSpot, declared.fault.TimesFault.TimesFault}
+use Rattle.fragment_times.specs.{declared.times.SegmentTimes.SegmentTimes, Durations.durations_of, Times.{parts_of, times_of}}
+use Rattle.presentation.specs.{declared.fault.PresentationFault.TheVariants.Memory, declared.parts.Content.Content, Presented.Presented}
+use Rattle.presentation.specs.{Presented.{content_at, listed_at}, Told.told_as}
 use Rattle.bridge_playlists.specs.declared.place.StorePlace.{StorePlace}
-use Rattle.bridge_report.specs.declared.refusal.Refusal.TheVariants as refusal
-use Rattle.bridge_report.specs.declared.times_refusal.TimesRefusal.TheVariants as times
 use Rattle.bridge_report.specs.Reading.{Named}
 
 -- ---- the file of a segment

@@ -1,28 +1,17 @@
 -- `hls-index`: from an MPD whose media files have an index inside, and these files, to playlists (ISO/IEC 23009-1, 5.3.9.2).
-use Rattle.std.specs.Prelude.{◌^◌, ℕ, List, Option, option_map, Result}
-use Rattle.bridge_io.specs.Answer.{and_then}
-use Rattle.bridge_io.specs.Outside.{Files}
-use Rattle.index_parts.specs.declared.fault.IndexFault.{IndexFault}
 use Rattle.index_parts.specs.declared.fault.IndexFault.TheVariants as fault
-use Rattle.index_parts.specs.Presented.{indexed_of}
-use Rattle.mpd_levels.specs.declared.indexed.IndexRow.{IndexRow}
-use Rattle.mpd_rules.specs.Rules.{indexed_mpd_of}
-use Rattle.mpd_rules.specs.Typed.{TypedMpd}
-use Rattle.mpd_text.specs.Meaning.{reading_of}
-use Rattle.presentation.specs.declared.fault.PresentationFault.TheVariants.{Memory}
-use Rattle.presentation.specs.Presented.{Presented}
-use Rattle.presentation.specs.Told.{told_as}
-use Rattle.bridge_playlists.specs.declared.place.StorePlace.{StorePlace}
-use Rattle.bridge_playlists.specs.Places.{store_place_of}
 use Rattle.bridge_report.specs.declared.index_refusal.IndexRefusal.TheVariants as index
-use Rattle.bridge_report.specs.declared.refusal.Refusal.{Refusal}
 use Rattle.bridge_report.specs.declared.refusal.Refusal.TheVariants as refusal
-use Rattle.bridge_report.specs.Outcomes.{Outcome}
-use Rattle.bridge_report.specs.Reading.{Named, content_of, of_file}
-use Rattle.bridge_steps.specs.Done.{done_line}
-use Rattle.bridge_steps.specs.Endings.{outcome_written, placed}
-use Rattle.bridge_steps.specs.Manifests.{checked}
-use Rattle.bridge_steps.specs.Playlists.{playlists}
+use Rattle.std.specs.Prelude.{◌^◌, ℕ, List, Option, option_map, Result}
+use Rattle.bridge_io.specs.{Answer.and_then, Outside.Files}
+use Rattle.index_parts.specs.{declared.fault.IndexFault.IndexFault, Presented.indexed_of}
+use Rattle.mpd_levels.specs.declared.indexed.IndexRow.{IndexRow}
+use Rattle.mpd_rules.specs.{Rules.indexed_mpd_of, Typed.TypedMpd}
+use Rattle.mpd_text.specs.Meaning.{reading_of}
+use Rattle.presentation.specs.{declared.fault.PresentationFault.TheVariants.Memory, Presented.Presented, Told.told_as}
+use Rattle.bridge_playlists.specs.{declared.place.StorePlace.StorePlace, Places.store_place_of}
+use Rattle.bridge_report.specs.{declared.refusal.Refusal.Refusal, Outcomes.Outcome, Reading.{Named, content_of, of_file}}
+use Rattle.bridge_steps.specs.{Done.done_line, Endings.{outcome_written, placed}, Manifests.checked, Playlists.playlists}
 use Rattle.bridge_reach.specs.declared.index.HlsIndex.{HlsIndex}
 
 -- ---- the values of the MPD

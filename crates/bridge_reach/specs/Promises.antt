@@ -1,27 +1,17 @@
 -- What `dash-times` promises of the MPD that it writes, and `agree` of what it tells (ISO/IEC 14496-12, 8.4.2 and 8.8.12).
-use Rattle.std.specs.Prelude.{◌≡◌, ◌⊎◌, ◌<◌, ℕ, ◌+◌, ◌*◌, Bool, true, false, List, [], ◌∷◌, length, slice_get, Some, Ok}
-use Rattle.std.specs.Option.{ForSome}
+use Rattle.bridge_courses.specs.declared.status.Verdict.TheVariants as verdict
+use Rattle.std.specs.{Prelude.{◌≡◌, ◌⊎◌, ◌<◌, ℕ, ◌+◌, ◌*◌, Bool, true, false, List, [], ◌∷◌, length, slice_get, Some, Ok}, Option.ForSome}
 use Rattle.bridge_io.specs.Outside.{Files}
 use Rattle.url_parts.specs.declared.address.Part.{Part}
-use Rattle.timeline.specs.Expansions.{Timing}
-use Rattle.timeline.specs.Listed.{offset_of}
+use Rattle.timeline.specs.{Expansions.Timing, Listed.offset_of}
 use Rattle.dash_writer.specs.declared.timed.TickRun.{TickRun}
-use Rattle.fragment_times.specs.declared.fault.SegmentSpot.{SegmentSpot}
-use Rattle.fragment_times.specs.Agreeing.{is_same}
-use Rattle.fragment_times.specs.Parts.{scale_at, start_at}
-use Rattle.fragment_times.specs.Times.{all_starts, parts_of}
-use Rattle.presentation.specs.declared.parts.Content.{Content}
-use Rattle.presentation.specs.Meanings.{part_meant}
-use Rattle.presentation.specs.Presented.{Presented, content_at, listed_at}
-use Rattle.bridge_playlists.specs.declared.place.StorePlace.{StorePlace}
-use Rattle.bridge_playlists.specs.Places.{store_place_of}
-use Rattle.bridge_playlists.specs.Playlists.{presented_at}
+use Rattle.fragment_times.specs.{declared.fault.SegmentSpot.SegmentSpot, Agreeing.is_same, Parts.{scale_at, start_at}, Times.all_starts}
+use Rattle.fragment_times.specs.Times.{parts_of}
+use Rattle.presentation.specs.{declared.parts.Content.Content, Meanings.part_meant, Presented.{Presented, content_at, listed_at}}
+use Rattle.bridge_playlists.specs.{declared.place.StorePlace.StorePlace, Places.store_place_of, Playlists.presented_at}
 use Rattle.bridge_report.specs.Outcomes.{Ends, Writes}
-use Rattle.bridge_courses.specs.declared.status.Verdict.TheVariants as verdict
-use Rattle.bridge_reach.specs.declared.agree.Agree.{Agree}
-use Rattle.bridge_reach.specs.declared.dash_times.DashTimes.{DashTimes}
-use Rattle.bridge_reach.specs.Agree.{agree_outcome, apart_text, mpd_read}
-use Rattle.bridge_reach.specs.DashTimes.{dash_times_outcome, files_of}
+use Rattle.bridge_reach.specs.{declared.agree.Agree.Agree, declared.dash_times.DashTimes.DashTimes, Agree.{agree_outcome, apart_text}}
+use Rattle.bridge_reach.specs.{Agree.mpd_read, DashTimes.{dash_times_outcome, files_of}}
 
 -- ---- `dash-times`
 

@@ -1,13 +1,10 @@
 -- What rounds leave that are accepted one behind another.
 use Rattle.std.specs.Prelude.{◌≡◌, ℕ, codes, List, ◌∷◌, take, Some, IsSome}
-use Rattle.bridge_io.specs.InOrder.{put_all}
-use Rattle.bridge_io.specs.Outside.{Files, Changes}
+use Rattle.bridge_io.specs.{InOrder.put_all, Outside.{Files, Changes}}
 use Rattle.hls_master.specs.declared.track.MasterTrack.{MasterTrack}
 use Rattle.hls_follow.specs.declared.state.Followed.{Followed}
 use Rattle.dash_writer.specs.Live.{live_text}
-use Rattle.bridge_jobs.specs.Frames.{start}
-use Rattle.bridge_jobs.specs.Laws.{in_folder}
-use Rattle.bridge_jobs.specs.declared.round.Round.{Round}
+use Rattle.bridge_jobs.specs.{Frames.start, Laws.in_folder, declared.round.Round.Round}
 use Rattle.bridge_courses.specs.Courses.{files_to}
 use Rattle.bridge_report.specs.Laws.{accepted_in, state_after}
 use Rattle.bridge_reach.specs.Rounds.{course_with, followed_rounds, hls_of, no_rounds, round_stream}

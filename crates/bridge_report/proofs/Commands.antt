@@ -1,11 +1,9 @@
 -- Commands that read all before they write.
 use Rattle.std.proofs.Common.{◌≡◌, ℕ, zero, suc, [], ◌∷◌, ◌++◌, slice_get, Option, None, Some, ap}
-use Rattle.bridge_io.specs.Outside.{Files, Changes}
-use Rattle.bridge_io.specs.InOrder.{put_all}
+use Rattle.bridge_io.specs.{Outside.{Files, Changes}, InOrder.put_all}
 use Rattle.bridge_courses.specs.Courses.{files_to, last_step}
 use Rattle.bridge_courses.proofs.ExecutionLaws.{read_fault_keeps_files}
-use Rattle.bridge_report.specs.Outcomes.{Ends, Writes, course_by}
-use Rattle.bridge_report.specs.Laws.{CommandsReadFirst, ReadFaultOfCommandsKeepsFiles}
+use Rattle.bridge_report.specs.{Outcomes.{Ends, Writes, course_by}, Laws.{CommandsReadFirst, ReadFaultOfCommandsKeepsFiles}}
 
 none_changed : (before after : Option Files) → Changes (put_all []) before after → after ≡ before
 none_changed None after changes = changes

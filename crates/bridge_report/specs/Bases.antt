@@ -1,9 +1,7 @@
 -- The URL of the folder that the store stands for, and those of its files.
 use Rattle.std.specs.Prelude.{ℕ, ◌-◌, ◌==◌, ◌&&◌, not, nat_lt, Bool, List, ◌++◌, length, slice_index, bytes_eq, if◌then◌else◌, is_some}
-use Rattle.std.specs.Prelude.{Option, Some, None, Result, Ok, Err}
-use Rattle.std.specs.List.{list_any}
-use Rattle.url_parts.specs.declared.fault.UrlFault.{UrlFault}
-use Rattle.url_parts.specs.Addresses.{absolute, is_tail}
+use Rattle.std.specs.{Prelude.{Option, Some, None, Result, Ok, Err}, List.list_any}
+use Rattle.url_parts.specs.{declared.fault.UrlFault.UrlFault, Addresses.{absolute, is_tail}}
 
 abbrev pub ends_in_slash : List ℕ → Bool
 ends_in_slash text = nat_lt 0 (length text) && slice_index text (length text - 1) == 47

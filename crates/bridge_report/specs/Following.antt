@@ -1,9 +1,7 @@
 -- The course of a followed presentation: a step for each frame, accepted or refused.
-use Rattle.std.specs.Prelude.{ℕ, ◌+◌, true, List, [], ◌∷◌, ◌++◌, codes, decimal, Option, Some, None}
-use Rattle.bridge_courses.specs.declared.status.Verdict.{Verdict}
 use Rattle.bridge_courses.specs.declared.status.Verdict.TheVariants as verdict
-use Rattle.bridge_courses.specs.Courses.{Step, End, Course}
-use Rattle.bridge_courses.specs.Steps.{with_step, only_end}
+use Rattle.std.specs.Prelude.{ℕ, ◌+◌, true, List, [], ◌∷◌, ◌++◌, codes, decimal, Option, Some, None}
+use Rattle.bridge_courses.specs.{declared.status.Verdict.Verdict, Courses.{Step, End, Course}, Steps.{with_step, only_end}}
 
 -- What is followed, as its layers tell it: of type S is what the accepted frames left, of type X a frame. `refusal` tells
 -- why a frame may not follow, in the report's words. `files` are those that are written of what an accepted one leaves,

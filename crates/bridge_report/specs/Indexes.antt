@@ -1,10 +1,9 @@
 -- The words of the report for media files with an index inside, and where a refusal stands in one.
-use Rattle.std.specs.Prelude.{ℕ, List, codes, Option, Some, None}
 use Rattle.box_reader.specs.declared.head.BoxFault.TheVariants as boxes
-use Rattle.index_parts.specs.declared.fault.FileFault.{FileFault}
 use Rattle.index_parts.specs.declared.fault.FileFault.TheVariants as file
-use Rattle.bridge_report.specs.declared.spot.Spot.{Spot}
-use Rattle.bridge_report.specs.declared.spot.Spot.TheVariants.{Byte}
+use Rattle.std.specs.Prelude.{ℕ, List, codes, Option, Some, None}
+use Rattle.index_parts.specs.declared.fault.FileFault.{FileFault}
+use Rattle.bridge_report.specs.{declared.spot.Spot.Spot, declared.spot.Spot.TheVariants.Byte}
 use Rattle.bridge_report.specs.declared.index_refusal.IndexRefusal.{IndexRefusal}
 use Rattle.bridge_report.specs.declared.index_refusal.IndexRefusal.TheVariants.{OutsideBase, TooLong, File}
 

@@ -1,13 +1,9 @@
 -- What a run leaves at a read fault, and of the frames that are accepted.
-use Rattle.std.specs.Prelude.{◌≡◌, ℕ, List, [], ◌∷◌, ◌++◌, take, Option, Some}
-use Rattle.bridge_io.specs.Outside.{Files, Changes}
-use Rattle.bridge_io.specs.InOrder.{put_all}
 use Rattle.bridge_courses.specs.declared.status.Status.TheVariants as status
-use Rattle.bridge_courses.specs.Courses.{World, files_to}
-use Rattle.bridge_courses.specs.Executions.{IsExecution}
-use Rattle.bridge_courses.specs.Laws.{ReadsFirst}
-use Rattle.bridge_report.specs.Following.{Followed, unless_refused, course_from}
-use Rattle.bridge_report.specs.Outcomes.{Outcome, course_by}
+use Rattle.std.specs.Prelude.{◌≡◌, ℕ, List, [], ◌∷◌, ◌++◌, take, Option, Some}
+use Rattle.bridge_io.specs.{Outside.{Files, Changes}, InOrder.put_all}
+use Rattle.bridge_courses.specs.{Courses.{World, files_to}, Executions.IsExecution, Laws.ReadsFirst}
+use Rattle.bridge_report.specs.{Following.{Followed, unless_refused, course_from}, Outcomes.{Outcome, course_by}}
 
 -- ---- of the commands that read all before they write
 

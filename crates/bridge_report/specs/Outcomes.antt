@@ -1,18 +1,12 @@
 -- How a command ends that reads all before it writes, and what it then leaves.
-use Rattle.std.specs.Prelude.{◌≡◌, ◌⊎◌, ℕ, Bool, true, false, IsTrue, List, [], ◌∷◌, codes, Option, Result, Ok, Err}
-use Rattle.bridge_io.specs.Outside.{Files, Changes}
-use Rattle.bridge_io.specs.InOrder.{put_all, AreBegun}
-use Rattle.bridge_courses.specs.declared.status.Verdict.{Verdict}
 use Rattle.bridge_courses.specs.declared.status.Verdict.TheVariants as verdict
-use Rattle.bridge_courses.specs.declared.ending.Ending.{Ending}
 use Rattle.bridge_courses.specs.declared.ending.Ending.TheVariants as ending
-use Rattle.bridge_courses.specs.Executions.{words_line}
-use Rattle.bridge_courses.specs.Courses.{Course}
-use Rattle.bridge_report.specs.declared.reading.Halt.{Halt}
 use Rattle.bridge_report.specs.declared.reading.Halt.TheVariants as halt
 use Rattle.bridge_report.specs.declared.refusal.Refusal.TheVariants as refusal
-use Rattle.bridge_report.specs.Reading.{Named}
-use Rattle.bridge_report.specs.Refusals.{refusal_line}
+use Rattle.std.specs.Prelude.{◌≡◌, ◌⊎◌, ℕ, Bool, true, false, IsTrue, List, [], ◌∷◌, codes, Option, Result, Ok, Err}
+use Rattle.bridge_io.specs.{Outside.{Files, Changes}, InOrder.{put_all, AreBegun}}
+use Rattle.bridge_courses.specs.{declared.status.Verdict.Verdict, declared.ending.Ending.Ending, Executions.words_line, Courses.Course}
+use Rattle.bridge_report.specs.{declared.reading.Halt.Halt, Reading.Named, Refusals.refusal_line}
 
 -- It ends without a file, with a verdict and its line, after files are read or without reading; `counts` tells that no
 -- segment is made before. Or it is done: it writes files, in order, after all is read, if anything is, and then tells a line.

@@ -1,16 +1,11 @@
 -- The files of a job, or the first of them that is refused.
-use Rattle.std.specs.Prelude.{ℕ, List, Option, Some, None, Result, IsErrOf}
-use Rattle.bridge_io.specs.Answer.{and_then}
-use Rattle.bridge_io.specs.Outside.{Files}
-use Rattle.bridge_io.specs.Slurped.{whole_file}
-use Rattle.hls_media.specs.declared.media.Media.{Media}
-use Rattle.hls_media.specs.Media.{media_of}
-use Rattle.presentation.specs.Told.{told_as}
-use Rattle.bridge_report.specs.declared.reading.Halt.{Halt}
 use Rattle.bridge_report.specs.declared.reading.Halt.TheVariants as halt
-use Rattle.bridge_report.specs.declared.refusal.Refusal.{Refusal}
 use Rattle.bridge_report.specs.declared.refusal.Refusal.TheVariants as refusal
-use Rattle.bridge_report.specs.Refusals.{refusal_of_file}
+use Rattle.std.specs.Prelude.{ℕ, List, Option, Some, None, Result, IsErrOf}
+use Rattle.bridge_io.specs.{Answer.and_then, Outside.Files, Slurped.whole_file}
+use Rattle.hls_media.specs.{declared.media.Media.Media, Media.media_of}
+use Rattle.presentation.specs.Told.{told_as}
+use Rattle.bridge_report.specs.{declared.reading.Halt.Halt, declared.refusal.Refusal.Refusal, Refusals.refusal_of_file}
 
 -- the bytes that a manifest has at most
 abbrev pub manifest_limit : ℕ

@@ -1,7 +1,6 @@
 -- A file that is put before others.
 use Rattle.std.proofs.Common.{◌≡◌, ℕ, suc, List, ◌∷◌, take, Option, None, Some, option_map, refl, subst}
-use Rattle.bridge_io.specs.Outside.{Files, put, Changes}
-use Rattle.bridge_io.specs.InOrder.{put_all, MayBegin, AreBegun}
+use Rattle.bridge_io.specs.{Outside.{Files, put, Changes}, InOrder.{put_all, MayBegin, AreBegun}}
 
 -- the first file may be begun
 pub first_begun : (file : List ℕ × List ℕ) (files : List (List ℕ × List ℕ)) (before after : Option Files) → MayBegin file before after

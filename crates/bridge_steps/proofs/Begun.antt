@@ -1,7 +1,6 @@
 -- Files that are begun.
 use Rattle.std.proofs.Common.{◌≡◌, ℕ, List, [], ◌∷◌, Option, None, Some, option_map, refl, sym, subst}
-use Rattle.bridge_io.specs.Outside.{Files, Changes, put}
-use Rattle.bridge_io.specs.InOrder.{AreBegun, MayBegin, put_all}
+use Rattle.bridge_io.specs.{Outside.{Files, Changes, put}, InOrder.{AreBegun, MayBegin, put_all}}
 
 none_before : (before : Option Files) → option_map (put_all []) before ≡ before
 none_before None = refl

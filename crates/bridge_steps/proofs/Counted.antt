@@ -1,9 +1,7 @@
 -- Segments that all have addresses are counted.
 use Rattle.std.proofs.Common.{◌≡◌, ℕ, List, [], ◌∷◌, ◌++◌, Ok, refl}
-use Rattle.presentation.specs.declared.fault.PresentationFault.{PresentationFault}
-use Rattle.presentation.specs.Presented.{Presented}
-use Rattle.presentation.specs.Counting.{unless_any, counted, count_faults, count_of_all}
-use Rattle.presentation.specs.Verifying.{verified, url_faults}
+use Rattle.presentation.specs.{declared.fault.PresentationFault.PresentationFault, Presented.Presented, Counting.{unless_any, counted}}
+use Rattle.presentation.specs.{Counting.{count_faults, count_of_all}, Verifying.{verified, url_faults}}
 
 no_faults : {X Y : Type 0} (faults more : List PresentationFault) (x y : X) (z : Y) → unless_any (faults ++ more) x ≡ Ok y
     → unless_any faults z ≡ Ok z

@@ -1,26 +1,18 @@
 -- How commands end, by what they read and what they write.
-use Rattle.std.proofs.Common.{◌≡◌, ◌⊎◌, ◌≤◌, ℕ, Bool, true, false, IsTrue, List, Option, None, Some, IfSome, option_map, Result, Ok, Err}
-use Rattle.std.proofs.Common.{OnOk, OnErr, inl, inr, refl, sym, ◌∙◌, ap, subst, arith}
-use Rattle.std.specs.Prelude.{◌≢◌, codes, IfOk}
-use Rattle.std.specs.Option.{ForSome}
-use Rattle.bridge_io.specs.Answer.{Gives}
-use Rattle.bridge_io.specs.Fault.{HasCause, Rose}
-use Rattle.bridge_io.specs.InOrder.{put_all, AreBegun}
-use Rattle.bridge_io.specs.Outside.{Files, Changes}
-use Rattle.bridge_courses.specs.declared.ending.Ending.{Ending}
 use Rattle.bridge_courses.specs.declared.ending.Ending.TheVariants as ending
 use Rattle.bridge_courses.specs.declared.status.Status.TheVariants as status
-use Rattle.bridge_courses.specs.declared.status.Verdict.{Verdict}
 use Rattle.bridge_courses.specs.declared.status.Verdict.TheVariants as verdict
-use Rattle.bridge_courses.specs.Executions.{status_by, status_of}
-use Rattle.bridge_io.specs.declared.out_fault.OutFault.{OutFault}
 use Rattle.bridge_io.specs.declared.out_fault.OutFault.TheVariants as out
-use Rattle.bridge_report.specs.declared.reading.Halt.{Halt}
 use Rattle.bridge_report.specs.declared.reading.Halt.TheVariants as halt
 use Rattle.bridge_report.specs.declared.refusal.Refusal.TheVariants as refusal
-use Rattle.bridge_report.specs.Outcomes.{Outcome, Ends, Writes, IsEnding, IsHalt, IsRefusal, Reads, base_refused, course_by, outcome_told}
-use Rattle.bridge_report.specs.Reading.{Named, halted}
-use Rattle.bridge_report.specs.Refusals.{refusal_line}
+use Rattle.std.proofs.Common.{◌≡◌, ◌⊎◌, ◌≤◌, ℕ, Bool, true, false, IsTrue, List, Option, None, Some, IfSome, option_map, Result, Ok, Err}
+use Rattle.std.proofs.Common.{OnOk, OnErr, inl, inr, refl, sym, ◌∙◌, ap, subst, arith}
+use Rattle.std.specs.{Prelude.{◌≢◌, codes, IfOk}, Option.ForSome}
+use Rattle.bridge_io.specs.{Answer.Gives, Fault.{HasCause, Rose}, InOrder.{put_all, AreBegun}, Outside.{Files, Changes}}
+use Rattle.bridge_io.specs.declared.out_fault.OutFault.{OutFault}
+use Rattle.bridge_courses.specs.{declared.ending.Ending.Ending, declared.status.Verdict.Verdict, Executions.{status_by, status_of}}
+use Rattle.bridge_report.specs.{declared.reading.Halt.Halt, Outcomes.{Outcome, Ends, Writes, IsEnding, IsHalt, IsRefusal, Reads}}
+use Rattle.bridge_report.specs.{Outcomes.{base_refused, course_by, outcome_told}, Reading.{Named, halted}, Refusals.refusal_line}
 use Rattle.bridge_steps.specs.Endings.{IsTold, IsUnplaced, IsWritten, JobEndsAs, NeverReads, NeverWrites, Surroundings, around}
 use Rattle.bridge_steps.specs.Endings.{outcome_written, placed}
 

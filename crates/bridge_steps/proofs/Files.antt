@@ -1,13 +1,10 @@
 -- Files by their places, and what was begun of more of them.
 use Rattle.std.proofs.Common.{◌≡◌, ◌+◌, ◌<◌, ◌≤◌, ℕ, zero, suc, List, [], ◌∷◌, ◌++◌, map, take, length, slice_get, Option, Some, option_map}
-use Rattle.std.proofs.Common.{Result, Ok, Err, OnOk, OnErr, refl, sym, ap, ◌∙◌, subst, arith}
+use Rattle.std.proofs.{Common.{Result, Ok, Err, OnOk, OnErr, refl, sym, ap, ◌∙◌, subst, arith}, Math.Seq.take-append_seam}
+use Rattle.std.proofs.{lemmas.List.{take-append-le, take_all, length-append}, lemmas.List.FromFn.length-map-range_with_len}
+use Rattle.std.proofs.{lemmas.List.FromFn.get_or-map-range_with_len, lemmas.Option.{slice_get-get_or, slice_get_within}}
 use Rattle.std.specs.List.{range_with_len}
-use Rattle.std.proofs.Math.Seq.{take-append_seam}
-use Rattle.std.proofs.lemmas.List.{take-append-le, take_all, length-append}
-use Rattle.std.proofs.lemmas.List.FromFn.{length-map-range_with_len, get_or-map-range_with_len}
-use Rattle.std.proofs.lemmas.Option.{slice_get-get_or, slice_get_within}
-use Rattle.bridge_io.specs.Outside.{Files, put, Changes}
-use Rattle.bridge_io.specs.InOrder.{put_all, MayBegin, AreBegun, put_next, begun_at}
+use Rattle.bridge_io.specs.{Outside.{Files, put, Changes}, InOrder.{put_all, MayBegin, AreBegun, put_next, begun_at}}
 
 module _ (f : ℕ → List ℕ × List ℕ) (n t : ℕ) where
   -- the file of a track stands at the track's place

@@ -1,11 +1,9 @@
 -- The step of a frame.
-use Rattle.std.proofs.Common.{◌≡◌, ◌≤◌, ◌⊎◌, ℕ, ◌+◌, true, List, [], Option, None, Some, inl, inr, sym, ap, ◌∙◌, subst, arith}
-use Rattle.bridge_io.specs.Outside.{Changes, Appends}
-use Rattle.bridge_io.specs.InOrder.{put_all}
-use Rattle.bridge_courses.specs.declared.ending.Ending.{Ending}
 use Rattle.bridge_courses.specs.declared.ending.Ending.TheVariants as ending
-use Rattle.bridge_courses.specs.Courses.{Step, World}
-use Rattle.bridge_courses.specs.Steps.{StepIsDone, Stops, Halts, IsCutOff, outside_of}
+use Rattle.std.proofs.Common.{◌≡◌, ◌≤◌, ◌⊎◌, ℕ, ◌+◌, true, List, [], Option, None, Some, inl, inr, sym, ap, ◌∙◌, subst, arith}
+use Rattle.bridge_io.specs.{Outside.{Changes, Appends}, InOrder.put_all}
+use Rattle.bridge_courses.specs.{declared.ending.Ending.Ending, Courses.{Step, World}, Steps.{StepIsDone, Stops, Halts, IsCutOff}}
+use Rattle.bridge_courses.specs.Steps.{outside_of}
 use Rattle.bridge_courses.proofs.Stepping.{none_put, halts_cut}
 use Rattle.bridge_report.specs.Following.{Followed, unless_refused, line_by, accepted_line, refused_frame, step_of, next_of, accepted_with}
 use Rattle.bridge_steps.specs.Follow.{Accepts}

@@ -1,10 +1,8 @@
 -- Reports that grow.
-use Rattle.std.proofs.Common.{◌≡◌, ℕ, List, [], ◌++◌, Option, inl, inr}
 use Rattle.bridge_io.specs.declared.outside.Fail.TheVariants as fail
-use Rattle.bridge_courses.specs.declared.ending.Ending.{Ending}
 use Rattle.bridge_courses.specs.declared.ending.Ending.TheVariants as ending
-use Rattle.bridge_courses.specs.Courses.{Step, World}
-use Rattle.bridge_courses.specs.Steps.{Stops}
+use Rattle.std.proofs.Common.{◌≡◌, ℕ, List, [], ◌++◌, Option, inl, inr}
+use Rattle.bridge_courses.specs.{declared.ending.Ending.Ending, Courses.{Step, World}, Steps.Stops}
 use Rattle.bridge_courses.proofs.Stepping.{appends_both, none_told}
 use Rattle.bridge_steps.specs.Follow.{Grows}
 

@@ -1,40 +1,26 @@
 -- Frames of a followed MPD.
+use Rattle.bridge_jobs.specs.declared.frame.Frame.TheVariants as frame
+use Rattle.bridge_jobs.specs.declared.frame.FrameFault.TheVariants as fault
+use Rattle.presentation.specs.declared.fault.PresentationFault.TheVariants as presented
+use Rattle.live_judge.specs.declared.fault.RefreshFault.TheVariants as faults
+use Rattle.live_meaning.specs.Refusals as rules
 use Rattle.std.proofs.Common.{◌≡◌, ◌≤◌, ℕ, ℤ, ◌+◌, List, [], ◌∷◌, Option, None, Some, option_map, IfSome, Result, Ok, Err, OnOk, OnErr}
 use Rattle.std.proofs.Common.{refl, sym, ap, ◌∙◌, subst, arith}
-use Rattle.std.specs.Prelude.{IfOk, IfErr}
-use Rattle.std.specs.Option.{option_map_or}
-use Rattle.std.specs.Result.{result_ok, result_err}
+use Rattle.std.specs.{Prelude.{IfOk, IfErr}, Option.option_map_or, Result.{result_ok, result_err}}
 use Rattle.bridge_io.proofs.AndThen.{steps_of}
 use Rattle.bridge_io.specs.Answer.{Gives, and_then}
 use Rattle.bridge_jobs.specs.Frames.{Framed, ReadsFrom, Stream as FrameStream, framed_as, frames_from, next_frame, refusal, stream_by}
-use Rattle.bridge_jobs.specs.Laws.{FramesFollow}
-use Rattle.bridge_jobs.specs.declared.frame.Frame.{Frame}
-use Rattle.bridge_jobs.specs.declared.frame.Frame.TheVariants as frame
-use Rattle.bridge_jobs.specs.declared.frame.FramePos.{FramePos}
+use Rattle.bridge_jobs.specs.{Laws.FramesFollow, declared.frame.Frame.Frame, declared.frame.FramePos.FramePos}
 use Rattle.bridge_jobs.specs.declared.frame.FrameFault.{FrameFault}
-use Rattle.bridge_jobs.specs.declared.frame.FrameFault.TheVariants as fault
-use Rattle.presentation.specs.Counting.{count_of_all}
-use Rattle.presentation.specs.Laws.{CountedAreListed}
-use Rattle.presentation.specs.Told.{told_as}
-use Rattle.presentation.specs.declared.fault.PresentationFault.TheVariants as presented
+use Rattle.presentation.specs.{Counting.count_of_all, Laws.CountedAreListed, Told.told_as}
 use Rattle.presentation.proofs.Filling.{ok_under}
-use Rattle.live_judge.specs.Faults.{told}
-use Rattle.live_judge.specs.declared.fault.RefreshFault.{RefreshFault}
-use Rattle.live_judge.specs.declared.fault.RefreshFault.TheVariants as faults
-use Rattle.live_session.specs.Sessions.{CountsRefused}
-use Rattle.live_session.specs.declared.session.Appended.{Appended}
-use Rattle.live_meaning.specs.Updates.{Refresh, Reset, Terms, Update, Values}
-use Rattle.live_meaning.specs.States.{State}
-use Rattle.live_meaning.specs.Refusals as rules
-use Rattle.bridge_report.specs.Following.{Followed}
-use Rattle.bridge_report.specs.Refusals.{refusal_text, refused_in}
-use Rattle.bridge_report.specs.declared.refusal.Refusal.{Refusal}
+use Rattle.live_judge.specs.{Faults.told, declared.fault.RefreshFault.RefreshFault}
+use Rattle.live_session.specs.{Sessions.CountsRefused, declared.session.Appended.Appended}
+use Rattle.live_meaning.specs.{Updates.{Refresh, Reset, Terms, Update, Values}, States.State}
+use Rattle.bridge_report.specs.{Following.Followed, Refusals.{refusal_text, refused_in}, declared.refusal.Refusal.Refusal}
 use Rattle.bridge_report.specs.declared.refusal.Stop.{Stop}
-use Rattle.bridge_steps.specs.Follow.{Accepts}
-use Rattle.bridge_steps.specs.LiveMpds.{AreMade, IsTaken, first_appends, frame_appends, frame_state, frame_stream, followed_mpd, next_state}
-use Rattle.bridge_steps.specs.LiveMpds.{told_of, update_of}
-use Rattle.bridge_steps.specs.Manifests.{values_of}
-use Rattle.bridge_steps.specs.Streams.{ReadsFirst}
+use Rattle.bridge_steps.specs.{Follow.Accepts, LiveMpds.{AreMade, IsTaken, first_appends, frame_appends, frame_state, frame_stream}}
+use Rattle.bridge_steps.specs.{LiveMpds.{followed_mpd, next_state, told_of, update_of}, Manifests.values_of, Streams.ReadsFirst}
 use Rattle.bridge_steps.proofs.LiveStates.{first_is_one, first_lists, one_more_of}
 
 -- ---- a stream that is read frame by frame

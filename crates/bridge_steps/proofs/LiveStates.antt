@@ -1,26 +1,18 @@
 -- States of a followed MPD.
 use Rattle.std.proofs.Common.{◌≡◌, ◌≤◌, ◌<◌, ℕ, zero, suc, ℤ, ◌+◌, true, false, not, List, [], ◌∷◌, ◌++◌, map, length, slice_get, Option}
-use Rattle.std.proofs.Common.{None, Some, IfSome, Result, Ok, Err, refl, sym, ap, ◌∙◌, arith}
-use Rattle.std.specs.List.{flat_map, range_with_len, sum, sum_by}
-use Rattle.std.specs.Option.{option_map_or}
-use Rattle.std.proofs.lemmas.List.Concat.{length-flat_map}
+use Rattle.std.proofs.{Common.{None, Some, IfSome, Result, Ok, Err, refl, sym, ap, ◌∙◌, arith}, lemmas.List.Concat.length-flat_map}
 use Rattle.std.proofs.lemmas.List.Sums.{sum-map, sum_by-cons}
+use Rattle.std.specs.{List.{flat_map, range_with_len, sum, sum_by}, Option.option_map_or}
 use Rattle.bridge_io.specs.Firsts.{first_of}
 use Rattle.timeline.specs.Listed.{IsReached, answered_count}
-use Rattle.presentation.specs.declared.fault.PresentationFault.{PresentationFault}
-use Rattle.presentation.specs.declared.parts.Content.{Content}
-use Rattle.presentation.specs.Counting.{count_at, count_faults, count_of_all, count_of_track, counted, listed_count, number_in, sections_of}
-use Rattle.presentation.specs.Counting.{tracks_of}
-use Rattle.presentation.specs.Laws.{CountedAreListed}
-use Rattle.presentation.specs.Presented.{Presented, content_at, listed_at, listed_in, window_of}
-use Rattle.presentation.specs.Told.{presented_of}
-use Rattle.presentation.specs.Verifying.{url_faults}
-use Rattle.live_meaning.specs.Updates.{Terms, Update, Values}
-use Rattle.live_meaning.specs.Histories.{begun_common, begun_with, force_by}
-use Rattle.live_meaning.specs.States.{State, shown, state_with}
-use Rattle.live_meaning.specs.Refusals.{Refusal, Presentation, begun_by, begun_of, counts_listed, first_appended_by, first_appended_with}
-use Rattle.live_meaning.specs.Refusals.{first_refusal_of, first_refusals_of, first_told_by, first_told_with, told_if, window_told}
-use Rattle.live_meaning.specs.Refusals.{NotDynamic, next_of, next_with, refusal_of}
+use Rattle.presentation.specs.{declared.fault.PresentationFault.PresentationFault, declared.parts.Content.Content, Counting.count_at}
+use Rattle.presentation.specs.Counting.{count_faults, count_of_all, count_of_track, counted, listed_count, number_in, sections_of}
+use Rattle.presentation.specs.{Counting.tracks_of, Laws.CountedAreListed, Presented.{Presented, content_at, listed_at, listed_in}}
+use Rattle.presentation.specs.{Presented.window_of, Told.presented_of, Verifying.url_faults}
+use Rattle.live_meaning.specs.{Updates.{Terms, Update, Values}, Histories.{begun_common, begun_with, force_by}, States.{State, shown}}
+use Rattle.live_meaning.specs.{States.state_with, Refusals.{Refusal, Presentation, begun_by, begun_of, counts_listed, first_appended_by}}
+use Rattle.live_meaning.specs.Refusals.{first_appended_with, first_refusal_of, first_refusals_of, first_told_by, first_told_with, told_if}
+use Rattle.live_meaning.specs.Refusals.{window_told, NotDynamic, next_of, next_with, refusal_of}
 
 -- ---- an accepted update is one more
 

@@ -1,23 +1,17 @@
 -- What is left of the course of a stream.
+use Rattle.bridge_jobs.specs.declared.frame.FrameFault.TheVariants as fault
+use Rattle.bridge_courses.specs.declared.status.Verdict.TheVariants as verdict
+use Rattle.bridge_courses.specs.declared.ending.Ending.TheVariants as ending
 use Rattle.std.proofs.Common.{◌≡◌, ◌⊎◌, ℕ, ◌+◌, IsTrue, List, [], ◌∷◌, Option, None, Some, option_map, IfSome, inl, inr, refl, sym, ap, ◌∙◌}
 use Rattle.std.proofs.Common.{subst}
 use Rattle.bridge_io.specs.Fault.{Rose}
-use Rattle.bridge_jobs.specs.Frames.{refusal}
-use Rattle.bridge_jobs.specs.declared.frame.FramePos.{FramePos}
-use Rattle.bridge_jobs.specs.declared.frame.FrameFault.{FrameFault}
-use Rattle.bridge_jobs.specs.declared.frame.FrameFault.TheVariants as fault
-use Rattle.bridge_courses.specs.declared.status.Verdict.TheVariants as verdict
-use Rattle.bridge_courses.specs.declared.ending.Ending.{Ending}
-use Rattle.bridge_courses.specs.declared.ending.Ending.TheVariants as ending
-use Rattle.bridge_courses.specs.Courses.{World}
-use Rattle.bridge_courses.specs.Executions.{Works, NeverFalls}
-use Rattle.bridge_courses.specs.Steps.{first_step, StepIsDone, Stops, Leads, IsCaused}
+use Rattle.bridge_jobs.specs.{Frames.refusal, declared.frame.FramePos.FramePos, declared.frame.FrameFault.FrameFault}
+use Rattle.bridge_courses.specs.{declared.ending.Ending.Ending, Courses.World, Executions.{Works, NeverFalls}, Steps.first_step}
+use Rattle.bridge_courses.specs.Steps.{StepIsDone, Stops, Leads, IsCaused}
 use Rattle.bridge_courses.proofs.Stepping.{IsIdle, memory_first, read_fault_first, ends, stops, leads_on}
-use Rattle.bridge_report.specs.Outcomes.{IsRefusal}
-use Rattle.bridge_report.specs.Following.{Followed, step_of, next_of, accepted_with, stream_line, end_by, course_from}
-use Rattle.bridge_steps.specs.declared.run.Following.{Following}
-use Rattle.bridge_steps.specs.Follow.{course_of, rest_course, fault_line, IsBroken}
-use Rattle.bridge_steps.specs.Streams.{Stream, with_first}
+use Rattle.bridge_report.specs.{Outcomes.IsRefusal, Following.{Followed, step_of, next_of, accepted_with, stream_line, end_by, course_from}}
+use Rattle.bridge_steps.specs.{declared.run.Following.Following, Follow.{course_of, rest_course, fault_line, IsBroken}, Streams.Stream}
+use Rattle.bridge_steps.specs.Streams.{with_first}
 
 module _ {S X : Type 0} (f : Followed S X) (s : S) (i a : ℕ) where
   pub reads_first : (xs : List X) (end : Option (List ℕ)) → IsTrue (first_step (course_from f s i a xs end)).reads

@@ -4,16 +4,11 @@ use Rattle.std.specs.Prelude.{is_some}
 use Rattle.bridge_io.proofs.AndThen.{steps_of}
 use Rattle.bridge_io.specs.Answer.{and_then}
 use Rattle.mpd_levels.specs.Segments.{Segments}
-use Rattle.mpd_rules.specs.Rules.{typed_mpd_of}
-use Rattle.mpd_rules.specs.Typed.{TypedMpd}
-use Rattle.mpd_text.specs.Meaning.{reading_of}
-use Rattle.mpd_text.specs.Trees.{Element}
+use Rattle.mpd_rules.specs.{Rules.typed_mpd_of, Typed.TypedMpd}
+use Rattle.mpd_text.specs.{Meaning.reading_of, Trees.Element}
 use Rattle.presentation.proofs.Filling.{ok_under}
-use Rattle.presentation.specs.Listable.{AreListable, VerifiedAreListable}
-use Rattle.presentation.specs.Origins.{CameFromStaticMpd, StaticAreFinished}
-use Rattle.presentation.specs.Presented.{Presented, is_finished}
-use Rattle.presentation.specs.Told.{told_as, presented_of}
-use Rattle.presentation.specs.Verifying.{verified}
+use Rattle.presentation.specs.{Listable.{AreListable, VerifiedAreListable}, Origins.{CameFromStaticMpd, StaticAreFinished}}
+use Rattle.presentation.specs.{Presented.{Presented, is_finished}, Told.{told_as, presented_of}, Verifying.verified}
 use Rattle.bridge_report.specs.declared.refusal.Refusal.{Refusal}
 use Rattle.bridge_steps.specs.Manifests.{checked, checked_presentation, mpd_of, ready_of, unless_live, values_of}
 

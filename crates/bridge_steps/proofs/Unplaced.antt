@@ -1,19 +1,13 @@
 -- Work that ends before anything is done, since memory is wanting or a base is refused.
-use Rattle.std.proofs.Common.{◌≡◌, Option, None, Some, inl, inr, refl, subst, sym, arith}
-use Rattle.std.specs.Option.{ForSome}
-use Rattle.std.specs.Prelude.{codes}
-use Rattle.bridge_courses.specs.declared.ending.Ending.{Ending}
 use Rattle.bridge_courses.specs.declared.ending.Ending.TheVariants as ending
 use Rattle.bridge_courses.specs.declared.status.Verdict.TheVariants as verdict
-use Rattle.bridge_courses.specs.Courses.{Course, World}
-use Rattle.bridge_courses.specs.Executions.{NeverFalls}
-use Rattle.bridge_courses.specs.Steps.{IsCaused, Work}
-use Rattle.bridge_courses.proofs.Stepping.{memory_first}
-use Rattle.bridge_report.specs.Outcomes.{base_refused, course_by}
-use Rattle.bridge_report.specs.Refusals.{refusal_line}
 use Rattle.bridge_report.specs.declared.refusal.Refusal.TheVariants as refusal
-use Rattle.bridge_steps.specs.Endings.{IsUnplaced}
-use Rattle.bridge_steps.specs.Follow.{course_placed}
+use Rattle.std.proofs.Common.{◌≡◌, Option, None, Some, inl, inr, refl, subst, sym, arith}
+use Rattle.std.specs.{Option.ForSome, Prelude.codes}
+use Rattle.bridge_courses.specs.{declared.ending.Ending.Ending, Courses.{Course, World}, Executions.NeverFalls, Steps.{IsCaused, Work}}
+use Rattle.bridge_courses.proofs.Stepping.{memory_first}
+use Rattle.bridge_report.specs.{Outcomes.{base_refused, course_by}, Refusals.refusal_line}
+use Rattle.bridge_steps.specs.{Endings.IsUnplaced, Follow.course_placed}
 use Rattle.bridge_steps.proofs.Works.{works}
 
 pub stays : (w : World) → NeverFalls w w

@@ -1,7 +1,6 @@
 -- What is reported of a presentation in one line.
 use Rattle.std.specs.Prelude.{ℕ, List, ◌++◌, length, codes, decimal}
-use Rattle.presentation.specs.Presented.{Presented}
-use Rattle.presentation.specs.Counting.{count_of_all}
+use Rattle.presentation.specs.{Presented.Presented, Counting.count_of_all}
 
 unfoldable pub tracks_text : (word : List ℕ) (tracks sections : ℕ) → List ℕ
 tracks_text word tracks sections =

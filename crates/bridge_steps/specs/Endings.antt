@@ -1,21 +1,14 @@
 -- How a command ends, and what it leaves of what it met.
-use Rattle.std.specs.Prelude.{◌≡◌, ◌⊎◌, ◌≤◌, ℕ, true, false, codes, IsTrue, List, Option, Some, None, Result, Ok, Err}
-use Rattle.std.specs.Option.{ForSome}
-use Rattle.bridge_io.specs.Fault.{Rose}
-use Rattle.bridge_io.specs.Outside.{Files}
-use Rattle.bridge_courses.specs.declared.ending.Ending.{Ending}
 use Rattle.bridge_courses.specs.declared.ending.Ending.TheVariants as ending
 use Rattle.bridge_courses.specs.declared.status.Status.TheVariants as status
-use Rattle.bridge_courses.specs.declared.status.Verdict.{Verdict}
 use Rattle.bridge_courses.specs.declared.status.Verdict.TheVariants as verdict
-use Rattle.bridge_courses.specs.Executions.{status_of}
-use Rattle.bridge_io.specs.declared.out_fault.OutFault.{OutFault}
 use Rattle.bridge_io.specs.declared.out_fault.OutFault.TheVariants as out
-use Rattle.bridge_report.specs.declared.reading.Halt.{Halt}
 use Rattle.bridge_report.specs.declared.refusal.Refusal.TheVariants as refusal
-use Rattle.bridge_report.specs.Outcomes.{Outcome, Ends, Writes, IsEnding, IsHalt, IsRefusal, base_refused, course_by}
-use Rattle.bridge_report.specs.Reading.{Named}
-use Rattle.bridge_report.specs.Refusals.{refusal_line}
+use Rattle.std.specs.{Prelude.{◌≡◌, ◌⊎◌, ◌≤◌, ℕ, true, false, codes, IsTrue, List, Option, Some, None, Result, Ok, Err}, Option.ForSome}
+use Rattle.bridge_io.specs.{Fault.Rose, Outside.Files, declared.out_fault.OutFault.OutFault}
+use Rattle.bridge_courses.specs.{declared.ending.Ending.Ending, declared.status.Verdict.Verdict, Executions.status_of}
+use Rattle.bridge_report.specs.{declared.reading.Halt.Halt, Outcomes.{Outcome, Ends, Writes, IsEnding, IsHalt, IsRefusal, base_refused}}
+use Rattle.bridge_report.specs.{Outcomes.course_by, Reading.Named, Refusals.refusal_line}
 
 -- ---- what a command leaves
 

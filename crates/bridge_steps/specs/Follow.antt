@@ -1,19 +1,13 @@
 -- The run of what is followed: a step for each frame of a stream, and an end.
+use Rattle.bridge_jobs.specs.declared.frame.FrameFault.TheVariants as fault
+use Rattle.bridge_courses.specs.declared.ending.Ending.TheVariants as ending
+use Rattle.bridge_report.specs.declared.refusal.Refusal.TheVariants as refusal
 use Rattle.std.specs.Prelude.{◌≡◌, ℕ, ◌+◌, ◌≤◌, List, codes, Option, Some, None, option_map}
 use Rattle.bridge_io.specs.Outside.{Files, Appends}
-use Rattle.bridge_jobs.specs.Frames.{IsFramePos, start}
-use Rattle.bridge_jobs.specs.declared.frame.FramePos.{FramePos}
-use Rattle.bridge_jobs.specs.declared.frame.FrameFault.{FrameFault}
-use Rattle.bridge_jobs.specs.declared.frame.FrameFault.TheVariants as fault
-use Rattle.bridge_courses.specs.declared.ending.Ending.{Ending}
-use Rattle.bridge_courses.specs.declared.ending.Ending.TheVariants as ending
-use Rattle.bridge_courses.specs.Courses.{Course, World}
-use Rattle.bridge_report.specs.Following.{Followed, course_from}
-use Rattle.bridge_report.specs.Outcomes.{IsRefusal, base_refused, course_by}
-use Rattle.bridge_report.specs.Refusals.{refusal_line}
-use Rattle.bridge_report.specs.declared.refusal.Refusal.TheVariants as refusal
-use Rattle.bridge_steps.specs.declared.run.Following.{Following}
-use Rattle.bridge_steps.specs.Streams.{Stream}
+use Rattle.bridge_jobs.specs.{Frames.{IsFramePos, start}, declared.frame.FramePos.FramePos, declared.frame.FrameFault.FrameFault}
+use Rattle.bridge_courses.specs.{declared.ending.Ending.Ending, Courses.{Course, World}}
+use Rattle.bridge_report.specs.{Following.{Followed, course_from}, Outcomes.{IsRefusal, base_refused, course_by}, Refusals.refusal_line}
+use Rattle.bridge_steps.specs.{declared.run.Following.Following, Streams.Stream}
 
 -- a frame is accepted: what it leaves, the number in its line, and how many segments are made
 pub record Accepts {S X : Type 0} (f : Followed S X) (s : S) (x : X) (s' : S) (n m m' : ℕ) : Type 0 where

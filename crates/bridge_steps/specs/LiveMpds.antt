@@ -1,32 +1,21 @@
 -- A followed MPD: what its frames are, why one is refused, and what is written of what the accepted ones leave.
-use Rattle.std.specs.Prelude.{◌≡◌, ℕ, ◌+◌, ◌≤◌, ◌==◌, List, [], ◌∷◌, ◌++◌, map, length, codes, if◌then◌else◌, Option, Some, None}
-use Rattle.std.specs.Prelude.{option_map, Result, Ok, Err}
-use Rattle.std.specs.List.{range_with_len}
-use Rattle.std.specs.Option.{option_map_or}
-use Rattle.std.specs.Result.{result_ok, result_err}
-use Rattle.bridge_io.specs.Answer.{and_then}
-use Rattle.bridge_jobs.specs.Frames.{frames_from}
-use Rattle.bridge_jobs.specs.Laws.{in_folder, playlist_of}
-use Rattle.bridge_jobs.specs.declared.frame.Frame.{Frame}
 use Rattle.bridge_jobs.specs.declared.frame.Frame.TheVariants as frame
+use Rattle.live_meaning.specs.Refusals as rules
+use Rattle.bridge_report.specs.declared.refusal.Refusal.TheVariants as refusal
+use Rattle.bridge_report.specs.declared.update_fault.UpdateFault.TheVariants as update
+use Rattle.std.specs.Prelude.{◌≡◌, ℕ, ◌+◌, ◌≤◌, ◌==◌, List, [], ◌∷◌, ◌++◌, map, length, codes, if◌then◌else◌, Option, Some, None}
+use Rattle.std.specs.{Prelude.{option_map, Result, Ok, Err}, List.range_with_len, Option.option_map_or, Result.{result_ok, result_err}}
+use Rattle.bridge_io.specs.Answer.{and_then}
+use Rattle.bridge_jobs.specs.{Frames.frames_from, Laws.{in_folder, playlist_of}, declared.frame.Frame.Frame}
 use Rattle.bridge_jobs.specs.declared.frame.FramePos.{FramePos}
 use Rattle.hls_writer.specs.Master.{master_text}
 use Rattle.presentation.specs.Told.{told_as}
-use Rattle.live_meaning.specs.Updates.{Update, Refresh, Reset, Tick, Terms}
-use Rattle.live_meaning.specs.States.{State}
-use Rattle.live_meaning.specs.Refusals as rules
-use Rattle.live_judge.specs.Faults.{told}
-use Rattle.live_judge.specs.declared.fault.RefreshFault.{RefreshFault}
-use Rattle.live_session.specs.declared.session.Appended.{Appended}
-use Rattle.live_session.specs.Sessions.{text_of}
-use Rattle.bridge_report.specs.Following.{Followed}
-use Rattle.bridge_report.specs.Refusals.{refusal_text, refused_in}
-use Rattle.bridge_report.specs.declared.refusal.Refusal.{Refusal}
-use Rattle.bridge_report.specs.declared.refusal.Refusal.TheVariants as refusal
+use Rattle.live_meaning.specs.{Updates.{Update, Refresh, Reset, Tick, Terms}, States.State}
+use Rattle.live_judge.specs.{Faults.told, declared.fault.RefreshFault.RefreshFault}
+use Rattle.live_session.specs.{declared.session.Appended.Appended, Sessions.text_of}
+use Rattle.bridge_report.specs.{Following.Followed, Refusals.{refusal_text, refused_in}, declared.refusal.Refusal.Refusal}
 use Rattle.bridge_report.specs.declared.refusal.Stop.{Stop}
-use Rattle.bridge_report.specs.declared.update_fault.UpdateFault.TheVariants as update
-use Rattle.bridge_steps.specs.Manifests.{values_of}
-use Rattle.bridge_steps.specs.Streams.{Stream}
+use Rattle.bridge_steps.specs.{Manifests.values_of, Streams.Stream}
 
 -- ---- why a frame is refused
 

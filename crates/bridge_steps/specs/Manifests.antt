@@ -1,17 +1,12 @@
 -- From the bytes of an MPD to a presentation whose segments all have addresses.
+use Rattle.bridge_report.specs.declared.refusal.Refusal.TheVariants as refusal
 use Rattle.std.specs.Prelude.{ℕ, ℤ, List, if◌then◌else◌, Option, Some, None, Result, Ok, Err}
-use Rattle.bridge_io.specs.Answer.{and_then}
-use Rattle.bridge_io.specs.Outside.{Files}
+use Rattle.bridge_io.specs.{Answer.and_then, Outside.Files}
 use Rattle.mpd_text.specs.Meaning.{reading_of}
 use Rattle.mpd_levels.specs.Segments.{Segments}
-use Rattle.mpd_rules.specs.Typed.{TypedMpd}
-use Rattle.mpd_rules.specs.Rules.{typed_mpd_of}
-use Rattle.presentation.specs.Presented.{Presented}
-use Rattle.presentation.specs.Told.{told_as, presented_of}
-use Rattle.presentation.specs.Verifying.{verified}
-use Rattle.bridge_report.specs.declared.refusal.Refusal.{Refusal}
-use Rattle.bridge_report.specs.declared.refusal.Refusal.TheVariants as refusal
-use Rattle.bridge_report.specs.Reading.{Named, content_of, of_file}
+use Rattle.mpd_rules.specs.{Typed.TypedMpd, Rules.typed_mpd_of}
+use Rattle.presentation.specs.{Presented.Presented, Told.{told_as, presented_of}, Verifying.verified}
+use Rattle.bridge_report.specs.{declared.refusal.Refusal.Refusal, Reading.{Named, content_of, of_file}}
 use Rattle.bridge_playlists.specs.declared.place.StorePlace.{StorePlace}
 
 -- a live MPD is refused so, if it is

@@ -1,9 +1,7 @@
 -- The files that `hls` writes of a presentation.
 use Rattle.std.specs.Prelude.{ℕ, List, [], ◌∷◌, ◌++◌, map, codes}
-use Rattle.presentation.specs.Presented.{Presented}
-use Rattle.presentation.specs.Counting.{tracks_of}
-use Rattle.hls_writer.specs.Finished.{media_text}
-use Rattle.hls_writer.specs.Master.{master_text}
+use Rattle.presentation.specs.{Presented.Presented, Counting.tracks_of}
+use Rattle.hls_writer.specs.{Finished.media_text, Master.master_text}
 use Rattle.bridge_jobs.specs.Laws.{in_folder, playlist_of}
 
 -- the playlist of a track: its name and its text

@@ -1,8 +1,6 @@
 -- Streams of what is followed: frames, or rounds.
 use Rattle.std.specs.Prelude.{◌≡◌, ℕ, List, [], ◌∷◌, Option, Some, None, IfSome, Result, MatchResult}
-use Rattle.bridge_jobs.specs.Frames.{refusal}
-use Rattle.bridge_jobs.specs.declared.frame.FramePos.{FramePos}
-use Rattle.bridge_jobs.specs.declared.frame.FrameFault.{FrameFault}
+use Rattle.bridge_jobs.specs.{Frames.refusal, declared.frame.FramePos.FramePos, declared.frame.FrameFault.FrameFault}
 
 -- the frames of a stream, and why it ends where it isn't whole
 abbrev pub Stream : Type 0 → Type 0

@@ -1,9 +1,6 @@
 -- How many elements pass, block by block.
 use Rattle.std.proofs.Common.{◌≡◌, ℕ, ◌+◌, ◌*◌, ◌<◌, Bool, List, [], ◌++◌, length, get_or, drop, map, count_by, count_ones, sym, ap, ◌∙◌}
-use Rattle.std.proofs.Common.{arith}
-use Rattle.std.proofs.lemmas.List.Sums.{sum_by-append}
-use Rattle.std.proofs.lemmas.Simd.{chunk-drop, ones-mask_l}
-use Rattle.std.proofs.Math.Nat.{mul-suc}
+use Rattle.std.proofs.{Common.arith, lemmas.List.Sums.sum_by-append, lemmas.Simd.{chunk-drop, ones-mask_l}, Math.Nat.mul-suc}
 use Rattle.std.specs.Simd.Lanes.{chunk, mask_l}
 use Rattle.byte_scan.specs.Blocks.{IsCut}
 

@@ -1,7 +1,6 @@
 -- What comparisons of a vector with a splat answer in each lane, and how answers combine.
 use Rattle.std.proofs.Common.{◌≡◌, ℕ, Bool, true, false, cond, not, ◌&&◌, ◌||◌, eqb, List, [], ◌∷◌, map, length, replicate, bit_and, bit_or}
-use Rattle.std.proofs.Common.{refl, sym, ap₂, subst, ◌∙◌, arith}
-use Rattle.std.proofs.lemmas.Simd.{length-replicate, zip2_splat}
+use Rattle.std.proofs.{Common.{refl, sym, ap₂, subst, ◌∙◌, arith}, lemmas.Simd.{length-replicate, zip2_splat}}
 use Rattle.std.specs.Simd.Lanes.{zip2, sel_l, top}
 use Rattle.byte_scan.specs.Lanes.{flag, flags}
 

@@ -1,9 +1,7 @@
 -- Tables of 16 bytes, read at four bits of each lane.
 use Rattle.std.proofs.Common.{◌≡◌, ℕ, ◌+◌, ◌*◌, ◌/◌, ◌^◌, ◌<◌, List, ◌++◌, length, length-append, get_or, map, replicate, bit_and, refl}
-use Rattle.std.proofs.Common.{sym, ap, ◌∙◌, inl, inr, arith, w8, Fits}
-use Rattle.std.proofs.lemmas.Bool.{cases_lt}
-use Rattle.std.proofs.lemmas.List.{ext_get_or, get_or-append_right, get_or_append_left, get_or-map, length-map}
-use Rattle.std.proofs.lemmas.Nat.{and_mask}
+use Rattle.std.proofs.{Common.{sym, ap, ◌∙◌, inl, inr, arith, w8, Fits}, lemmas.Bool.cases_lt, lemmas.List.ext_get_or}
+use Rattle.std.proofs.{lemmas.List.{get_or-append_right, get_or_append_left, get_or-map, length-map}, lemmas.Nat.and_mask}
 use Rattle.std.proofs.lemmas.Simd.{Each1-all, Each1-get_or, Each1-weaker, Each1-zip2, Each2-splat, below_from_Fits, get_or-swz_l_below}
 use Rattle.std.proofs.lemmas.Simd.{length-swz_l, length-zip2, swz_l, SwzOk, SwzOk-from_below}
 use Rattle.std.specs.Simd.Lanes.{zip2, Each1}

@@ -1,16 +1,11 @@
 -- The first place that passes, block by block.
 use Rattle.std.proofs.Common.{◌≡◌, ◌≢◌, ℕ, zero, suc, ◌+◌, ◌-◌, ◌*◌, ◌/◌, ◌%◌, ◌<◌, ◌≤◌, Bool, true, false, cond, not, List, [], ◌∷◌}
 use Rattle.std.proofs.Common.{length, get_or, take, drop, Option, Some, None, option_map, ltb, map, refl, sym, ap, subst, ◌∙◌, inl, inr}
-use Rattle.std.proofs.Common.{arith}
-use Rattle.std.proofs.lemmas.Bool.{cases_lt, lt-ltb}
-use Rattle.std.proofs.lemmas.Bool.Decides.{nat_tests}
-use Rattle.std.proofs.lemmas.List.{drop-drop, get_or-drop, length-drop}
-use Rattle.std.proofs.lemmas.List.Sums.{position_or_len_is, fails_before_first, passes_at_first, prefix_len-le-length}
-use Rattle.std.proofs.lemmas.Simd.{length-chunk, none_from_empty_mask, trailing_mask_l, run_in_chunk_fails, run_in_chunk_stops}
-use Rattle.std.proofs.Math.Nat.{mul-zero, mul-suc, mul-le-mul_left}
-use Rattle.std.specs.List.{position, position_or_len, prefix_len}
-use Rattle.std.specs.Simd.{first_chunks}
-use Rattle.std.specs.Simd.Lanes.{chunk, mask_l}
+use Rattle.std.proofs.{Common.arith, lemmas.Bool.{cases_lt, lt-ltb}, lemmas.Bool.Decides.nat_tests, lemmas.List.{drop-drop, get_or-drop}}
+use Rattle.std.proofs.{lemmas.List.length-drop, lemmas.List.Sums.{position_or_len_is, fails_before_first, passes_at_first}}
+use Rattle.std.proofs.{lemmas.List.Sums.prefix_len-le-length, lemmas.Simd.{length-chunk, none_from_empty_mask, trailing_mask_l}}
+use Rattle.std.proofs.{lemmas.Simd.{run_in_chunk_fails, run_in_chunk_stops}, Math.Nat.{mul-zero, mul-suc, mul-le-mul_left}}
+use Rattle.std.specs.{List.{position, position_or_len, prefix_len}, Simd.first_chunks, Simd.Lanes.{chunk, mask_l}}
 use Rattle.byte_scan.specs.Blocks.{IsCut}
 use lib.Count.{count_trailing_zeros}
 

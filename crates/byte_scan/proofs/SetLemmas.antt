@@ -1,18 +1,11 @@
 -- The rows of a set, one member more at a time, and what they tell of a byte.
 use Rattle.std.proofs.Common.{◌≡◌, ◌≢◌, ℕ, zero, suc, ◌+◌, ◌*◌, ◌/◌, ◌%◌, ◌^◌, ◌<◌, ◌≤◌, ◌⊎◌, Bool, true, false, ◌==◌, ◌||◌, not, cond, eqb}
 use Rattle.std.proofs.Common.{ltb, List, [], ◌∷◌, length, get_or, set, take, map, bit_and, bit_or, refl, sym, ap, ap₂, ◌∙◌, inl, inr, arith}
-use Rattle.std.proofs.Common.{eq-eqb, w8, Fits}
-use Rattle.std.proofs.lemmas.Bool.{cases_eq, cases_lt, and_parts, ltb-true, ne_eqb}
-use Rattle.std.proofs.lemmas.Grind.{get_or-set_at}
-use Rattle.std.proofs.lemmas.List.{get_or-set_other}
-use Rattle.std.proofs.lemmas.List.Folds.{list_any_more}
-use Rattle.std.proofs.lemmas.Nat.{pow_pos, and_le_r}
-use Rattle.std.proofs.lemmas.Nat.Bits.{and_pow, bit_at_set_same, bit_at_set_other}
-use Rattle.std.proofs.lemmas.Simd.{zip2_of_maps}
-use Rattle.std.specs.Int.{bit_at}
-use Rattle.std.specs.Simd.Lanes.{zip2, Each1}
-use Rattle.byte_scan.specs.ByteSet.{is_member, all_ascii, HasRows, IsReady}
-use Rattle.byte_scan.specs.Lanes.{flag, flags}
+use Rattle.std.proofs.{Common.{eq-eqb, w8, Fits}, lemmas.Bool.{cases_eq, cases_lt, and_parts, ltb-true, ne_eqb}, lemmas.Grind.get_or-set_at}
+use Rattle.std.proofs.{lemmas.List.get_or-set_other, lemmas.List.Folds.list_any_more, lemmas.Nat.{pow_pos, and_le_r}}
+use Rattle.std.proofs.{lemmas.Nat.Bits.{and_pow, bit_at_set_same, bit_at_set_other}, lemmas.Simd.zip2_of_maps}
+use Rattle.std.specs.{Int.bit_at, Simd.Lanes.{zip2, Each1}}
+use Rattle.byte_scan.specs.{ByteSet.{is_member, all_ascii, HasRows, IsReady}, Lanes.{flag, flags}}
 
 -- 1 for yes, and 0 for no
 abbrev bit_of : Bool → ℕ

@@ -1,6 +1,5 @@
 -- A set of bytes, as the list of its members.
-use Rattle.std.specs.Prelude.{◌≡◌, ℕ, ◌+◌, ◌*◌, ◌<◌, Bool, IsTrue, ◌==◌, nat_lt, if◌then◌else◌, List, slice_index}
-use Rattle.std.specs.Int.{bit_at}
+use Rattle.std.specs.{Prelude.{◌≡◌, ℕ, ◌+◌, ◌*◌, ◌<◌, Bool, IsTrue, ◌==◌, nat_lt, if◌then◌else◌, List, slice_index}, Int.bit_at}
 use Rattle.std.specs.List.{list_any, list_all}
 
 -- one of the members

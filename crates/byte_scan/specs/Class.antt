@@ -1,7 +1,6 @@
 -- Which bytes a class of text leaves out.
 use Rattle.std.specs.Prelude.{ℕ, Bool, not, ◌==◌, ◌||◌, ◌&&◌, nat_lt}
-use Rattle.byte_scan.specs.declared.class.Class.{Class}
-use Rattle.byte_scan.specs.declared.class.Class.TheVariants.{Xml, Playlist}
+use Rattle.byte_scan.specs.{declared.class.Class.Class, declared.class.Class.TheVariants.{Xml, Playlist}}
 
 -- tab, line feed or carriage return
 abbrev pub is_blank_control : ℕ → Bool

@@ -1,27 +1,17 @@
 -- What two meanings of presentations differ in is what is compared of these.
-use Rattle.std.proofs.Common.{◌≡◌, ℕ, zero, suc, ◌+◌, ◌<◌, ◌==◌, Bool, true, false, List, [], ◌∷◌, ◌++◌, length, map, filter, Option, None}
-use Rattle.std.proofs.Common.{Some, Ok, if◌then◌else◌, refl, sym, ◌∙◌, ap, arith, zero-add}
-use Rattle.std.specs.Prelude.{is_none, option_and_then}
-use Rattle.std.specs.List.{range_with_len}
-use Rattle.std.proofs.Math.Dec.{eqb-suc-zero}
-use Rattle.std.proofs.lemmas.Bool.{eqb-true}
-use Rattle.std.proofs.lemmas.List.{length-map, nil_from_length}
-use Rattle.bridge_io.specs.Firsts.{first_some}
-use Rattle.std.specs.Option.{option_or}
 use Rattle.meaning.specs.declared.difference.Aspect.TheVariants as aspect
-use Rattle.meaning.specs.declared.difference.Difference.{Difference}
-use Rattle.meaning.specs.Meanings.{Entry, Meaning}
-use Rattle.meaning.specs.Differences.{entries_difference, first_difference, in_all, in_track, unless}
 use Rattle.meaning.specs.Differences as meant
-use Rattle.presentation.specs.declared.track.Track.{Track}
-use Rattle.presentation.specs.Counting.{count_faults, count_of_all, counted, sections_of, tracks_of}
+use Rattle.std.proofs.Common.{◌≡◌, ℕ, zero, suc, ◌+◌, ◌<◌, ◌==◌, Bool, true, false, List, [], ◌∷◌, ◌++◌, length, map, filter, Option, None}
+use Rattle.std.proofs.{Common.{Some, Ok, if◌then◌else◌, refl, sym, ◌∙◌, ap, arith, zero-add}, Math.Dec.eqb-suc-zero, lemmas.Bool.eqb-true}
+use Rattle.std.proofs.lemmas.List.{length-map, nil_from_length}
+use Rattle.std.specs.{Prelude.{is_none, option_and_then}, List.range_with_len, Option.option_or}
+use Rattle.bridge_io.specs.Firsts.{first_some}
+use Rattle.meaning.specs.{declared.difference.Difference.Difference, Meanings.{Entry, Meaning}, Differences.entries_difference}
+use Rattle.meaning.specs.Differences.{first_difference, in_all, in_track, unless}
+use Rattle.presentation.specs.{declared.track.Track.Track, Counting.{count_faults, count_of_all, counted, sections_of, tracks_of}}
 use Rattle.presentation.specs.Meanings.{Head, entry_at, entry_in, head_of, is_kept, meaning_of, meaning_over, row_at, rows_of, tracks_from}
-use Rattle.presentation.specs.Presented.{Presented, is_finished}
-use Rattle.presentation.specs.Verifying.{longest_of, url_faults, verified}
-use Rattle.presentation.proofs.Allowed.{each_at}
-use Rattle.presentation.proofs.Firsts.{none_before}
-use Rattle.presentation.proofs.Reached.{none_first}
-use Rattle.presentation.proofs.Whole.{whole}
+use Rattle.presentation.specs.{Presented.{Presented, is_finished}, Verifying.{longest_of, url_faults, verified}}
+use Rattle.presentation.proofs.{Allowed.each_at, Firsts.none_before, Reached.none_first, Whole.whole}
 use Rattle.comparison.specs.Comparing.{AreComparable, contents_difference, difference_at, difference_of, heads_difference, is_same_track}
 use Rattle.comparison.specs.Comparing.{sections_meant, tracks_difference}
 

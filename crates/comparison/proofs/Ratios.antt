@@ -1,13 +1,9 @@
 -- Fractions compared by whole parts and what is left, and times that are negative.
 use Rattle.std.proofs.Common.{◌≡◌, ℕ, zero, suc, ◌+◌, ◌*◌, ◌/◌, ◌%◌, ◌<◌, ◌≤◌, ◌==◌, Bool, true, false, ℤ, pos, negsuc, ◌*ℤ◌, ◌<ℤ◌, refl}
-use Rattle.std.proofs.Common.{sym, ◌∙◌, ap, arith}
-use Rattle.std.specs.Prelude.{nat_eq}
-use Rattle.std.proofs.lemmas.Bool.{eq-eqb, eqb-true}
-use Rattle.std.proofs.lemmas.Int.{ints}
-use Rattle.std.proofs.lemmas.Nat.{le-div}
+use Rattle.std.proofs.{Common.{sym, ◌∙◌, ap, arith}, lemmas.Bool.{eq-eqb, eqb-true}, lemmas.Int.ints, lemmas.Nat.le-div}
 use Rattle.std.proofs.Math.Nat.{div-mul-le_self, le_antisymm, le_of_mul-le-mul_left, mul-le-mul_left, mod-add-div}
-use Rattle.exact_time.specs.Time.{Time, IsBefore, IsTime, difference}
-use Rattle.exact_time.specs.Floor.{fits_in, floor_in, greatest_of}
+use Rattle.std.specs.Prelude.{nat_eq}
+use Rattle.exact_time.specs.{Time.{Time, IsBefore, IsTime, difference}, Floor.{fits_in, floor_in, greatest_of}}
 use Rattle.exact_time.proofs.Times.{IsTime-difference}
 use Rattle.timeline.proofs.Ratios.{not_int_le-from}
 

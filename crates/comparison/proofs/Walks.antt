@@ -1,25 +1,15 @@
 -- What is left of segments that are made one by one.
 use Rattle.std.proofs.Common.{◌≡◌, ℕ, suc, List, [], ◌∷◌, length, map, All, Option, None, Some, IfSome, option_map, refl, sym, ◌∙◌, ap}
-use Rattle.std.proofs.Common.{subst, arith}
-use Rattle.std.specs.Prelude.{option_and_then}
-use Rattle.std.specs.Option.{option_map_or}
-use Rattle.std.specs.Result.{result_unwrap_or}
-use Rattle.std.proofs.lemmas.List.{length-map}
-use Rattle.std.proofs.lemmas.List.Elements.{All-cons, All-head, All-nil, All-tail}
+use Rattle.std.proofs.{Common.{subst, arith}, lemmas.List.length-map, lemmas.List.Elements.{All-cons, All-head, All-nil, All-tail}}
+use Rattle.std.specs.{Prelude.option_and_then, Option.option_map_or, Result.result_unwrap_or}
 use Rattle.exact_time.specs.Rounding.{differences}
 use Rattle.url_parts.specs.declared.address.Part.{Part}
-use Rattle.timeline.specs.Expansions.{SegmentTimeline, Timing}
-use Rattle.timeline.specs.Listed.{IsReached, Made, answered_count}
-use Rattle.presentation.specs.declared.parts.Content.{Content}
-use Rattle.presentation.specs.Laws.{HasAddress}
-use Rattle.presentation.specs.Meanings.{entry_at, entry_of, entry_with, segment_of}
-use Rattle.presentation.specs.Origins.{IsAddressed}
-use Rattle.presentation.specs.Presented.{Presented, content_at, listed_at, listed_in, window_of}
-use Rattle.presentation.specs.Printing.{IsAtEnd, IsCounted, IsNext, IsPrintedOf, PrintedRest, PrintedTiming, durations_of, ends_of}
-use Rattle.presentation.specs.Printing.{printed_timings, rest_of, with_durations}
-use Rattle.presentation.proofs.Grids.{All-at}
-use Rattle.presentation.proofs.Meant.{made_are_meant}
-use Rattle.presentation.proofs.OwnListed.{counted, have_addresses}
+use Rattle.timeline.specs.{Expansions.{SegmentTimeline, Timing}, Listed.{IsReached, Made, answered_count}}
+use Rattle.presentation.specs.{declared.parts.Content.Content, Laws.HasAddress, Meanings.{entry_at, entry_of, entry_with, segment_of}}
+use Rattle.presentation.specs.{Origins.IsAddressed, Presented.{Presented, content_at, listed_at, listed_in, window_of}, Printing.IsAtEnd}
+use Rattle.presentation.specs.Printing.{IsCounted, IsNext, IsPrintedOf, PrintedRest, PrintedTiming, durations_of, ends_of, printed_timings}
+use Rattle.presentation.specs.Printing.{rest_of, with_durations}
+use Rattle.presentation.proofs.{Grids.All-at, Meant.made_are_meant, OwnListed.{counted, have_addresses}}
 use Rattle.comparison.specs.Comparing.{AreAddressed, entry_made, segment_made, segments_left}
 
 -- ---- one after another

@@ -1,23 +1,16 @@
 -- What is compared of two presentations, part by part.
+use Rattle.meaning.specs.declared.difference.Aspect.TheVariants as aspect
 use Rattle.std.specs.Prelude.{◌≡◌, ℕ, ◌+◌, ◌==◌, ◌&&◌, Bool, true, List, [], ◌∷◌, map, length, bytes_eq, All, Option, Some, None, Ok}
-use Rattle.std.specs.Prelude.{if◌then◌else◌}
-use Rattle.std.specs.Option.{option_eq, option_or}
+use Rattle.std.specs.{Prelude.if◌then◌else◌, Option.{option_eq, option_or}}
 use Rattle.bridge_io.specs.Firsts.{first_some}
 use Rattle.exact_time.specs.Time.{Time, difference}
 use Rattle.url_parts.specs.declared.address.Part.{Part}
 use Rattle.timeline.specs.Listed.{Made}
-use Rattle.meaning.specs.declared.difference.Aspect.TheVariants as aspect
-use Rattle.meaning.specs.declared.difference.Difference.{Difference}
-use Rattle.meaning.specs.Meanings.{Segment, Entry}
-use Rattle.meaning.specs.Differences.{is_same_kind, unless, in_all, in_track, entry_difference, is_same_or_rounded, segments_difference}
-use Rattle.presentation.specs.declared.track.Track.{Track}
-use Rattle.presentation.specs.Counting.{counted, count_of_all, sections_of, tracks_of}
-use Rattle.presentation.specs.Laws.{HasAddress}
-use Rattle.presentation.specs.Meanings.{entry_at, language_of, segment_of}
-use Rattle.presentation.specs.Origins.{CameFromPlaylists}
-use Rattle.presentation.specs.Presented.{Presented, is_finished}
-use Rattle.presentation.specs.Printing.{PrintedRest}
-use Rattle.presentation.specs.Verifying.{verified}
+use Rattle.meaning.specs.{declared.difference.Difference.Difference, Meanings.{Segment, Entry}, Differences.{is_same_kind, unless, in_all}}
+use Rattle.meaning.specs.Differences.{in_track, entry_difference, is_same_or_rounded, segments_difference}
+use Rattle.presentation.specs.{declared.track.Track.Track, Counting.{counted, count_of_all, sections_of, tracks_of}, Laws.HasAddress}
+use Rattle.presentation.specs.{Meanings.{entry_at, language_of, segment_of}, Origins.CameFromPlaylists, Presented.{Presented, is_finished}}
+use Rattle.presentation.specs.{Printing.PrintedRest, Verifying.verified}
 use Rattle.comparison.specs.declared.spot.Spot.{Spot}
 
 -- The first presentation is finished and its listed segments have addresses; those of the second one are addresses, and

@@ -1,8 +1,6 @@
 -- Times from one tick to another.
-use Rattle.exact_time.specs.Time.{Time, difference}
-use Rattle.exact_time.specs.Tick.{time_of}
-use Rattle.comparison.specs.declared.elapsed.Elapsed.{Elapsed}
-use Rattle.comparison.specs.declared.stretch.Stretch.{Stretch}
+use Rattle.exact_time.specs.{Time.{Time, difference}, Tick.time_of}
+use Rattle.comparison.specs.{declared.elapsed.Elapsed.Elapsed, declared.stretch.Stretch.Stretch}
 
 abbrev pub time_since : Elapsed → Time
 time_since x = record { ticks = x.ticks; scale = x.scale }

@@ -1,21 +1,13 @@
 -- What a live presentation has of its tracks.
-use Rattle.std.proofs.Common.{◌≡◌, ℕ, ◌+◌, ◌<◌, ◌++◌, false, List, [], ◌∷◌, length, drop, get_or, map, slice_get, Option, Some}
-use Rattle.std.proofs.Common.{refl, ap, ◌∙◌, arith}
-use Rattle.std.specs.Borrow.{Bor}
-use Rattle.std.specs.Prelude.{Bool, true, if◌then◌else◌}
-use Rattle.std.proofs.lemmas.Option.{get_or_from_slice_get, slice_get_read, slice_get_within}
+use Rattle.std.proofs.Common.{◌≡◌, ℕ, ◌+◌, ◌<◌, ◌++◌, false, List, [], ◌∷◌, length, drop, get_or, map, slice_get, Option, Some, refl, ap}
+use Rattle.std.proofs.{Common.{◌∙◌, arith}, lemmas.Option.{get_or_from_slice_get, slice_get_read, slice_get_within}}
+use Rattle.std.specs.{Borrow.Bor, Prelude.{Bool, true, if◌then◌else◌}}
 use Rattle.presentation.proofs.OwnListed.{some_at}
-use Rattle.dash_writer.specs.declared.live.LiveMpd.{LiveMpd}
-use Rattle.dash_writer.specs.declared.live.LivePeriod.{LivePeriod}
-use Rattle.dash_writer.specs.declared.live.LiveRun.{LiveRun}
-use Rattle.dash_writer.specs.declared.live.LiveSegment.{LiveSegment}
-use Rattle.dash_writer.specs.Live.{HasRun, IsLive, live_list, live_lists, part_of}
-use Rattle.dash_writer.specs.Segments.{segment_url}
-use Rattle.dash_writer.specs.declared.attribute.Value.{Value}
-use Rattle.dash_writer.specs.Elements.{Attribute}
-use Rattle.dash_writer.specs.Written.{all_told, element_text, elements_text, is_childless}
-use Rattle.dash_writer.proofs.Nodes.{elements-cons}
-use Rattle.dash_writer.proofs.Progress.{next_at}
+use Rattle.dash_writer.specs.{declared.live.LiveMpd.LiveMpd, declared.live.LivePeriod.LivePeriod, declared.live.LiveRun.LiveRun}
+use Rattle.dash_writer.specs.{declared.live.LiveSegment.LiveSegment, Live.{HasRun, IsLive, live_list, live_lists, part_of}}
+use Rattle.dash_writer.specs.{Segments.segment_url, declared.attribute.Value.Value, Elements.Attribute, Written.{all_told, element_text}}
+use Rattle.dash_writer.specs.Written.{elements_text, is_childless}
+use Rattle.dash_writer.proofs.{Nodes.elements-cons, Progress.next_at}
 
 pub has_run : (mpd : LiveMpd) → IsLive mpd → (section place : ℕ) → section < length mpd.periods → place < length mpd.tracks
     → HasRun mpd section place

@@ -1,17 +1,12 @@
 -- What a presentation from playlists tells of a track in a section.
 use Rattle.std.proofs.Common.{◌≡◌, ℕ, ◌+◌, ◌*◌, ◌<◌, true, false, length, Option, None, Some, option_map, option_to_list, refl, ap, ◌∙◌}
-use Rattle.std.proofs.Common.{mul_comm}
+use Rattle.std.proofs.{Common.mul_comm, lemmas.Nat.mul-add-lt}
 use Rattle.std.specs.Prelude.{is_some}
-use Rattle.std.proofs.lemmas.Nat.{mul-add-lt}
 use Rattle.url_parts.specs.declared.address.Part.{Part}
-use Rattle.timeline.specs.declared.window.Window.{Window}
-use Rattle.timeline.specs.Expansions.{SegmentTimeline}
-use Rattle.presentation.specs.declared.parts.Content.{Content}
-use Rattle.presentation.specs.Presented.{AreFilled, Presented, content_at, listed_in, window_of}
+use Rattle.timeline.specs.{declared.window.Window.Window, Expansions.SegmentTimeline}
+use Rattle.presentation.specs.{declared.parts.Content.Content, Presented.{AreFilled, Presented, content_at, listed_in, window_of}}
 use Rattle.presentation.proofs.OwnListed.{some_at}
-use Rattle.dash_writer.specs.Manifest.{segment_lists}
-use Rattle.dash_writer.specs.Segments.{segment_list}
-use Rattle.dash_writer.specs.Written.{is_childless}
+use Rattle.dash_writer.specs.{Manifest.segment_lists, Segments.segment_list, Written.is_childless}
 
 -- a SegmentList of what stands there
 pub list_is : (window : Window) (content : Option Content) (runs : SegmentTimeline) (part : Part)

@@ -1,11 +1,8 @@
 -- Texts that are added part by part.
 use Rattle.std.proofs.Common.{◌≡◌, ℕ, ◌+◌, ◌<◌, List, [], ◌∷◌, ◌++◌, length, drop, get_or, Result, Ok, Err, IsErrAnd, suc, refl, sym, ap}
-use Rattle.std.proofs.Common.{◌∙◌, add-one, drop-cons}
-use Rattle.std.proofs.lemmas.List.{append_assoc, append-nil}
-use Rattle.bridge_io.specs.declared.file_writer.FileWriter.{FileWriter}
-use Rattle.bridge_io.specs.declared.outside.Fail.{Fail}
-use Rattle.bridge_io.specs.declared.outside.Fail.TheVariants.{Memory}
-use Rattle.bridge_io.specs.Adding.{Adds, Shown}
+use Rattle.std.proofs.{Common.{◌∙◌, add-one, drop-cons}, lemmas.List.{append_assoc, append-nil}}
+use Rattle.bridge_io.specs.{declared.file_writer.FileWriter.FileWriter, declared.outside.Fail.Fail}
+use Rattle.bridge_io.specs.{declared.outside.Fail.TheVariants.Memory, Adding.{Adds, Shown}}
 use Rattle.bridge_io.proofs.Adding.{adds_answered, adds_none, adds_same, adds_stop_at, adds_then, adds_wanting}
 
 -- what is added so far goes on to the whole

@@ -1,16 +1,10 @@
 -- Runs of segments one after another.
 use Rattle.std.proofs.Common.{◌≡◌, ℕ, suc, ◌+◌, ◌==◌, ◌<◌, ◌^◌, true, false, List, [], ◌∷◌, ◌++◌, replicate, Option, None, refl, ap, ◌∙◌}
-use Rattle.std.proofs.Common.{arith, inl, inr}
-use Rattle.std.proofs.lemmas.Bool.{cases_Bool, eqb-true}
-use Rattle.std.proofs.lemmas.Bool.Decides.{nat_tests}
+use Rattle.std.proofs.{Common.{arith, inl, inr}, lemmas.Bool.{cases_Bool, eqb-true}, lemmas.Bool.Decides.nat_tests}
 use Rattle.std.proofs.lemmas.List.{length-replicate}
-use Rattle.dash_writer.specs.Runs.{longest_runs}
-use Rattle.dash_writer.specs.Segments.{s_element, s_elements, same_duration}
-use Rattle.dash_writer.specs.SegmentRuns.{ended, gone_on, runs_left}
-use Rattle.dash_writer.specs.declared.times.SegmentRun.{SegmentRun}
-use Rattle.dash_writer.specs.Written.{elements_text, is_childless}
-use Rattle.dash_writer.proofs.Nodes.{elements-append}
-use Rattle.dash_writer.proofs.Neighbours.{begins, repeats_alone, repeats_apart, replicate-more}
+use Rattle.dash_writer.specs.{Runs.longest_runs, Segments.{s_element, s_elements, same_duration}, SegmentRuns.{ended, gone_on, runs_left}}
+use Rattle.dash_writer.specs.{declared.times.SegmentRun.SegmentRun, Written.{elements_text, is_childless}}
+use Rattle.dash_writer.proofs.{Nodes.elements-append, Neighbours.{begins, repeats_alone, repeats_apart, replicate-more}}
 
 same_as_itself : (n : ℕ) → same_duration n n ≡ true
 same_as_itself n = grind (arith, nat_tests)

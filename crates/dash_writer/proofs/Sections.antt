@@ -1,16 +1,11 @@
 -- Sections and sets of tracks one after another.
 use Rattle.std.proofs.Common.{◌≡◌, ℕ, suc, ◌+◌, ◌<◌, ◌==◌, false, List, [], ◌∷◌, ◌++◌, length, take, drop, get_or, codes, refl, sym, ap}
-use Rattle.std.proofs.Common.{◌∙◌, arith}
-use Rattle.std.proofs.lemmas.Bool.Decides.{nat_tests}
+use Rattle.std.proofs.{Common.{◌∙◌, arith}, lemmas.Bool.Decides.nat_tests}
 use Rattle.presentation.specs.declared.track.Track.{Track}
-use Rattle.dash_writer.specs.Elements.{Attribute, Element, node}
-use Rattle.dash_writer.specs.Outline.{Outline, heads_from, period_element, period_elements, set_attributes, set_element, set_elements}
-use Rattle.dash_writer.specs.Outline.{sets_of, stand_together, track_element, track_elements}
-use Rattle.dash_writer.specs.Runs.{longest_runs}
-use Rattle.dash_writer.specs.Written.{element_text, elements_text, is_childless}
-use Rattle.dash_writer.proofs.Neighbours.{begins}
-use Rattle.dash_writer.proofs.Nodes.{elements-append, elements-cons}
-use Rattle.dash_writer.proofs.Progress.{next_at}
+use Rattle.dash_writer.specs.{Elements.{Attribute, Element, node}, Outline.{Outline, heads_from, period_element, period_elements}}
+use Rattle.dash_writer.specs.Outline.{set_attributes, set_element, set_elements, sets_of, stand_together, track_element, track_elements}
+use Rattle.dash_writer.specs.{Runs.longest_runs, Written.{element_text, elements_text, is_childless}}
+use Rattle.dash_writer.proofs.{Neighbours.begins, Nodes.{elements-append, elements-cons}, Progress.next_at}
 
 pub nothing_left : {X : Type 0} (xs : List X) → length xs ≡ 0 → xs ≡ []
 nothing_left [] none = refl

@@ -1,19 +1,13 @@
 -- Periods by the times of their tracks' segments.
-use Rattle.std.proofs.Common.{◌≡◌, ℕ, zero, suc, ◌+◌, ◌*◌, ◌<◌, max, false, List, [], ◌∷◌, length, take, drop, slice_get, sum, ◌^◌}
-use Rattle.std.proofs.lemmas.List.Sums.{sum_by-cons}
-use Rattle.std.proofs.Common.{Option, None, Some, option_map, option_and_then, option_to_list, refl, ap, ◌∙◌, arith}
-use Rattle.presentation.specs.declared.parts.Content.{Content}
-use Rattle.presentation.specs.declared.track.Section.{Section}
-use Rattle.presentation.specs.declared.track.Track.{Track}
+use Rattle.std.proofs.Common.{◌≡◌, ℕ, zero, suc, ◌+◌, ◌*◌, ◌<◌, max, false, List, [], ◌∷◌, length, take, drop, slice_get, sum, ◌^◌, Option}
+use Rattle.std.proofs.{Common.{None, Some, option_map, option_and_then, option_to_list, refl, ap, ◌∙◌, arith}, lemmas.List.Sums.sum_by-cons}
+use Rattle.presentation.specs.{declared.parts.Content.Content, declared.track.Section.Section, declared.track.Track.Track}
 use Rattle.presentation.specs.Presented.{AreFilled, Presented, content_at, listed_in, window_of}
 use Rattle.presentation.proofs.OwnListed.{some_at}
-use Rattle.timeline.specs.declared.window.Window.{Window}
-use Rattle.timeline.specs.Expansions.{SegmentTimeline}
+use Rattle.timeline.specs.{declared.window.Window.Window, Expansions.SegmentTimeline}
 use Rattle.url_parts.specs.declared.address.Part.{Part}
-use Rattle.dash_writer.specs.declared.timed.TickRun.{TickRun}
-use Rattle.dash_writer.specs.Lists.{list_with, parts_of}
-use Rattle.dash_writer.specs.Timed.{lengths, longest, sections_from, timed_list, timed_lists, timed_sections}
-use Rattle.dash_writer.specs.Written.{is_childless}
+use Rattle.dash_writer.specs.{declared.timed.TickRun.TickRun, Lists.{list_with, parts_of}, Timed.{lengths, longest, sections_from}}
+use Rattle.dash_writer.specs.{Timed.{timed_list, timed_lists, timed_sections}, Written.is_childless}
 use Rattle.dash_writer.proofs.Origins.{place_within}
 
 -- of so many rows the first one, and the others

@@ -1,14 +1,11 @@
 -- The segments of a listing one after another.
-use Rattle.std.proofs.Common.{◌≡◌, List, [], ◌∷◌, ◌++◌, map, codes, All, None, refl, ap, ◌∙◌}
+use Rattle.std.proofs.{Common.{◌≡◌, List, [], ◌∷◌, ◌++◌, map, codes, All, None, refl, ap, ◌∙◌}, lemmas.List.Elements.All-tail}
 use Rattle.url_parts.specs.declared.address.Part.{Part}
-use Rattle.timeline.specs.Expansions.{SegmentTimeline, Timing}
-use Rattle.std.proofs.lemmas.List.Elements.{All-tail}
-use Rattle.timeline.specs.Listed.{IsDone, IsMade, Made, Rest, part_of_timing}
+use Rattle.timeline.specs.{Expansions.{SegmentTimeline, Timing}, Listed.{IsDone, IsMade, Made, Rest, part_of_timing}}
 use Rattle.presentation.specs.Laws.{HasAddress}
-use Rattle.dash_writer.specs.Elements.{Element, node}
-use Rattle.dash_writer.specs.Lists.{list_with, parts_of, timeline_with}
-use Rattle.dash_writer.specs.Segments.{duration_of, initialization, list_attributes, part_or_none, segment_list, segment_url, segment_urls}
-use Rattle.dash_writer.specs.Written.{element_text, elements_text}
+use Rattle.dash_writer.specs.{Elements.{Element, node}, Lists.{list_with, parts_of, timeline_with}, Segments.{duration_of, initialization}}
+use Rattle.dash_writer.specs.{Segments.{list_attributes, part_or_none, segment_list, segment_url, segment_urls}, Written.element_text}
+use Rattle.dash_writer.specs.Written.{elements_text}
 use Rattle.dash_writer.proofs.Nodes.{elements-cons}
 
 -- segments with their own times are listed as any others

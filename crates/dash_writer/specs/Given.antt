@@ -1,10 +1,8 @@
 -- The outline that the code is given.
 use Rattle.std.specs.Prelude.{ℕ, ◌<◌, List, length}
 use Rattle.presentation.specs.declared.track.Track.{Track}
-use Rattle.dash_writer.specs.declared.outline.Outline.{Outline as Given}
-use Rattle.dash_writer.specs.Elements.{Attribute, Element}
-use Rattle.dash_writer.specs.Outline.{AreListed, Outline, heads_from, outline_text}
-use Rattle.dash_writer.specs.Written.{all_told}
+use Rattle.dash_writer.specs.{declared.outline.Outline.Outline as Given, Elements.{Attribute, Element}, Outline.{AreListed, Outline}}
+use Rattle.dash_writer.specs.{Outline.{heads_from, outline_text}, Written.all_told}
 
 -- by the attributes of a Period at a place, and by what a track has in a Period
 abbrev pub outline_of : {P T : Type 0} → (head : ℕ → P → List Attribute) → (lists : T → (section track : ℕ) → List Element) → Given P T

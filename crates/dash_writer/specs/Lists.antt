@@ -1,11 +1,9 @@
 -- SegmentLists with a first time of their own (ISO/IEC 23009-1, 5.3.9.3).
 use Rattle.std.specs.Prelude.{ℕ, List, [], ◌∷◌, map, codes, decimal, Option, Some, option_map}
 use Rattle.url_parts.specs.declared.address.Part.{Part}
-use Rattle.timeline.specs.Expansions.{SegmentTimeline, Timing}
-use Rattle.timeline.specs.Listed.{part_of_timing}
-use Rattle.dash_writer.specs.Elements.{Attribute, Element, node}
-use Rattle.dash_writer.specs.Runs.{longest_runs}
-use Rattle.dash_writer.specs.Segments.{initialization, part_or_none, s_elements, same_duration, segment_url}
+use Rattle.timeline.specs.{Expansions.{SegmentTimeline, Timing}, Listed.part_of_timing}
+use Rattle.dash_writer.specs.{Elements.{Attribute, Element, node}, Runs.longest_runs, Segments.{initialization, part_or_none, s_elements}}
+use Rattle.dash_writer.specs.Segments.{same_duration, segment_url}
 
 abbrev pub head_attributes : (ticks : ℕ) (offset : Option ℕ) → List Attribute
 head_attributes ticks offset = (codes "timescale", Some (decimal ticks)) ∷ (codes "presentationTimeOffset", option_map decimal offset) ∷ []

@@ -1,19 +1,11 @@
 -- The MPD of a live presentation (ISO/IEC 23009-1, 5.3).
-use Rattle.std.specs.Prelude.{◌≡◌, ℕ, ◌+◌, ◌-◌, ◌^◌, min, List, [], ◌∷◌, length, map, slice_get, codes, decimal, All, Option, Some}
-use Rattle.std.specs.Prelude.{None, option_map, option_and_then, option_to_list, if◌then◌else◌}
-use Rattle.iso_time.specs.Civil.{instant_text}
-use Rattle.iso_time.specs.Duration.{duration_text}
-use Rattle.iso_time.specs.Instant.{IsWritable}
+use Rattle.std.specs.Prelude.{◌≡◌, ℕ, ◌+◌, ◌-◌, ◌^◌, min, List, [], ◌∷◌, length, map, slice_get, codes, decimal, All, Option, Some, None}
+use Rattle.std.specs.Prelude.{option_map, option_and_then, option_to_list, if◌then◌else◌}
+use Rattle.iso_time.specs.{Civil.instant_text, Duration.duration_text, Instant.IsWritable}
 use Rattle.url_parts.specs.declared.address.Part.{Part}
-use Rattle.dash_writer.specs.declared.live.LiveMpd.{LiveMpd}
-use Rattle.dash_writer.specs.declared.live.LivePeriod.{LivePeriod}
-use Rattle.dash_writer.specs.declared.live.LiveRun.{LiveRun}
-use Rattle.dash_writer.specs.declared.live.LiveSegment.{LiveSegment}
-use Rattle.dash_writer.specs.Elements.{Attribute, Element}
-use Rattle.dash_writer.specs.Lists.{list_with}
-use Rattle.dash_writer.specs.Manifest.{finished_root}
-use Rattle.dash_writer.specs.Outline.{Outline, heads_from, outline_text}
-use Rattle.dash_writer.specs.Values.{seconds_text}
+use Rattle.dash_writer.specs.{declared.live.LiveMpd.LiveMpd, declared.live.LivePeriod.LivePeriod, declared.live.LiveRun.LiveRun}
+use Rattle.dash_writer.specs.{declared.live.LiveSegment.LiveSegment, Elements.{Attribute, Element}, Lists.list_with, Manifest.finished_root}
+use Rattle.dash_writer.specs.{Outline.{Outline, heads_from, outline_text}, Values.seconds_text}
 
 -- ---- the root
 

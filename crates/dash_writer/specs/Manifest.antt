@@ -2,13 +2,10 @@
 use Rattle.std.specs.Prelude.{ℕ, ◌+◌, ◌-◌, ◌^◌, ◌<◌, min, List, [], ◌∷◌, length, slice_get, codes, decimal, Option, Some, option_map}
 use Rattle.std.specs.Prelude.{option_and_then, option_to_list}
 use Rattle.iso_time.specs.Duration.{duration_text}
-use Rattle.presentation.specs.Origins.{CameFromPlaylists}
-use Rattle.presentation.specs.declared.track.Section.{Section}
-use Rattle.presentation.specs.declared.track.Track.{Track}
-use Rattle.presentation.specs.Presented.{Presented, content_at, listed_in, window_of}
-use Rattle.dash_writer.specs.Elements.{Attribute, Element}
-use Rattle.dash_writer.specs.Outline.{Outline, heads_from, outline_text, period_element, period_elements, root_element, set_element}
-use Rattle.dash_writer.specs.Outline.{set_elements, sets_of, track_element, track_elements}
+use Rattle.presentation.specs.{Origins.CameFromPlaylists, declared.track.Section.Section, declared.track.Track.Track, Presented.Presented}
+use Rattle.presentation.specs.Presented.{content_at, listed_in, window_of}
+use Rattle.dash_writer.specs.{Elements.{Attribute, Element}, Outline.{Outline, heads_from, outline_text, period_element, period_elements}}
+use Rattle.dash_writer.specs.Outline.{root_element, set_element, set_elements, sets_of, track_element, track_elements}
 use Rattle.dash_writer.specs.Segments.{segment_list}
 
 -- ---- tracks (5.3.3 and 5.3.5)

@@ -1,8 +1,6 @@
 -- Runs of segments, of which more may come.
 use Rattle.std.specs.Prelude.{ℕ, ◌+◌, ◌==◌, List, [], ◌∷◌, ◌++◌, replicate, Option, None, if◌then◌else◌}
-use Rattle.dash_writer.specs.Elements.{Element}
-use Rattle.dash_writer.specs.Runs.{longest_runs}
-use Rattle.dash_writer.specs.Segments.{s_element, s_elements, same_duration}
+use Rattle.dash_writer.specs.{Elements.Element, Runs.longest_runs, Segments.{s_element, s_elements, same_duration}}
 use Rattle.dash_writer.specs.declared.times.SegmentRun.{SegmentRun}
 
 -- a segment alone

@@ -2,13 +2,8 @@
 use Rattle.std.specs.Prelude.{ℕ, ◌==◌, ◌-ℤ◌, Bool, List, [], ◌∷◌, ◌++◌, length, map, codes, decimal, Option, Some, None, option_map}
 use Rattle.std.specs.Prelude.{if◌then◌else◌, Result, Ok, Err}
 use Rattle.url_parts.specs.declared.address.Part.{Part}
-use Rattle.timeline.specs.declared.fault.ListFault.{ListFault}
-use Rattle.timeline.specs.Expansions.{SegmentTimeline, Timing}
-use Rattle.timeline.specs.Listed.{part_of_timing}
-use Rattle.timeline.specs.Ratios.{natural}
-use Rattle.dash_writer.specs.Elements.{Attribute, Element, leaf, node}
-use Rattle.dash_writer.specs.Runs.{longest_runs}
-use Rattle.dash_writer.specs.Values.{range_text}
+use Rattle.timeline.specs.{declared.fault.ListFault.ListFault, Expansions.{SegmentTimeline, Timing}, Listed.part_of_timing, Ratios.natural}
+use Rattle.dash_writer.specs.{Elements.{Attribute, Element, leaf, node}, Runs.longest_runs, Values.range_text}
 
 -- S (5.3.9.6): segments that last as long as one another, as many as there are repeats after the first one
 abbrev pub s_element : (time : Option ℕ) → (duration repeats : ℕ) → Element

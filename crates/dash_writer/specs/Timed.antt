@@ -1,19 +1,12 @@
 -- The MPD of a presentation with the times that its files state (ISO/IEC 23009-1, 5.3).
 use Rattle.std.specs.Prelude.{ℕ, zero, suc, ◌+◌, ◌*◌, ◌^◌, ◌<◌, max, sum, List, [], ◌∷◌, length, take, drop, slice_get, All, Some}
-use Rattle.std.specs.Prelude.{option_map, option_and_then, option_to_list}
-use Rattle.std.specs.Int.{div_ceil}
-use Rattle.presentation.specs.declared.parts.Content.{Content}
-use Rattle.presentation.specs.declared.track.Section.{Section}
-use Rattle.presentation.specs.Presented.{AreFilled, Presented, content_at, listed_in, window_of}
-use Rattle.presentation.specs.Origins.{CameFromPlaylists}
-use Rattle.timeline.specs.declared.window.Window.{Window}
-use Rattle.timeline.specs.Expansions.{SegmentTimeline}
+use Rattle.std.specs.{Prelude.{option_map, option_and_then, option_to_list}, Int.div_ceil}
+use Rattle.presentation.specs.{declared.parts.Content.Content, declared.track.Section.Section, Presented.{AreFilled, Presented, content_at}}
+use Rattle.presentation.specs.{Presented.{listed_in, window_of}, Origins.CameFromPlaylists}
+use Rattle.timeline.specs.{declared.window.Window.Window, Expansions.SegmentTimeline}
 use Rattle.url_parts.specs.declared.address.Part.{Part}
-use Rattle.dash_writer.specs.declared.timed.TickRun.{TickRun}
-use Rattle.dash_writer.specs.Elements.{Element}
-use Rattle.dash_writer.specs.Lists.{list_with, parts_of}
-use Rattle.dash_writer.specs.Manifest.{CanBeListed as IsListed, all_period_attributes, root_attributes}
-use Rattle.dash_writer.specs.Outline.{Outline, outline_text}
+use Rattle.dash_writer.specs.{declared.timed.TickRun.TickRun, Elements.Element, Lists.{list_with, parts_of}}
+use Rattle.dash_writer.specs.{Manifest.{CanBeListed as IsListed, all_period_attributes, root_attributes}, Outline.{Outline, outline_text}}
 
 -- ---- Periods
 

@@ -1,14 +1,8 @@
 -- Runs of decimal digits: the number so far, and the digits after a point.
 use Rattle.std.proofs.Common.{◌≡◌, ℕ, zero, suc, ◌+◌, ◌-◌, ◌*◌, ◌^◌, ◌<◌, ◌≤◌, IsTrue, List, [], ◌∷◌, length, get_or, min, length-take}
-use Rattle.std.proofs.Common.{take, arith}
-use Rattle.std.proofs.Math.Numerals.{add-one}
-use Rattle.std.proofs.Math.Nat.{pow-suc, mul-lt-mul_of_pos_right}
-use Rattle.std.proofs.lemmas.Bool.Decides.{nat_tests}
-use Rattle.std.proofs.lemmas.Int.Digits.{digits_value_more}
-use Rattle.std.proofs.lemmas.Nat.{pow-add}
-use Rattle.std.proofs.lemmas.Str.{digit_value_digit}
-use Rattle.std.specs.Str.{all_ascii_digits}
-use Rattle.std.specs.Str.Parse.{digits_value}
+use Rattle.std.proofs.{Common.{take, arith}, Math.Numerals.add-one, Math.Nat.{pow-suc, mul-lt-mul_of_pos_right}}
+use Rattle.std.proofs.{lemmas.Bool.Decides.nat_tests, lemmas.Int.Digits.digits_value_more, lemmas.Nat.pow-add, lemmas.Str.digit_value_digit}
+use Rattle.std.specs.{Str.all_ascii_digits, Str.Parse.digits_value}
 
 -- a digit of a run
 pub digit_at : (ds : List ℕ) (i : ℕ) → IsTrue (all_ascii_digits ds) → i < length ds → (48 ≤ get_or ds i 0) × (get_or ds i 0 ≤ 57)

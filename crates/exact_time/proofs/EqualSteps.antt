@@ -1,23 +1,14 @@
 -- Segments that are equally long: each printed duration is the whole number of units in a step, or one more.
 use Rattle.std.proofs.Common.{◌≡◌, ℕ, zero, suc, ◌+◌, ◌*◌, ◌/◌, ◌<◌, ◌≤◌, List, [], ◌∷◌, length, refl, ap, subst, sym, inl, inr, arith}
-use Rattle.std.specs.Prelude.{max, sum, All}
-use Rattle.std.specs.List.{AllByRecursion}
-use Rattle.std.proofs.lemmas.Int.{ints}
-use Rattle.std.proofs.lemmas.Bool.{cases_lt}
-use Rattle.std.proofs.lemmas.Bool.Decides.{nat_tests}
-use Rattle.std.proofs.lemmas.List.Elements.{All-from_recursion}
-use Rattle.std.proofs.lemmas.List.Sums.{sum_by-cons}
-use Rattle.std.proofs.Math.Nat.{div-le_of_le-mul, div-mul-le_self, le_of_mul-le-mul_left, mul-le-mul_left}
+use Rattle.std.proofs.{lemmas.Int.ints, lemmas.Bool.cases_lt, lemmas.Bool.Decides.nat_tests, lemmas.List.Elements.All-from_recursion}
+use Rattle.std.proofs.{lemmas.List.Sums.sum_by-cons, Math.Nat.{div-le_of_le-mul, div-mul-le_self, le_of_mul-le-mul_left, mul-le-mul_left}}
+use Rattle.std.specs.{Prelude.{max, sum, All}, List.AllByRecursion}
 use borrow.Author.Differences.{up, down}
-use Rattle.exact_time.specs.Time.{Time, IsTime, IsAtMost, difference, in_units, seconds}
-use Rattle.exact_time.specs.Floor.{IsFloorIn, floor_in}
-use Rattle.exact_time.specs.Rounding.{AreNear, Rounding, Calls, total}
-use Rattle.exact_time.specs.Equal.{ticks_after, ends_after, equal_durations, greatest, longest_by, summed_up}
-use Rattle.exact_time.proofs.TimeOrder.{share, share_le_in, IsAtMost-trans}
-use Rattle.exact_time.proofs.Times.{units_le_in, le_units_in, le_units_out}
-use Rattle.exact_time.proofs.Floors.{IsFloorIn-difference, floor-before, floor-after}
-use Rattle.exact_time.proofs.Printed.{calls_sum}
-use Rattle.exact_time.proofs.Roundings.{IsBegun}
+use Rattle.exact_time.specs.{Time.{Time, IsTime, IsAtMost, difference, in_units, seconds}, Floor.{IsFloorIn, floor_in}, Rounding.AreNear}
+use Rattle.exact_time.specs.{Rounding.{Rounding, Calls, total}, Equal.{ticks_after, ends_after, equal_durations, greatest, longest_by}}
+use Rattle.exact_time.specs.Equal.{summed_up}
+use Rattle.exact_time.proofs.{TimeOrder.{share, share_le_in, IsAtMost-trans}, Times.{units_le_in, le_units_in, le_units_out}}
+use Rattle.exact_time.proofs.{Floors.{IsFloorIn-difference, floor-before, floor-after}, Printed.calls_sum, Roundings.IsBegun}
 
 -- ---- one step
 

@@ -1,16 +1,13 @@
 -- The floor of a time: there is one, and it is the quotient.
 use Rattle.std.proofs.Common.{◌≡◌, ℕ, zero, suc, ◌+◌, ◌-◌, ◌*◌, ◌/◌, ◌<◌, ◌≤◌, Bool, true, false, cond, ℤ, pos, negsuc, ◌+ℤ◌, ◌≤ℤ◌, refl}
-use Rattle.std.proofs.Common.{◌∙◌, ap, subst, inl, inr, arith}
-use Rattle.std.proofs.lemmas.Int.{ints, by_lt_z}
-use Rattle.std.proofs.Math.Nat.{div-mul-le_self, le_of_mul-le-mul_left, le_antisymm, mul-le-mul_left, zero-mul}
-use Rattle.std.proofs.lemmas.Nat.{le-div}
-use Rattle.std.proofs.lemmas.Bool.{leb-true, le-leb, cases_lt}
+use Rattle.std.proofs.{Common.{◌∙◌, ap, subst, inl, inr, arith}, lemmas.Int.{ints, by_lt_z}, Math.Nat.div-mul-le_self}
+use Rattle.std.proofs.{Math.Nat.{le_of_mul-le-mul_left, le_antisymm, mul-le-mul_left, zero-mul}, lemmas.Nat.le-div, lemmas.Bool.leb-true}
+use Rattle.std.proofs.lemmas.Bool.{le-leb, cases_lt}
 use borrow.Author.Differences.{up, down}
-use Rattle.exact_time.specs.Time.{Time, IsTime, IsNotNegative, IsAtMost, IsBefore, IsSame, cross, difference, in_units}
-use Rattle.exact_time.specs.Floor.{IsFloorIn, floor_in, fits_in, greatest_of}
-use Rattle.exact_time.proofs.TimeOrder.{share, IsAtMost-trans, same_is_at_most, same_is_at_least}
-use Rattle.exact_time.proofs.Times.{IsTime-difference, IsNotNegative-difference, units_le_in, units_le_out, units_le-before, units_le-after}
-use Rattle.exact_time.proofs.Times.{difference-le}
+use Rattle.exact_time.specs.{Time.{Time, IsTime, IsNotNegative, IsAtMost, IsBefore, IsSame, cross, difference, in_units}, Floor.IsFloorIn}
+use Rattle.exact_time.specs.Floor.{floor_in, fits_in, greatest_of}
+use Rattle.exact_time.proofs.{TimeOrder.{share, IsAtMost-trans, same_is_at_most, same_is_at_least}, Times.IsTime-difference}
+use Rattle.exact_time.proofs.Times.{IsNotNegative-difference, units_le_in, units_le_out, units_le-before, units_le-after, difference-le}
 
 -- a floor is the only one
 pub IsFloorIn-unique : {u : ℕ} {x : Time} {m k : ℕ} → IsFloorIn u x m → IsFloorIn u x k → m ≡ k

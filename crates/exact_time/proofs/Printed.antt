@@ -2,11 +2,9 @@
 use Rattle.std.proofs.Common.{◌≡◌, ℕ, zero, suc, ◌+◌, ◌-◌, ◌<◌, ◌≤◌, List, [], ◌∷◌, map, Some, refl, ◌∙◌, ap, subst, arith}
 use Rattle.std.proofs.lemmas.List.Sums.{sum_by-cons}
 use Rattle.std.specs.Prelude.{slice_get, sum, take}
-use Rattle.exact_time.specs.Time.{Time, IsTime, IsAtMost, IsSame, AreSame, difference, in_units}
-use Rattle.exact_time.specs.Floor.{IsFloorIn, floor_in}
+use Rattle.exact_time.specs.{Time.{Time, IsTime, IsAtMost, IsSame, AreSame, difference, in_units}, Floor.{IsFloorIn, floor_in}}
 use Rattle.exact_time.specs.Rounding.{Rounding, Calls, IsRising, AreWholeUnits, differences, total}
-use Rattle.exact_time.proofs.TimeOrder.{IsAtMost-trans, same_is_at_most, same_is_at_least}
-use Rattle.exact_time.proofs.Times.{none_le-difference, at_least_units}
+use Rattle.exact_time.proofs.{TimeOrder.{IsAtMost-trans, same_is_at_most, same_is_at_least}, Times.{none_le-difference, at_least_units}}
 use Rattle.exact_time.proofs.Floors.{IsFloorIn-difference, floor-before, floor-after, floor_in-same}
 
 abbrev pub floors : ℕ → Time → List Time → List ℕ

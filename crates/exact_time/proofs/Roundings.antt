@@ -1,16 +1,10 @@
 -- One call of a `Rounder`.
 use Rattle.std.proofs.Common.{◌≡◌, ℕ, ◌+◌, ◌-◌, ◌*◌, ◌≤◌, sym, ap, subst, arith}
-use Rattle.exact_time.specs.Time.{Time, IsTime, IsAtMost, difference, seconds}
-use Rattle.exact_time.specs.Floor.{IsFloorIn, floor_in}
-use Rattle.exact_time.specs.Tick.{time_of}
-use Rattle.exact_time.specs.Rounding.{Rounding, total}
-use Rattle.exact_time.specs.Rounder.{rounding_of, IsKept}
-use Rattle.exact_time.specs.declared.tick.Tick.{Tick}
+use Rattle.exact_time.specs.{Time.{Time, IsTime, IsAtMost, difference, seconds}, Floor.{IsFloorIn, floor_in}, Tick.time_of}
+use Rattle.exact_time.specs.{Rounding.{Rounding, total}, Rounder.{rounding_of, IsKept}, declared.tick.Tick.Tick}
 use Rattle.exact_time.specs.declared.rounder.Rounder.TheInside.{Inside}
-use Rattle.exact_time.proofs.TimeOrder.{IsAtMost-trans}
-use Rattle.exact_time.proofs.Times.{none_le-difference, le_seconds}
-use Rattle.exact_time.proofs.Floors.{IsFloorIn-difference, floor-before, floor-after}
-use Rattle.exact_time.proofs.Printed.{floor_not_less}
+use Rattle.exact_time.proofs.{TimeOrder.IsAtMost-trans, Times.{none_le-difference, le_seconds}, Floors.{IsFloorIn-difference, floor-before}}
+use Rattle.exact_time.proofs.{Floors.floor-after, Printed.floor_not_less}
 
 -- the floor does not fall from one end to the next, nor does it rise by more than the seconds between
 pub floor_rises : (u c : ℕ) (first former end : Time) → IsTime first → IsTime former → IsTime end → IsAtMost first former

@@ -1,9 +1,4 @@
 -- The order of times, and the tests that tell it.
-use Rattle.std.specs.Prelude.{◌≡◌, true, false, not}
-use Rattle.std.proofs.Common.{arith}
-use Rattle.std.proofs.lemmas.Int.{ints}
-use Rattle.std.proofs.lemmas.Bool.Decides.{nat_tests}
-use Rattle.exact_time.specs.Time.{Time, IsBefore, IsAtMost, before, at_most}
 pub use Rattle.exact_time.specs.TickOrder.{
   share,
   share_le_out,
@@ -17,6 +12,9 @@ pub use Rattle.exact_time.specs.TickOrder.{
   same_is_at_most,
   same_is_at_least,
 }
+use Rattle.std.specs.Prelude.{◌≡◌, true, false, not}
+use Rattle.std.proofs.{Common.arith, lemmas.Int.ints, lemmas.Bool.Decides.nat_tests}
+use Rattle.exact_time.specs.Time.{Time, IsBefore, IsAtMost, before, at_most}
 
 pub IsAtMost_refl : (x : Time) → IsAtMost x x
 IsAtMost_refl x = share_le_in x x (omega arith)

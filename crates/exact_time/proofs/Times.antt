@@ -1,7 +1,6 @@
 -- Differences of times, over the natural numbers.
-use Rattle.std.proofs.Common.{◌≡◌, ℕ, ◌+◌, ◌*◌, ◌<◌, ◌≤◌, ◌≤ℤ◌, ap, subst, arith}
-use Rattle.std.proofs.lemmas.Int.{ints}
-use Rattle.std.proofs.Math.Nat.{mul-le-mul_left, le_of_mul-le-mul_left, one-le-mul}
+use Rattle.std.proofs.{Common.{◌≡◌, ℕ, ◌+◌, ◌*◌, ◌<◌, ◌≤◌, ◌≤ℤ◌, ap, subst, arith}, lemmas.Int.ints, Math.Nat.mul-le-mul_left}
+use Rattle.std.proofs.Math.Nat.{le_of_mul-le-mul_left, one-le-mul}
 use borrow.Author.Differences.{up, down}
 use Rattle.exact_time.specs.Time.{Time, IsTime, IsNotNegative, IsAtMost, difference, in_units, seconds}
 use Rattle.exact_time.proofs.TimeOrder.{share, share_le_out, share_le_in}

@@ -1,9 +1,6 @@
 -- The printed durations of segments that are equally long, in turn.
 use Rattle.std.specs.Prelude.{ℕ, zero, suc, ◌+◌, ◌*◌, ◌==◌, pos, ◌+ℤ◌, max, List, [], ◌∷◌, map, sum, if◌then◌else◌}
-use Rattle.exact_time.specs.Time.{Time, difference}
-use Rattle.exact_time.specs.Floor.{floor_in}
-use Rattle.exact_time.specs.Rounding.{Rounding, differences, total}
-use Rattle.exact_time.specs.declared.rounder.Equal.{Equal}
+use Rattle.exact_time.specs.{Time.{Time, difference}, Floor.floor_in, Rounding.{Rounding, differences, total}, declared.rounder.Equal.Equal}
 
 -- so many ticks after a time
 abbrev pub ticks_after : Time → ℕ → Time

@@ -1,10 +1,8 @@
 -- What holds of times, floors and printed durations.
 use Rattle.std.specs.Prelude.{◌≡◌, ◌↔◌, ◌⊎◌, ℕ, ◌+◌, ◌*◌, ◌<◌, true, List, [], ◌∷◌, ◌++◌, Some, slice_get, sum, take}
 use Rattle.exact_time.specs.Time.{Time, IsTime, IsNotNegative, IsSame, AreSame, IsBefore, IsAtMost, before, at_most, difference, in_units}
-use Rattle.exact_time.specs.Time.{seconds}
-use Rattle.exact_time.specs.Floor.{IsFloorIn, floor_in}
-use Rattle.exact_time.specs.Equal.{ends_after, ticks_after}
-use Rattle.exact_time.specs.Rounding.{Rounding, rounding_behind, rounding_from, printed, total, IsRising, AreNear, AreWholeUnits, Calls}
+use Rattle.exact_time.specs.{Time.seconds, Floor.{IsFloorIn, floor_in}, Equal.{ends_after, ticks_after}, Rounding.Rounding}
+use Rattle.exact_time.specs.Rounding.{rounding_behind, rounding_from, printed, total, IsRising, AreNear, AreWholeUnits, Calls}
 
 -- the order of times is one: it is transitive, any two times stand in it, and those that stand in it
 -- both ways are the same time

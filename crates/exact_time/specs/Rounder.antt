@@ -1,9 +1,6 @@
 -- What a `Rounder` stands for, from its fields, and what it keeps true of them.
 use Rattle.std.specs.Prelude.{◌≡◌, ◌≤◌, ◌^◌}
-use Rattle.exact_time.specs.Time.{IsAtMost}
-use Rattle.exact_time.specs.Tick.{time_of}
-use Rattle.exact_time.specs.Rounding.{Rounding, total}
-use Rattle.exact_time.specs.declared.rounder.Rounder.TheInside.{Inside}
+use Rattle.exact_time.specs.{Time.IsAtMost, Tick.time_of, Rounding.{Rounding, total}, declared.rounder.Rounder.TheInside.Inside}
 
 abbrev pub rounding_of : Inside → Rounding
 rounding_of r = record { first = time_of r.first; unit = r.unit; former = time_of r.former }

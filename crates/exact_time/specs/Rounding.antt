@@ -1,7 +1,6 @@
 -- Durations that are printed so that their sums never drift from the exact times.
 use Rattle.std.specs.Prelude.{◌≡◌, ℕ, ◌+◌, ◌-◌, List, [], ◌∷◌, map}
-use Rattle.exact_time.specs.Time.{Time, IsTime, IsSame, IsAtMost, difference, in_units, seconds}
-use Rattle.exact_time.specs.Floor.{floor_in}
+use Rattle.exact_time.specs.{Time.{Time, IsTime, IsSame, IsAtMost, difference, in_units, seconds}, Floor.floor_in}
 
 -- each number minus the one before it, the first one minus `former`, in a list that does not fall
 abbrev pub differences : ℕ → List ℕ → List ℕ

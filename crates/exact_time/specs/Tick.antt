@@ -1,7 +1,6 @@
 -- The time that a `Tick` is.
 use Rattle.std.specs.declared.cmp.Ordering.{Ordering}
-use Rattle.exact_time.specs.Time.{Time, time_cmp}
-use Rattle.exact_time.specs.declared.tick.Tick.{Tick}
+use Rattle.exact_time.specs.{Time.{Time, time_cmp}, declared.tick.Tick.Tick}
 
 abbrev pub time_of : Tick → Time
 time_of tick = record { ticks = tick.n; scale = tick.scale }

@@ -1,15 +1,9 @@
 -- Times are in one order, and so are ticks: the law that `Ord` asks of an order, whose proof has to stand beside it.
-use Rattle.std.specs.Prelude.{◌≡◌, ◌⊎◌, ℕ, ◌+◌, ◌*◌, ◌≤◌}
-use Rattle.std.proofs.Common.{inl, inr, sym, subst, arith}
-use Rattle.std.proofs.lemmas.Int.{ints, by_lt_z}
-use Rattle.std.proofs.Math.Nat.{mul-le-mul_left, le_of_mul-le-mul_left}
-use Rattle.std.specs.Cmp.{IsTotalOrder, int_cmp_total, int_cmp_is, int_ranks}
-use Rattle.std.specs.Ordering.{MatchOrdering}
-use Rattle.std.specs.declared.cmp.Ordering.{Ordering}
-use Rattle.std.specs.declared.cmp.Ordering.TheVariants.{Less, Equal, Greater}
+use Rattle.std.specs.{Prelude.{◌≡◌, ◌⊎◌, ℕ, ◌+◌, ◌*◌, ◌≤◌}, Cmp.{IsTotalOrder, int_cmp_total, int_cmp_is, int_ranks}}
+use Rattle.std.specs.{Ordering.MatchOrdering, declared.cmp.Ordering.Ordering, declared.cmp.Ordering.TheVariants.{Less, Equal, Greater}}
+use Rattle.std.proofs.{Common.{inl, inr, sym, subst, arith}, lemmas.Int.{ints, by_lt_z}, Math.Nat.{mul-le-mul_left, le_of_mul-le-mul_left}}
 use borrow.Author.Differences.{up, down}
-use Rattle.exact_time.specs.Time.{Time, IsTime, IsSame, IsBefore, IsAtMost, cross, time_cmp}
-use Rattle.exact_time.specs.Tick.{tick_cmp, time_of}
+use Rattle.exact_time.specs.{Time.{Time, IsTime, IsSame, IsBefore, IsAtMost, cross, time_cmp}, Tick.{tick_cmp, time_of}}
 
 -- x - y is share x y - share y x, over x.scale * y.scale
 abbrev pub share : Time → Time → ℕ

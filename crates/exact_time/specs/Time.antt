@@ -1,7 +1,6 @@
 -- Times as exact fractions of a second, compared by cross products.
-use Rattle.std.specs.Ordering.{int_cmp}
-use Rattle.std.specs.declared.cmp.Ordering.{Ordering}
-use Rattle.std.specs.Prelude.{◌≡◌, ℕ, ◌*◌, ◌<◌, ℤ, pos, ◌*ℤ◌, ◌-ℤ◌, ◌≤ℤ◌, ◌<ℤ◌, Bool, int_lt, int_le, List, [], ◌∷◌}
+use Rattle.std.specs.{Ordering.int_cmp, declared.cmp.Ordering.Ordering, Prelude.{◌≡◌, ℕ, ◌*◌, ◌<◌, ℤ, pos, ◌*ℤ◌, ◌-ℤ◌, ◌≤ℤ◌, ◌<ℤ◌, Bool}}
+use Rattle.std.specs.Prelude.{int_lt, int_le, List, [], ◌∷◌}
 
 -- ticks / scale seconds
 pub record Time : Type 0 where

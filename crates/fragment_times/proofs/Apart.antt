@@ -1,23 +1,15 @@
 -- Times that are the same as fractions, and the first ones that aren't.
-use Rattle.std.proofs.Common.{◌≡◌, ℕ, suc, ◌+◌, ◌*◌, ◌<◌, ◌==◌, ℤ, pos, negsuc, ◌≤ℤ◌, ◌<ℤ◌, ◌+ℤ◌, ◌*ℤ◌, Bool, List, [], ◌∷◌}
-use Rattle.std.proofs.Common.{Option, Some}
-use Rattle.std.proofs.Common.{None, unsigned_abs, refl, ap, arith}
-use Rattle.std.proofs.Common.{◌≤◌, length, option_map}
-use Rattle.std.specs.Option.{option_map_or}
-use Rattle.std.specs.Prelude.{slice_get}
-use Rattle.std.proofs.lemmas.Bool.Decides.{Decides-eqb, Decides-int_eq, same_from_decides}
-use Rattle.std.proofs.lemmas.Int.{ints}
-use Rattle.std.proofs.Math.Nat.{mul-le-mul_right}
+use Rattle.std.proofs.Common.{◌≡◌, ℕ, suc, ◌+◌, ◌*◌, ◌<◌, ◌==◌, ℤ, pos, negsuc, ◌≤ℤ◌, ◌<ℤ◌, ◌+ℤ◌, ◌*ℤ◌, Bool, List, [], ◌∷◌, Option, Some}
+use Rattle.std.proofs.{Common.{None, unsigned_abs, refl, ap, arith, ◌≤◌, length, option_map}, lemmas.Bool.Decides.Decides-eqb}
+use Rattle.std.proofs.{lemmas.Bool.Decides.{Decides-int_eq, same_from_decides}, lemmas.Int.ints, Math.Nat.mul-le-mul_right}
+use Rattle.std.specs.{Option.option_map_or, Prelude.slice_get}
 use borrow.Author.Differences.{up, down}
 use Rattle.exact_time.specs.Time.{Time, in_units}
 use Rattle.meaning.specs.Differences.{is_same_time}
-use Rattle.timeline.specs.Expansions.{SegmentTimeline, Timing}
-use Rattle.timeline.specs.Listed.{offset_of}
-use Rattle.presentation.specs.declared.parts.Content.{Content}
-use Rattle.presentation.specs.Presented.{Presented, content_at, listed_at}
-use Rattle.fragment_times.specs.declared.fault.SegmentSpot.{SegmentSpot}
-use Rattle.fragment_times.specs.declared.times.SegmentTimes.{SegmentTimes}
-use Rattle.fragment_times.specs.Agreeing.{apart_at, apart_from, own_apart, sum_of}
+use Rattle.timeline.specs.{Expansions.{SegmentTimeline, Timing}, Listed.offset_of}
+use Rattle.presentation.specs.{declared.parts.Content.Content, Presented.{Presented, content_at, listed_at}}
+use Rattle.fragment_times.specs.{declared.fault.SegmentSpot.SegmentSpot, declared.times.SegmentTimes.SegmentTimes, Agreeing.apart_at}
+use Rattle.fragment_times.specs.Agreeing.{apart_from, own_apart, sum_of}
 
 -- ---- one time
 

@@ -3,11 +3,8 @@ use Rattle.std.proofs.Common.{◌≡◌, ◌<◌, ◌+◌, ℕ, List, [], ◌∷
 use Rattle.std.specs.List.{range_with_len}
 use Rattle.bridge_io.specs.Answer.{and_then}
 use Rattle.presentation.specs.Told.{gathered}
-use Rattle.presentation.proofs.Counts.{from_on, from_on-end, from_on-first, from_on-start}
-use Rattle.presentation.proofs.Printing.{if_some}
-use Rattle.fragment_times.specs.declared.fault.TimesFault.{TimesFault}
-use Rattle.fragment_times.specs.Refusals.{refusal}
-use Rattle.fragment_times.specs.Times.{alone, behind}
+use Rattle.presentation.proofs.{Counts.{from_on, from_on-end, from_on-first, from_on-start}, Printing.if_some}
+use Rattle.fragment_times.specs.{declared.fault.TimesFault.TimesFault, Refusals.refusal, Times.{alone, behind}}
 
 behind_both : {X : Type 0} (former xs : List X) (told : Result (List X) TimesFault)
     → behind former (and_then told (λ later. Ok (xs ++ later))) ≡ behind (former ++ xs) told

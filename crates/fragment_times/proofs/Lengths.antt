@@ -1,11 +1,8 @@
 -- How long a segment lasts, in ticks.
-use Rattle.std.proofs.Common.{◌≡◌, ◌<◌, ◌*◌, ◌/◌, ℕ, ℤ, pos, sym, subst}
-use Rattle.std.proofs.Math.Nat.{one-le-mul}
+use Rattle.std.proofs.{Common.{◌≡◌, ◌<◌, ◌*◌, ◌/◌, ℕ, ℤ, pos, sym, subst}, Math.Nat.one-le-mul}
 use Rattle.exact_time.specs.Floor.{IsFloorIn, floor_in}
-use Rattle.exact_time.proofs.Floors.{IsFloorIn-div, floor_of-difference}
-use Rattle.exact_time.proofs.TimeOrder.{IsAtMost-from_before}
-use Rattle.timeline.specs.Expansions.{Timing}
-use Rattle.timeline.specs.Steady.{IsWithinLimits}
+use Rattle.exact_time.proofs.{Floors.{IsFloorIn-div, floor_of-difference}, TimeOrder.IsAtMost-from_before}
+use Rattle.timeline.specs.{Expansions.Timing, Steady.IsWithinLimits}
 use Rattle.fragment_times.specs.Durations.{lasting_of}
 
 module _ (x : Timing) (limits : IsWithinLimits x) (n : ℕ) (exact : (lasting_of x).ticks ≡ pos n) where

@@ -1,18 +1,12 @@
 -- Listed segments, and what they are.
-use Rattle.std.proofs.Common.{◌≡◌, ◌+◌, ◌*◌, ℕ, zero, suc, false, List, [], ◌∷◌, All, Option, Some, None, IfSome, length, option_map}
-use Rattle.std.proofs.Common.{refl, sym, ap, subst, ◌∙◌}
-use Rattle.std.specs.Option.{option_map_or}
-use Rattle.std.specs.Prelude.{slice_get}
-use Rattle.std.proofs.lemmas.List.Elements.{All-head, All-tail}
-use Rattle.timeline.specs.declared.window.Window.{Window}
-use Rattle.timeline.specs.Expansions.{SegmentTimeline, Timing, is_open}
-use Rattle.timeline.specs.Listed.{IsDone, IsFirstListed, IsMade, IsReached, Made, Rest, expansion, listed_from}
-use Rattle.timeline.specs.OpenEnds.{EndedIsReached}
-use Rattle.presentation.specs.declared.parts.Content.{Content}
-use Rattle.presentation.specs.Laws.{HasAddress}
-use Rattle.presentation.specs.Presented.{IsEnded, Presented, content_at, listed_at, listed_in, window_of}
-use Rattle.presentation.proofs.Meant.{made_are_meant}
-use Rattle.presentation.proofs.Printing.{all_listed}
+use Rattle.std.proofs.Common.{◌≡◌, ◌+◌, ◌*◌, ℕ, zero, suc, false, List, [], ◌∷◌, All, Option, Some, None, IfSome, length, option_map, refl}
+use Rattle.std.proofs.{Common.{sym, ap, subst, ◌∙◌}, lemmas.List.Elements.{All-head, All-tail}}
+use Rattle.std.specs.{Option.option_map_or, Prelude.slice_get}
+use Rattle.timeline.specs.{declared.window.Window.Window, Expansions.{SegmentTimeline, Timing, is_open}, Listed.{IsDone, IsFirstListed}}
+use Rattle.timeline.specs.{Listed.{IsMade, IsReached, Made, Rest, expansion, listed_from}, OpenEnds.EndedIsReached}
+use Rattle.presentation.specs.{declared.parts.Content.Content, Laws.HasAddress, Presented.{IsEnded, Presented, content_at, listed_at}}
+use Rattle.presentation.specs.Presented.{listed_in, window_of}
+use Rattle.presentation.proofs.{Meant.made_are_meant, Printing.all_listed}
 use Rattle.fragment_times.specs.Times.{parts_of}
 
 -- ---- segment by segment

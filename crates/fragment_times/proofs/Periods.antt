@@ -1,10 +1,7 @@
 -- How long Periods last, one after another.
-use Rattle.std.proofs.Common.{◌≡◌, ◌<◌, ◌≤◌, ◌+◌, ◌-◌, ◌*◌, ℕ, suc, true, List, nat_le, drop, take}
-use Rattle.std.proofs.Common.{sum, ◌∙◌, ap, arith}
-use Rattle.std.proofs.lemmas.Bool.Decides.{nat_tests}
-use Rattle.std.proofs.lemmas.List.Sums.{sum_by-cons}
-use Rattle.fragment_times.specs.declared.times.SegmentTimes.{SegmentTimes}
-use Rattle.fragment_times.specs.Durations.{lengths, longest}
+use Rattle.std.proofs.Common.{◌≡◌, ◌<◌, ◌≤◌, ◌+◌, ◌-◌, ◌*◌, ℕ, suc, true, List, nat_le, drop, take, sum, ◌∙◌, ap, arith}
+use Rattle.std.proofs.{lemmas.Bool.Decides.nat_tests, lemmas.List.Sums.sum_by-cons}
+use Rattle.fragment_times.specs.{declared.times.SegmentTimes.SegmentTimes, Durations.{lengths, longest}}
 
 -- so many tracks of one section, and those of the sections behind it
 pub one_less : (sections s tracks : ℕ) → s < sections → (sections - s) * tracks ≡ tracks + (sections - (s + 1)) * tracks

@@ -3,15 +3,11 @@ use Rattle.std.specs.Prelude.{ℕ, ◌+◌, ◌*◌, ◌+ℤ◌, Bool, List, [],
 use Rattle.std.specs.Option.{option_map_or}
 use Rattle.bridge_io.specs.Firsts.{first_some}
 use Rattle.exact_time.specs.Time.{Time, cross, in_units}
-use Rattle.timeline.specs.Expansions.{Timing}
-use Rattle.timeline.specs.Listed.{offset_of}
+use Rattle.timeline.specs.{Expansions.Timing, Listed.offset_of}
 use Rattle.meaning.specs.Differences.{is_same_time}
-use Rattle.presentation.specs.declared.parts.Content.{Content}
-use Rattle.presentation.specs.Counting.{sections_of, tracks_of}
-use Rattle.presentation.specs.Presented.{Presented, content_at, listed_at}
-use Rattle.fragment_times.specs.declared.fault.SegmentSpot.{SegmentSpot}
-use Rattle.fragment_times.specs.declared.times.SegmentTimes.{SegmentTimes}
-use Rattle.fragment_times.specs.Refusals.{next_spot}
+use Rattle.presentation.specs.{declared.parts.Content.Content, Counting.{sections_of, tracks_of}, Presented.{Presented, content_at}}
+use Rattle.presentation.specs.Presented.{listed_at}
+use Rattle.fragment_times.specs.{declared.fault.SegmentSpot.SegmentSpot, declared.times.SegmentTimes.SegmentTimes, Refusals.next_spot}
 
 -- ---- a segment
 

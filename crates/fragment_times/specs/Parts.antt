@@ -1,20 +1,12 @@
 -- Which bytes of files initialization parts and segments are, and what they tell.
 use Rattle.std.specs.Prelude.{ℕ, ◌+◌, ◌-◌, ◌^◌, ◌<◌, min, List, Option, Some, None, Result, Ok, Err, take, drop}
-use Rattle.bridge_io.specs.Answer.{and_then}
-use Rattle.bridge_io.specs.Outside.{Files}
-use Rattle.box_reader.specs.Boxes.{Found, Left}
-use Rattle.box_reader.specs.Parts.{part_of}
-use Rattle.box_reader.specs.declared.part.PartFault.{PartFault}
-use Rattle.url_parts.specs.Addresses.{local_name_of}
-use Rattle.url_parts.specs.declared.address.Part.{Part}
-use Rattle.url_parts.specs.declared.range.Range.{Range}
+use Rattle.bridge_io.specs.{Answer.and_then, Outside.Files}
+use Rattle.box_reader.specs.{Boxes.{Found, Left}, Parts.part_of, declared.part.PartFault.PartFault}
+use Rattle.url_parts.specs.{Addresses.local_name_of, declared.address.Part.Part, declared.range.Range.Range}
 use Rattle.presentation.specs.Told.{told_as}
-use Rattle.fragment_times.specs.declared.fault.FileFault.{FileFault}
-use Rattle.fragment_times.specs.declared.fault.FileFault.TheVariants.{Absent}
-use Rattle.fragment_times.specs.declared.fault.TimesFault.{TimesFault}
-use Rattle.fragment_times.specs.declared.fault.TimesFault.TheVariants.{File, OutsideBase}
-use Rattle.fragment_times.specs.declared.part.Reach.{Reach}
-use Rattle.fragment_times.specs.Told.{decode_time_of, first_box, media_scale_of}
+use Rattle.fragment_times.specs.{declared.fault.FileFault.FileFault, declared.fault.FileFault.TheVariants.Absent}
+use Rattle.fragment_times.specs.{declared.fault.TimesFault.TimesFault, declared.fault.TimesFault.TheVariants.{File, OutsideBase}}
+use Rattle.fragment_times.specs.{declared.part.Reach.Reach, Told.{decode_time_of, first_box, media_scale_of}}
 
 -- ---- which bytes
 

@@ -1,13 +1,11 @@
 -- Why the times of files are refused, and which refusal is told.
-use Rattle.std.specs.Prelude.{ℕ, ◌+◌, ◌==◌, ◌&&◌, ◌||◌, nat_lt, nat_le, Bool, List, Option, Some, None, Result, if◌then◌else◌, IsErrOf}
 use Rattle.box_reader.specs.declared.head.BoxFault.TheVariants as box
-use Rattle.box_reader.specs.declared.part.PartFault.{PartFault}
 use Rattle.box_reader.specs.declared.part.PartFault.TheVariants as part
-use Rattle.fragment_times.specs.declared.fault.FileFault.{FileFault}
-use Rattle.fragment_times.specs.declared.fault.FileFault.TheVariants.{Absent, Boxes, Missing, Tracks, Scale, Order, Range}
-use Rattle.fragment_times.specs.declared.fault.SegmentSpot.{SegmentSpot}
-use Rattle.fragment_times.specs.declared.fault.TimesFault.{TimesFault}
-use Rattle.fragment_times.specs.declared.fault.TimesFault.TheVariants.{File, Fault, Memory}
+use Rattle.std.specs.Prelude.{ℕ, ◌+◌, ◌==◌, ◌&&◌, ◌||◌, nat_lt, nat_le, Bool, List, Option, Some, None, Result, if◌then◌else◌, IsErrOf}
+use Rattle.box_reader.specs.declared.part.PartFault.{PartFault}
+use Rattle.fragment_times.specs.{declared.fault.FileFault.FileFault, declared.fault.FileFault.TheVariants.{Absent, Boxes, Missing, Tracks}}
+use Rattle.fragment_times.specs.{declared.fault.FileFault.TheVariants.{Scale, Order, Range}, declared.fault.SegmentSpot.SegmentSpot}
+use Rattle.fragment_times.specs.{declared.fault.TimesFault.TimesFault, declared.fault.TimesFault.TheVariants.{File, Fault, Memory}}
 
 -- a read that failed and want of memory tell nothing of the files
 abbrev pub refusal : TimesFault → Option TimesFault

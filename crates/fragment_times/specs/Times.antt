@@ -1,19 +1,11 @@
 -- What the files of a presentation state of its segments' times.
-use Rattle.std.specs.Prelude.{◌≡◌, ℕ, ◌<◌, List, [], ◌∷◌, ◌++◌, length, map, IfSome, Result, Ok}
-use Rattle.std.specs.Option.{option_map_or}
-use Rattle.bridge_io.specs.Answer.{and_then}
-use Rattle.bridge_io.specs.Outside.{Files}
+use Rattle.std.specs.{Prelude.{◌≡◌, ℕ, ◌<◌, List, [], ◌∷◌, ◌++◌, length, map, IfSome, Result, Ok}, Option.option_map_or}
+use Rattle.bridge_io.specs.{Answer.and_then, Outside.Files}
 use Rattle.url_parts.specs.declared.address.Part.{Part}
-use Rattle.timeline.specs.declared.window.Window.{Window}
-use Rattle.timeline.specs.Expansions.{SegmentTimeline, Timing}
-use Rattle.presentation.specs.declared.parts.Content.{Content}
-use Rattle.presentation.specs.Counting.{sections_of, tracks_of}
-use Rattle.presentation.specs.Meanings.{part_meant}
-use Rattle.presentation.specs.Presented.{AreFilled, Presented, content_at, listed_in, window_of}
-use Rattle.presentation.specs.Told.{gathered}
-use Rattle.fragment_times.specs.declared.fault.TimesFault.{TimesFault}
-use Rattle.fragment_times.specs.declared.times.SegmentTimes.{SegmentTimes}
-use Rattle.fragment_times.specs.Parts.{scale_at, start_at}
+use Rattle.timeline.specs.{declared.window.Window.Window, Expansions.{SegmentTimeline, Timing}}
+use Rattle.presentation.specs.{declared.parts.Content.Content, Counting.{sections_of, tracks_of}, Meanings.part_meant, Presented.AreFilled}
+use Rattle.presentation.specs.{Presented.{Presented, content_at, listed_in, window_of}, Told.gathered}
+use Rattle.fragment_times.specs.{declared.fault.TimesFault.TimesFault, declared.times.SegmentTimes.SegmentTimes, Parts.{scale_at, start_at}}
 
 -- ---- one thing after another
 

@@ -1,14 +1,12 @@
 -- The times that files tell of themselves: ISO/IEC 14496-12, 8.4.2 (`mdhd`) and 8.8.12 (`tfdt`).
+use Rattle.box_reader.specs.declared.head.BoxFault.TheVariants as box
 use Rattle.std.specs.Prelude.{ℕ, ◌+◌, ◌^◌, ◌==◌, nat_lt, List, codes, length, get_or, count_by, if◌then◌else◌, Option, Some, None, Result}
 use Rattle.std.specs.Prelude.{Ok, Err}
 use Rattle.bridge_io.specs.Answer.{and_then}
-use Rattle.box_reader.specs.Boxes.{Found, Left, Walk, boxes_of, first_in, is_of}
-use Rattle.box_reader.specs.Numbers.{u32_at, u64_at}
+use Rattle.box_reader.specs.{Boxes.{Found, Left, Walk, boxes_of, first_in, is_of}, Numbers.{u32_at, u64_at}}
 use Rattle.box_reader.specs.declared.head.BoxFault.{BoxFault}
-use Rattle.box_reader.specs.declared.head.BoxFault.TheVariants as box
-use Rattle.fragment_times.specs.declared.fault.FileFault.{FileFault}
-use Rattle.fragment_times.specs.declared.fault.FileFault.TheVariants.{Boxes, Missing, Tracks, Scale, Range}
-use Rattle.fragment_times.specs.Refusals.{sooner}
+use Rattle.fragment_times.specs.{declared.fault.FileFault.FileFault, declared.fault.FileFault.TheVariants.{Boxes, Missing, Tracks, Scale}}
+use Rattle.fragment_times.specs.{declared.fault.FileFault.TheVariants.Range, Refusals.sooner}
 
 -- ---- boxes inside boxes
 

@@ -2,11 +2,8 @@
 use Rattle.std.proofs.Common.{◌≡◌, ◌<◌, ℕ, zero, suc, Bool, true, false, List, [], ◌∷◌, map, length, get_or, All, sym, subst, arith}
 use Rattle.std.proofs.lemmas.List.Elements.{All-nil, All-cons, All-head, All-tail}
 use Rattle.hls_master.specs.declared.track.MasterTrack.{MasterTrack}
-use Rattle.hls_media.specs.Laws.{IsBounded}
-use Rattle.hls_media.specs.declared.media.Media.{Media}
-use Rattle.hls_presentation.specs.Tracks.{Source, sources}
-use Rattle.hls_presentation.specs.Views.{source_of}
-use Rattle.hls_presentation.specs.declared.kept.Source.{Source as Held}
+use Rattle.hls_media.specs.{Laws.IsBounded, declared.media.Media.Media}
+use Rattle.hls_presentation.specs.{Tracks.{Source, sources}, Views.source_of, declared.kept.Source.Source as Held}
 use Rattle.hls_follow.specs.Kept.{AreBounded, kept_by}
 
 -- the playlist of a source is bounded

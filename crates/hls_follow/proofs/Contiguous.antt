@@ -1,30 +1,19 @@
 -- Times of one section are contiguous.
-use Rattle.std.proofs.Common.{◌≡◌, ℕ, zero, suc, ◌+◌, ◌-◌, ◌<◌, ◌≤◌, Bool, true, false, ◌&&◌, ◌||◌, not, eqb, ltb, List, []}
-use Rattle.std.proofs.Common.{◌∷◌, length}
-use Rattle.std.proofs.Common.{slice_get, All, Option, Some, None, Ok, refl, sym, ◌∙◌, ap, subst, option_map}
-use Rattle.std.proofs.Common.{bytes_eq, arith}
-use Rattle.std.specs.List.{list_any}
-use Rattle.std.specs.Option.{option_eq}
-use Rattle.std.proofs.lemmas.Bool.{eq-eqb, eqb-true, le-leb, le-ltb}
-use Rattle.std.proofs.lemmas.List.Elements.{All-nil, All-cons}
-use Rattle.std.proofs.lemmas.Option.{get_or_from_slice_get, slice_get_within}
-use Rattle.bridge_io.proofs.AndThen.{steps_of}
-use Rattle.hls_media.specs.declared.media.Media.{Media}
-use Rattle.hls_media.specs.declared.media.MediaSegment.{MediaSegment}
 use Rattle.reload_law.specs.declared.unlawful.Unlawful.TheVariants as rules
-use Rattle.reload_law.specs.Laws.{IsInBoth, IsLawful, RulesAreSentences, segment_at}
-use Rattle.reload_law.specs.Rules.{broken_if, end_of, first_broken, first_differing, lawful, same_part, same_range}
-use Rattle.reload_law.specs.Rules.{same_section, same_segment}
+use Rattle.std.proofs.Common.{◌≡◌, ℕ, zero, suc, ◌+◌, ◌-◌, ◌<◌, ◌≤◌, Bool, true, false, ◌&&◌, ◌||◌, not, eqb, ltb, List, [], ◌∷◌, length}
+use Rattle.std.proofs.Common.{slice_get, All, Option, Some, None, Ok, refl, sym, ◌∙◌, ap, subst, option_map, bytes_eq, arith}
+use Rattle.std.proofs.{lemmas.Bool.{eq-eqb, eqb-true, le-leb, le-ltb}, lemmas.List.Elements.{All-nil, All-cons}}
+use Rattle.std.proofs.lemmas.Option.{get_or_from_slice_get, slice_get_within}
+use Rattle.std.specs.{List.list_any, Option.option_eq}
+use Rattle.bridge_io.proofs.AndThen.{steps_of}
+use Rattle.hls_media.specs.{declared.media.Media.Media, declared.media.MediaSegment.MediaSegment}
+use Rattle.reload_law.specs.{Laws.{IsInBoth, IsLawful, RulesAreSentences, segment_at}, Rules.{broken_if, end_of, first_broken}}
+use Rattle.reload_law.specs.Rules.{first_differing, lawful, same_part, same_range, same_section, same_segment}
 use Rattle.hls_presentation.specs.Tracks.{Source}
-use Rattle.hls_follow.specs.declared.state.FollowedTrack.{FollowedTrack}
-use Rattle.hls_follow.specs.declared.state.Last.{Last}
-use Rattle.hls_follow.specs.declared.state.TimedSegment.{TimedSegment}
-use Rattle.hls_follow.specs.Kept.{formers_of}
-use Rattle.hls_follow.specs.Laws.{IsContiguous, TimesAreContiguous}
-use Rattle.hls_follow.specs.Rounds.{followed_tracks, times_in}
-use Rattle.hls_follow.specs.Rules.{judged_all, judged_reload, reload_told}
-use Rattle.hls_follow.specs.Times.{behind_segment, former_time, is_late, last_of, time_of, timed_all, timed_from, timed_of}
-use Rattle.hls_follow.specs.Times.{unless_late}
+use Rattle.hls_follow.specs.{declared.state.FollowedTrack.FollowedTrack, declared.state.Last.Last, declared.state.TimedSegment.TimedSegment}
+use Rattle.hls_follow.specs.{Kept.formers_of, Laws.{IsContiguous, TimesAreContiguous}, Rounds.{followed_tracks, times_in}, Rules.judged_all}
+use Rattle.hls_follow.specs.{Rules.{judged_reload, reload_told}, Times.{behind_segment, former_time, is_late, last_of, time_of, timed_all}}
+use Rattle.hls_follow.specs.Times.{timed_from, timed_of, unless_late}
 use Rattle.hls_follow.proofs.Staying.{parts_of, same_by}
 
 -- ---- what a former playlist tells of two numbers

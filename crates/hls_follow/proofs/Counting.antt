@@ -1,14 +1,10 @@
 -- How many segments there are.
 use Rattle.std.proofs.Common.{◌≡◌, ◌≤◌, ◌<◌, ◌+◌, ◌-◌, ℕ, List, map, length, drop, get_or, slice_get, Option, Some, None, sym, ap, ◌∙◌}
-use Rattle.std.proofs.Common.{arith, length-drop}
-use Rattle.std.proofs.lemmas.List.Sums.{sum_by-cons}
+use Rattle.std.proofs.{Common.{arith, length-drop}, lemmas.List.Sums.sum_by-cons}
 use Rattle.hls_media.specs.declared.media.Media.{Media}
 use Rattle.reload_law.specs.Rules.{end_of}
-use Rattle.hls_presentation.specs.Tracks.{Source}
-use Rattle.hls_presentation.specs.Views.{source_of}
-use Rattle.hls_presentation.specs.declared.kept.Source.{Source as Held}
-use Rattle.hls_follow.specs.declared.state.FollowedTrack.{FollowedTrack}
-use Rattle.hls_follow.specs.Rules.{appended_from, count_of, new_segments}
+use Rattle.hls_presentation.specs.{Tracks.Source, Views.source_of, declared.kept.Source.Source as Held}
+use Rattle.hls_follow.specs.{declared.state.FollowedTrack.FollowedTrack, Rules.{appended_from, count_of, new_segments}}
 use Rattle.hls_follow.proofs.Keeping.{left_at}
 
 pub new_fewer : (former : Option FollowedTrack) (media : Media) → length (new_segments former media) ≤ length media.segments

@@ -1,12 +1,8 @@
 -- The segments of a section stand together.
 use Rattle.std.proofs.Common.{◌≡◌, ℕ, suc, ◌+◌, ◌<◌, ◌++◌, Bool, true, false, cond, eqb, List, [], ◌∷◌, map, take, drop, Some, slice_get}
-use Rattle.std.proofs.Common.{refl, sym, ◌∙◌, ap, subst, append_assoc, arith}
-use Rattle.std.specs.Borrow.{Bor}
-use Rattle.std.proofs.lemmas.List.{map-append}
-use Rattle.std.proofs.lemmas.Bool.{eq-eqb, eqb-true}
-use Rattle.std.specs.List.{prefix_len}
-use Rattle.hls_follow.specs.declared.state.TimedSegment.{TimedSegment}
-use Rattle.hls_follow.specs.Groups.{groups_of, is_of, put_before}
+use Rattle.std.proofs.{Common.{refl, sym, ◌∙◌, ap, subst, append_assoc, arith}, lemmas.List.map-append, lemmas.Bool.{eq-eqb, eqb-true}}
+use Rattle.std.specs.{Borrow.Bor, List.prefix_len}
+use Rattle.hls_follow.specs.{declared.state.TimedSegment.TimedSegment, Groups.{groups_of, is_of, put_before}}
 
 -- how many of some segments in front are of the section of one
 abbrev pub count_like : TimedSegment → List TimedSegment → ℕ

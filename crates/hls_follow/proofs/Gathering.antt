@@ -1,14 +1,10 @@
 -- What some things give one after another.
 use Rattle.std.proofs.Common.{◌≡◌, Bool, true, false, List, [], ◌∷◌, ◌++◌, Result, Ok, Err, IfSome, refl, sym, ◌∙◌, ap, append_assoc}
-use Rattle.std.proofs.lemmas.List.{append-nil}
-use Rattle.std.proofs.lemmas.Option.{IfSome_then}
+use Rattle.std.proofs.{lemmas.List.append-nil, lemmas.Option.IfSome_then}
 use Rattle.std.specs.List.{list_any}
 use Rattle.bridge_io.specs.Answer.{and_then}
-use Rattle.hls_follow.specs.declared.fault.LiveFault.{LiveFault}
-use Rattle.hls_follow.specs.declared.fault.LiveFault.TheVariants.{Limit}
-use Rattle.hls_follow.specs.declared.state.TimedSegment.{TimedSegment}
-use Rattle.hls_follow.specs.Faults.{behind, told}
-use Rattle.hls_follow.specs.Times.{is_late, unless_late}
+use Rattle.hls_follow.specs.{declared.fault.LiveFault.LiveFault, declared.fault.LiveFault.TheVariants.Limit}
+use Rattle.hls_follow.specs.{declared.state.TimedSegment.TimedSegment, Faults.{behind, told}, Times.{is_late, unless_late}}
 
 -- a member more
 pub behind_more : {X : Type 0} (before : List X) (x : X) (others : Result (List X) LiveFault)

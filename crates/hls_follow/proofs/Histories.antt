@@ -1,46 +1,28 @@
 -- What stays over every list of accepted rounds.
-use Rattle.std.proofs.Common.{◌≡◌, ℕ, zero, suc, ◌+◌, ◌-◌, ◌<◌, ◌≤◌, Bool, true, false, ◌&&◌, eqb, ltb, List, [], ◌∷◌, map, length}
-use Rattle.std.proofs.Common.{slice_get, All, Option, Some, None, Result, Ok, Err, refl, sym, ◌∙◌, ap, ap₂, subst, arith}
-use Rattle.std.proofs.Common.{bytes_eq, option_map}
-use Rattle.std.specs.Option.{option_eq}
-use Rattle.std.specs.List.Sorted.{IsNonDecreasingBy}
-use Rattle.std.proofs.lemmas.Bool.{eq-eqb, eqb-true, eqb-false, le-ltb}
-use Rattle.std.proofs.lemmas.List.Elements.{All-nil, All-cons, All-append, All-head, All-map, All-tail}
-use Rattle.std.proofs.lemmas.Option.{get_or_from_slice_get, slice_get-map, slice_get_within}
-use Rattle.std.proofs.lemmas.Slice.Eq.{bytes_eq-Decides}
-use Rattle.bridge_io.proofs.AndThen.{steps_of}
-use Rattle.hls_master.specs.declared.track.MasterTrack.{MasterTrack}
-use Rattle.hls_media.specs.Laws.{IsBounded}
-use Rattle.hls_media.specs.declared.media.Media.{Media}
-use Rattle.hls_media.specs.declared.media.MediaSegment.{MediaSegment}
-use Rattle.reload_law.specs.Laws.{IsInBoth, IsLawful, RulesAreSentences}
-use Rattle.reload_law.specs.Rules.{end_of, same_part, same_range, same_segment}
-use Rattle.hls_presentation.specs.Tracks.{Source, sources}
-use Rattle.dash_writer.specs.declared.live.LiveMpd.{LiveMpd}
-use Rattle.dash_writer.specs.declared.live.LivePeriod.{LivePeriod}
-use Rattle.dash_writer.specs.declared.live.LiveRun.{LiveRun}
-use Rattle.dash_writer.specs.declared.live.LiveSegment.{LiveSegment}
-use Rattle.hls_follow.specs.declared.fault.LiveFault.{LiveFault}
-use Rattle.hls_follow.specs.declared.periods.Extent.{Extent}
-use Rattle.hls_follow.specs.declared.state.Followed.{Followed}
-use Rattle.hls_follow.specs.declared.state.FollowedTrack.{FollowedTrack}
-use Rattle.hls_follow.specs.declared.state.TimedSegment.{TimedSegment}
-use Rattle.hls_follow.specs.Histories.{AreContiguousFromTheFirst, IsPlaced, IsRound, LastPlaylistsAreListed}
-use Rattle.hls_follow.specs.Histories.{Playlists}
-use Rattle.hls_follow.specs.Histories.{SegmentsStay, StartsStayOverRounds, accepted_after}
-use Rattle.hls_follow.specs.Kept.{flags_of, formers_of, kept_by}
-use Rattle.hls_follow.specs.Laws.{Follows, IsContiguous}
-use Rattle.hls_follow.specs.Listed.{Listed, ListsTrack, Placed, listed_as, listed_of, placed_as, placed_in, placed_of}
-use Rattle.hls_follow.specs.Periods.{known_in}
-use Rattle.hls_follow.specs.Rounds.{followed_of, followed_tracks}
-use Rattle.hls_follow.specs.Groups.{groups_of}
-use Rattle.hls_follow.specs.Rules.{judged_all, judged_reload, sections_behind, sections_in, sections_of}
-use Rattle.hls_follow.specs.Times.{former_time, timed_all, timed_of, unless_late}
-use Rattle.hls_follow.proofs.Bounded.{bounded_kept, bounded_sources}
 use Rattle.hls_follow.proofs.Contiguous as contiguous
 use Rattle.hls_follow.proofs.Listing as listing
-use Rattle.hls_follow.proofs.Sections.{first_sections, same_options, same_parts, same_ranges}
 use Rattle.hls_follow.proofs.Staying as staying
+use Rattle.std.proofs.Common.{◌≡◌, ℕ, zero, suc, ◌+◌, ◌-◌, ◌<◌, ◌≤◌, Bool, true, false, ◌&&◌, eqb, ltb, List, [], ◌∷◌, map, length}
+use Rattle.std.proofs.Common.{slice_get, All, Option, Some, None, Result, Ok, Err, refl, sym, ◌∙◌, ap, ap₂, subst, arith, bytes_eq}
+use Rattle.std.proofs.{Common.option_map, lemmas.Bool.{eq-eqb, eqb-true, eqb-false, le-ltb}, lemmas.List.Elements.{All-nil, All-cons}}
+use Rattle.std.proofs.{lemmas.List.Elements.{All-append, All-head, All-map, All-tail}, lemmas.Option.{get_or_from_slice_get, slice_get-map}}
+use Rattle.std.proofs.{lemmas.Option.slice_get_within, lemmas.Slice.Eq.bytes_eq-Decides}
+use Rattle.std.specs.{Option.option_eq, List.Sorted.IsNonDecreasingBy}
+use Rattle.bridge_io.proofs.AndThen.{steps_of}
+use Rattle.hls_master.specs.declared.track.MasterTrack.{MasterTrack}
+use Rattle.hls_media.specs.{Laws.IsBounded, declared.media.Media.Media, declared.media.MediaSegment.MediaSegment}
+use Rattle.reload_law.specs.{Laws.{IsInBoth, IsLawful, RulesAreSentences}, Rules.{end_of, same_part, same_range, same_segment}}
+use Rattle.hls_presentation.specs.Tracks.{Source, sources}
+use Rattle.dash_writer.specs.{declared.live.LiveMpd.LiveMpd, declared.live.LivePeriod.LivePeriod, declared.live.LiveRun.LiveRun}
+use Rattle.dash_writer.specs.declared.live.LiveSegment.{LiveSegment}
+use Rattle.hls_follow.specs.{declared.fault.LiveFault.LiveFault, declared.periods.Extent.Extent, declared.state.Followed.Followed}
+use Rattle.hls_follow.specs.{declared.state.FollowedTrack.FollowedTrack, declared.state.TimedSegment.TimedSegment}
+use Rattle.hls_follow.specs.Histories.{AreContiguousFromTheFirst, IsPlaced, IsRound, LastPlaylistsAreListed, Playlists, SegmentsStay}
+use Rattle.hls_follow.specs.{Histories.{StartsStayOverRounds, accepted_after}, Kept.{flags_of, formers_of, kept_by}, Laws.Follows}
+use Rattle.hls_follow.specs.{Laws.IsContiguous, Listed.{Listed, ListsTrack, Placed, listed_as, listed_of, placed_as, placed_in, placed_of}}
+use Rattle.hls_follow.specs.{Periods.known_in, Rounds.{followed_of, followed_tracks}, Groups.groups_of, Rules.{judged_all, judged_reload}}
+use Rattle.hls_follow.specs.{Rules.{sections_behind, sections_in, sections_of}, Times.{former_time, timed_all, timed_of, unless_late}}
+use Rattle.hls_follow.proofs.{Bounded.{bounded_kept, bounded_sources}, Sections.{first_sections, same_options, same_parts, same_ranges}}
 
 -- ---- by induction over rounds
 

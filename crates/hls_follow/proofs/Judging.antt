@@ -1,18 +1,13 @@
 -- What is refused of a track, rule by rule.
+use Rattle.reload_law.specs.declared.unlawful.Unlawful.TheVariants as rules
 use Rattle.std.proofs.Common.{◌≡◌, ◌<◌, ◌+◌, ℕ, List, [], ◌∷◌, map, length, drop, get_or, slice_get, Option, Result, Ok, Err, refl, sym}
 use Rattle.std.proofs.Common.{◌∙◌, ap}
-use Rattle.bridge_io.specs.Answer.{and_then}
-use Rattle.bridge_io.specs.Firsts.{first_fault}
+use Rattle.bridge_io.specs.{Answer.and_then, Firsts.first_fault}
 use Rattle.reload_law.specs.declared.unlawful.Unlawful.{Unlawful as Rule}
-use Rattle.reload_law.specs.declared.unlawful.Unlawful.TheVariants as rules
 use Rattle.hls_media.specs.declared.media.Media.{Media}
-use Rattle.hls_presentation.specs.Views.{source_of}
-use Rattle.hls_presentation.specs.declared.fault.HlsFault.{HlsFault}
-use Rattle.hls_presentation.specs.declared.kept.Source.{Source as Held}
-use Rattle.hls_follow.specs.declared.fault.LiveFault.{LiveFault}
-use Rattle.hls_follow.specs.declared.fault.LiveFault.TheVariants.{Unlawful}
-use Rattle.hls_follow.specs.declared.state.FollowedTrack.{FollowedTrack}
-use Rattle.hls_follow.specs.Rules.{fault_of_track, judged_all, reload_told}
+use Rattle.hls_presentation.specs.{Views.source_of, declared.fault.HlsFault.HlsFault, declared.kept.Source.Source as Held}
+use Rattle.hls_follow.specs.{declared.fault.LiveFault.LiveFault, declared.fault.LiveFault.TheVariants.Unlawful}
+use Rattle.hls_follow.specs.{declared.state.FollowedTrack.FollowedTrack, Rules.{fault_of_track, judged_all, reload_told}}
 use Rattle.hls_follow.proofs.Keeping.{left_at}
 
 pub none_refused : (faults : List HlsFault) → Ok tt ≡ first_fault faults → Ok tt ≡ first_fault (map fault_of_track faults)

@@ -1,22 +1,13 @@
 -- Kept tracks, one after another.
 use Rattle.std.proofs.Common.{◌≡◌, ◌<◌, ◌+◌, ℕ, Bool, List, [], ◌∷◌, ◌++◌, map, length, drop, get_or, slice_get, zero, suc, All, Option}
-use Rattle.std.proofs.Common.{Some, None, IfSome, refl, sym, ◌∙◌, ap}
-use Rattle.std.proofs.Common.{append_assoc}
-use Rattle.std.specs.Borrow.{Bor}
-use Rattle.std.specs.Option.{option_copied}
-use Rattle.std.specs.Slice.{IsItemAt}
-use Rattle.std.proofs.lemmas.List.{drop_more}
-use Rattle.std.proofs.lemmas.Option.{slice_get_past, slice_get_read}
-use Rattle.std.proofs.lemmas.List.Elements.{All-nil, All-head, All-tail}
+use Rattle.std.proofs.{Common.{Some, None, IfSome, refl, sym, ◌∙◌, ap, append_assoc}, lemmas.List.drop_more, lemmas.Option.slice_get_past}
+use Rattle.std.proofs.{lemmas.Option.slice_get_read, lemmas.List.Elements.{All-nil, All-head, All-tail}}
+use Rattle.std.specs.{Borrow.Bor, Option.option_copied, Slice.IsItemAt}
 use Rattle.hls_media.specs.declared.media.Media.{Media}
-use Rattle.hls_presentation.specs.Tracks.{Source}
-use Rattle.hls_presentation.specs.Views.{source_of}
-use Rattle.hls_presentation.specs.declared.kept.Source.{Source as Held}
-use Rattle.hls_follow.specs.declared.state.Followed.{Followed}
-use Rattle.hls_follow.specs.declared.state.FollowedTrack.{FollowedTrack}
-use Rattle.hls_follow.specs.declared.state.TimedSegment.{TimedSegment}
-use Rattle.hls_follow.specs.Kept.{IsEarly, IsSound, formers_of, kept_by}
-use Rattle.hls_follow.specs.Rounds.{followed_tracks, times_in}
+use Rattle.hls_presentation.specs.{Tracks.Source, Views.source_of, declared.kept.Source.Source as Held}
+use Rattle.hls_follow.specs.{declared.state.Followed.Followed, declared.state.FollowedTrack.FollowedTrack}
+use Rattle.hls_follow.specs.{declared.state.TimedSegment.TimedSegment, Kept.{IsEarly, IsSound, formers_of, kept_by}, Rounds.followed_tracks}
+use Rattle.hls_follow.specs.Rounds.{times_in}
 
 -- what is lent of a place
 pub lent_at : {X : Type 0} (xs : List X) (i : ℕ) (r : Option (Bor X)) → IsItemAt xs i r → option_copied r ≡ slice_get xs i

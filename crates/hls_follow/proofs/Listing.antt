@@ -1,32 +1,21 @@
 -- An MPD lists what the last playlists do.
-use Rattle.std.proofs.Common.{◌≡◌, ℕ, false, zero, suc, ◌+◌, List, [], ◌∷◌, ◌++◌, map, length, slice_get, All, Option, Some, None, Ok}
-use Rattle.std.proofs.Common.{refl, sym, ◌∙◌, ap, subst, arith, option_map, unwrap_or}
+use Rattle.hls_follow.specs.Periods as periods
+use Rattle.std.proofs.Common.{◌≡◌, ℕ, false, zero, suc, ◌+◌, List, [], ◌∷◌, ◌++◌, map, length, slice_get, All, Option, Some, None, Ok, refl}
+use Rattle.std.proofs.{Common.{sym, ◌∙◌, ap, subst, arith, option_map, unwrap_or}, lemmas.List.map-append, lemmas.List.Elements.All-head}
+use Rattle.std.proofs.{lemmas.List.Elements.All-tail, lemmas.Option.slice_get-map}
 use Rattle.std.specs.List.{list_any}
-use Rattle.std.proofs.lemmas.List.{map-append}
-use Rattle.std.proofs.lemmas.List.Elements.{All-head, All-tail}
-use Rattle.std.proofs.lemmas.Option.{slice_get-map}
 use Rattle.bridge_io.proofs.AndThen.{steps_of}
 use Rattle.url_parts.specs.declared.address.Part.{Part}
 use Rattle.hls_media.specs.declared.media.MediaSegment.{MediaSegment}
-use Rattle.hls_presentation.specs.Presenting.{flattened}
-use Rattle.hls_presentation.specs.Tracks.{Source, map_changes}
-use Rattle.dash_writer.specs.declared.live.LiveMpd.{LiveMpd}
-use Rattle.dash_writer.specs.declared.live.LivePeriod.{LivePeriod}
-use Rattle.dash_writer.specs.declared.live.LiveRun.{LiveRun}
+use Rattle.hls_presentation.specs.{Presenting.flattened, Tracks.{Source, map_changes}}
+use Rattle.dash_writer.specs.{declared.live.LiveMpd.LiveMpd, declared.live.LivePeriod.LivePeriod, declared.live.LiveRun.LiveRun}
 use Rattle.dash_writer.specs.declared.live.LiveSegment.{LiveSegment}
-use Rattle.hls_follow.specs.declared.state.Followed.{Followed}
-use Rattle.hls_follow.specs.declared.state.FollowedTrack.{FollowedTrack}
-use Rattle.hls_follow.specs.declared.state.Last.{Last}
-use Rattle.hls_follow.specs.declared.state.TimedSegment.{TimedSegment}
-use Rattle.hls_follow.specs.Groups.{group_at, groups_of, row_at, row_end}
-use Rattle.hls_follow.specs.Kept.{formers_of}
+use Rattle.hls_follow.specs.{declared.state.Followed.Followed, declared.state.FollowedTrack.FollowedTrack, declared.state.Last.Last}
+use Rattle.hls_follow.specs.{declared.state.TimedSegment.TimedSegment, Groups.{group_at, groups_of, row_at, row_end}, Kept.formers_of}
 use Rattle.hls_follow.specs.Listed.{Listed, ListsTrack, Placed, listed_as, listed_of, placed_as, placed_in, placed_of}
-use Rattle.hls_follow.specs.Periods as periods
-use Rattle.hls_follow.specs.Rounds.{followed_tracks, times_in}
-use Rattle.hls_follow.specs.Rules.{sections_behind, sections_of}
-use Rattle.hls_follow.specs.Times.{behind_segment, is_late, last_of, time_of, timed_all, timed_from, timed_of, unless_late}
-use Rattle.hls_follow.proofs.Contiguous.{length_timed}
-use Rattle.hls_follow.proofs.Sections.{AreCut, AreOf, cut, flat, segments_in, sections_at, unchanged_at}
+use Rattle.hls_follow.specs.{Rounds.{followed_tracks, times_in}, Rules.{sections_behind, sections_of}, Times.{behind_segment, is_late}}
+use Rattle.hls_follow.specs.Times.{last_of, time_of, timed_all, timed_from, timed_of, unless_late}
+use Rattle.hls_follow.proofs.{Contiguous.length_timed, Sections.{AreCut, AreOf, cut, flat, segments_in, sections_at, unchanged_at}}
 use Rattle.hls_follow.proofs.Staying.{Parts, same_by}
 
 -- ---- segments with their times

@@ -1,32 +1,20 @@
 -- In each run a segment begins where the one before it ends.
-use Rattle.std.proofs.Common.{◌≡◌, ℕ, suc, ◌+◌, List, [], ◌∷◌, ◌++◌, map, length, get_or, slice_get, All, Option, Some, None, Ok}
-use Rattle.std.proofs.Common.{refl, sym, ◌∙◌, ap, subst, arith}
-use Rattle.std.proofs.lemmas.List.{length-map, map-append}
-use Rattle.std.proofs.lemmas.List.Elements.{All-nil, All-cons}
+use Rattle.hls_follow.specs.Periods as periods
+use Rattle.std.proofs.Common.{◌≡◌, ℕ, suc, ◌+◌, List, [], ◌∷◌, ◌++◌, map, length, get_or, slice_get, All, Option, Some, None, Ok, refl, sym}
+use Rattle.std.proofs.{Common.{◌∙◌, ap, subst, arith}, lemmas.List.{length-map, map-append}, lemmas.List.Elements.{All-nil, All-cons}}
 use Rattle.std.proofs.lemmas.Option.{slice_get-get_or}
 use Rattle.bridge_io.proofs.AndThen.{steps_of}
 use Rattle.hls_media.specs.declared.media.MediaSegment.{MediaSegment}
 use Rattle.hls_presentation.specs.Tracks.{Source, sources}
-use Rattle.dash_writer.specs.Live.{first_time}
-use Rattle.dash_writer.specs.declared.live.LiveMpd.{LiveMpd}
-use Rattle.dash_writer.specs.declared.live.LivePeriod.{LivePeriod}
-use Rattle.dash_writer.specs.declared.live.LiveRun.{LiveRun}
-use Rattle.dash_writer.specs.declared.live.LiveSegment.{LiveSegment}
+use Rattle.dash_writer.specs.{Live.first_time, declared.live.LiveMpd.LiveMpd, declared.live.LivePeriod.LivePeriod}
+use Rattle.dash_writer.specs.{declared.live.LiveRun.LiveRun, declared.live.LiveSegment.LiveSegment}
 use Rattle.reload_law.specs.Laws.{RulesAreSentences}
-use Rattle.hls_follow.specs.declared.state.Followed.{Followed}
-use Rattle.hls_follow.specs.declared.state.FollowedTrack.{FollowedTrack}
-use Rattle.hls_follow.specs.declared.state.TimedSegment.{TimedSegment}
-use Rattle.hls_follow.specs.Groups.{group_at, groups_of, row_at}
-use Rattle.hls_follow.specs.Histories.{RunsGoOn}
-use Rattle.hls_follow.specs.Kept.{formers_of}
-use Rattle.hls_follow.specs.Laws.{IsContiguous}
-use Rattle.hls_follow.specs.Listed.{GoesOn, Listed, ListsTrack, Placed, listed_as, listed_of, placed_as, placed_in, placed_of, times_from}
-use Rattle.hls_follow.specs.Periods as periods
-use Rattle.hls_follow.specs.Rounds.{followed_tracks}
-use Rattle.hls_follow.specs.Times.{timed_all, timed_of, unless_late}
-use Rattle.hls_follow.proofs.Contiguous.{some_at}
-use Rattle.hls_follow.proofs.Histories.{Any, at_index, from_first, last_are_listed, times_are}
-use Rattle.hls_follow.proofs.Listing.{period_is}
+use Rattle.hls_follow.specs.{declared.state.Followed.Followed, declared.state.FollowedTrack.FollowedTrack}
+use Rattle.hls_follow.specs.{declared.state.TimedSegment.TimedSegment, Groups.{group_at, groups_of, row_at}, Histories.RunsGoOn}
+use Rattle.hls_follow.specs.{Kept.formers_of, Laws.IsContiguous, Listed.{GoesOn, Listed, ListsTrack, Placed, listed_as, listed_of}}
+use Rattle.hls_follow.specs.{Listed.{placed_as, placed_in, placed_of, times_from}, Rounds.followed_tracks, Times.{timed_all, timed_of}}
+use Rattle.hls_follow.specs.Times.{unless_late}
+use Rattle.hls_follow.proofs.{Contiguous.some_at, Histories.{Any, at_index, from_first, last_are_listed, times_are}, Listing.period_is}
 use Rattle.hls_follow.proofs.Staying.{Parts, parts_of}
 
 -- ---- segments of a section one behind another

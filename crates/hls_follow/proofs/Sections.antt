@@ -1,26 +1,18 @@
 -- The segments of a track, section by section.
-use Rattle.std.proofs.Common.{◌≡◌, ℕ, zero, suc, Bool, true, false, ◌&&◌, cond, eqb, List, [], ◌∷◌, ◌++◌, map, length, All}
-use Rattle.std.proofs.Common.{slice_get, Option, Some, None, Ok, Err, refl, sym, ◌∙◌, ap, ap₂, subst, bytes_eq}
-use Rattle.std.specs.List.{list_all}
-use Rattle.std.specs.Option.{option_eq}
-use Rattle.std.proofs.lemmas.Bool.{eqb-true}
-use Rattle.std.proofs.lemmas.List.Elements.{All-nil, All-cons}
-use Rattle.std.proofs.lemmas.Slice.Eq.{bytes_eq-Decides}
+use Rattle.std.proofs.Common.{◌≡◌, ℕ, zero, suc, Bool, true, false, ◌&&◌, cond, eqb, List, [], ◌∷◌, ◌++◌, map, length, All, slice_get}
+use Rattle.std.proofs.{Common.{Option, Some, None, Ok, Err, refl, sym, ◌∙◌, ap, ap₂, subst, bytes_eq}, lemmas.Bool.eqb-true}
+use Rattle.std.proofs.{lemmas.List.Elements.{All-nil, All-cons}, lemmas.Slice.Eq.bytes_eq-Decides}
+use Rattle.std.specs.{List.list_all, Option.option_eq}
 use Rattle.bridge_io.proofs.AndThen.{steps_of}
 use Rattle.bridge_io.specs.Firsts.{first_fault}
-use Rattle.url_parts.specs.declared.address.Part.{Part}
-use Rattle.url_parts.specs.declared.range.Range.{Range}
-use Rattle.hls_media.specs.declared.media.Media.{Media}
-use Rattle.hls_media.specs.declared.media.MediaSegment.{MediaSegment}
-use Rattle.hls_presentation.specs.declared.fault.HlsFault.TheVariants.{MapChanged, NoMap, ZeroDuration}
-use Rattle.hls_presentation.specs.Presenting.{flattened}
-use Rattle.hls_presentation.specs.Tracks.{Source, changes_map, fault_if, has_empty, lacks_maps, map_changes, map_changes_behind}
-use Rattle.hls_presentation.specs.Tracks.{same_part, same_range}
-use Rattle.hls_follow.specs.declared.fault.LiveFault.TheVariants.{NoTracks, SectionsDiffer}
-use Rattle.hls_follow.specs.declared.state.TimedSegment.{TimedSegment}
-use Rattle.hls_follow.specs.Groups.{groups_of, put_before}
-use Rattle.hls_follow.specs.Rules.{common_sections, fault_of_track, has_sections, judged_segments, judged_segments_of, sections_behind}
-use Rattle.hls_follow.specs.Rules.{sections_in, sections_of}
+use Rattle.url_parts.specs.{declared.address.Part.Part, declared.range.Range.Range}
+use Rattle.hls_media.specs.{declared.media.Media.Media, declared.media.MediaSegment.MediaSegment}
+use Rattle.hls_presentation.specs.{declared.fault.HlsFault.TheVariants.{MapChanged, NoMap, ZeroDuration}, Presenting.flattened}
+use Rattle.hls_presentation.specs.Tracks.{Source, changes_map, fault_if, has_empty, lacks_maps, map_changes, map_changes_behind, same_part}
+use Rattle.hls_presentation.specs.Tracks.{same_range}
+use Rattle.hls_follow.specs.{declared.fault.LiveFault.TheVariants.{NoTracks, SectionsDiffer}, declared.state.TimedSegment.TimedSegment}
+use Rattle.hls_follow.specs.{Groups.{groups_of, put_before}, Rules.{common_sections, fault_of_track, has_sections, judged_segments}}
+use Rattle.hls_follow.specs.Rules.{judged_segments_of, sections_behind, sections_in, sections_of}
 
 -- ---- maps
 

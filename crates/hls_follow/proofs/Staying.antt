@@ -1,30 +1,20 @@
 -- What stays from one accepted round to the next.
+use Rattle.hls_follow.specs.Periods as periods
 use Rattle.std.proofs.Common.{◌≡◌, ℕ, zero, suc, ◌+◌, ◌-◌, ◌<◌, ◌^◌, Bool, true, false, leb, ltb, max, List, [], ◌∷◌, map, length}
-use Rattle.std.proofs.Common.{slice_get, All, Option, Some, None, Ok, Err, ℤ, refl, sym, ◌∙◌, ap, subst, arith}
-use Rattle.std.specs.List.{list_any}
-use Rattle.std.proofs.lemmas.Bool.{le-ltb}
+use Rattle.std.proofs.{Common.{slice_get, All, Option, Some, None, Ok, Err, ℤ, refl, sym, ◌∙◌, ap, subst, arith}, lemmas.Bool.le-ltb}
 use Rattle.std.proofs.lemmas.List.Elements.{All-nil, All-cons}
+use Rattle.std.specs.List.{list_any}
 use Rattle.bridge_io.proofs.AndThen.{steps_of}
 use Rattle.hls_master.specs.declared.track.MasterTrack.{MasterTrack}
-use Rattle.hls_media.specs.declared.media.Media.{Media}
-use Rattle.hls_media.specs.declared.media.MediaSegment.{MediaSegment}
+use Rattle.hls_media.specs.{declared.media.Media.Media, declared.media.MediaSegment.MediaSegment}
 use Rattle.hls_presentation.specs.Tracks.{Source, sources}
-use Rattle.dash_writer.specs.declared.live.LiveMpd.{LiveMpd}
-use Rattle.dash_writer.specs.declared.live.LivePeriod.{LivePeriod}
-use Rattle.hls_follow.specs.declared.fault.LiveFault.TheVariants.{Limit}
-use Rattle.hls_follow.specs.declared.periods.Extent.{Extent}
-use Rattle.hls_follow.specs.declared.state.Followed.{Followed}
-use Rattle.hls_follow.specs.declared.state.FollowedTrack.{FollowedTrack}
-use Rattle.hls_follow.specs.declared.state.TimedSegment.{TimedSegment}
-use Rattle.hls_follow.specs.declared.state.Last.{Last}
-use Rattle.hls_follow.specs.Groups.{groups_of, row_at, row_end}
-use Rattle.hls_follow.specs.Kept.{flags_of, formers_of, periods_of}
-use Rattle.hls_follow.specs.Laws.{NumbersKeepTheirTimes, SectionsKeepTheirStarts, StartsStay}
-use Rattle.hls_follow.specs.Periods as periods
-use Rattle.hls_follow.specs.Rounds.{followed_by, followed_of, followed_tracks, followed_with, judged_tracks, kept_in, mpd_of}
-use Rattle.hls_follow.specs.Rounds.{mpd_or_fault, placed_of, start_of, times_in}
-use Rattle.hls_follow.specs.Rules.{common_sections, judged_all, judged_at, judged_count, judged_reload, judged_section}
-use Rattle.hls_follow.specs.Rules.{judged_segments}
+use Rattle.dash_writer.specs.{declared.live.LiveMpd.LiveMpd, declared.live.LivePeriod.LivePeriod}
+use Rattle.hls_follow.specs.{declared.fault.LiveFault.TheVariants.Limit, declared.periods.Extent.Extent, declared.state.Followed.Followed}
+use Rattle.hls_follow.specs.{declared.state.FollowedTrack.FollowedTrack, declared.state.TimedSegment.TimedSegment, declared.state.Last.Last}
+use Rattle.hls_follow.specs.{Groups.{groups_of, row_at, row_end}, Kept.{flags_of, formers_of, periods_of}, Laws.NumbersKeepTheirTimes}
+use Rattle.hls_follow.specs.{Laws.{SectionsKeepTheirStarts, StartsStay}, Rounds.{followed_by, followed_of, followed_tracks, followed_with}}
+use Rattle.hls_follow.specs.{Rounds.{judged_tracks, kept_in, mpd_of, mpd_or_fault, placed_of, start_of, times_in}, Rules.common_sections}
+use Rattle.hls_follow.specs.Rules.{judged_all, judged_at, judged_count, judged_reload, judged_section, judged_segments}
 use Rattle.hls_follow.specs.Times.{behind_segment, former_time, is_late, last_of, time_of, timed_all, timed_from, timed_of, unless_late}
 
 -- ---- the parts of what an accepted round leaves

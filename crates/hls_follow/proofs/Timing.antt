@@ -1,21 +1,14 @@
 -- Times of segments, one after another.
-use Rattle.std.proofs.Common.{◌≡◌, ◌<◌, ℕ, ◌+◌, Bool, true, false, List, [], ◌∷◌, ◌++◌, map, length, drop, get_or, slice_get}
-use Rattle.std.proofs.Common.{Option, Some, Result, Ok, Err, IfSome, refl}
-use Rattle.std.proofs.Common.{sym, ◌∙◌, ap}
-use Rattle.std.proofs.lemmas.Option.{IfSome_then}
+use Rattle.std.proofs.Common.{◌≡◌, ◌<◌, ℕ, ◌+◌, Bool, true, false, List, [], ◌∷◌, ◌++◌, map, length, drop, get_or, slice_get, Option, Some}
+use Rattle.std.proofs.{Common.{Result, Ok, Err, IfSome, refl, sym, ◌∙◌, ap}, lemmas.Option.IfSome_then}
 use Rattle.bridge_io.specs.Answer.{and_then}
 use Rattle.hls_media.specs.declared.media.MediaSegment.{MediaSegment}
-use Rattle.hls_presentation.specs.Views.{source_of}
-use Rattle.hls_presentation.specs.declared.kept.Source.{Source as Held}
-use Rattle.hls_follow.specs.declared.fault.LiveFault.{LiveFault}
-use Rattle.hls_follow.specs.declared.fault.LiveFault.TheVariants.{Limit}
-use Rattle.hls_follow.specs.declared.state.FollowedTrack.{FollowedTrack}
-use Rattle.hls_follow.specs.declared.state.TimedSegment.{TimedSegment}
-use Rattle.hls_follow.specs.declared.state.Last.{Last}
-use Rattle.hls_follow.specs.Faults.{behind, told}
-use Rattle.hls_follow.specs.Times.{behind_segment, is_late, time_of, timed_all, timed_from, timed_of, timed_within, unless_late}
-use Rattle.hls_follow.proofs.Gathering.{behind_more, in_time, stop, too_late, turn}
-use Rattle.hls_follow.proofs.Keeping.{left_at}
+use Rattle.hls_presentation.specs.{Views.source_of, declared.kept.Source.Source as Held}
+use Rattle.hls_follow.specs.{declared.fault.LiveFault.LiveFault, declared.fault.LiveFault.TheVariants.Limit}
+use Rattle.hls_follow.specs.{declared.state.FollowedTrack.FollowedTrack, declared.state.TimedSegment.TimedSegment, declared.state.Last.Last}
+use Rattle.hls_follow.specs.{Faults.{behind, told}, Times.{behind_segment, is_late, time_of, timed_all, timed_from, timed_of, timed_within}}
+use Rattle.hls_follow.specs.Times.{unless_late}
+use Rattle.hls_follow.proofs.{Gathering.{behind_more, in_time, stop, too_late, turn}, Keeping.left_at}
 
 abbrev at : MediaSegment → ℕ → TimedSegment
 at s time = record { segment = s; time = time }

@@ -1,8 +1,7 @@
 -- What is refused, and what goes on.
 use Rattle.std.specs.Prelude.{Bool, true, false, List, ◌++◌, Option, Some, None, Result, Ok, Err}
 use Rattle.bridge_io.specs.Answer.{and_then}
-use Rattle.hls_follow.specs.declared.fault.LiveFault.{LiveFault}
-use Rattle.hls_follow.specs.declared.fault.LiveFault.TheVariants.{Memory}
+use Rattle.hls_follow.specs.{declared.fault.LiveFault.LiveFault, declared.fault.LiveFault.TheVariants.Memory}
 
 -- want of memory tells nothing of playlists
 abbrev pub told : LiveFault → Option LiveFault

@@ -1,16 +1,12 @@
 -- What stays over every list of accepted rounds.
-use Rattle.std.specs.Prelude.{◌≡◌, ℕ, ◌-◌, ◌≤◌, List, [], ◌∷◌, All, length, slice_get, Option, Some, None, option_and_then, Result, Ok}
-use Rattle.std.specs.Prelude.{Err, ℤ}
+use Rattle.std.specs.Prelude.{◌≡◌, ℕ, ◌-◌, ◌≤◌, List, [], ◌∷◌, All, length, slice_get, Option, Some, None, option_and_then, Result, Ok, Err}
+use Rattle.std.specs.Prelude.{ℤ}
 use Rattle.hls_master.specs.declared.track.MasterTrack.{MasterTrack}
-use Rattle.hls_media.specs.Laws.{IsBounded}
-use Rattle.hls_media.specs.declared.media.Media.{Media}
+use Rattle.hls_media.specs.{Laws.IsBounded, declared.media.Media.Media}
 use Rattle.dash_writer.specs.declared.live.LivePeriod.{LivePeriod}
-use Rattle.hls_follow.specs.declared.fault.LiveFault.{LiveFault}
-use Rattle.hls_follow.specs.declared.state.Followed.{Followed}
-use Rattle.hls_follow.specs.declared.state.FollowedTrack.{FollowedTrack}
-use Rattle.hls_follow.specs.Laws.{IsContiguous, Lists}
-use Rattle.hls_follow.specs.Listed.{GoesOn, ListsTrack, Placed, placed_of}
-use Rattle.hls_follow.specs.Rounds.{followed_of}
+use Rattle.hls_follow.specs.{declared.fault.LiveFault.LiveFault, declared.state.Followed.Followed}
+use Rattle.hls_follow.specs.{declared.state.FollowedTrack.FollowedTrack, Laws.{IsContiguous, Lists}, Listed.{GoesOn, ListsTrack, Placed}}
+use Rattle.hls_follow.specs.{Listed.placed_of, Rounds.followed_of}
 
 -- ---- rounds one behind another
 

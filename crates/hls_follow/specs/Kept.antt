@@ -2,10 +2,8 @@
 use Rattle.std.specs.Prelude.{◌<◌, ◌^◌, Bool, List, [], ◌∷◌, map, All, Option, Some, None, if◌then◌else◌}
 use Rattle.hls_media.specs.Laws.{IsBounded}
 use Rattle.hls_presentation.specs.Tracks.{Source, is_kept}
-use Rattle.dash_writer.specs.Live.{IsLive}
-use Rattle.dash_writer.specs.declared.live.LivePeriod.{LivePeriod}
-use Rattle.hls_follow.specs.declared.state.Followed.{Followed}
-use Rattle.hls_follow.specs.declared.state.FollowedTrack.{FollowedTrack}
+use Rattle.dash_writer.specs.{Live.IsLive, declared.live.LivePeriod.LivePeriod}
+use Rattle.hls_follow.specs.{declared.state.Followed.Followed, declared.state.FollowedTrack.FollowedTrack}
 
 -- before the first accepted round there are none
 abbrev pub formers_of : Option Followed → List FollowedTrack

@@ -1,17 +1,11 @@
 -- What stays from one accepted round to the next.
 use Rattle.std.specs.Prelude.{◌≡◌, ℕ, ◌+◌, ◌<◌, ◌≤◌, List, All, length, slice_get, Option, Some, Ok, ℤ}
 use Rattle.hls_master.specs.declared.track.MasterTrack.{MasterTrack}
-use Rattle.hls_media.specs.declared.media.Media.{Media}
-use Rattle.hls_media.specs.declared.media.MediaSegment.{MediaSegment}
+use Rattle.hls_media.specs.{declared.media.Media.Media, declared.media.MediaSegment.MediaSegment}
 use Rattle.reload_law.specs.Rules.{end_of}
 use Rattle.dash_writer.specs.declared.live.LivePeriod.{LivePeriod}
-use Rattle.hls_follow.specs.declared.periods.Extent.{Extent}
-use Rattle.hls_follow.specs.declared.state.Followed.{Followed}
-use Rattle.hls_follow.specs.declared.state.FollowedTrack.{FollowedTrack}
-use Rattle.hls_follow.specs.Kept.{formers_of}
-use Rattle.hls_follow.specs.Periods.{known_in}
-use Rattle.hls_follow.specs.Rounds.{followed_of}
-use Rattle.hls_follow.specs.Times.{former_time}
+use Rattle.hls_follow.specs.{declared.periods.Extent.Extent, declared.state.Followed.Followed, declared.state.FollowedTrack.FollowedTrack}
+use Rattle.hls_follow.specs.{Kept.formers_of, Periods.known_in, Rounds.followed_of, Times.former_time}
 
 -- A round was accepted behind others.
 pub record Follows (old new : Followed) : Type 0 where

@@ -1,26 +1,16 @@
 -- A round of playlists behind those that were accepted (RFC 8216, 6.2; ISO/IEC 23009-1, 5.3).
-use Rattle.std.specs.Prelude.{ℕ, max, Bool, List, [], ◌∷◌, map, if◌then◌else◌, Option, Some, None, Result, Ok, Err}
-use Rattle.std.specs.Prelude.{ℤ, pos, neg_ℤ, ◌-ℤ◌, ◌*ℤ◌, int_lt}
-use Rattle.std.specs.Int.{int_div_euclid}
-use Rattle.std.specs.List.{list_all}
+use Rattle.std.specs.Prelude.{ℕ, max, Bool, List, [], ◌∷◌, map, if◌then◌else◌, Option, Some, None, Result, Ok, Err, ℤ, pos, neg_ℤ, ◌-ℤ◌}
+use Rattle.std.specs.{Prelude.{◌*ℤ◌, int_lt}, Int.int_div_euclid, List.list_all}
 use Rattle.bridge_io.specs.Answer.{and_then}
 use Rattle.hls_master.specs.declared.track.MasterTrack.{MasterTrack}
 use Rattle.hls_media.specs.declared.media.Media.{Media}
-use Rattle.hls_presentation.specs.Presenting.{track_of}
-use Rattle.hls_presentation.specs.Tracks.{Source, sources}
-use Rattle.dash_writer.specs.declared.live.LiveMpd.{LiveMpd}
-use Rattle.dash_writer.specs.declared.live.LivePeriod.{LivePeriod}
-use Rattle.hls_follow.specs.declared.fault.LiveFault.{LiveFault}
-use Rattle.hls_follow.specs.declared.fault.LiveFault.TheVariants.{Limit}
-use Rattle.hls_follow.specs.declared.state.Followed.{Followed}
-use Rattle.hls_follow.specs.declared.state.FollowedTrack.{FollowedTrack}
-use Rattle.hls_follow.specs.declared.state.TimedSegment.{TimedSegment}
-use Rattle.hls_follow.specs.Groups.{groups_of}
-use Rattle.hls_follow.specs.Kept.{flags_of, formers_of, kept_by, periods_of}
-use Rattle.hls_follow.specs.Periods.{last_end, periods_from}
-use Rattle.hls_follow.specs.Rules.{appended_from, common_sections, judged_all, judged_at, judged_count, judged_reload, judged_section}
-use Rattle.hls_follow.specs.Rules.{judged_segments}
-use Rattle.hls_follow.specs.Times.{timed_all}
+use Rattle.hls_presentation.specs.{Presenting.track_of, Tracks.{Source, sources}}
+use Rattle.dash_writer.specs.{declared.live.LiveMpd.LiveMpd, declared.live.LivePeriod.LivePeriod}
+use Rattle.hls_follow.specs.{declared.fault.LiveFault.LiveFault, declared.fault.LiveFault.TheVariants.Limit}
+use Rattle.hls_follow.specs.{declared.state.Followed.Followed, declared.state.FollowedTrack.FollowedTrack}
+use Rattle.hls_follow.specs.{declared.state.TimedSegment.TimedSegment, Groups.groups_of, Kept.{flags_of, formers_of, kept_by, periods_of}}
+use Rattle.hls_follow.specs.{Periods.{last_end, periods_from}, Rules.{appended_from, common_sections, judged_all, judged_at, judged_count}}
+use Rattle.hls_follow.specs.{Rules.{judged_reload, judged_section, judged_segments}, Times.timed_all}
 
 -- ---- the presentation as it is told at an instant
 

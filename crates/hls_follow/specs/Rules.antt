@@ -1,26 +1,16 @@
 -- What is refused of a round, rule by rule.
-use Rattle.std.specs.Prelude.{ℕ, ◌+◌, ◌-◌, ◌==◌, ◌||◌, nat_eq, nat_lt, Bool, List, [], ◌∷◌, length, map, slice_get, sum_by}
-use Rattle.std.specs.Prelude.{if◌then◌else◌, Option, Some, None, Result, Ok, Err, ℤ, int_lt}
-use Rattle.std.specs.Cmp.Lexicographic.{pointwise}
-use Rattle.std.specs.List.{list_all}
-use Rattle.std.specs.Option.{option_eq}
-use Rattle.bridge_io.specs.Answer.{and_then}
-use Rattle.bridge_io.specs.Firsts.{first_fault}
-use Rattle.hls_media.specs.declared.media.Media.{Media}
-use Rattle.hls_media.specs.declared.media.MediaSegment.{MediaSegment}
-use Rattle.reload_law.specs.Rules.{end_of, lawful, segments_from}
-use Rattle.reload_law.specs.declared.unlawful.Unlawful.{Unlawful as Rule}
-use Rattle.reload_law.specs.declared.unlawful.Unlawful.TheVariants.{ThreeTargets}
-use Rattle.hls_presentation.specs.declared.fault.HlsFault.{HlsFault}
 use Rattle.hls_presentation.specs.declared.fault.HlsFault.TheVariants as hls
-use Rattle.hls_presentation.specs.Tracks.{Source, segment_faults}
-use Rattle.hls_follow.specs.declared.fault.LiveFault.{LiveFault}
-use Rattle.hls_follow.specs.declared.fault.LiveFault.TheVariants.{Ended, ClockBack, NoMap, MapChanged, ZeroDuration, SectionsDiffer}
-use Rattle.hls_follow.specs.declared.fault.LiveFault.TheVariants.{NoTracks, Unlawful, SectionBack, Limit}
-use Rattle.hls_follow.specs.declared.state.Followed.{Followed}
-use Rattle.hls_follow.specs.declared.state.FollowedTrack.{FollowedTrack}
-use Rattle.hls_follow.specs.Faults.{refused_if}
-use Rattle.hls_follow.specs.Times.{last_in}
+use Rattle.std.specs.Prelude.{ℕ, ◌+◌, ◌-◌, ◌==◌, ◌||◌, nat_eq, nat_lt, Bool, List, [], ◌∷◌, length, map, slice_get, sum_by, if◌then◌else◌}
+use Rattle.std.specs.{Prelude.{Option, Some, None, Result, Ok, Err, ℤ, int_lt}, Cmp.Lexicographic.pointwise, List.list_all}
+use Rattle.std.specs.Option.{option_eq}
+use Rattle.bridge_io.specs.{Answer.and_then, Firsts.first_fault}
+use Rattle.hls_media.specs.{declared.media.Media.Media, declared.media.MediaSegment.MediaSegment}
+use Rattle.reload_law.specs.{Rules.{end_of, lawful, segments_from}, declared.unlawful.Unlawful.Unlawful as Rule}
+use Rattle.reload_law.specs.declared.unlawful.Unlawful.TheVariants.{ThreeTargets}
+use Rattle.hls_presentation.specs.{declared.fault.HlsFault.HlsFault, Tracks.{Source, segment_faults}}
+use Rattle.hls_follow.specs.{declared.fault.LiveFault.LiveFault, declared.fault.LiveFault.TheVariants.{Ended, ClockBack, NoMap, MapChanged}}
+use Rattle.hls_follow.specs.declared.fault.LiveFault.TheVariants.{ZeroDuration, SectionsDiffer, NoTracks, Unlawful, SectionBack, Limit}
+use Rattle.hls_follow.specs.{declared.state.Followed.Followed, declared.state.FollowedTrack.FollowedTrack, Faults.refused_if, Times.last_in}
 
 -- ---- the instant
 

@@ -1,19 +1,14 @@
 -- Attributes and commas are read as they are written.
 use Rattle.std.proofs.Common.{◌≡◌, ℕ, suc, ◌+◌, ◌<◌, Bool, true, false, ◌||◌, not, List, [], ◌∷◌, ◌++◌, length, take, drop, position, cond}
 use Rattle.std.proofs.Common.{eqb, ltb, Option, Some, None, option_map, option_and_then, unwrap_or, refl, sym, ◌∙◌, ap, subst, arith, inl}
-use Rattle.std.proofs.Common.{inr, append_assoc, get_or, length-append}
-use Rattle.std.specs.Bool.{⊤}
-use Rattle.std.specs.List.{list_any, list_all, position_or_len}
-use Rattle.std.proofs.lemmas.Bool.{cases_Bool, eqb-true, ltb-true, lt-ltb, and_parts}
-use Rattle.std.proofs.lemmas.Bool.Decides.{nat_tests}
-use Rattle.std.proofs.lemmas.List.{take-append-drop}
-use Rattle.std.proofs.lemmas.List.Folds.{length-prefix_len}
-use Rattle.std.proofs.lemmas.List.Sums.{split_at_first, passes_at_first, prefix_len-le-length}
-use Rattle.std.proofs.Math.Seq.{take-append_seam, drop-append-add, drop-append_seam}
+use Rattle.std.proofs.{Common.{inr, append_assoc, get_or, length-append}, lemmas.Bool.{cases_Bool, eqb-true, ltb-true, lt-ltb, and_parts}}
+use Rattle.std.proofs.{lemmas.Bool.Decides.nat_tests, lemmas.List.take-append-drop, lemmas.List.Folds.length-prefix_len}
+use Rattle.std.proofs.{lemmas.List.Sums.{split_at_first, passes_at_first, prefix_len-le-length}, Math.Seq.take-append_seam}
+use Rattle.std.proofs.Math.Seq.{drop-append-add, drop-append_seam}
+use Rattle.std.specs.{Bool.⊤, List.{list_any, list_all, position_or_len}}
 use Rattle.hls_lines.specs.Attributes.{NameValue, after_comma, attribute_at, attribute_with, ends_value, is_equals, is_name, is_name_byte}
-use Rattle.hls_lines.specs.Attributes.{is_quote, plain_value, value_at, value_behind}
-use Rattle.hls_lines.specs.Grammar.{IsComma, IsPlain, IsWritten, IsWrittenValue, is_space}
-use Rattle.hls_lines.specs.Marks.{after_mark, parts_at, without_spaces}
+use Rattle.hls_lines.specs.{Attributes.{is_quote, plain_value, value_at, value_behind}, Grammar.{IsComma, IsPlain, IsWritten}}
+use Rattle.hls_lines.specs.{Grammar.{IsWrittenValue, is_space}, Marks.{after_mark, parts_at, without_spaces}}
 
 -- ---- the first byte that passes a test
 

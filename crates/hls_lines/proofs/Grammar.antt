@@ -1,22 +1,16 @@
 -- Attribute lists are read as they are written.
 use Rattle.std.proofs.Common.{◌≡◌, ℕ, zero, suc, ◌<◌, ◌≤◌, Bool, true, false, ◌||◌, not, List, [], ◌∷◌, ◌++◌, length, eqb, Option, Some}
 use Rattle.std.proofs.Common.{None, option_map, option_and_then, Ok, Err, refl, sym, ◌∙◌, ap, subst, arith, inl, inr, ◌⊎◌, append_assoc}
-use Rattle.std.proofs.Common.{length-append, bytes_eq}
+use Rattle.std.proofs.{Common.{length-append, bytes_eq}, lemmas.Bool.{cases_Bool, cases_lt, and_parts}, lemmas.Option.slice_get_within}
+use Rattle.std.proofs.{lemmas.Slice.Eq.bytes_eq-Decides, lemmas.List.append-nil}
 use Rattle.std.specs.List.{list_all, slice_get}
-use Rattle.std.proofs.lemmas.Bool.{cases_Bool, cases_lt, and_parts}
-use Rattle.std.proofs.lemmas.Option.{slice_get_within}
-use Rattle.std.proofs.lemmas.Slice.Eq.{bytes_eq-Decides}
-use Rattle.std.proofs.lemmas.List.{append-nil}
-use Rattle.bridge_io.specs.Texts.{is_among}
-use Rattle.bridge_io.specs.declared.place.Place.{Place}
+use Rattle.bridge_io.specs.{Texts.is_among, declared.place.Place.Place}
 use Rattle.hls_lines.specs.Attributes.{NameValue, after_comma, attribute_at, attributes_at, attributes_of, is_name, is_name_byte, more_by}
-use Rattle.hls_lines.specs.Attributes.{names_of, repeats_after}
-use Rattle.hls_lines.specs.Grammar.{AreWritten, IsWritten, HasDouble, ReadAreWritten, WrittenOneWay, AttributesAreTold}
-use Rattle.hls_lines.specs.Grammar.{OtherTextsAreRefused, DoublesAreRefused}
-use Rattle.hls_lines.specs.Marks.{without_spaces}
+use Rattle.hls_lines.specs.{Attributes.{names_of, repeats_after}, Grammar.{AreWritten, IsWritten, HasDouble, ReadAreWritten, WrittenOneWay}}
+use Rattle.hls_lines.specs.{Grammar.{AttributesAreTold, OtherTextsAreRefused, DoublesAreRefused}, Marks.without_spaces}
 use Rattle.hls_lines.specs.declared.fault.LineFault.TheVariants.{Attribute, DoubleAttribute}
-use Rattle.hls_lines.proofs.AttributeLemmas.{first_then, unrolled}
-use Rattle.hls_lines.proofs.AttributeTexts.{attribute_read, attribute_written, comma_read, comma_stops, comma_written, name_byte, none_of}
+use Rattle.hls_lines.proofs.{AttributeLemmas.{first_then, unrolled}, AttributeTexts.{attribute_read, attribute_written, comma_read}}
+use Rattle.hls_lines.proofs.AttributeTexts.{comma_stops, comma_written, name_byte, none_of}
 
 -- ---- lists
 

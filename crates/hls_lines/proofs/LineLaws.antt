@@ -1,33 +1,21 @@
 -- Lines are told as they are written.
 use Rattle.std.proofs.Common.{◌||◌, position, option_map, drop, ◌≡◌, ℕ, zero, suc, ◌+◌, ◌-◌, ◌<◌, ◌≤◌, Bool, true, false, not, List, []}
 use Rattle.std.proofs.Common.{◌∷◌, ◌++◌, length, take, reverse, count_by, cond, eqb, ltb, codes, Option, Some, None, unwrap_or, Ok, Err}
-use Rattle.std.proofs.Common.{refl, sym, ◌∙◌, ap, subst, arith, inl, inr, ◌⊎◌, length-append, nat_eq}
-use Rattle.std.specs.Bool.{⊤}
-use Rattle.std.specs.List.{All, join_with_byte, list_any, list_all, onto_first, position_or_len, prefix_len, slice_split, starts_with}
-use Rattle.std.specs.List.{suffix_len}
-use Rattle.std.specs.Str.{is_utf8}
-use Rattle.std.specs.Str.Lossy.{utf8_valid_len}
-use Rattle.std.proofs.lemmas.Bool.{cases_Bool, eqb-true, and_parts}
-use Rattle.std.proofs.lemmas.Bool.Decides.{nat_tests}
-use Rattle.std.proofs.lemmas.Grind.{reverse_onto}
-use Rattle.std.proofs.lemmas.List.{append-nil, reverse-append, length-reverse, take_all}
-use Rattle.std.proofs.lemmas.List.Folds.{list_all-append}
+use Rattle.std.proofs.{Common.{refl, sym, ◌∙◌, ap, subst, arith, inl, inr, ◌⊎◌, length-append, nat_eq}, lemmas.Bool.{cases_Bool, eqb-true}}
+use Rattle.std.proofs.{lemmas.Bool.and_parts, lemmas.Bool.Decides.nat_tests, lemmas.Grind.reverse_onto, lemmas.List.append-nil}
+use Rattle.std.proofs.{lemmas.List.{reverse-append, length-reverse, take_all}, lemmas.List.Folds.list_all-append}
 use Rattle.std.proofs.lemmas.List.Splits.{join_with_byte-slice_split, length-slice_split, slice_split_at, slice_split_none}
-use Rattle.std.proofs.lemmas.List.Sums.{sum_by-append}
-use Rattle.std.proofs.Math.Seq.{take-append_seam}
-use Rattle.byte_scan.specs.Class.{is_outside}
-use Rattle.byte_scan.specs.declared.class.Class.TheVariants.{Playlist}
-use Rattle.byte_scan.specs.Lines.{is_line_feed}
-use Rattle.bridge_io.specs.Places.{place_of}
-use Rattle.bridge_io.specs.declared.place.Place.{Place}
-use Rattle.hls_lines.specs.Characters.{begins_with_high_control, first_control, earlier_of, high_control_from}
-use Rattle.hls_lines.specs.LineGrammar.{AreLines, AreSaid, EndsUnblank, FileFaultsAreInOrder, FirstControlIsFirst, IsFirstControl}
+use Rattle.std.proofs.{lemmas.List.Sums.sum_by-append, Math.Seq.take-append_seam}
+use Rattle.std.specs.{Bool.⊤, List.{All, join_with_byte, list_any, list_all, onto_first, position_or_len, prefix_len, slice_split}}
+use Rattle.std.specs.{List.{starts_with, suffix_len}, Str.is_utf8, Str.Lossy.utf8_valid_len}
+use Rattle.byte_scan.specs.{Class.is_outside, declared.class.Class.TheVariants.Playlist, Lines.is_line_feed}
+use Rattle.bridge_io.specs.{Places.place_of, declared.place.Place.Place}
+use Rattle.hls_lines.specs.{Characters.{begins_with_high_control, first_control, earlier_of, high_control_from}, LineGrammar.AreLines}
+use Rattle.hls_lines.specs.LineGrammar.{AreSaid, EndsUnblank, FileFaultsAreInOrder, FirstControlIsFirst, IsFirstControl}
 use Rattle.hls_lines.specs.LineGrammar.{begins_with_control, IsPlaylist, IsTrimmed, LinesAreSaid, Says, has_no_feed, place_behind}
 use Rattle.hls_lines.specs.Lines.{PlaylistLine, behind, clean, has_header, is_blank, is_colon, line_behind, line_of, lines_if_clean}
 use Rattle.hls_lines.specs.Lines.{lines_of, marked_line, said_from, start, tag, tag_parts, text_lines, trimmed, unless_control, uri}
-use Rattle.hls_lines.specs.Lines.{with_line}
-use Rattle.hls_lines.specs.Marks.{after_mark, parts_at}
-use Rattle.hls_lines.specs.declared.fault.LineFault.TheVariants.{Header, NotUtf8}
+use Rattle.hls_lines.specs.{Lines.with_line, Marks.{after_mark, parts_at}, declared.fault.LineFault.TheVariants.{Header, NotUtf8}}
 use Rattle.hls_lines.proofs.AttributeTexts.{cut, first_at, free_before, mark_is, none_of, one_later, parts_there}
 
 -- ---- blanks at the end

@@ -1,15 +1,10 @@
 -- Which names stand twice, by a set of those before.
 use Rattle.std.proofs.Common.{◌≡◌, ℕ, Bool, true, false, List, ◌∷◌, [], ◌++◌, ◌+◌, ◌<◌, length, take, drop, get_or, not, refl, sym, ◌∙◌, ap}
-use Rattle.std.proofs.Common.{Bor, bytes_eq, ◌||◌}
-use Rattle.std.specs.List.{list_any}
-use Rattle.std.specs.BTreeMap.{is_at}
-use Rattle.std.specs.BTreeSet.{insert_key}
-use Rattle.std.proofs.lemmas.List.{at_drop_more, take_more, map-append}
+use Rattle.std.proofs.{Common.{Bor, bytes_eq, ◌||◌}, lemmas.List.{at_drop_more, take_more, map-append}}
+use Rattle.std.specs.{List.list_any, BTreeMap.is_at, BTreeSet.insert_key}
 use Rattle.bridge_io.specs.Texts.{is_among}
-use Rattle.bridge_io.proofs.NameSets.{by_name, has, has_name, insert_has}
-use Rattle.bridge_io.proofs.Texts.{among_more}
-use Rattle.hls_lines.specs.Attributes.{NameValue, names_of, repeats_after}
-use Rattle.hls_lines.specs.Pairs.{pair_of, pairs_of}
+use Rattle.bridge_io.proofs.{NameSets.{by_name, has, has_name, insert_has}, Texts.among_more}
+use Rattle.hls_lines.specs.{Attributes.{NameValue, names_of, repeats_after}, Pairs.{pair_of, pairs_of}}
 
 -- the keys are these names
 pub record AreNames (keys : List (Bor (List ℕ))) (names : List (List ℕ)) : Type 0 where

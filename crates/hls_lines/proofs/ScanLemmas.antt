@@ -1,32 +1,20 @@
 -- Scans of bytes from a place on.
 use Rattle.std.proofs.Common.{◌≡◌, ◌≢◌, ◌≤◌, ℕ, suc, ◌+◌, ◌-◌, ◌<◌, Bool, true, false, List, [], ◌∷◌, length, take, drop, position, get_or}
 use Rattle.std.proofs.Common.{Option, Some, None, Ok, Err, unwrap_or, not, refl, sym, ◌∙◌, ap, arith, inl, inr, cond, eqb, ltb, min, IsUtf8}
-use Rattle.std.proofs.Common.{IsCharBoundary, add-zero, option_map, zero}
-use Rattle.std.specs.List.{position_or_len, before_first, after_first, slice_split}
-use Rattle.std.specs.Str.{is_utf8}
-use Rattle.std.specs.Str.Lossy.{utf8_valid_len}
-use Rattle.std.proofs.lemmas.Str.{IsUtf8-from_is_utf8, is_utf8-from_IsUtf8, IsCharBoundary-end, IsCharBoundary-after_ascii}
-use Rattle.std.proofs.lemmas.Str.{IsCharBoundary-before_ascii}
-use Rattle.std.proofs.lemmas.Bool.{eqb-true, false≢true, cases_Bool, false_from_ne_true, ltb-true, ltb-false}
-use Rattle.std.proofs.lemmas.Bool.Decides.{nat_tests}
-use Rattle.std.proofs.Math.Seq.{drop-length}
-use Rattle.std.proofs.lemmas.List.{drop-drop, length-drop, take_rest}
-use Rattle.std.proofs.lemmas.List.Quantifiers.{position-Some}
-use Rattle.std.proofs.lemmas.List.Splits.{slice_split_first, slice_split_none, length-slice_split}
-use Rattle.std.proofs.lemmas.List.Sums.{fails_before_first, count_by-le-length, position_or_len_is, prefix_len-le-length}
-use Rattle.std.proofs.lemmas.Option.{none-some}
+use Rattle.std.proofs.{Common.{IsCharBoundary, add-zero, option_map, zero}, lemmas.Str.{IsUtf8-from_is_utf8, is_utf8-from_IsUtf8}}
+use Rattle.std.proofs.{lemmas.Str.{IsCharBoundary-end, IsCharBoundary-after_ascii, IsCharBoundary-before_ascii}, lemmas.Bool.eqb-true}
+use Rattle.std.proofs.{lemmas.Bool.{false≢true, cases_Bool, false_from_ne_true, ltb-true, ltb-false}, lemmas.Bool.Decides.nat_tests}
+use Rattle.std.proofs.{Math.Seq.drop-length, lemmas.List.{drop-drop, length-drop, take_rest}, lemmas.List.Quantifiers.position-Some}
+use Rattle.std.proofs.{lemmas.List.Splits.{slice_split_first, slice_split_none, length-slice_split}, lemmas.List.Sums.fails_before_first}
+use Rattle.std.proofs.{lemmas.List.Sums.{count_by-le-length, position_or_len_is, prefix_len-le-length}, lemmas.Option.none-some}
 use Rattle.std.proofs.lemmas.Grind.{common_steps}
+use Rattle.std.specs.{List.{position_or_len, before_first, after_first, slice_split}, Str.is_utf8, Str.Lossy.utf8_valid_len}
 use Rattle.memchr.specs.Find.{IsFirstByte}
-use Rattle.byte_scan.specs.Class.{is_outside}
-use Rattle.byte_scan.specs.declared.class.Class.TheVariants.{Playlist}
-use Rattle.byte_scan.specs.Lines.{is_line_feed}
-use Rattle.bridge_io.specs.Places.{place_of}
-use Rattle.bridge_io.specs.declared.place.Place.{Place}
-use Rattle.hls_lines.specs.Attributes.{ends_value}
-use Rattle.hls_lines.specs.Characters.{begins_with_high_control, high_control_from, first_control, earlier_of}
-use Rattle.hls_lines.specs.Lines.{PlaylistLine, clean, text_lines, said_from, with_line, line_of, trimmed, behind}
-use Rattle.hls_lines.specs.Marks.{after_mark, is_mark, parts_at}
-use Rattle.hls_lines.specs.declared.fault.LineFault.TheVariants.{NotUtf8, BadChar}
+use Rattle.byte_scan.specs.{Class.is_outside, declared.class.Class.TheVariants.Playlist, Lines.is_line_feed}
+use Rattle.bridge_io.specs.{Places.place_of, declared.place.Place.Place}
+use Rattle.hls_lines.specs.{Attributes.ends_value, Characters.{begins_with_high_control, high_control_from, first_control, earlier_of}}
+use Rattle.hls_lines.specs.{Lines.{PlaylistLine, clean, text_lines, said_from, with_line, line_of, trimmed, behind}, Marks.after_mark}
+use Rattle.hls_lines.specs.{Marks.{is_mark, parts_at}, declared.fault.LineFault.TheVariants.{NotUtf8, BadChar}}
 
 -- ---- single bytes
 

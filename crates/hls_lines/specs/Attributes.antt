@@ -1,12 +1,9 @@
 -- Attribute lists (RFC 8216 4.2).
 use Rattle.std.specs.Prelude.{ℕ, zero, suc, ◌==◌, ◌||◌, ◌&&◌, not, Bool, false, List, [], ◌∷◌, ◌++◌, length, take, drop, map, position}
 use Rattle.std.specs.Prelude.{unwrap_or, bytes_eq, if◌then◌else◌, Option, Some, None, option_and_then, option_map, Result, Ok, Err}
-use Rattle.std.specs.List.{list_all}
-use Rattle.std.specs.Char.{is_ascii_alphanumeric}
-use Rattle.bridge_io.specs.Texts.{is_among}
-use Rattle.bridge_io.specs.declared.place.Place.{Place}
-use Rattle.hls_lines.specs.Marks.{after_mark, parts_at, without_spaces}
-use Rattle.hls_lines.specs.declared.fault.LineFault.{LineFault}
+use Rattle.std.specs.{List.list_all, Char.is_ascii_alphanumeric}
+use Rattle.bridge_io.specs.{Texts.is_among, declared.place.Place.Place}
+use Rattle.hls_lines.specs.{Marks.{after_mark, parts_at, without_spaces}, declared.fault.LineFault.LineFault}
 use Rattle.hls_lines.specs.declared.fault.LineFault.TheVariants.{Attribute, DoubleAttribute}
 
 -- a name and its value without quotes

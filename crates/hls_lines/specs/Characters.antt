@@ -1,7 +1,6 @@
 -- The characters that no playlist may have (RFC 8216 4.1).
 use Rattle.std.specs.Prelude.{ℕ, suc, ◌==◌, ◌&&◌, nat_le, min, Bool, false, List, [], ◌∷◌, position, if◌then◌else◌, Option, Some, None}
-use Rattle.byte_scan.specs.Class.{is_outside}
-use Rattle.byte_scan.specs.declared.class.Class.TheVariants.{Playlist}
+use Rattle.byte_scan.specs.{Class.is_outside, declared.class.Class.TheVariants.Playlist}
 
 -- the bytes begin with a character U+0080 to U+009F
 abbrev pub begins_with_high_control : List ℕ → Bool

@@ -1,17 +1,11 @@
 -- The lines of a playlist as a grammar (RFC 8216 4.1): which texts say which tags and URIs, and where.
 use Rattle.std.specs.Prelude.{◌≡◌, ℕ, ◌+◌, ◌<◌, ◌↔◌, ◌⊎◌, ◌||◌, drop, not, Bool, true, false, List, [], ◌∷◌, ◌++◌, length, count_by, codes}
-use Rattle.std.specs.Prelude.{nat_eq, Option, Some, None, Ok, Err}
-use Rattle.std.specs.List.{join_with_byte, list_any, list_all, starts_with}
-use Rattle.std.specs.Str.{is_utf8}
+use Rattle.std.specs.{Prelude.{nat_eq, Option, Some, None, Ok, Err}, List.{join_with_byte, list_any, list_all, starts_with}, Str.is_utf8}
 use Rattle.std.specs.Str.Lossy.{utf8_valid_len}
-use Rattle.byte_scan.specs.Class.{is_outside}
-use Rattle.byte_scan.specs.declared.class.Class.TheVariants.{Playlist}
-use Rattle.byte_scan.specs.Lines.{is_line_feed}
-use Rattle.bridge_io.specs.Places.{place_of}
-use Rattle.bridge_io.specs.declared.place.Place.{Place}
-use Rattle.hls_lines.specs.Characters.{begins_with_high_control, first_control}
-use Rattle.hls_lines.specs.Lines.{PlaylistLine, has_header, is_blank, is_colon, lines_of, start, tag, uri, with_line}
-use Rattle.hls_lines.specs.declared.fault.LineFault.TheVariants.{BadChar, Header, NotUtf8}
+use Rattle.byte_scan.specs.{Class.is_outside, declared.class.Class.TheVariants.Playlist, Lines.is_line_feed}
+use Rattle.bridge_io.specs.{Places.place_of, declared.place.Place.Place}
+use Rattle.hls_lines.specs.{Characters.{begins_with_high_control, first_control}, Lines.{PlaylistLine, has_header, is_blank, is_colon}}
+use Rattle.hls_lines.specs.{Lines.{lines_of, start, tag, uri, with_line}, declared.fault.LineFault.TheVariants.{BadChar, Header, NotUtf8}}
 
 -- A text is empty, or ends by a byte that is no blank.
 abbrev pub EndsUnblank : List ℕ → Type 0

@@ -1,15 +1,10 @@
 -- The lines of a playlist (RFC 8216 4.1): tags and URIs, without blank lines and comments.
 use Rattle.std.specs.Prelude.{ℕ, ◌+◌, ◌-◌, ◌==◌, ◌||◌, ◌&&◌, not, is_some, Bool, true, false, List, [], ◌∷◌, length, take, codes, bytes_eq}
-use Rattle.std.specs.Prelude.{nat_eq, if◌then◌else◌, unwrap_or, Option, Some, None, Result, Ok, Err}
-use Rattle.std.specs.List.{starts_with, before_first, slice_split, suffix_len}
-use Rattle.std.specs.Str.{is_utf8}
-use Rattle.std.specs.Str.Lossy.{utf8_valid_len}
+use Rattle.std.specs.{Prelude.{nat_eq, if◌then◌else◌, unwrap_or, Option, Some, None, Result, Ok, Err}, List.{starts_with, before_first}}
+use Rattle.std.specs.{List.{slice_split, suffix_len}, Str.is_utf8, Str.Lossy.utf8_valid_len}
 use Rattle.byte_scan.specs.Lines.{is_line_feed}
-use Rattle.bridge_io.specs.Places.{place_of}
-use Rattle.bridge_io.specs.declared.place.Place.{Place}
-use Rattle.hls_lines.specs.Characters.{first_control}
-use Rattle.hls_lines.specs.Marks.{after_mark, parts_at}
-use Rattle.hls_lines.specs.declared.fault.LineFault.{LineFault}
+use Rattle.bridge_io.specs.{Places.place_of, declared.place.Place.Place}
+use Rattle.hls_lines.specs.{Characters.first_control, Marks.{after_mark, parts_at}, declared.fault.LineFault.LineFault}
 use Rattle.hls_lines.specs.declared.fault.LineFault.TheVariants.{NotUtf8, BadChar, Header, Memory}
 
 -- a line that says something, with the place of its first byte

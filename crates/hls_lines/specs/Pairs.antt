@@ -1,6 +1,5 @@
 -- Names and values as they stand in memory.
-use Rattle.std.specs.Prelude.{ℕ, List, map}
-use Rattle.std.specs.Borrow.{Bor}
+use Rattle.std.specs.{Prelude.{ℕ, List, map}, Borrow.Bor}
 use Rattle.hls_lines.specs.Attributes.{NameValue}
 
 abbrev pub pair_of : Bor (List ℕ) × Bor (List ℕ) → NameValue

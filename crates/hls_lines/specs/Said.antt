@@ -1,7 +1,5 @@
 -- What the lines that are handed out say.
-use Rattle.hls_lines.specs.declared.lines.Line.{Line}
-use Rattle.hls_lines.specs.declared.lines.Line.TheVariants.{Tag, Uri}
-use Rattle.hls_lines.specs.Lines.{PlaylistLine, tag, uri}
+use Rattle.hls_lines.specs.{declared.lines.Line.Line, declared.lines.Line.TheVariants.{Tag, Uri}, Lines.{PlaylistLine, tag, uri}}
 
 abbrev pub said : Line → PlaylistLine
 said (Tag name rest place) = tag name.now rest.now place

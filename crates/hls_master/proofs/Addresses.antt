@@ -1,12 +1,10 @@
 -- An address that isn't refused is what its URI writes.
 use Rattle.std.proofs.Common.{◌≡◌, ℕ, Bool, true, false, cond, List, ◌++◌, length, not, ltb, Ok, Err, None, refl}
 use Rattle.std.specs.List.{list_all}
-use Rattle.url.specs.Parser.{Parsed, parse_url}
-use Rattle.url.specs.Parts.{Parts}
+use Rattle.url.specs.{Parser.{Parsed, parse_url}, Parts.Parts}
 use Rattle.bridge_io.specs.Names.{is_name}
 use Rattle.url_parts.specs.Addresses.{text_of, url_of, is_absolute, folder_of, beside, unchanged, is_normal, resolve, absolute, accepted}
-use Rattle.url_parts.specs.Addresses.{is_address_byte, is_web}
-use Rattle.url_parts.specs.declared.fault.UrlFault.TheVariants.{Refused, Scheme, TooLong}
+use Rattle.url_parts.specs.{Addresses.{is_address_byte, is_web}, declared.fault.UrlFault.TheVariants.{Refused, Scheme, TooLong}}
 use Rattle.hls_master.specs.Addresses.{address_of, address_value, text_or_none}
 
 one_of_four : (url text : List ℕ) (refused other long : Bool)

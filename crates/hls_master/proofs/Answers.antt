@@ -1,13 +1,9 @@
 -- Answers that are read one after another.
 use Rattle.std.proofs.Common.{◌≡◌, ℕ, List, [], ◌∷◌, ◌++◌, Option, Some, None, Result, Ok, Err, IfSome, unwrap_or, refl, ap}
-use Rattle.bridge_io.specs.Answer.{Gives}
-use Rattle.bridge_io.specs.Firsts.{first_some}
-use Rattle.bridge_io.specs.declared.place.Place.{Place}
-use Rattle.hls_master.specs.declared.fault.MasterFault.{MasterFault}
-use Rattle.hls_master.specs.declared.fault.MasterFault.TheVariants.{Line, Missing, Value, Misplaced, Url, Muxed, GroupUnknown, SameName}
-use Rattle.hls_master.specs.declared.fault.MasterFault.TheVariants.{Encryption, Unsupported, NoTracks, Limit, Memory}
-use Rattle.hls_master.specs.Faults.{answer, refusal}
-use Rattle.hls_master.specs.Renditions.{missing}
+use Rattle.bridge_io.specs.{Answer.Gives, Firsts.first_some, declared.place.Place.Place}
+use Rattle.hls_master.specs.{declared.fault.MasterFault.MasterFault, declared.fault.MasterFault.TheVariants.{Line, Missing, Value}}
+use Rattle.hls_master.specs.declared.fault.MasterFault.TheVariants.{Misplaced, Url, Muxed, GroupUnknown, SameName, Encryption, Unsupported}
+use Rattle.hls_master.specs.{declared.fault.MasterFault.TheVariants.{NoTracks, Limit, Memory}, Faults.{answer, refusal}, Renditions.missing}
 
 -- a fault that a definition gives
 pub told : {X Y : Type 0} (see : X → Y) (fault : MasterFault) (meaning : Result Y MasterFault) → meaning ≡ Err fault

@@ -2,10 +2,8 @@
 use Rattle.std.proofs.Common.{◌≡◌, ℕ, List, [], ◌∷◌, Option, Some, None, IfNone, option_map, refl, ap}
 use Rattle.hls_lines.specs.Lines.{PlaylistLine}
 use Rattle.bridge_io.specs.declared.place.Place.{Place}
-use Rattle.hls_master.specs.declared.fault.MasterFault.TheVariants.{Misplaced}
-use Rattle.hls_master.specs.Entries.{KnownLine, media, stream, address, refused, with_known, uri_in, MasterEntry, stray, known_lines}
-use Rattle.hls_master.specs.Entries.{entries_of}
-use Rattle.hls_master.specs.declared.entry.Known.{Known}
+use Rattle.hls_master.specs.{declared.fault.MasterFault.TheVariants.Misplaced, Entries.{KnownLine, media, stream, address, refused}}
+use Rattle.hls_master.specs.{Entries.{with_known, uri_in, MasterEntry, stray, known_lines, entries_of}, declared.entry.Known.Known}
 use Rattle.hls_master.specs.Seen.{line_seen}
 
 -- what follows a variant's tag is no URI

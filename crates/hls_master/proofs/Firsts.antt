@@ -1,11 +1,9 @@
 -- The first mention of each address, one mention after another.
 use Rattle.std.proofs.Common.{◌≡◌, ℕ, ◌+◌, ◌<◌, Bool, true, false, cond, ◌||◌, not, List, [], ◌∷◌, ◌++◌, map, length, drop, get_or, None}
-use Rattle.std.proofs.Common.{refl, sym, ◌∙◌, ap, subst, append_assoc, length-append, bytes_eq, nat_lt, arith}
-use Rattle.std.proofs.lemmas.List.{drop_more, map-append}
-use Rattle.std.proofs.lemmas.Bool.Decides.{nat_tests}
+use Rattle.std.proofs.{Common.{refl, sym, ◌∙◌, ap, subst, append_assoc, length-append, bytes_eq, nat_lt, arith}, lemmas.List.drop_more}
+use Rattle.std.proofs.{lemmas.List.map-append, lemmas.Bool.Decides.nat_tests}
 use Rattle.bridge_io.specs.Texts.{is_among}
-use Rattle.hls_master.specs.Texts.{SameTexts}
-use Rattle.hls_master.specs.Tracks.{Mentioned, address_of, firsts_behind, few}
+use Rattle.hls_master.specs.{Texts.SameTexts, Tracks.{Mentioned, address_of, firsts_behind, few}}
 
 same_more : (one other : List (List ℕ)) (text : List ℕ) → SameTexts one other → SameTexts (text ∷ one) (text ∷ other)
 same_more one other text is = record { same = λ q. ap (λ b. bytes_eq q text || b) (is.same q) }

@@ -1,7 +1,6 @@
 -- Codes joined by commas.
-use Rattle.std.proofs.Common.{◌≡◌, ℕ, ◌==◌, false, List, [], ◌∷◌, ◌++◌, map, flat_map, length, Some, ap, Bor}
+use Rattle.std.proofs.{Common.{◌≡◌, ℕ, ◌==◌, false, List, [], ◌∷◌, ◌++◌, map, flat_map, length, Some, ap, Bor}, lemmas.List.append-nil}
 use Rattle.std.specs.List.{join_by, join_with_byte}
-use Rattle.std.proofs.lemmas.List.{append-nil}
 use Rattle.hls_master.specs.Codes.{joined}
 
 -- between the codes stands a comma

@@ -2,9 +2,7 @@
 use Rattle.std.proofs.Common.{◌≡◌, ℕ, Bool, true, false, ◌||◌, List, [], ◌∷◌, ◌++◌, Option, Some, None, refl, sym, ◌∙◌, ap, bytes_eq}
 use Rattle.std.proofs.lemmas.List.Folds.{list_any-append}
 use Rattle.bridge_io.specs.Texts.{is_among}
-use Rattle.hls_master.specs.Masters.{first_place, is_known, names_unknown_group}
-use Rattle.hls_master.specs.Texts.{SameTexts}
-use Rattle.hls_master.specs.Variants.{VariantValue}
+use Rattle.hls_master.specs.{Masters.{first_place, is_known, names_unknown_group}, Texts.SameTexts, Variants.VariantValue}
 
 -- two tests that agree
 pub first_place-same : (one other : VariantValue → Bool) → ((variant : VariantValue) → one variant ≡ other variant)

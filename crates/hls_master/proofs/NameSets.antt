@@ -1,19 +1,12 @@
 -- Kinds, groups and names of renditions in an ordered set.
 use Rattle.std.proofs.Common.{◌≡◌, ℕ, Bool, true, false, cond, ◌||◌, ◌&&◌, ◌==◌, List, [], ◌∷◌, ◌++◌, refl, sym, ◌∙◌, ap, Bor, bytes_eq}
-use Rattle.std.proofs.Common.{Less, Equal, Greater, Ordering, arith}
-use Rattle.std.specs.List.{list_any}
-use Rattle.std.specs.Ordering.{nat_cmp, is_eq, ordering_then}
-use Rattle.std.specs.Cmp.Lexicographic.{slice_cmp}
-use Rattle.std.specs.BTreeMap.{is_at}
-use Rattle.std.specs.BTreeSet.{BTreeSet, UpdatesBy}
-use Rattle.std.proofs.lemmas.Map.Text.{is_eq-slice_cmp}
-use Rattle.std.proofs.lemmas.List.Folds.{list_any-append}
+use Rattle.std.proofs.{Common.{Less, Equal, Greater, Ordering, arith}, lemmas.Map.Text.is_eq-slice_cmp, lemmas.List.Folds.list_any-append}
 use Rattle.std.proofs.lemmas.Bool.Decides.{nat_tests}
+use Rattle.std.specs.{List.list_any, Ordering.{nat_cmp, is_eq, ordering_then}, Cmp.Lexicographic.slice_cmp, BTreeMap.is_at}
+use Rattle.std.specs.BTreeSet.{BTreeSet, UpdatesBy}
 use Rattle.bridge_io.proofs.Texts.{bytes_eq_sym}
-use Rattle.bridge_io.specs.declared.media.Kind.{Kind}
-use Rattle.bridge_io.specs.declared.media.Kind.TheVariants.{Video, Audio, Text}
-use Rattle.hls_master.specs.Names.{is_key, number_of}
-use Rattle.hls_master.specs.Renditions.{RenditionValue, has_name_of, same_kind}
+use Rattle.bridge_io.specs.{declared.media.Kind.Kind, declared.media.Kind.TheVariants.{Video, Audio, Text}}
+use Rattle.hls_master.specs.{Names.{is_key, number_of}, Renditions.{RenditionValue, has_name_of, same_kind}}
 
 abbrev pub Key : Type 0
 Key = ℕ × Bor (List ℕ) × Bor (List ℕ)

@@ -1,15 +1,11 @@
 -- Entries one after another.
 use Rattle.std.proofs.Common.{◌≡◌, ℕ, ◌<◌, List, [], ◌∷◌, length, flat_map, Option, Some, None, Result, Ok, Err, refl, ◌∙◌, ap}
-use Rattle.std.proofs.Common.{append_assoc, arith}
-use Rattle.std.proofs.lemmas.List.{append-nil}
-use Rattle.bridge_io.specs.Firsts.{first_some}
-use Rattle.bridge_io.specs.declared.place.Place.{Place}
+use Rattle.std.proofs.{Common.{append_assoc, arith}, lemmas.List.append-nil}
+use Rattle.bridge_io.specs.{Firsts.first_some, declared.place.Place.Place}
 use Rattle.hls_lines.specs.Attributes.{attributes_of}
-use Rattle.hls_master.specs.declared.fault.MasterFault.{MasterFault}
-use Rattle.hls_master.specs.Entries.{MasterEntry, rendition, variant, stray, IsNext}
-use Rattle.hls_master.specs.Faults.{answer}
-use Rattle.hls_master.specs.Mentions.{MentionsValue, entry_rendition, entry_variant, mentions_behind, with_rendition, entry_fault, reading}
-use Rattle.hls_master.specs.Renditions.{RenditionValue, rendition_fault, rendition_value, same_name}
+use Rattle.hls_master.specs.{declared.fault.MasterFault.MasterFault, Entries.{MasterEntry, rendition, variant, stray, IsNext}}
+use Rattle.hls_master.specs.{Faults.answer, Mentions.{MentionsValue, entry_rendition, entry_variant, mentions_behind, with_rendition}}
+use Rattle.hls_master.specs.{Mentions.{entry_fault, reading}, Renditions.{RenditionValue, rendition_fault, rendition_value, same_name}}
 use Rattle.hls_master.proofs.Answers.{no_fault, value_is, fault_is}
 
 -- an entry without a fault, and one at fault

@@ -1,11 +1,9 @@
 -- A rendition is read by its TYPE, and then by its other attributes.
 use Rattle.std.proofs.Common.{◌≡◌, ℕ, List, codes, Option, Some, None, Ok, refl, sym}
-use Rattle.bridge_io.specs.Firsts.{first_some}
-use Rattle.bridge_io.specs.declared.media.Kind.{Kind}
-use Rattle.bridge_io.specs.declared.place.Place.{Place}
+use Rattle.bridge_io.specs.{Firsts.first_some, declared.media.Kind.Kind, declared.place.Place.Place}
 use Rattle.hls_lines.specs.Attributes.{NameValue, value_of}
-use Rattle.hls_master.specs.Faults.{answer, mapped}
-use Rattle.hls_master.specs.Renditions.{type_fault, kind_in, rendition_fault, rendition_faults, rendition_value, rendition_with}
+use Rattle.hls_master.specs.{Faults.{answer, mapped}, Renditions.{type_fault, kind_in, rendition_fault, rendition_faults, rendition_value}}
+use Rattle.hls_master.specs.Renditions.{rendition_with}
 use Rattle.hls_master.proofs.Answers.{no_fault, value_is}
 
 mapped_answer : {X F : Type 0} (fault : Option F) (value : X) → answer fault (Some value) ≡ mapped Some (answer fault value)

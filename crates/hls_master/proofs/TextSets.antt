@@ -1,13 +1,8 @@
 -- Texts in an ordered set.
 use Rattle.std.proofs.Common.{◌≡◌, ℕ, Bool, true, false, cond, ◌||◌, List, ◌∷◌, map, refl, sym, ◌∙◌, ap, Bor, bytes_eq}
-use Rattle.std.specs.List.{list_any}
-use Rattle.std.specs.Ordering.{nat_cmp}
-use Rattle.std.specs.Cmp.Lexicographic.{slice_cmp}
-use Rattle.std.specs.BTreeMap.{is_at}
-use Rattle.std.specs.BTreeSet.{BTreeSet, UpdatesBy}
 use Rattle.std.proofs.lemmas.Map.Text.{is_eq-slice_cmp}
-use Rattle.bridge_io.proofs.NameSets.{has_name}
-use Rattle.bridge_io.proofs.Texts.{bytes_eq_sym}
+use Rattle.std.specs.{List.list_any, Ordering.nat_cmp, Cmp.Lexicographic.slice_cmp, BTreeMap.is_at, BTreeSet.{BTreeSet, UpdatesBy}}
+use Rattle.bridge_io.proofs.{NameSets.has_name, Texts.bytes_eq_sym}
 use Rattle.hls_master.specs.Texts.{SameTexts}
 
 pub or_is : (a b : Bool) → cond a true b ≡ (a || b)

@@ -1,15 +1,11 @@
 -- A variant is read attribute by attribute.
 use Rattle.std.proofs.Common.{◌≡◌, ℕ, List, [], ◌∷◌, ◌++◌, codes, Option, Some, Result, Ok, Err, unwrap_or, refl, sym, ◌∙◌, ap}
-use Rattle.bridge_io.specs.Firsts.{first_some}
-use Rattle.bridge_io.specs.declared.place.Place.{Place}
+use Rattle.bridge_io.specs.{Firsts.first_some, declared.place.Place.Place}
 use Rattle.hls_lines.specs.Attributes.{NameValue, value_of}
 use Rattle.mpd_values.specs.Numbers.{numeral_of}
-use Rattle.hls_master.specs.declared.fault.MasterFault.{MasterFault}
-use Rattle.hls_master.specs.Addresses.{address_fault, address_value}
-use Rattle.hls_master.specs.Faults.{answer}
-use Rattle.hls_master.specs.Renditions.{missing, malformed, text_at}
-use Rattle.hls_master.specs.Values.{is_bandwidth}
-use Rattle.hls_master.specs.Variants.{ShownValue, VariantValue, shown_faults, shown_value, variant_faults, variant_with}
+use Rattle.hls_master.specs.{declared.fault.MasterFault.MasterFault, Addresses.{address_fault, address_value}, Faults.answer}
+use Rattle.hls_master.specs.{Renditions.{missing, malformed, text_at}, Values.is_bandwidth, Variants.{ShownValue, VariantValue}}
+use Rattle.hls_master.specs.Variants.{shown_faults, shown_value, variant_faults, variant_with}
 use Rattle.hls_master.proofs.Answers.{no_fault, value_is, fault_is, is_found, behind_none, before_more}
 
 -- behind a BANDWIDTH within its bounds

@@ -1,15 +1,11 @@
 -- The lines without a fault, and the whole behind them.
 use Rattle.std.proofs.Common.{◌≡◌, ℕ, Bool, true, false, cond, nat_lt, length, List, [], Option, Some, None, Result, Ok, Err, refl, ap}
-use Rattle.bridge_io.specs.Firsts.{first_some}
-use Rattle.bridge_io.specs.declared.place.Place.{Place}
+use Rattle.bridge_io.specs.{Firsts.first_some, declared.place.Place.Place}
 use Rattle.hls_lines.specs.Lines.{PlaylistLine}
-use Rattle.hls_master.specs.declared.fault.MasterFault.{MasterFault}
-use Rattle.hls_master.specs.declared.fault.MasterFault.TheVariants.{Limit}
-use Rattle.hls_master.specs.Entries.{known_lines, entries_of}
-use Rattle.hls_master.specs.Faults.{answer}
-use Rattle.hls_master.specs.Masters.{above_limit, master_in, whole_of, end_faults, mentions_in}
-use Rattle.hls_master.specs.Mentions.{MentionsValue, nothing, reading, entry_faults}
-use Rattle.hls_master.specs.Tracks.{Mentioned, TrackValue, few, firsts_of, tracks_among, tracks_of}
+use Rattle.hls_master.specs.{declared.fault.MasterFault.MasterFault, declared.fault.MasterFault.TheVariants.Limit, Entries.known_lines}
+use Rattle.hls_master.specs.{Entries.entries_of, Faults.answer, Masters.{above_limit, master_in, whole_of, end_faults, mentions_in}}
+use Rattle.hls_master.specs.{Mentions.{MentionsValue, nothing, reading, entry_faults}, Tracks.{Mentioned, TrackValue, few, firsts_of}}
+use Rattle.hls_master.specs.Tracks.{tracks_among, tracks_of}
 use Rattle.hls_master.proofs.Answers.{no_fault, value_is, fault_is, behind_none, before_more}
 
 module _ (master : List ℕ) (end : Place) (lines : List PlaylistLine) where

@@ -1,14 +1,10 @@
 -- The addresses of a master's URIs (RFC 8216 4.1, URL Standard 4.4).
-use Rattle.std.specs.Prelude.{ℕ, List, [], ◌++◌, if◌then◌else◌, Option, Some, None, Result, Ok, Err}
-use Rattle.url.specs.Parser.{Parsed, parse_url}
-use Rattle.url.specs.Parts.{Parts}
-use Rattle.bridge_io.specs.Names.{is_name}
-use Rattle.bridge_io.specs.declared.place.Place.{Place}
-use Rattle.url_parts.specs.Addresses.{text_of, url_of, is_absolute, folder_of, beside, resolve}
-use Rattle.url_parts.specs.declared.fault.UrlFault.{UrlFault}
 use Rattle.url_parts.specs.declared.fault.UrlFault.TheVariants as url
-use Rattle.hls_master.specs.declared.fault.MasterFault.{MasterFault}
-use Rattle.hls_master.specs.declared.fault.MasterFault.TheVariants.{Url, Memory}
+use Rattle.std.specs.Prelude.{ℕ, List, [], ◌++◌, if◌then◌else◌, Option, Some, None, Result, Ok, Err}
+use Rattle.url.specs.{Parser.{Parsed, parse_url}, Parts.Parts}
+use Rattle.bridge_io.specs.{Names.is_name, declared.place.Place.Place}
+use Rattle.url_parts.specs.{Addresses.{text_of, url_of, is_absolute, folder_of, beside, resolve}, declared.fault.UrlFault.UrlFault}
+use Rattle.hls_master.specs.{declared.fault.MasterFault.MasterFault, declared.fault.MasterFault.TheVariants.{Url, Memory}}
 
 abbrev pub text_or_none : Parsed Parts → List ℕ
 text_or_none (Ok url) = text_of url

@@ -1,10 +1,8 @@
 -- Lists of codes (RFC 6381) by the class of each code.
-use Rattle.std.specs.Prelude.{ℕ, Bool, true, false, List, [], ◌∷◌, filter, Option, Some, None}
-use Rattle.std.specs.List.{list_any, join_with_byte}
-use Rattle.bridge_io.specs.declared.media.Kind.{Kind}
 use Rattle.bridge_io.specs.declared.media.Kind.TheVariants as kind
-use Rattle.url_parts.specs.declared.code.CodeClass.{CodeClass}
-use Rattle.url_parts.specs.declared.code.CodeClass.TheVariants.{Video, Audio, Text, Unknown}
+use Rattle.std.specs.{Prelude.{ℕ, Bool, true, false, List, [], ◌∷◌, filter, Option, Some, None}, List.{list_any, join_with_byte}}
+use Rattle.bridge_io.specs.declared.media.Kind.{Kind}
+use Rattle.url_parts.specs.{declared.code.CodeClass.CodeClass, declared.code.CodeClass.TheVariants.{Video, Audio, Text, Unknown}}
 use Rattle.url_parts.specs.Codes.{class_of}
 use Rattle.mpd_values.specs.Codecs.{codes_of}
 

@@ -1,10 +1,9 @@
 -- The lines that a master's reader knows (RFC 8216 4.3.4), each variant's tag joined with the URI line that follows it.
-use Rattle.std.specs.Prelude.{ℕ, List, [], ◌∷◌, codes, bytes_eq, if◌then◌else◌, Option, Some, None, option_map, ◌≡◌}
-use Rattle.std.specs.List.{list_any}
+use Rattle.std.specs.{Prelude.{ℕ, List, [], ◌∷◌, codes, bytes_eq, if◌then◌else◌, Option, Some, None, option_map, ◌≡◌}, List.list_any}
 use Rattle.bridge_io.specs.declared.place.Place.{Place}
 use Rattle.hls_lines.specs.Lines.{PlaylistLine, tag, uri}
-use Rattle.hls_master.specs.declared.fault.MasterFault.{MasterFault}
-use Rattle.hls_master.specs.declared.fault.MasterFault.TheVariants.{Misplaced, Encryption, Unsupported}
+use Rattle.hls_master.specs.{declared.fault.MasterFault.MasterFault, declared.fault.MasterFault.TheVariants.{Misplaced, Encryption}}
+use Rattle.hls_master.specs.declared.fault.MasterFault.TheVariants.{Unsupported}
 
 pub data KnownLine : Type 0 where
   -- EXT-X-MEDIA, by its attributes

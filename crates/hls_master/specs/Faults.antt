@@ -1,9 +1,8 @@
 -- First faults.
+use Rattle.hls_lines.specs.declared.fault.LineFault.TheVariants as line
 use Rattle.std.specs.Prelude.{Option, Some, None, Result, Ok, Err}
 use Rattle.hls_lines.specs.declared.fault.LineFault.{LineFault}
-use Rattle.hls_lines.specs.declared.fault.LineFault.TheVariants as line
-use Rattle.hls_master.specs.declared.fault.MasterFault.{MasterFault}
-use Rattle.hls_master.specs.declared.fault.MasterFault.TheVariants.{Line, Memory}
+use Rattle.hls_master.specs.{declared.fault.MasterFault.MasterFault, declared.fault.MasterFault.TheVariants.{Line, Memory}}
 
 -- a value, unless there is a fault
 abbrev pub answer : {X F : Type 0} → Option F → X → Result X F

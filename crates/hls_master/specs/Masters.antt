@@ -1,24 +1,13 @@
 -- Master playlists (RFC 8216 4.3.4).
 use Rattle.std.specs.Prelude.{ℕ, ◌&&◌, not, nat_lt, Bool, true, List, [], ◌∷◌, ◌++◌, length, map, filter, if◌then◌else◌, Option, Some, None}
-use Rattle.std.specs.Prelude.{option_map, Result, Ok, Err}
-use Rattle.std.specs.Option.{is_none}
-use Rattle.bridge_io.specs.Firsts.{first_some}
-use Rattle.bridge_io.specs.declared.media.Kind.{Kind}
-use Rattle.bridge_io.specs.declared.media.Kind.TheVariants.{Audio, Text}
-use Rattle.bridge_io.specs.declared.place.Place.{Place}
-use Rattle.bridge_io.specs.Places.{place_of}
-use Rattle.bridge_io.specs.Texts.{is_among}
-use Rattle.hls_lines.specs.Lines.{PlaylistLine, lines_of}
-use Rattle.hls_lines.specs.declared.fault.LineFault.{LineFault}
-use Rattle.hls_master.specs.declared.fault.MasterFault.{MasterFault}
-use Rattle.hls_master.specs.declared.fault.MasterFault.TheVariants.{Muxed, GroupUnknown, NoTracks, Limit}
-use Rattle.hls_master.specs.Codes.{has_code_in}
-use Rattle.hls_master.specs.Entries.{known_lines, entries_of}
-use Rattle.hls_master.specs.Faults.{answer, of_line}
-use Rattle.hls_master.specs.Mentions.{MentionsValue, mentions_of, entry_faults}
-use Rattle.hls_master.specs.Renditions.{RenditionValue, same_kind}
-use Rattle.hls_master.specs.Tracks.{TrackValue, is_audio_variant, firsts_of, tracks_of}
-use Rattle.hls_master.specs.Variants.{VariantValue}
+use Rattle.std.specs.{Prelude.{option_map, Result, Ok, Err}, Option.is_none}
+use Rattle.bridge_io.specs.{Firsts.first_some, declared.media.Kind.Kind, declared.media.Kind.TheVariants.{Audio, Text}}
+use Rattle.bridge_io.specs.{declared.place.Place.Place, Places.place_of, Texts.is_among}
+use Rattle.hls_lines.specs.{Lines.{PlaylistLine, lines_of}, declared.fault.LineFault.LineFault}
+use Rattle.hls_master.specs.{declared.fault.MasterFault.MasterFault, declared.fault.MasterFault.TheVariants.{Muxed, GroupUnknown, NoTracks}}
+use Rattle.hls_master.specs.{declared.fault.MasterFault.TheVariants.Limit, Codes.has_code_in, Entries.{known_lines, entries_of}}
+use Rattle.hls_master.specs.{Faults.{answer, of_line}, Mentions.{MentionsValue, mentions_of, entry_faults}, Renditions.RenditionValue}
+use Rattle.hls_master.specs.{Renditions.same_kind, Tracks.{TrackValue, is_audio_variant, firsts_of, tracks_of}, Variants.VariantValue}
 
 -- the groups of the renditions of a kind
 abbrev pub groups_in : Kind → List RenditionValue → List (List ℕ)

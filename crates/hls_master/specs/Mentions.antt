@@ -1,14 +1,10 @@
 -- What the lines of a master mention.
-use Rattle.std.specs.Prelude.{ℕ, List, [], ◌∷◌, ◌++◌, Option, Some, Result}
-use Rattle.std.specs.List.{flat_map}
-use Rattle.std.specs.Option.{option_to_list}
+use Rattle.std.specs.{Prelude.{ℕ, List, [], ◌∷◌, ◌++◌, Option, Some, Result}, List.flat_map, Option.option_to_list}
 use Rattle.bridge_io.specs.Firsts.{first_some}
 use Rattle.hls_lines.specs.Attributes.{attributes_of}
-use Rattle.hls_master.specs.declared.fault.MasterFault.{MasterFault}
-use Rattle.hls_master.specs.Entries.{MasterEntry, rendition, variant, stray}
-use Rattle.hls_master.specs.Faults.{answer}
-use Rattle.hls_master.specs.Renditions.{RenditionValue, rendition_value, rendition_fault, same_name}
-use Rattle.hls_master.specs.Variants.{VariantValue, variant_with, variant_fault, attributes_or_none}
+use Rattle.hls_master.specs.{declared.fault.MasterFault.MasterFault, Entries.{MasterEntry, rendition, variant, stray}, Faults.answer}
+use Rattle.hls_master.specs.{Renditions.{RenditionValue, rendition_value, rendition_fault, same_name}, Variants.VariantValue}
+use Rattle.hls_master.specs.Variants.{variant_with, variant_fault, attributes_or_none}
 
 -- the renditions and the variants of a master, each in the order of the lines
 pub record MentionsValue : Type 0 where

@@ -1,11 +1,7 @@
 -- Groups and names of renditions, by their types.
-use Rattle.std.specs.Prelude.{◌≡◌, ℕ, ◌==◌, ◌&&◌, Bool, List, bytes_eq}
-use Rattle.std.specs.Borrow.{Bor}
-use Rattle.std.specs.List.{list_any}
-use Rattle.bridge_io.specs.declared.media.Kind.{Kind}
-use Rattle.bridge_io.specs.declared.media.Kind.TheVariants.{Video, Audio, Text}
-use Rattle.hls_master.specs.Renditions.{RenditionValue, has_name_of}
-use Rattle.hls_master.specs.declared.names.Names.{Names}
+use Rattle.std.specs.{Prelude.{◌≡◌, ℕ, ◌==◌, ◌&&◌, Bool, List, bytes_eq}, Borrow.Bor, List.list_any}
+use Rattle.bridge_io.specs.{declared.media.Kind.Kind, declared.media.Kind.TheVariants.{Video, Audio, Text}}
+use Rattle.hls_master.specs.{Renditions.{RenditionValue, has_name_of}, declared.names.Names.Names}
 
 abbrev pub number_of : Kind → ℕ
 number_of Video = 0

@@ -1,19 +1,13 @@
 -- Renditions: EXT-X-MEDIA (RFC 8216 4.3.4.1).
 use Rattle.std.specs.Prelude.{ℕ, ◌&&◌, ◌||◌, Bool, true, false, List, [], ◌∷◌, codes, bytes_eq, if◌then◌else◌, Option, Some, None}
-use Rattle.std.specs.Prelude.{option_map, option_and_then, unwrap_or, Result, Ok, Err}
-use Rattle.std.specs.List.{list_any}
-use Rattle.std.specs.Option.{option_eq}
-use Rattle.bridge_io.specs.Firsts.{first_some}
-use Rattle.bridge_io.specs.declared.media.Kind.{Kind}
-use Rattle.bridge_io.specs.declared.media.Kind.TheVariants.{Video, Audio, Text}
+use Rattle.std.specs.{Prelude.{option_map, option_and_then, unwrap_or, Result, Ok, Err}, List.list_any, Option.option_eq}
+use Rattle.bridge_io.specs.{Firsts.first_some, declared.media.Kind.Kind, declared.media.Kind.TheVariants.{Video, Audio, Text}}
 use Rattle.bridge_io.specs.declared.place.Place.{Place}
-use Rattle.hls_lines.specs.Attributes.{NameValue, value_of}
-use Rattle.hls_lines.specs.declared.fault.LineFault.{LineFault}
+use Rattle.hls_lines.specs.{Attributes.{NameValue, value_of}, declared.fault.LineFault.LineFault}
 use Rattle.mpd_values.specs.Languages.{is_language}
-use Rattle.hls_master.specs.declared.fault.MasterFault.{MasterFault}
-use Rattle.hls_master.specs.declared.fault.MasterFault.TheVariants.{Missing, Value, Muxed, SameName, Unsupported}
-use Rattle.hls_master.specs.Faults.{of_line}
-use Rattle.hls_master.specs.Addresses.{address_value, address_fault}
+use Rattle.hls_master.specs.{declared.fault.MasterFault.MasterFault, declared.fault.MasterFault.TheVariants.{Missing, Value, Muxed}}
+use Rattle.hls_master.specs.{declared.fault.MasterFault.TheVariants.{SameName, Unsupported}, Faults.of_line, Addresses.address_value}
+use Rattle.hls_master.specs.Addresses.{address_fault}
 
 pub record RenditionValue : Type 0 where
   -- audio or text

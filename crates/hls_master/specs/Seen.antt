@@ -1,12 +1,9 @@
 -- What the values in memory say.
-use Rattle.std.specs.Prelude.{ℕ, List}
-use Rattle.std.specs.Borrow.{Bor}
+use Rattle.std.specs.{Prelude.{ℕ, List}, Borrow.Bor}
 use Rattle.bridge_io.specs.declared.place.Place.{Place}
 use Rattle.hls_master.specs.Entries.{KnownLine, media, stream, address, refused, MasterEntry, rendition, variant, stray}
-use Rattle.hls_master.specs.declared.entry.Known.{Known}
-use Rattle.hls_master.specs.declared.entry.Known.TheVariants.{Media, Stream, Uri, Refused}
-use Rattle.hls_master.specs.declared.entry.Entry.{Entry}
-use Rattle.hls_master.specs.declared.entry.Entry.TheVariants.{Rendition, Variant, Stray}
+use Rattle.hls_master.specs.{declared.entry.Known.Known, declared.entry.Known.TheVariants.{Media, Stream, Uri, Refused}}
+use Rattle.hls_master.specs.{declared.entry.Entry.Entry, declared.entry.Entry.TheVariants.{Rendition, Variant, Stray}}
 
 abbrev pub line_seen : Known → KnownLine
 line_seen (Media rest place) = media rest.now place

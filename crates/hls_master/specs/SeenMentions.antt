@@ -1,8 +1,6 @@
 -- What mentions in memory say.
 use Rattle.std.specs.Prelude.{map}
-use Rattle.hls_master.specs.Mentions.{MentionsValue}
-use Rattle.hls_master.specs.SeenTags.{rendition_seen, variant_seen}
-use Rattle.hls_master.specs.declared.mentions.Mentions.{Mentions}
+use Rattle.hls_master.specs.{Mentions.MentionsValue, SeenTags.{rendition_seen, variant_seen}, declared.mentions.Mentions.Mentions}
 
 abbrev pub mentions_seen : Mentions → MentionsValue
 mentions_seen mentions = record {

@@ -1,12 +1,8 @@
 -- What renditions and variants in memory say.
-use Rattle.std.specs.Prelude.{ℕ, List, Option, option_map}
-use Rattle.std.specs.Borrow.{Bor}
+use Rattle.std.specs.{Prelude.{ℕ, List, Option, option_map}, Borrow.Bor}
 use Rattle.bridge_io.specs.declared.media.Ratio.{Ratio}
-use Rattle.hls_master.specs.Renditions.{RenditionValue}
-use Rattle.hls_master.specs.Variants.{ShownValue, VariantValue}
-use Rattle.hls_master.specs.declared.rendition.Rendition.{Rendition}
-use Rattle.hls_master.specs.declared.variant.Shown.{Shown}
-use Rattle.hls_master.specs.declared.variant.Variant.{Variant}
+use Rattle.hls_master.specs.{Renditions.RenditionValue, Variants.{ShownValue, VariantValue}, declared.rendition.Rendition.Rendition}
+use Rattle.hls_master.specs.{declared.variant.Shown.Shown, declared.variant.Variant.Variant}
 
 abbrev pub text_seen : Option (Bor (List ℕ)) → Option (List ℕ)
 text_seen text = option_map (λ text. text.now) text

@@ -1,8 +1,6 @@
 -- What mentions and tracks in memory say.
-use Rattle.hls_master.specs.SeenTags.{rate_seen, rendition_seen, variant_seen}
-use Rattle.hls_master.specs.Tracks.{Mentioned, by_rendition, by_variant, TrackValue}
-use Rattle.hls_master.specs.declared.mention.Mention.{Mention}
-use Rattle.hls_master.specs.declared.mention.Mention.TheVariants.{Rendition, Variant}
+use Rattle.hls_master.specs.{SeenTags.{rate_seen, rendition_seen, variant_seen}, Tracks.{Mentioned, by_rendition, by_variant, TrackValue}}
+use Rattle.hls_master.specs.{declared.mention.Mention.Mention, declared.mention.Mention.TheVariants.{Rendition, Variant}}
 use Rattle.hls_master.specs.declared.track.MasterTrack.{MasterTrack}
 
 abbrev pub mention_seen : Mention → Mentioned

@@ -1,16 +1,10 @@
 -- The tracks of a master: the distinct addresses that it mentions.
 use Rattle.std.specs.Prelude.{ℕ, ◌+◌, ◌&&◌, not, Bool, false, List, [], ◌∷◌, ◌++◌, map, filter, length, nat_lt, bytes_eq, if◌then◌else◌}
-use Rattle.std.specs.Prelude.{Option, Some, None, option_and_then}
-use Rattle.std.specs.List.{list_any}
-use Rattle.std.specs.Option.{is_some, option_eq}
-use Rattle.bridge_io.specs.Texts.{is_among}
-use Rattle.bridge_io.specs.declared.media.Kind.{Kind}
-use Rattle.bridge_io.specs.declared.media.Kind.TheVariants.{Video, Audio, Text}
+use Rattle.std.specs.{Prelude.{Option, Some, None, option_and_then}, List.list_any, Option.{is_some, option_eq}}
+use Rattle.bridge_io.specs.{Texts.is_among, declared.media.Kind.Kind, declared.media.Kind.TheVariants.{Video, Audio, Text}}
 use Rattle.bridge_io.specs.declared.media.Size.{Size}
-use Rattle.hls_master.specs.Codes.{has_code_in, selected}
-use Rattle.hls_master.specs.Mentions.{MentionsValue}
-use Rattle.hls_master.specs.Renditions.{RenditionValue, same_kind, same_rendition_set}
-use Rattle.hls_master.specs.Variants.{VariantValue}
+use Rattle.hls_master.specs.{Codes.{has_code_in, selected}, Mentions.MentionsValue, Renditions.{RenditionValue, same_kind}}
+use Rattle.hls_master.specs.{Renditions.same_rendition_set, Variants.VariantValue}
 
 pub record TrackValue : Type 0 where
   pub kind : Kind

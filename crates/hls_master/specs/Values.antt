@@ -1,8 +1,6 @@
 -- The values of attributes: numbers, resolutions and frame rates (RFC 8216 4.2 and 4.3.4.2).
-use Rattle.std.specs.Prelude.{ℕ, ◌+◌, ◌-◌, ◌*◌, ◌^◌, ◌==◌, Bool, List, slice_index, if◌then◌else◌, Option, Some, None}
-use Rattle.std.specs.List.{list_all, before_first, after_first}
-use Rattle.std.specs.Char.{is_ascii_digit}
-use Rattle.std.specs.Option.{is_some}
+use Rattle.std.specs.{Prelude.{ℕ, ◌+◌, ◌-◌, ◌*◌, ◌^◌, ◌==◌, Bool, List, slice_index, if◌then◌else◌, Option, Some, None}, List.list_all}
+use Rattle.std.specs.{List.{before_first, after_first}, Char.is_ascii_digit, Option.is_some}
 use Rattle.bridge_io.specs.declared.media.Size.{Size}
 use Rattle.mpd_values.specs.Numbers.{numeral_of, kept_if, is_between}
 

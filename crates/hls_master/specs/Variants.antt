@@ -1,19 +1,12 @@
 -- Variants: EXT-X-STREAM-INF and the URI behind it (RFC 8216 4.3.4.2).
 use Rattle.std.specs.Prelude.{ℕ, List, [], ◌∷◌, ◌++◌, codes, Option, Some, None, option_and_then, unwrap_or, Result, Ok, Err}
 use Rattle.std.specs.Option.{is_some}
-use Rattle.bridge_io.specs.Firsts.{first_some}
-use Rattle.bridge_io.specs.declared.media.Size.{Size}
-use Rattle.bridge_io.specs.declared.place.Place.{Place}
-use Rattle.hls_lines.specs.Attributes.{NameValue, value_of}
-use Rattle.hls_lines.specs.declared.fault.LineFault.{LineFault}
-use Rattle.mpd_values.specs.Codecs.{are_read_codes}
-use Rattle.mpd_values.specs.Numbers.{numeral_of}
-use Rattle.hls_master.specs.declared.fault.MasterFault.{MasterFault}
-use Rattle.hls_master.specs.declared.fault.MasterFault.TheVariants.{Unsupported}
-use Rattle.hls_master.specs.Faults.{of_line}
-use Rattle.hls_master.specs.Addresses.{address_value, address_fault}
-use Rattle.hls_master.specs.Renditions.{text_at, missing, malformed}
-use Rattle.hls_master.specs.Values.{is_bandwidth, size_of, size_within, rate_of, rate_within}
+use Rattle.bridge_io.specs.{Firsts.first_some, declared.media.Size.Size, declared.place.Place.Place}
+use Rattle.hls_lines.specs.{Attributes.{NameValue, value_of}, declared.fault.LineFault.LineFault}
+use Rattle.mpd_values.specs.{Codecs.are_read_codes, Numbers.numeral_of}
+use Rattle.hls_master.specs.{declared.fault.MasterFault.MasterFault, declared.fault.MasterFault.TheVariants.Unsupported, Faults.of_line}
+use Rattle.hls_master.specs.{Addresses.{address_value, address_fault}, Renditions.{text_at, missing, malformed}, Values.is_bandwidth}
+use Rattle.hls_master.specs.Values.{size_of, size_within, rate_of, rate_within}
 
 abbrev pub unsupported : Place → Option (List ℕ) → Option MasterFault
 unsupported place None = None

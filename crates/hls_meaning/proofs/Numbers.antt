@@ -1,13 +1,10 @@
 -- The numbers of sections rise, and are those that some segment has.
 use Rattle.std.proofs.Common.{◌≡◌, ℕ, zero, suc, ◌+◌, ◌<◌, ◌≤◌, ◌==◌, ◌||◌, cond, Bool, true, false, List, [], ◌∷◌, filter, refl, sym, ◌∙◌}
-use Rattle.std.proofs.Common.{ap, subst, ⊎_elim, arith}
-use Rattle.std.specs.Prelude.{nat_lt, slice_index}
-use Rattle.std.specs.List.{list_any, range_with_len}
-use Rattle.std.specs.List.Sorted.{IsStrictlyIncreasing}
-use Rattle.std.proofs.lemmas.Bool.{cases_eq, cond_both, eq-eqb, eqb-true, eqb-false, ltb-true, ltb-false, ne_eqb, or_from}
+use Rattle.std.proofs.{Common.{ap, subst, ⊎_elim, arith}, lemmas.Bool.{cases_eq, cond_both, eq-eqb, eqb-true, eqb-false, ltb-true}}
+use Rattle.std.proofs.lemmas.Bool.{ltb-false, ne_eqb, or_from}
+use Rattle.std.specs.{Prelude.{nat_lt, slice_index}, List.{list_any, range_with_len}, List.Sorted.IsStrictlyIncreasing}
 use Rattle.hls_media.specs.declared.media.MediaSegment.{MediaSegment}
-use Rattle.hls_meaning.specs.Laws.{NumbersRise, NumbersAreTold, NumbersAreThoseTold}
-use Rattle.hls_meaning.specs.Meanings.{Source, is_told, numbers_among}
+use Rattle.hls_meaning.specs.{Laws.{NumbersRise, NumbersAreTold, NumbersAreThoseTold}, Meanings.{Source, is_told, numbers_among}}
 use Rattle.hls_meaning.specs.Sections.{is_in, numbers_with, with_number}
 
 -- the first number is at least so much, and each is above the one before it

@@ -1,6 +1,5 @@
 -- Laws of sections.
-use Rattle.std.specs.Prelude.{◌≡◌, ℕ, ◌<◌, ◌==◌, true, List, [], filter}
-use Rattle.std.specs.List.{list_any, range_with_len}
+use Rattle.std.specs.{Prelude.{◌≡◌, ℕ, ◌<◌, ◌==◌, true, List, [], filter}, List.{list_any, range_with_len}}
 use Rattle.std.specs.List.Sorted.{IsStrictlyIncreasing}
 use Rattle.hls_meaning.specs.Meanings.{Source, is_told, numbers_among}
 

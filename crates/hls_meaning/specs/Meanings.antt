@@ -1,19 +1,12 @@
 -- What a master and its media playlists mean (RFC 8216, 4.3.2 to 4.3.4), without any limit, and without bounds on numbers
 -- and on the length of addresses.
 use Rattle.std.specs.Prelude.{ℕ, ◌&&◌, not, Bool, true, false, List, [], ◌∷◌, length, map, filter, is_none, Option, Some, None, option_map}
-use Rattle.std.specs.Prelude.{option_and_then, Result, Ok, Err}
-use Rattle.std.specs.List.{list_any}
-use Rattle.bridge_io.specs.Outside.{Files}
-use Rattle.bridge_io.specs.declared.media.Kind.{Kind}
-use Rattle.bridge_io.specs.declared.media.Kind.TheVariants.{Video, Audio, Text}
+use Rattle.std.specs.{Prelude.{option_and_then, Result, Ok, Err}, List.list_any}
+use Rattle.bridge_io.specs.{Outside.Files, declared.media.Kind.Kind, declared.media.Kind.TheVariants.{Video, Audio, Text}}
 use Rattle.url_parts.specs.Addresses.{local_name_of}
-use Rattle.hls_lines.specs.Lines.{PlaylistLine, lines_of}
-use Rattle.hls_lines.specs.declared.fault.LineFault.{LineFault}
-use Rattle.hls_media.specs.Media.{media_values}
-use Rattle.hls_media.specs.declared.media.Media.{Media}
-use Rattle.hls_media.specs.declared.media.MediaSegment.{MediaSegment}
-use Rattle.hls_master.specs.Masters.{master_values}
-use Rattle.hls_master.specs.Tracks.{TrackValue}
+use Rattle.hls_lines.specs.{Lines.{PlaylistLine, lines_of}, declared.fault.LineFault.LineFault}
+use Rattle.hls_media.specs.{Media.media_values, declared.media.Media.Media, declared.media.MediaSegment.MediaSegment}
+use Rattle.hls_master.specs.{Masters.master_values, Tracks.TrackValue}
 use Rattle.meaning.specs.Meanings.{Track, Meaning}
 use Rattle.hls_meaning.specs.Sections.{is_in, numbers_with, entry_in}
 

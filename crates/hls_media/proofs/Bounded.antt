@@ -1,39 +1,24 @@
 -- What is read is bounded.
+use Rattle.hls_media.specs.declared.fault.MediaFault.TheVariants as fault
+use Rattle.hls_media.specs.declared.tag.Tag.TheVariants as tags
 use Rattle.std.proofs.Common.{◌≡◌, ℕ, zero, suc, ◌+◌, ◌-◌, ◌^◌, ◌<◌, ◌≤◌, Bool, true, false, ◌||◌, List, [], ◌∷◌, ◌++◌, length, not, nat_lt}
 use Rattle.std.proofs.Common.{nat_eq, cond, codes, Option, Some, None, Result, Ok, Err, IfSome, unwrap_or, is_some, refl, sym, ◌∙◌, ap}
-use Rattle.std.proofs.Common.{subst, arith, length-append}
-use Rattle.std.specs.List.{All, list_any}
-use Rattle.std.specs.List.Sorted.{IsNonDecreasingBy}
-use Rattle.std.proofs.lemmas.Bool.{ltb-true}
-use Rattle.std.proofs.lemmas.Bool.Decides.{nat_tests}
-use Rattle.std.proofs.lemmas.List.Elements.{All-append}
-use Rattle.std.proofs.lemmas.List.Sorted.{IsNonDecreasingBy-push, IsNonDecreasingBy-short}
-use Rattle.bridge_io.specs.Answer.{and_then}
-use Rattle.bridge_io.specs.Firsts.{first_of}
-use Rattle.bridge_io.specs.declared.place.Place.{Place}
-use Rattle.bridge_io.specs.Places.{place_of}
-use Rattle.hls_lines.specs.Attributes.{attributes_of, value_of}
-use Rattle.hls_lines.specs.Lines.{PlaylistLine, tag, uri, is_uri, lines_of}
-use Rattle.hls_lines.specs.declared.fault.LineFault.{LineFault}
-use Rattle.url_parts.specs.Addresses.{resolve}
-use Rattle.url_parts.specs.declared.address.Part.{Part}
-use Rattle.url_parts.specs.declared.range.Range.{Range}
+use Rattle.std.proofs.{Common.{subst, arith, length-append}, lemmas.Bool.ltb-true, lemmas.Bool.Decides.nat_tests}
+use Rattle.std.proofs.{lemmas.List.Elements.All-append, lemmas.List.Sorted.{IsNonDecreasingBy-push, IsNonDecreasingBy-short}}
+use Rattle.std.specs.{List.{All, list_any}, List.Sorted.IsNonDecreasingBy}
+use Rattle.bridge_io.specs.{Answer.and_then, Firsts.first_of, declared.place.Place.Place, Places.place_of}
+use Rattle.hls_lines.specs.{Attributes.{attributes_of, value_of}, Lines.{PlaylistLine, tag, uri, is_uri, lines_of}}
+use Rattle.hls_lines.specs.{declared.fault.LineFault.LineFault, Marks.parts_at}
+use Rattle.url_parts.specs.{Addresses.resolve, declared.address.Part.Part, declared.range.Range.Range}
 use Rattle.hls_media.specs.Laws.{IsBounded, IsBoundedPart, IsBoundedRange, IsBoundedSegment, ReadIsBounded, ReadIsMeant}
 use Rattle.hls_media.specs.Media.{address_or_fault, after, after_all, after_tag, after_uri, attributes_or_fault, fault_in, faults_of}
 use Rattle.hls_media.specs.Media.{former_end, length_or_fault, line_fault, line_faults, lines_or_fault, map_at, map_in, map_of}
 use Rattle.hls_media.specs.Media.{map_range_of, media_at, media_in, media_of, media_values, most_segments, range_or_fault, section_of}
 use Rattle.hls_media.specs.Media.{segment_lasting, segment_of, segment_range, segment_value, segment_with, tag_fault, value_or_fault}
-use Rattle.hls_media.specs.Media.{values_or_fault, with_fault}
-use Rattle.hls_media.specs.States.{State, nothing}
-use Rattle.hls_media.specs.Tags.{tag_of}
-use Rattle.hls_lines.specs.Marks.{parts_at}
-use Rattle.hls_media.specs.Values.{below, duration_of, end_of, first_byte, fitting, number_of, range_from, range_parts, range_with, is_at}
-use Rattle.hls_media.specs.declared.fault.MediaFault.{MediaFault}
-use Rattle.hls_media.specs.declared.fault.MediaFault.TheVariants as fault
-use Rattle.hls_media.specs.declared.media.Media.{Media}
-use Rattle.hls_media.specs.declared.media.MediaSegment.{MediaSegment}
+use Rattle.hls_media.specs.{Media.{values_or_fault, with_fault}, States.{State, nothing}, Tags.tag_of, Values.{below, duration_of, end_of}}
+use Rattle.hls_media.specs.Values.{first_byte, fitting, number_of, range_from, range_parts, range_with, is_at}
+use Rattle.hls_media.specs.{declared.fault.MediaFault.MediaFault, declared.media.Media.Media, declared.media.MediaSegment.MediaSegment}
 use Rattle.hls_media.specs.declared.tag.Tag.{Tag}
-use Rattle.hls_media.specs.declared.tag.Tag.TheVariants as tags
 use Rattle.hls_media.proofs.Meanings.{map_told, segment_told}
 
 -- ---- steps without a fault

@@ -1,17 +1,12 @@
 -- The lines one after another.
-use Rattle.std.proofs.Common.{◌≡◌, ◌≤◌, ◌+◌, ◌^◌, ◌<◌, ℕ, true, List, [], ◌∷◌, length, nat_lt, count_by, fold, cond, Option, Some, None}
-use Rattle.std.proofs.Common.{IfSome, refl, sym, ◌∙◌, ap, arith}
-use Rattle.std.specs.List.{list_any}
-use Rattle.std.proofs.lemmas.Bool.Decides.{nat_tests}
-use Rattle.bridge_io.specs.Firsts.{first_of}
-use Rattle.bridge_io.specs.declared.place.Place.{Place}
-use Rattle.hls_lines.specs.Lines.{PlaylistLine, tag, uri, is_uri}
-use Rattle.hls_media.specs.Media.{after_tag, after, after_all, tag_fault, line_fault, line_faults, with_fault}
-use Rattle.hls_media.specs.States.{State, nothing}
-use Rattle.hls_media.specs.Tags.{tag_of}
-use Rattle.hls_media.specs.declared.fault.MediaFault.{MediaFault}
-use Rattle.hls_media.specs.declared.tag.Tag.{Tag}
 use Rattle.hls_media.specs.declared.tag.Tag.TheVariants as tags
+use Rattle.std.proofs.Common.{◌≡◌, ◌≤◌, ◌+◌, ◌^◌, ◌<◌, ℕ, true, List, [], ◌∷◌, length, nat_lt, count_by, fold, cond, Option, Some, None}
+use Rattle.std.proofs.{Common.{IfSome, refl, sym, ◌∙◌, ap, arith}, lemmas.Bool.Decides.nat_tests}
+use Rattle.std.specs.List.{list_any}
+use Rattle.bridge_io.specs.{Firsts.first_of, declared.place.Place.Place}
+use Rattle.hls_lines.specs.Lines.{PlaylistLine, tag, uri, is_uri}
+use Rattle.hls_media.specs.{Media.{after_tag, after, after_all, tag_fault, line_fault, line_faults, with_fault}, States.{State, nothing}}
+use Rattle.hls_media.specs.{Tags.tag_of, declared.fault.MediaFault.MediaFault, declared.tag.Tag.Tag}
 
 at_least : (n : ℕ) (lines : List PlaylistLine) → n ≤ fold (λ (a : ℕ) (x : PlaylistLine). a + cond (is_uri x) 1 0) n lines
 at_least n [] = omega arith

@@ -1,26 +1,16 @@
 -- Where no segment is too long, no EXTINF is: each EXTINF without a fault is that of a segment.
+use Rattle.hls_media.specs.declared.fault.MediaFault.TheVariants as fault
+use Rattle.hls_media.specs.declared.tag.Tag.TheVariants as tags
 use Rattle.std.proofs.Common.{◌≡◌, ℕ, Bool, true, false, ◌||◌, List, [], ◌∷◌, codes, bytes_eq, is_some, cond, Option, Some, None, Result}
-use Rattle.std.proofs.Common.{Err, refl, sym, ap, ◌∙◌}
-use Rattle.std.specs.List.{list_all, list_any}
-use Rattle.std.proofs.lemmas.Bool.{and_parts, false≢true, not-true}
-use Rattle.std.proofs.lemmas.List.Folds.{list_all-append}
+use Rattle.std.proofs.{Common.{Err, refl, sym, ap, ◌∙◌}, lemmas.Bool.{and_parts, false≢true, not-true}, lemmas.List.Folds.list_all-append}
 use Rattle.std.proofs.lemmas.Option.{none-some}
-use Rattle.bridge_io.specs.Firsts.{first_of}
-use Rattle.bridge_io.specs.declared.place.Place.{Place}
+use Rattle.std.specs.List.{list_all, list_any}
+use Rattle.bridge_io.specs.{Firsts.first_of, declared.place.Place.Place}
 use Rattle.hls_lines.specs.Lines.{PlaylistLine, is_uri, tag, uri}
 use Rattle.hls_media.specs.Media.{after_all, after_tag, after_uri, fault_in, is_long, is_short, length_of, line_fault, line_faults}
-use Rattle.hls_media.specs.Media.{long_faults, segment_value, tag_fault}
-use Rattle.hls_media.specs.States.{State}
-use Rattle.hls_media.specs.Tags.{tag_of}
-use Rattle.hls_media.specs.Values.{duration_of}
-use Rattle.hls_media.specs.declared.fault.MediaFault.{MediaFault}
-use Rattle.hls_media.specs.declared.fault.MediaFault.TheVariants as fault
-use Rattle.hls_media.specs.declared.media.MediaSegment.{MediaSegment}
-use Rattle.hls_media.specs.declared.tag.Tag.{Tag}
-use Rattle.hls_media.specs.declared.tag.Tag.TheVariants as tags
-use Rattle.hls_media.proofs.Bounded.{nothing_with}
-use Rattle.hls_media.proofs.Told.{tag_same}
-use Rattle.hls_media.proofs.Wholes.{not_long}
+use Rattle.hls_media.specs.{Media.{long_faults, segment_value, tag_fault}, States.State, Tags.tag_of, Values.duration_of}
+use Rattle.hls_media.specs.{declared.fault.MediaFault.MediaFault, declared.media.MediaSegment.MediaSegment, declared.tag.Tag.Tag}
+use Rattle.hls_media.proofs.{Bounded.nothing_with, Told.tag_same, Wholes.not_long}
 
 -- what all segments pass in the end, those before some lines pass
 kept : (test : MediaSegment → Bool) (url : List ℕ) (s : State) (lines : List PlaylistLine)

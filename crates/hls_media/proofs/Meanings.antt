@@ -1,28 +1,20 @@
 -- What is read without a fault is what the lines mean.
+use Rattle.hls_media.specs.declared.fault.MediaFault.TheVariants as fault
 use Rattle.std.proofs.Common.{◌≡◌, ◌^◌, ℕ, Bool, true, false, List, [], length, not, cond, nat_lt, Option, Some, None, Result, Ok, Err}
 use Rattle.std.proofs.Common.{option_map, unwrap_or, is_some, codes, refl, ◌∙◌}
 use Rattle.std.specs.List.{list_all}
-use Rattle.bridge_io.specs.declared.place.Place.{Place}
+use Rattle.bridge_io.specs.{declared.place.Place.Place, Answer.and_then}
 use Rattle.hls_lines.specs.Attributes.{NameValue, attributes_at, attributes_of, unless_double, value_of, repeats_after, names_of}
-use Rattle.hls_lines.specs.declared.fault.LineFault.{LineFault}
-use Rattle.hls_lines.specs.declared.fault.LineFault.TheVariants.{DoubleAttribute}
-use Rattle.url.specs.Parser.{Parsed, parse_url}
-use Rattle.url.specs.Parts.{Parts}
-use Rattle.bridge_io.specs.Answer.{and_then}
+use Rattle.hls_lines.specs.{declared.fault.LineFault.LineFault, declared.fault.LineFault.TheVariants.DoubleAttribute}
+use Rattle.url.specs.{Parser.{Parsed, parse_url}, Parts.Parts}
 use Rattle.url_parts.specs.Addresses.{resolve, absolute, accepted, is_absolute, is_address_byte, is_web, text_of, url_of}
-use Rattle.url_parts.specs.declared.address.Part.{Part}
-use Rattle.url_parts.specs.declared.fault.UrlFault.{UrlFault}
-use Rattle.url_parts.specs.declared.fault.UrlFault.TheVariants.{Refused, Scheme, TooLong}
-use Rattle.url_parts.specs.declared.range.Range.{Range}
-use Rattle.hls_media.specs.Addresses.{written, address_of}
-use Rattle.hls_media.specs.Media.{no_range, listed, map_range, map_value, former_end, section_of, segment_value, value_or_fault, target_of}
-use Rattle.hls_media.specs.Media.{early_number_of, length_or_fault, length_of, written_range_of, attributes_or_fault, address_or_fault}
-use Rattle.hls_media.specs.Media.{map_range_of, map_at, map_in, map_of, range_or_fault, segment_range, segment_with, segment_lasting}
-use Rattle.hls_media.specs.Media.{segment_of}
-use Rattle.hls_media.specs.States.{State}
-use Rattle.hls_media.specs.Values.{number_of, below, duration_of, range_from, fitting, end_of, is_range}
-use Rattle.hls_media.specs.declared.fault.MediaFault.{MediaFault}
-use Rattle.hls_media.specs.declared.fault.MediaFault.TheVariants as fault
+use Rattle.url_parts.specs.{declared.address.Part.Part, declared.fault.UrlFault.UrlFault, declared.fault.UrlFault.TheVariants.Refused}
+use Rattle.url_parts.specs.{declared.fault.UrlFault.TheVariants.{Scheme, TooLong}, declared.range.Range.Range}
+use Rattle.hls_media.specs.{Addresses.{written, address_of}, Media.{no_range, listed, map_range, map_value, former_end, section_of}}
+use Rattle.hls_media.specs.Media.{segment_value, value_or_fault, target_of, early_number_of, length_or_fault, length_of, written_range_of}
+use Rattle.hls_media.specs.Media.{attributes_or_fault, address_or_fault, map_range_of, map_at, map_in, map_of, range_or_fault}
+use Rattle.hls_media.specs.{Media.{segment_range, segment_with, segment_lasting, segment_of}, States.State, Values.{number_of, below}}
+use Rattle.hls_media.specs.{Values.{duration_of, range_from, fitting, end_of, is_range}, declared.fault.MediaFault.MediaFault}
 use Rattle.hls_media.specs.declared.media.MediaSegment.{MediaSegment}
 
 -- ---- numbers and durations

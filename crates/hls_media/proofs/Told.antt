@@ -1,21 +1,16 @@
 -- What lines mean is what they tell.
+use Rattle.hls_media.specs.declared.tag.Tag.TheVariants as tags
 use Rattle.std.proofs.Common.{◌≡◌, ℕ, zero, suc, ◌+◌, ◌<◌, Bool, List, [], ◌∷◌, ◌++◌, length, reverse, cond, count_by, Some, option_map}
-use Rattle.std.proofs.Common.{unwrap_or, is_some, refl, sym, ◌∙◌, ap, subst, arith, append_assoc, length-append}
+use Rattle.std.proofs.{Common.{unwrap_or, is_some, refl, sym, ◌∙◌, ap, subst, arith, append_assoc, length-append}, lemmas.List.append-nil}
+use Rattle.std.proofs.{lemmas.List.reverse-append, lemmas.List.Sums.sum_by_push}
 use Rattle.std.specs.List.{slice_get}
-use Rattle.std.proofs.lemmas.List.{append-nil, reverse-append}
-use Rattle.std.proofs.lemmas.List.Sums.{sum_by_push}
 use Rattle.bridge_io.specs.declared.place.Place.{Place}
 use Rattle.hls_lines.specs.Lines.{PlaylistLine, is_uri, tag, uri}
 use Rattle.hls_media.specs.Media.{after, after_all, after_tag, after_uri, former_end, map_value, no_range, media_values, segment_value}
-use Rattle.hls_media.specs.States.{State, nothing}
-use Rattle.hls_media.specs.Tags.{tag_of}
-use Rattle.hls_media.specs.Told.{PlaylistsAreTold, SegmentsAreTold, first_told, told_first, is_byte_range, is_discontinuity, is_duration}
-use Rattle.hls_media.specs.Told.{is_end, is_first_section, is_map, is_of, is_sequence, is_target, number_told, segment_behind}
-use Rattle.hls_media.specs.Values.{duration_of, number_of, range_from}
-use Rattle.hls_media.specs.Addresses.{address_of}
-use Rattle.hls_media.specs.declared.media.MediaSegment.{MediaSegment}
-use Rattle.hls_media.specs.declared.tag.Tag.{Tag}
-use Rattle.hls_media.specs.declared.tag.Tag.TheVariants as tags
+use Rattle.hls_media.specs.{States.{State, nothing}, Tags.tag_of, Told.{PlaylistsAreTold, SegmentsAreTold, first_told, told_first}}
+use Rattle.hls_media.specs.Told.{is_byte_range, is_discontinuity, is_duration, is_end, is_first_section, is_map, is_of, is_sequence}
+use Rattle.hls_media.specs.{Told.{is_target, number_told, segment_behind}, Values.{duration_of, number_of, range_from}}
+use Rattle.hls_media.specs.{Addresses.address_of, declared.media.MediaSegment.MediaSegment, declared.tag.Tag.Tag}
 
 -- what lines tell that are given from the last one on
 abbrev pub state_told : List ℕ → List PlaylistLine → ℕ → List MediaSegment → State

@@ -1,15 +1,11 @@
 -- A playlist as a whole, from its lines.
+use Rattle.hls_media.specs.declared.fault.MediaFault.TheVariants as fault
 use Rattle.std.proofs.Common.{◌≡◌, ℕ, Bool, true, false, List, [], ◌∷◌, ◌++◌, codes, bytes_eq, Option, Some, None, IfSome, Ok, Err, refl}
 use Rattle.std.proofs.Common.{◌∙◌, ap}
-use Rattle.bridge_io.specs.Firsts.{first_of}
-use Rattle.bridge_io.specs.declared.place.Place.{Place}
+use Rattle.bridge_io.specs.{Firsts.first_of, declared.place.Place.Place}
 use Rattle.hls_lines.specs.Lines.{PlaylistLine, tag}
 use Rattle.hls_media.specs.Media.{after_all, line_faults, is_long, long_faults, whole_faults, media_at, media_values, media_in}
-use Rattle.hls_media.specs.Media.{values_or_fault}
-use Rattle.hls_media.specs.States.{nothing}
-use Rattle.hls_media.specs.Values.{duration_of}
-use Rattle.hls_media.specs.declared.fault.MediaFault.{MediaFault}
-use Rattle.hls_media.specs.declared.fault.MediaFault.TheVariants as fault
+use Rattle.hls_media.specs.{Media.values_or_fault, States.nothing, Values.duration_of, declared.fault.MediaFault.MediaFault}
 
 first_of_more : (faults more : List MediaFault) (f : MediaFault) → first_of faults ≡ Some f → first_of (faults ++ more) ≡ Some f
 first_of_more [] more f e = cc

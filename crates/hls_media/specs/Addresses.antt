@@ -1,7 +1,6 @@
 -- Addresses of any length.
 use Rattle.std.specs.Prelude.{ℕ, List, [], if◌then◌else◌, Ok, Err, None}
-use Rattle.url.specs.Parser.{Parsed, parse_url}
-use Rattle.url.specs.Parts.{Parts}
+use Rattle.url.specs.{Parser.{Parsed, parse_url}, Parts.Parts}
 use Rattle.url_parts.specs.Addresses.{is_absolute, text_of, url_of}
 
 -- what the URL Standard writes of what it parsed, or nothing

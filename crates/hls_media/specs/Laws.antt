@@ -1,13 +1,8 @@
 -- What playlists that are read have in common.
-use Rattle.std.specs.Prelude.{◌≡◌, ℕ, ◌^◌, ◌<◌, ◌≤◌, List, length, Ok, IfSome}
-use Rattle.std.specs.List.{All}
-use Rattle.std.specs.List.Sorted.{IsNonDecreasingBy}
+use Rattle.std.specs.{Prelude.{◌≡◌, ℕ, ◌^◌, ◌<◌, ◌≤◌, List, length, Ok, IfSome}, List.All, List.Sorted.IsNonDecreasingBy}
 use Rattle.hls_lines.specs.Lines.{PlaylistLine, lines_of}
-use Rattle.url_parts.specs.declared.address.Part.{Part}
-use Rattle.url_parts.specs.declared.range.Range.{Range}
-use Rattle.hls_media.specs.Media.{media_of, media_values}
-use Rattle.hls_media.specs.Values.{end_of}
-use Rattle.hls_media.specs.declared.media.Media.{Media}
+use Rattle.url_parts.specs.{declared.address.Part.Part, declared.range.Range.Range}
+use Rattle.hls_media.specs.{Media.{media_of, media_values}, Values.end_of, declared.media.Media.Media}
 use Rattle.hls_media.specs.declared.media.MediaSegment.{MediaSegment}
 
 -- ---- bounds

@@ -1,29 +1,16 @@
 -- Media playlists (RFC 8216 4.3.2 and 4.3.3): what their lines mean, and which lines are at fault.
+use Rattle.hls_media.specs.declared.fault.MediaFault.TheVariants as fault
+use Rattle.hls_media.specs.declared.tag.Tag.TheVariants as tags
 use Rattle.std.specs.Prelude.{ℕ, ◌+◌, ◌-◌, ◌*◌, ◌^◌, ◌==◌, ◌&&◌, ◌||◌, not, nat_lt, Bool, true, false, List, [], ◌∷◌, ◌++◌, length, codes}
 use Rattle.std.specs.Prelude.{bytes_eq, if◌then◌else◌, unwrap_or, is_some, slice_get, Option, Some, None, option_and_then, option_map}
-use Rattle.std.specs.Prelude.{Result, Ok, Err}
-use Rattle.std.specs.List.{list_any}
-use Rattle.bridge_io.specs.Answer.{and_then}
-use Rattle.bridge_io.specs.Firsts.{first_of}
-use Rattle.bridge_io.specs.Places.{place_of}
-use Rattle.bridge_io.specs.declared.place.Place.{Place}
-use Rattle.hls_lines.specs.Attributes.{NameValue, attributes_at, attributes_of, value_of}
-use Rattle.hls_lines.specs.Lines.{PlaylistLine, tag, uri, is_uri, lines_of}
-use Rattle.hls_lines.specs.declared.fault.LineFault.{LineFault}
-use Rattle.url_parts.specs.Addresses.{resolve}
-use Rattle.url_parts.specs.declared.address.Part.{Part}
-use Rattle.url_parts.specs.declared.fault.UrlFault.{UrlFault}
-use Rattle.url_parts.specs.declared.range.Range.{Range}
-use Rattle.hls_media.specs.Addresses.{address_of}
-use Rattle.hls_media.specs.States.{State, nothing}
-use Rattle.hls_media.specs.Tags.{tag_of}
-use Rattle.hls_media.specs.Values.{number_of, below, duration_of, range_from, fitting, end_of, is_range}
-use Rattle.hls_media.specs.declared.fault.MediaFault.{MediaFault}
-use Rattle.hls_media.specs.declared.fault.MediaFault.TheVariants as fault
-use Rattle.hls_media.specs.declared.media.Media.{Media}
-use Rattle.hls_media.specs.declared.media.MediaSegment.{MediaSegment}
-use Rattle.hls_media.specs.declared.tag.Tag.{Tag}
-use Rattle.hls_media.specs.declared.tag.Tag.TheVariants as tags
+use Rattle.std.specs.{Prelude.{Result, Ok, Err}, List.list_any}
+use Rattle.bridge_io.specs.{Answer.and_then, Firsts.first_of, Places.place_of, declared.place.Place.Place}
+use Rattle.hls_lines.specs.{Attributes.{NameValue, attributes_at, attributes_of, value_of}, Lines.{PlaylistLine, tag, uri, is_uri}}
+use Rattle.hls_lines.specs.{Lines.lines_of, declared.fault.LineFault.LineFault}
+use Rattle.url_parts.specs.{Addresses.resolve, declared.address.Part.Part, declared.fault.UrlFault.UrlFault, declared.range.Range.Range}
+use Rattle.hls_media.specs.{Addresses.address_of, States.{State, nothing}, Tags.tag_of, Values.{number_of, below, duration_of, range_from}}
+use Rattle.hls_media.specs.{Values.{fitting, end_of, is_range}, declared.fault.MediaFault.MediaFault, declared.media.Media.Media}
+use Rattle.hls_media.specs.{declared.media.MediaSegment.MediaSegment, declared.tag.Tag.Tag}
 
 -- ---- meanings, without any bound
 

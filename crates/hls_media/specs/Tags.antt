@@ -1,9 +1,8 @@
 -- The tags of media playlists, by name (RFC 8216 4.3, and its second edition's draft).
 use Rattle.std.specs.Prelude.{ℕ, List, codes, bytes_eq, ◌||◌, if◌then◌else◌}
-use Rattle.hls_media.specs.declared.tag.Tag.{Tag}
-use Rattle.hls_media.specs.declared.tag.Tag.TheVariants.{TargetDuration, MediaSequence, DiscontinuitySequence, Duration, ByteRange}
-use Rattle.hls_media.specs.declared.tag.Tag.TheVariants.{Discontinuity, Map, EndList, Key, SessionKey, DateRange, LowLatency, Unsupported}
-use Rattle.hls_media.specs.declared.tag.Tag.TheVariants.{Master, Other}
+use Rattle.hls_media.specs.{declared.tag.Tag.Tag, declared.tag.Tag.TheVariants.{TargetDuration, MediaSequence, DiscontinuitySequence}}
+use Rattle.hls_media.specs.declared.tag.Tag.TheVariants.{Duration, ByteRange, Discontinuity, Map, EndList, Key, SessionKey, DateRange}
+use Rattle.hls_media.specs.declared.tag.Tag.TheVariants.{LowLatency, Unsupported, Master, Other}
 
 abbrev pub refused_tag_of : List ℕ → Tag
 refused_tag_of name =

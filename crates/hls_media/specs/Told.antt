@@ -1,15 +1,11 @@
 -- What the lines of a media playlist tell, in words over whole lists (RFC 8216 4.3.2 and 4.3.3).
+use Rattle.hls_media.specs.declared.tag.Tag.TheVariants as tags
 use Rattle.std.specs.Prelude.{◌≡◌, ℕ, ◌+◌, ◌++◌, Bool, true, false, List, [], ◌∷◌, length, reverse, slice_get, count_by, if◌then◌else◌}
 use Rattle.std.specs.Prelude.{Option, Some, None, option_map, unwrap_or, is_some}
 use Rattle.bridge_io.specs.declared.place.Place.{Place}
 use Rattle.hls_lines.specs.Lines.{PlaylistLine, is_uri, tag, uri}
-use Rattle.hls_media.specs.Addresses.{address_of}
-use Rattle.hls_media.specs.Media.{former_end, map_value, media_values, no_range}
-use Rattle.hls_media.specs.Tags.{tag_of}
-use Rattle.hls_media.specs.Values.{duration_of, number_of, range_from}
-use Rattle.hls_media.specs.declared.media.MediaSegment.{MediaSegment}
-use Rattle.hls_media.specs.declared.tag.Tag.{Tag}
-use Rattle.hls_media.specs.declared.tag.Tag.TheVariants as tags
+use Rattle.hls_media.specs.{Addresses.address_of, Media.{former_end, map_value, media_values, no_range}, Tags.tag_of, Values.duration_of}
+use Rattle.hls_media.specs.{Values.{number_of, range_from}, declared.media.MediaSegment.MediaSegment, declared.tag.Tag.Tag}
 
 -- ---- kinds of tags
 

@@ -1,8 +1,6 @@
 -- The values of a media playlist's tags (RFC 8216 4.3.2 and 4.3.3).
 use Rattle.std.specs.Prelude.{ℕ, ◌+◌, ◌-◌, ◌*◌, ◌^◌, ◌==◌, ◌&&◌, not, nat_lt, nat_le, Bool, false, List, [], length, take, if◌then◌else◌}
-use Rattle.std.specs.Prelude.{unwrap_or, is_some, Option, Some, None}
-use Rattle.std.specs.Str.{all_ascii_digits}
-use Rattle.std.specs.Str.Parse.{digits_value}
+use Rattle.std.specs.{Prelude.{unwrap_or, is_some, Option, Some, None}, Str.all_ascii_digits, Str.Parse.digits_value}
 use Rattle.hls_lines.specs.Marks.{parts_at}
 use Rattle.url_parts.specs.declared.range.Range.{Range}
 

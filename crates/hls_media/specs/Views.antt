@@ -1,10 +1,7 @@
 -- What a reader of a playlist knows, as a state.
 use Rattle.std.specs.Prelude.{◌≡◌, ℕ, List, Option, Some, None, option_map, Result, Ok, Err, IfSome}
 use Rattle.bridge_io.specs.declared.place.Place.{Place}
-use Rattle.hls_media.specs.Media.{refusal}
-use Rattle.hls_media.specs.States.{State}
-use Rattle.hls_media.specs.declared.fault.MediaFault.{MediaFault}
-use Rattle.hls_media.specs.declared.state.Reader.{Reader}
+use Rattle.hls_media.specs.{Media.refusal, States.State, declared.fault.MediaFault.MediaFault, declared.state.Reader.Reader}
 use Rattle.hls_media.specs.declared.state.WrittenRange.{WrittenRange}
 
 abbrev pub written_of : WrittenRange → List ℕ × Place

@@ -1,27 +1,20 @@
 -- What comes from playlists.
 use Rattle.std.proofs.Common.{◌≡◌, ℕ, suc, ◌+◌, ◌*◌, false, List, [], ◌∷◌, map, length, All, Option, Some, None, Result, Ok, Err, refl, sym}
-use Rattle.std.proofs.Common.{◌∙◌, ap, subst, arith, length-append}
-use Rattle.std.proofs.lemmas.List.{length-map}
-use Rattle.std.proofs.lemmas.List.Elements.{All-nil, All-cons, All-head, All-tail, All-map, All-filter, All-weaker}
-use Rattle.std.proofs.lemmas.List.FromFn.{length-range_with_len}
+use Rattle.std.proofs.{Common.{◌∙◌, ap, subst, arith, length-append}, lemmas.List.length-map, lemmas.List.Elements.{All-nil, All-cons}}
+use Rattle.std.proofs.{lemmas.List.Elements.{All-head, All-tail, All-map, All-filter, All-weaker}, lemmas.List.FromFn.length-range_with_len}
 use Rattle.bridge_io.proofs.AndThen.{steps_of}
-use Rattle.timeline.specs.declared.fault.TimeFault.{TimeFault}
-use Rattle.timeline.specs.Expansions.{Closed, Extent, SegmentTimeline, is_open}
+use Rattle.timeline.specs.{declared.fault.TimeFault.TimeFault, Expansions.{Closed, Extent, SegmentTimeline, is_open}}
 use Rattle.timeline.specs.SegmentTimelines.{unless_fault}
-use Rattle.hls_media.specs.declared.media.Media.{Media}
-use Rattle.hls_media.specs.declared.media.MediaSegment.{MediaSegment}
+use Rattle.hls_media.specs.{declared.media.Media.Media, declared.media.MediaSegment.MediaSegment}
 use Rattle.hls_master.specs.declared.track.MasterTrack.{MasterTrack}
-use Rattle.presentation.specs.declared.parts.Content.{Content}
-use Rattle.presentation.specs.Origins.{CameFromPlaylists, IsAddressed, IsSilent}
-use Rattle.presentation.specs.Presented.{Presented, AreFilled, IsEnded, of_parts}
-use Rattle.hls_presentation.specs.Origins.{IsSilentTrack}
-use Rattle.hls_presentation.specs.Presenting.{content_of, content_with, contents_of, extents_from, flattened, hls_presented_of}
-use Rattle.hls_presentation.specs.Presenting.{initialization_of, nanos_by_tick, part_of, parts_of, parts_with, presented_from}
-use Rattle.hls_presentation.specs.Presenting.{presented_of_kept, runs_of, sections_from, ticks_by_second, timed, timeline_with, track_of}
-use Rattle.hls_presentation.specs.Sections.{group_at, groups_in, row_at, rows_of, section_count, whole_faults}
-use Rattle.hls_presentation.specs.Tracks.{Source, is_kept, kept, left_out, sources, track_faults}
-use Rattle.hls_presentation.proofs.Faults.{given}
-use Rattle.hls_presentation.proofs.Gathering.{all_gathered, length_gathered}
+use Rattle.presentation.specs.{declared.parts.Content.Content, Origins.{CameFromPlaylists, IsAddressed, IsSilent}, Presented.Presented}
+use Rattle.presentation.specs.Presented.{AreFilled, IsEnded, of_parts}
+use Rattle.hls_presentation.specs.{Origins.IsSilentTrack, Presenting.{content_of, content_with, contents_of, extents_from, flattened}}
+use Rattle.hls_presentation.specs.Presenting.{hls_presented_of, initialization_of, nanos_by_tick, part_of, parts_of, parts_with}
+use Rattle.hls_presentation.specs.Presenting.{presented_from, presented_of_kept, runs_of, sections_from, ticks_by_second, timed}
+use Rattle.hls_presentation.specs.{Presenting.{timeline_with, track_of}, Sections.{group_at, groups_in, row_at, rows_of, section_count}}
+use Rattle.hls_presentation.specs.{Sections.whole_faults, Tracks.{Source, is_kept, kept, left_out, sources, track_faults}}
+use Rattle.hls_presentation.proofs.{Faults.given, Gathering.{all_gathered, length_gathered}}
 
 -- ---- what a track has in a section
 

@@ -1,48 +1,29 @@
 -- That the segments of what is presented of playlists are counted.
 use Rattle.std.proofs.Common.{◌≡◌, ℕ, suc, ◌+◌, ◌*◌, ◌<◌, ◌≤◌, pos, ◌*ℤ◌, true, false, eqb, ltb, not, ◌||◌, List, [], ◌∷◌, ◌++◌, map}
-use Rattle.std.proofs.Common.{get_or, slice_get, length, All, Result, Ok, refl, sym, ◌∙◌, ap, subst, arith}
-use Rattle.std.specs.Prelude.{int_lt}
-use Rattle.std.specs.List.{list_any, range_with_len, sum_by}
-use Rattle.std.specs.Option.{option_map_or}
-use Rattle.std.proofs.Math.ListN.{get_or-map}
-use Rattle.std.proofs.lemmas.Bool.{ne_eqb}
-use Rattle.std.proofs.lemmas.Bool.Decides.{nat_tests}
-use Rattle.std.proofs.lemmas.Int.{ints}
-use Rattle.std.proofs.lemmas.List.{length-map}
-use Rattle.std.proofs.lemmas.List.Elements.{All-filter, All-head, All-map, All-tail, All-weaker}
-use Rattle.std.proofs.lemmas.List.Filters.{sum_by-filter_both}
-use Rattle.std.proofs.lemmas.List.Folds.{list_any_none}
-use Rattle.std.proofs.lemmas.List.FromFn.{get_or-range_with_len, length-range_with_len}
-use Rattle.std.proofs.lemmas.List.Sums.{sum_by-cons}
-use Rattle.std.proofs.lemmas.Option.{unwrap_or-slice_get}
+use Rattle.std.proofs.{Common.{get_or, slice_get, length, All, Result, Ok, refl, sym, ◌∙◌, ap, subst, arith}, Math.ListN.get_or-map}
+use Rattle.std.proofs.{lemmas.Bool.ne_eqb, lemmas.Bool.Decides.nat_tests, lemmas.Int.ints, lemmas.List.length-map}
+use Rattle.std.proofs.{lemmas.List.Elements.{All-filter, All-head, All-map, All-tail, All-weaker}, lemmas.List.Filters.sum_by-filter_both}
+use Rattle.std.proofs.{lemmas.List.Folds.list_any_none, lemmas.List.FromFn.{get_or-range_with_len, length-range_with_len}}
+use Rattle.std.proofs.{lemmas.List.Sums.sum_by-cons, lemmas.Option.unwrap_or-slice_get}
+use Rattle.std.specs.{Prelude.int_lt, List.{list_any, range_with_len, sum_by}, Option.option_map_or}
 use Rattle.bridge_io.proofs.AndThen.{steps_of}
 use Rattle.bridge_io.specs.declared.place.Place.{Place}
-use Rattle.timeline.specs.declared.fault.TimeFault.{TimeFault}
-use Rattle.timeline.specs.Expansions.{Closed, Extent, SegmentTimeline, extents, numbered}
+use Rattle.timeline.specs.{declared.fault.TimeFault.TimeFault, Expansions.{Closed, Extent, SegmentTimeline, extents, numbered}}
 use Rattle.timeline.specs.Listed.{answered_count, instant_of, listed, reaches_fault}
 use Rattle.hls_master.specs.declared.track.MasterTrack.{MasterTrack}
-use Rattle.hls_media.specs.Laws.{IsBounded}
-use Rattle.hls_media.specs.declared.media.Media.{Media}
-use Rattle.hls_media.specs.declared.media.MediaSegment.{MediaSegment}
+use Rattle.hls_media.specs.{Laws.IsBounded, declared.media.Media.Media, declared.media.MediaSegment.MediaSegment}
 use Rattle.presentation.specs.Counting.{count_at, count_faults, count_of_all, count_of_track, counted, faults_of_count, is_long, is_over}
 use Rattle.presentation.specs.Counting.{limit_faults, listed_count, number_in, place_at, section_faults, sections_of, track_faults}
-use Rattle.presentation.specs.Counting.{tracks_of, unless_any, whole_track_faults}
-use Rattle.presentation.specs.declared.parts.Content.{Content}
-use Rattle.presentation.specs.Presented.{Presented, of_parts, whole_window}
-use Rattle.hls_presentation.specs.declared.fault.HlsFault.TheVariants.{SectionsDiffer}
-use Rattle.hls_presentation.specs.Laid.{IsRow, in_row}
-use Rattle.hls_presentation.specs.Laws.{PlaylistsAreCounted}
+use Rattle.presentation.specs.{Counting.{tracks_of, unless_any, whole_track_faults}, declared.parts.Content.Content, Presented.Presented}
+use Rattle.presentation.specs.Presented.{of_parts, whole_window}
+use Rattle.hls_presentation.specs.{declared.fault.HlsFault.TheVariants.SectionsDiffer, Laid.{IsRow, in_row}, Laws.PlaylistsAreCounted}
 use Rattle.hls_presentation.specs.Presenting.{content_of, contents_of, flattened, hls_presented_of, nanos_by_tick, parts_with}
-use Rattle.hls_presentation.specs.Presenting.{presented_from, presented_of_kept, ticks_by_second, track_of}
-use Rattle.hls_presentation.specs.Sections.{all_alike, group_at, groups_in, rows_of, section_count, whole_faults}
-use Rattle.hls_presentation.specs.Tracks.{Source, is_kept, kept, left_out, sources}
-use Rattle.hls_presentation.specs.Tracks.{track_faults as faults_of_tracks}
-use Rattle.hls_presentation.proofs.Came.{length_sections}
-use Rattle.hls_presentation.proofs.Counting.{flat_at, flat_none, gathered_same, groups_sum, option_at, spread, sum_mapped}
-use Rattle.hls_presentation.proofs.Faults.{given, none_given}
-use Rattle.hls_presentation.proofs.Grouping.{IsGroup, all_groups, all_long, one_at, places_below}
-use Rattle.hls_presentation.proofs.Laid.{positive, row}
-use Rattle.hls_presentation.proofs.Only.{media_bounded, no_front, none_if, not_passes}
+use Rattle.hls_presentation.specs.{Presenting.{presented_from, presented_of_kept, ticks_by_second, track_of}, Sections.all_alike}
+use Rattle.hls_presentation.specs.{Sections.{group_at, groups_in, rows_of, section_count, whole_faults}, Tracks.{Source, is_kept, kept}}
+use Rattle.hls_presentation.specs.Tracks.{left_out, sources, track_faults as faults_of_tracks}
+use Rattle.hls_presentation.proofs.{Came.length_sections, Counting.{flat_at, flat_none, gathered_same, groups_sum, option_at, spread}}
+use Rattle.hls_presentation.proofs.{Counting.sum_mapped, Faults.{given, none_given}, Grouping.{IsGroup, all_groups, all_long, one_at}}
+use Rattle.hls_presentation.proofs.{Grouping.places_below, Laid.{positive, row}, Only.{media_bounded, no_front, none_if, not_passes}}
 use Rattle.hls_presentation.proofs.Rows.{count_rows}
 
 -- ---- a row's segments are all listed

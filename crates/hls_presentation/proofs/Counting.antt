@@ -1,17 +1,13 @@
 -- Sums and lists of places.
 use Rattle.std.proofs.Common.{◌≡◌, ℕ, zero, suc, Bool, true, false, cond, eqb, ◌+◌, ◌*◌, ◌<◌, List, [], ◌∷◌, ◌++◌, map, flat_map, get_or}
-use Rattle.std.proofs.Common.{slice_get, length, All, Result, Ok, refl, sym, ◌∙◌, ap, arith}
-use Rattle.std.specs.List.{range_with_len, sum_by}
-use Rattle.std.specs.Option.{option_map_or}
-use Rattle.std.proofs.lemmas.List.{get_or-append-add, get_or-map, get_or_append_left, length-map}
-use Rattle.std.proofs.lemmas.List.Concat.{flat_map-cons}
-use Rattle.std.proofs.lemmas.List.Elements.{All-head, All-tail}
-use Rattle.std.proofs.lemmas.List.Sums.{sum_by-cons}
+use Rattle.std.proofs.{Common.{slice_get, length, All, Result, Ok, refl, sym, ◌∙◌, ap, arith}, lemmas.List.{get_or-append-add, get_or-map}}
+use Rattle.std.proofs.{lemmas.List.{get_or_append_left, length-map}, lemmas.List.Concat.flat_map-cons, lemmas.List.Elements.All-head}
+use Rattle.std.proofs.{lemmas.List.Elements.All-tail, lemmas.List.Sums.sum_by-cons}
+use Rattle.std.specs.{List.{range_with_len, sum_by}, Option.option_map_or}
 use Rattle.bridge_io.proofs.AndThen.{steps_of}
 use Rattle.hls_media.specs.declared.media.MediaSegment.{MediaSegment}
-use Rattle.hls_presentation.specs.declared.fault.HlsFault.{HlsFault}
-use Rattle.hls_presentation.specs.Presenting.{flattened, gathered}
-use Rattle.hls_presentation.specs.Sections.{group_at, groups_of, put_before, row_at}
+use Rattle.hls_presentation.specs.{declared.fault.HlsFault.HlsFault, Presenting.{flattened, gathered}, Sections.{group_at, groups_of}}
+use Rattle.hls_presentation.specs.Sections.{put_before, row_at}
 
 -- ---- sums
 

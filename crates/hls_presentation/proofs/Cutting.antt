@@ -1,7 +1,6 @@
 -- The segments of a section stand together.
 use Rattle.std.proofs.Common.{◌≡◌, ℕ, suc, ◌+◌, ◌<◌, Bool, true, false, cond, eqb, List, [], ◌∷◌, take, drop, Some, slice_get, refl, sym}
-use Rattle.std.proofs.Common.{◌∙◌, ap, subst, arith}
-use Rattle.std.proofs.lemmas.Bool.{eq-eqb, eqb-true}
+use Rattle.std.proofs.{Common.{◌∙◌, ap, subst, arith}, lemmas.Bool.{eq-eqb, eqb-true}}
 use Rattle.std.specs.List.{prefix_len}
 use Rattle.hls_media.specs.declared.media.MediaSegment.{MediaSegment}
 use Rattle.hls_presentation.specs.Sections.{groups_of, is_of, put_before}

@@ -1,10 +1,8 @@
 -- The first of some faults.
 use Rattle.std.proofs.Common.{◌≡◌, List, [], ◌∷◌, ◌++◌, Result, Ok, Err, refl, ap}
-use Rattle.bridge_io.specs.Answer.{Gives}
-use Rattle.bridge_io.specs.Firsts.{first_fault}
-use Rattle.hls_presentation.specs.declared.fault.HlsFault.{HlsFault}
-use Rattle.hls_presentation.specs.declared.fault.HlsFault.TheVariants.{NotEnded, NoMap, MapChanged, ZeroDuration, SectionsDiffer, Limit}
-use Rattle.hls_presentation.specs.declared.fault.HlsFault.TheVariants.{NoTracks, Memory}
+use Rattle.bridge_io.specs.{Answer.Gives, Firsts.first_fault}
+use Rattle.hls_presentation.specs.{declared.fault.HlsFault.HlsFault, declared.fault.HlsFault.TheVariants.{NotEnded, NoMap, MapChanged}}
+use Rattle.hls_presentation.specs.declared.fault.HlsFault.TheVariants.{ZeroDuration, SectionsDiffer, Limit, NoTracks, Memory}
 use Rattle.hls_presentation.specs.Presenting.{refusal, unless_any}
 
 pub passed : (faults more : List HlsFault) → first_fault faults ≡ Ok tt → first_fault (faults ++ more) ≡ first_fault more

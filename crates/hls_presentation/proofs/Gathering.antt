@@ -1,12 +1,9 @@
 -- What some things give one after another.
 use Rattle.std.proofs.Common.{◌≡◌, suc, List, [], ◌∷◌, ◌++◌, length, All, Result, Ok, Err, IfSome, refl, sym, ◌∙◌, ap, subst, append_assoc}
-use Rattle.std.proofs.lemmas.List.{append-nil}
-use Rattle.std.proofs.lemmas.Option.{IfSome_then}
-use Rattle.std.proofs.lemmas.List.Elements.{All-nil, All-cons}
+use Rattle.std.proofs.{lemmas.List.append-nil, lemmas.Option.IfSome_then, lemmas.List.Elements.{All-nil, All-cons}}
 use Rattle.bridge_io.proofs.AndThen.{steps_of}
 use Rattle.bridge_io.specs.Answer.{and_then}
-use Rattle.hls_presentation.specs.declared.fault.HlsFault.{HlsFault}
-use Rattle.hls_presentation.specs.Presenting.{behind, gathered, refusal}
+use Rattle.hls_presentation.specs.{declared.fault.HlsFault.HlsFault, Presenting.{behind, gathered, refusal}}
 
 behind_twice : {Y : Type 0} (before : List Y) (y : Y) (r : Result (List Y) HlsFault)
     → behind before (and_then r (λ ys. Ok (y ∷ ys))) ≡ behind (before ++ y ∷ []) r

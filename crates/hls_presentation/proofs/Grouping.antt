@@ -1,16 +1,12 @@
 -- What is so of a track's segments is so of each of its groups.
 use Rattle.std.proofs.Common.{◌≡◌, ℕ, suc, ◌+◌, ◌<◌, ◌^◌, Bool, true, false, cond, eqb, List, [], ◌∷◌, map, length, drop, get_or, All, refl}
-use Rattle.std.proofs.Common.{sym, ◌∙◌, ap, subst, arith}
-use Rattle.std.specs.List.{list_all, list_any, range_with_len}
-use Rattle.std.proofs.lemmas.Bool.{false_from_ne_true, leb-false}
-use Rattle.std.proofs.lemmas.List.{drop_more}
+use Rattle.std.proofs.{Common.{sym, ◌∙◌, ap, subst, arith}, lemmas.Bool.{false_from_ne_true, leb-false}, lemmas.List.drop_more}
 use Rattle.std.proofs.lemmas.List.Elements.{All-nil, All-cons, All-head, All-tail, All-map, All-append, All-get_or}
-use Rattle.std.proofs.lemmas.List.FromFn.{get_or-range_with_len, length-range_with_len}
-use Rattle.std.proofs.lemmas.Option.{unwrap_or-slice_get}
+use Rattle.std.proofs.{lemmas.List.FromFn.{get_or-range_with_len, length-range_with_len}, lemmas.Option.unwrap_or-slice_get}
+use Rattle.std.specs.List.{list_all, list_any, range_with_len}
 use Rattle.hls_media.specs.declared.media.MediaSegment.{MediaSegment}
-use Rattle.hls_presentation.specs.Presenting.{flattened}
-use Rattle.hls_presentation.specs.Sections.{all_alike, are_alike, greatest, group_at, groups_of, is_too_long, length_of, put_before, row_at}
-use Rattle.hls_presentation.specs.Sections.{row_length, rows_of, section_count, starts_alike}
+use Rattle.hls_presentation.specs.{Presenting.flattened, Sections.{all_alike, are_alike, greatest, group_at, groups_of, is_too_long}}
+use Rattle.hls_presentation.specs.Sections.{length_of, put_before, row_at, row_length, rows_of, section_count, starts_alike}
 
 -- ---- tests of lists
 

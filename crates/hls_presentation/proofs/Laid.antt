@@ -1,33 +1,21 @@
 -- What is presented of playlists lies in rows.
 use Rattle.std.proofs.Common.{◌≡◌, ℕ, zero, cond, suc, ◌+◌, ◌-◌, ◌/◌, ◌<◌, ◌≤◌, ℤ, pos, ◌*ℤ◌, Bool, true, false, List, [], ◌∷◌, map, length}
-use Rattle.std.proofs.Common.{All, Option, Some, None, Ok, refl, sym, ◌∙◌, ap, subst, arith}
-use Rattle.std.specs.Prelude.{int_le}
-use Rattle.std.specs.List.{list_any}
-use Rattle.std.proofs.Math.Nat.{div-mul-le_self, zero-div}
-use Rattle.std.proofs.lemmas.Bool.{or_parts}
-use Rattle.std.proofs.lemmas.Bool.Decides.{nat_tests}
-use Rattle.std.proofs.lemmas.Int.{ints}
-use Rattle.std.proofs.lemmas.List.Elements.{All-nil, All-cons}
+use Rattle.std.proofs.{Common.{All, Option, Some, None, Ok, refl, sym, ◌∙◌, ap, subst, arith}, Math.Nat.{div-mul-le_self, zero-div}}
+use Rattle.std.proofs.{lemmas.Bool.or_parts, lemmas.Bool.Decides.nat_tests, lemmas.Int.ints, lemmas.List.Elements.{All-nil, All-cons}}
 use Rattle.std.proofs.lemmas.Nat.{le-div}
+use Rattle.std.specs.{Prelude.int_le, List.list_any}
 use Rattle.bridge_io.proofs.AndThen.{steps_of}
 use Rattle.exact_time.specs.Time.{in_units}
-use Rattle.timeline.specs.declared.fault.TimeFault.{TimeFault}
-use Rattle.timeline.specs.declared.fault.TimeFault.TheVariants.{ZeroDuration}
-use Rattle.timeline.specs.Expansions.{Closed, SegmentTimeline}
-use Rattle.timeline.specs.Faults.{fault_if, lasts_no_time, or_fault}
-use Rattle.timeline.specs.SegmentTimelines.{unless_fault}
+use Rattle.timeline.specs.{declared.fault.TimeFault.TimeFault, declared.fault.TimeFault.TheVariants.ZeroDuration, Expansions.Closed}
+use Rattle.timeline.specs.{Expansions.SegmentTimeline, Faults.{fault_if, lasts_no_time, or_fault}, SegmentTimelines.unless_fault}
 use Rattle.hls_media.specs.declared.media.MediaSegment.{MediaSegment}
-use Rattle.presentation.specs.declared.parts.Content.{Content}
-use Rattle.presentation.specs.Presented.{of_parts}
-use Rattle.hls_presentation.specs.Laid.{IsLaidOut, IsRow, PresentedAreLaidOut, in_row, sections_by}
-use Rattle.hls_presentation.specs.Presenting.{content_of, content_with, contents_of, extent_at, extents_from, fault_of_extents, flattened}
-use Rattle.hls_presentation.specs.Presenting.{hls_presented_of, initialization_of, nanos_by_tick, parts_of, parts_with, presented_from}
-use Rattle.hls_presentation.specs.Presenting.{presented_of_kept, runs_of, section_at, sections_from, ticks_by_second, timeline_with}
-use Rattle.hls_presentation.specs.Sections.{groups_in, row_length, rows_of, whole_faults}
-use Rattle.hls_presentation.specs.Tracks.{kept, left_out, sources, track_faults}
-use Rattle.hls_presentation.proofs.Came.{timed_ok, unless_ok}
-use Rattle.hls_presentation.proofs.Faults.{given}
-use Rattle.hls_presentation.proofs.Gathering.{all_gathered}
+use Rattle.presentation.specs.{declared.parts.Content.Content, Presented.of_parts}
+use Rattle.hls_presentation.specs.{Laid.{IsLaidOut, IsRow, PresentedAreLaidOut, in_row, sections_by}, Presenting.{content_of, content_with}}
+use Rattle.hls_presentation.specs.Presenting.{contents_of, extent_at, extents_from, fault_of_extents, flattened, hls_presented_of}
+use Rattle.hls_presentation.specs.Presenting.{initialization_of, nanos_by_tick, parts_of, parts_with, presented_from, presented_of_kept}
+use Rattle.hls_presentation.specs.{Presenting.{runs_of, section_at, sections_from, ticks_by_second, timeline_with}, Sections.groups_in}
+use Rattle.hls_presentation.specs.{Sections.{row_length, rows_of, whole_faults}, Tracks.{kept, left_out, sources, track_faults}}
+use Rattle.hls_presentation.proofs.{Came.{timed_ok, unless_ok}, Faults.given, Gathering.all_gathered}
 
 -- ---- segments in a row
 

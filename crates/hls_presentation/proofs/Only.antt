@@ -1,25 +1,20 @@
 -- That nothing else is refused than tracks and the whole for their faults.
 use Rattle.std.proofs.Common.{◌≡◌, ℕ, Bool, true, false, cond, not, List, [], ◌∷◌, ◌++◌, map, flat_map, get_or, All, inl, inr, Result, Ok}
-use Rattle.std.proofs.Common.{Err, refl, sym, ◌∙◌, ap, arith}
+use Rattle.std.proofs.{Common.{Err, refl, sym, ◌∙◌, ap, arith}, lemmas.Bool.or_parts, lemmas.List.append-nil, lemmas.List.Elements.All-nil}
+use Rattle.std.proofs.lemmas.List.Elements.{All-cons, All-head, All-tail, All-map, All-filter, filter_passes}
 use Rattle.std.specs.List.{list_all}
-use Rattle.std.proofs.lemmas.Bool.{or_parts}
-use Rattle.std.proofs.lemmas.List.{append-nil}
-use Rattle.std.proofs.lemmas.List.Elements.{All-nil, All-cons, All-head, All-tail, All-map, All-filter, filter_passes}
 use Rattle.bridge_io.specs.Firsts.{first_fault}
-use Rattle.hls_media.specs.Laws.{IsBounded}
-use Rattle.hls_media.specs.declared.media.Media.{Media}
+use Rattle.hls_media.specs.{Laws.IsBounded, declared.media.Media.Media}
 use Rattle.hls_master.specs.declared.track.MasterTrack.{MasterTrack}
 use Rattle.presentation.specs.declared.parts.Content.{Content}
-use Rattle.hls_presentation.specs.declared.fault.HlsFault.{HlsFault}
-use Rattle.hls_presentation.specs.declared.fault.HlsFault.TheVariants.{Limit, MapChanged, NoMap, NotEnded, SectionsDiffer, ZeroDuration}
-use Rattle.hls_presentation.specs.Laws.{OnlyFaultsAreRefused}
+use Rattle.hls_presentation.specs.{declared.fault.HlsFault.HlsFault, declared.fault.HlsFault.TheVariants.{Limit, MapChanged, NoMap}}
+use Rattle.hls_presentation.specs.{declared.fault.HlsFault.TheVariants.{NotEnded, SectionsDiffer, ZeroDuration}, Laws.OnlyFaultsAreRefused}
 use Rattle.hls_presentation.specs.Presenting.{are_micros, content_of, contents_of, flattened, gathered, hls_presented_of, is_micros}
-use Rattle.hls_presentation.specs.Presenting.{nanos_by_tick, presented_from, presented_of_kept, unless_any}
-use Rattle.hls_presentation.specs.Sections.{all_alike, groups_in, is_over_limit, rows_of, whole_faults}
-use Rattle.hls_presentation.specs.Tracks.{Source, fault_if, faults_of, has_empty, is_kept, is_left_out, kept, lacks_map, lacks_maps}
-use Rattle.hls_presentation.specs.Tracks.{lasts_no_time, left_out, map_changes, segment_faults, sources, track_faults}
-use Rattle.hls_presentation.proofs.Grouping.{IsGroup, all_groups, all_rowed, none_pass}
-use Rattle.hls_presentation.proofs.Spanned.{IsTimed, IsUnit, content_ok}
+use Rattle.hls_presentation.specs.{Presenting.{nanos_by_tick, presented_from, presented_of_kept, unless_any}, Sections.all_alike}
+use Rattle.hls_presentation.specs.{Sections.{groups_in, is_over_limit, rows_of, whole_faults}, Tracks.{Source, fault_if, faults_of}}
+use Rattle.hls_presentation.specs.Tracks.{has_empty, is_kept, is_left_out, kept, lacks_map, lacks_maps, lasts_no_time, left_out}
+use Rattle.hls_presentation.specs.Tracks.{map_changes, segment_faults, sources, track_faults}
+use Rattle.hls_presentation.proofs.{Grouping.{IsGroup, all_groups, all_rowed, none_pass}, Spanned.{IsTimed, IsUnit, content_ok}}
 
 -- ---- lists of faults
 

@@ -1,28 +1,18 @@
 -- That no video track of a master that is read has a language.
 use Rattle.std.proofs.Common.{◌≡◌, ℕ, ◌+◌, Bool, true, false, cond, List, [], ◌∷◌, map, flat_map, All, Option, Some, None, option_map}
-use Rattle.std.proofs.Common.{option_and_then, Result, Ok, Err, refl, subst}
-use Rattle.std.specs.Prelude.{codes}
-use Rattle.std.specs.Option.{option_to_list}
-use Rattle.std.proofs.lemmas.List.Elements.{All-nil, All-cons, All-head, All-tail, All-append, All-map, All-filter, All-weaker}
-use Rattle.bridge_io.specs.Firsts.{first_some}
-use Rattle.bridge_io.specs.Texts.{is_among}
-use Rattle.bridge_io.specs.declared.media.Kind.{Kind}
-use Rattle.bridge_io.specs.declared.media.Kind.TheVariants.{Video, Audio, Text}
-use Rattle.bridge_io.specs.declared.place.Place.{Place}
-use Rattle.hls_lines.specs.Attributes.{NameValue, attributes_of, value_of}
-use Rattle.hls_lines.specs.Lines.{PlaylistLine, lines_of}
+use Rattle.std.proofs.{Common.{option_and_then, Result, Ok, Err, refl, subst}, lemmas.List.Elements.{All-nil, All-cons, All-head, All-tail}}
+use Rattle.std.proofs.lemmas.List.Elements.{All-append, All-map, All-filter, All-weaker}
+use Rattle.std.specs.{Prelude.codes, Option.option_to_list}
+use Rattle.bridge_io.specs.{Firsts.first_some, Texts.is_among, declared.media.Kind.Kind, declared.media.Kind.TheVariants.{Video, Audio}}
+use Rattle.bridge_io.specs.{declared.media.Kind.TheVariants.Text, declared.place.Place.Place}
+use Rattle.hls_lines.specs.{Attributes.{NameValue, attributes_of, value_of}, Lines.{PlaylistLine, lines_of}}
 use Rattle.hls_lines.specs.declared.fault.LineFault.{LineFault}
-use Rattle.hls_master.specs.declared.fault.MasterFault.{MasterFault}
-use Rattle.hls_master.specs.declared.track.MasterTrack.{MasterTrack}
-use Rattle.hls_master.specs.Entries.{MasterEntry, rendition, variant, stray, known_lines, entries_of}
-use Rattle.hls_master.specs.Faults.{answer}
-use Rattle.hls_master.specs.Masters.{faults_of, master_by, master_in, master_of, mentions_in}
-use Rattle.hls_master.specs.Mentions.{MentionsValue, entry_rendition}
-use Rattle.hls_master.specs.Renditions.{RenditionValue, kind_in, kind_of_type, rendition_value, rendition_with}
-use Rattle.hls_master.specs.SeenTracks.{track_seen}
+use Rattle.hls_master.specs.{declared.fault.MasterFault.MasterFault, declared.track.MasterTrack.MasterTrack, Entries.MasterEntry}
+use Rattle.hls_master.specs.{Entries.{rendition, variant, stray, known_lines, entries_of}, Faults.answer, Masters.{faults_of, master_by}}
+use Rattle.hls_master.specs.{Masters.{master_in, master_of, mentions_in}, Mentions.{MentionsValue, entry_rendition}}
+use Rattle.hls_master.specs.{Renditions.{RenditionValue, kind_in, kind_of_type, rendition_value, rendition_with}, SeenTracks.track_seen}
 use Rattle.hls_master.specs.Tracks.{Mentioned, TrackValue, address_of, by_rendition, by_variant, firsts_behind, firsts_of, mentioned}
-use Rattle.hls_master.specs.Tracks.{same_set, track_of, tracks_among, tracks_of, tracks_of_sets}
-use Rattle.hls_master.specs.Variants.{VariantValue}
+use Rattle.hls_master.specs.{Tracks.{same_set, track_of, tracks_among, tracks_of, tracks_of_sets}, Variants.VariantValue}
 use Rattle.hls_presentation.specs.Origins.{IsSilentTrack, ReadAreSilent}
 
 -- ---- renditions are audio or text

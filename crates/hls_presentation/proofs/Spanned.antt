@@ -1,24 +1,16 @@
 -- What a track has in a section is given, where its segments have maps and last some time.
 use Rattle.std.proofs.Common.{◌≡◌, ℕ, ◌+◌, ◌/◌, ◌<◌, ◌≤◌, ◌^◌, ◌⊎◌, inl, inr, true, false, eqb, List, [], ◌∷◌, map, length, All, Option}
-use Rattle.std.proofs.Common.{Some, None, is_none, Ok, refl, sym, ◌∙◌, subst, arith}
+use Rattle.std.proofs.{Common.{Some, None, is_none, Ok, refl, sym, ◌∙◌, subst, arith}, lemmas.Bool.{eq-eqb, eqb-true, eqb-false}}
+use Rattle.std.proofs.{lemmas.List.length-map, lemmas.List.Elements.{All-head, All-tail}, lemmas.List.Sums.sum_by-cons}
 use Rattle.std.specs.List.{list_any}
-use Rattle.std.proofs.lemmas.Bool.{eq-eqb, eqb-true, eqb-false}
-use Rattle.std.proofs.lemmas.List.{length-map}
-use Rattle.std.proofs.lemmas.List.Elements.{All-head, All-tail}
-use Rattle.std.proofs.lemmas.List.Sums.{sum_by-cons}
 use Rattle.exact_time.specs.Time.{in_units}
-use Rattle.timeline.specs.Expansions.{Closed, SegmentTimeline}
-use Rattle.timeline.specs.Faults.{lasts_no_time, segment_fault}
-use Rattle.timeline.specs.Limits.{span_breaks_limits}
+use Rattle.timeline.specs.{Expansions.{Closed, SegmentTimeline}, Faults.{lasts_no_time, segment_fault}, Limits.span_breaks_limits}
 use Rattle.url_parts.specs.declared.address.Part.{Part}
 use Rattle.hls_media.specs.declared.media.MediaSegment.{MediaSegment}
 use Rattle.presentation.specs.declared.parts.Content.{Content}
 use Rattle.hls_presentation.specs.Presenting.{content_of, content_with, initialization_in, is_micros, extent_at, extents_from, part_of}
-use Rattle.hls_presentation.specs.Presenting.{parts_of, runs_of, ticks_by_second, timeline_with}
-use Rattle.hls_presentation.specs.Sections.{length_of}
-use Rattle.hls_presentation.proofs.Came.{closed, length_extents}
-use Rattle.hls_presentation.proofs.Grouping.{IsRowed}
-use Rattle.hls_presentation.proofs.Timed.{IsSet, fit_micros, fit_nanos, set}
+use Rattle.hls_presentation.specs.{Presenting.{parts_of, runs_of, ticks_by_second, timeline_with}, Sections.length_of}
+use Rattle.hls_presentation.proofs.{Came.{closed, length_extents}, Grouping.IsRowed, Timed.{IsSet, fit_micros, fit_nanos, set}}
 
 pub record IsTimed (nanos : ℕ) (s : MediaSegment) : Type 0 where
   pub map : is_none s.map ≡ false

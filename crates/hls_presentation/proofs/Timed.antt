@@ -1,13 +1,8 @@
 -- Segments that last some time, one after another, have times.
 use Rattle.std.proofs.Common.{◌≡◌, ℕ, ◌+◌, ◌-◌, ◌*◌, ◌/◌, ◌%◌, ◌^◌, ◌<◌, ◌≤◌, ℤ, pos, ◌*ℤ◌, ◌-ℤ◌, ◌≤ℤ◌, ◌<ℤ◌, Bool, false, ◌||◌, Some, refl}
-use Rattle.std.proofs.Common.{◌∙◌, ap, arith}
+use Rattle.std.proofs.{Common.{◌∙◌, ap, arith}, Math.Nat.{div-one, mul-le-mul_left}, lemmas.Bool.Decides.nat_tests, lemmas.Int.ints}
 use Rattle.std.specs.Prelude.{int_le, int_lt, unsigned_abs}
-use Rattle.std.proofs.Math.Nat.{div-one, mul-le-mul_left}
-use Rattle.std.proofs.lemmas.Bool.Decides.{nat_tests}
-use Rattle.std.proofs.lemmas.Int.{ints}
-use Rattle.timeline.specs.Expansions.{Extent}
-use Rattle.timeline.specs.Faults.{is_apart, lasts_no_time}
-use Rattle.timeline.specs.Limits.{span_breaks_limits}
+use Rattle.timeline.specs.{Expansions.Extent, Faults.{is_apart, lasts_no_time}, Limits.span_breaks_limits}
 
 not_at_most : (a b : ℤ) → b <ℤ a → int_le a b ≡ false
 not_at_most a b h = grind (arith, ints, nat_tests)

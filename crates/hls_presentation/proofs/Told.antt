@@ -2,14 +2,10 @@
 use Rattle.std.proofs.Common.{◌≡◌, ℕ, List, [], ◌∷◌, map, Result, Err, refl, sym, ◌∙◌, ap}
 use Rattle.bridge_io.specs.Answer.{Gives}
 use Rattle.std.specs.List.{list_any}
-use Rattle.timeline.specs.declared.entry.Scale.{Scale}
-use Rattle.timeline.specs.declared.fault.TimeFault.{TimeFault}
-use Rattle.timeline.specs.declared.fault.TimeFault.TheVariants.{ListLength, Memory, NoEnd, Range, Step, TimeWithoutTimeline, ZeroDuration}
-use Rattle.timeline.specs.declared.names.Names.TheVariants.{Addresses}
-use Rattle.timeline.specs.declared.span.Span.{Span}
-use Rattle.timeline.specs.Durations.{expansion_of_list, extent_of}
-use Rattle.timeline.specs.Expansions.{Closed, Extent, SegmentTimeline}
-use Rattle.timeline.specs.Faults.{lasts_no_time, refusal as time_refusal}
+use Rattle.timeline.specs.{declared.entry.Scale.Scale, declared.fault.TimeFault.TimeFault, declared.fault.TimeFault.TheVariants.ListLength}
+use Rattle.timeline.specs.declared.fault.TimeFault.TheVariants.{Memory, NoEnd, Range, Step, TimeWithoutTimeline, ZeroDuration}
+use Rattle.timeline.specs.{declared.names.Names.TheVariants.Addresses, declared.span.Span.Span, Durations.{expansion_of_list, extent_of}}
+use Rattle.timeline.specs.{Expansions.{Closed, Extent, SegmentTimeline}, Faults.{lasts_no_time, refusal as time_refusal}}
 use Rattle.timeline.specs.SegmentTimelines.{timeline_of_spans}
 use Rattle.url_parts.specs.declared.address.Part.{Part}
 use Rattle.hls_presentation.specs.Presenting.{fault_of_times, refusal, timed, timeline_of_extents}

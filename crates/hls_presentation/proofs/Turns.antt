@@ -1,27 +1,18 @@
 -- Steps of loops over plain values.
 use Rattle.std.proofs.Common.{◌≡◌, ℕ, ◌+◌, ◌-◌, ◌<◌, ◌≤◌, List, [], ◌∷◌, ◌++◌, map, length, take, drop, get_or, slice_get, All, Some}
-use Rattle.std.proofs.Common.{Result, Ok, Err, IfOk, IfSome, refl, sym, ◌∙◌, ap, append_assoc}
+use Rattle.std.proofs.{Common.{Result, Ok, Err, IfOk, IfSome, refl, sym, ◌∙◌, ap, append_assoc}, lemmas.List.{append-nil, map-append}}
+use Rattle.std.proofs.{lemmas.List.drop_more, lemmas.Option.IfSome_then}
 use Rattle.std.specs.Borrow.{Bor}
-use Rattle.std.proofs.lemmas.List.{append-nil, map-append, drop_more}
-use Rattle.std.proofs.lemmas.Option.{IfSome_then}
 use Rattle.bridge_io.specs.Answer.{Gives, and_then}
 use Rattle.hls_master.specs.declared.track.MasterTrack.{MasterTrack}
-use Rattle.hls_media.specs.declared.media.Media.{Media}
-use Rattle.hls_media.specs.declared.media.MediaSegment.{MediaSegment}
-use Rattle.presentation.specs.declared.parts.Content.{Content}
-use Rattle.presentation.specs.declared.track.Section.{Section}
-use Rattle.presentation.specs.declared.track.Track.{Track}
-use Rattle.presentation.specs.Origins.{CameFromPlaylists}
-use Rattle.presentation.specs.Presented.{Presented, AreFilled, of_parts}
-use Rattle.hls_presentation.specs.declared.fault.HlsFault.{HlsFault}
-use Rattle.hls_presentation.specs.Origins.{IsSilentTrack}
-use Rattle.hls_presentation.specs.Presenting.{behind, content_of, contents_of, flattened, gathered, hls_presented_of, nanos_by_tick}
-use Rattle.hls_presentation.specs.Presenting.{parts_with, presented_from, refusal, sections_from, track_of}
-use Rattle.hls_presentation.specs.Sections.{group_at, groups_in, groups_of, row_at, row_length, rows_from, rows_of}
-use Rattle.hls_presentation.specs.Tracks.{Source}
-use Rattle.hls_presentation.proofs.Came.{all_filled, came}
-use Rattle.hls_presentation.proofs.Cutting.{count_like, front}
-use Rattle.hls_presentation.proofs.Gathering.{goes_on, row_goes_on, row_stops}
+use Rattle.hls_media.specs.{declared.media.Media.Media, declared.media.MediaSegment.MediaSegment}
+use Rattle.presentation.specs.{declared.parts.Content.Content, declared.track.Section.Section, declared.track.Track.Track}
+use Rattle.presentation.specs.{Origins.CameFromPlaylists, Presented.{Presented, AreFilled, of_parts}}
+use Rattle.hls_presentation.specs.{declared.fault.HlsFault.HlsFault, Origins.IsSilentTrack, Presenting.{behind, content_of, contents_of}}
+use Rattle.hls_presentation.specs.Presenting.{flattened, gathered, hls_presented_of, nanos_by_tick, parts_with, presented_from, refusal}
+use Rattle.hls_presentation.specs.{Presenting.{sections_from, track_of}, Sections.{group_at, groups_in, groups_of, row_at, row_length}}
+use Rattle.hls_presentation.specs.{Sections.{rows_from, rows_of}, Tracks.Source}
+use Rattle.hls_presentation.proofs.{Came.{all_filled, came}, Cutting.{count_like, front}, Gathering.{goes_on, row_goes_on, row_stops}}
 use Rattle.hls_presentation.proofs.Rows.{no_rows, row_next}
 
 -- a group is cut off

@@ -4,9 +4,7 @@ use Rattle.exact_time.specs.Time.{in_units}
 use Rattle.timeline.specs.Expansions.{Closed, Extent, SegmentTimeline}
 use Rattle.hls_master.specs.declared.track.MasterTrack.{MasterTrack}
 use Rattle.hls_media.specs.declared.media.Media.{Media}
-use Rattle.presentation.specs.declared.parts.Content.{Content}
-use Rattle.presentation.specs.declared.track.Section.{Section}
-use Rattle.presentation.specs.Presented.{Presented}
+use Rattle.presentation.specs.{declared.parts.Content.Content, declared.track.Section.Section, Presented.Presented}
 use Rattle.hls_presentation.specs.Presenting.{hls_presented_of, section_at}
 
 -- segments that last so many ticks each, one behind another

@@ -2,12 +2,9 @@
 use Rattle.std.specs.Prelude.{◌≡◌, ◌≤◌, List, length, sum_by, All, Ok, Err}
 use Rattle.bridge_io.specs.Firsts.{first_fault}
 use Rattle.hls_master.specs.declared.track.MasterTrack.{MasterTrack}
-use Rattle.hls_media.specs.Laws.{IsBounded}
-use Rattle.hls_media.specs.declared.media.Media.{Media}
-use Rattle.presentation.specs.Counting.{counted, count_of_all}
-use Rattle.presentation.specs.Presented.{Presented}
-use Rattle.hls_presentation.specs.declared.fault.HlsFault.{HlsFault}
-use Rattle.hls_presentation.specs.Presenting.{faults_in, hls_presented_of}
+use Rattle.hls_media.specs.{Laws.IsBounded, declared.media.Media.Media}
+use Rattle.presentation.specs.{Counting.{counted, count_of_all}, Presented.Presented}
+use Rattle.hls_presentation.specs.{declared.fault.HlsFault.HlsFault, Presenting.{faults_in, hls_presented_of}}
 
 -- Of playlists that are read nothing is refused but for the faults of tracks and of the whole, and their segments always
 -- have times.

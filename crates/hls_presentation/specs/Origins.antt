@@ -1,9 +1,7 @@
 -- What is so of a master's tracks.
 use Rattle.std.specs.Prelude.{◌≡◌, ℕ, List, map, All, None, Ok}
 use Rattle.bridge_io.specs.declared.media.Kind.TheVariants.{Video}
-use Rattle.hls_master.specs.declared.track.MasterTrack.{MasterTrack}
-use Rattle.hls_master.specs.Masters.{master_of}
-use Rattle.hls_master.specs.SeenTracks.{track_seen}
+use Rattle.hls_master.specs.{declared.track.MasterTrack.MasterTrack, Masters.master_of, SeenTracks.track_seen}
 
 -- no place of a master tells a video track's language (RFC 8216 4.3.4.2)
 abbrev pub IsSilentTrack : MasterTrack → Type 0

@@ -1,29 +1,20 @@
 -- What a master and its media playlists give as a presentation, or the first refusal.
 use Rattle.std.specs.Prelude.{ℕ, ◌+◌, ◌/◌, ◌%◌, ◌^◌, ◌==◌, not, Bool, List, [], ◌∷◌, ◌++◌, length, map, decimal, if◌then◌else◌, Option}
-use Rattle.std.specs.Prelude.{Some, None, Result, Ok, Err}
-use Rattle.std.specs.List.{list_all, list_any}
+use Rattle.std.specs.{Prelude.{Some, None, Result, Ok, Err}, List.{list_all, list_any}}
 use Rattle.bridge_io.specs.Answer.{and_then}
 use Rattle.exact_time.specs.Time.{in_units}
-use Rattle.timeline.specs.declared.fault.TimeFault.{TimeFault}
-use Rattle.timeline.specs.declared.fault.TimeFault.TheVariants.{ListLength, ZeroDuration, Memory as NoRoom}
-use Rattle.timeline.specs.declared.names.Names.TheVariants.{Addresses}
-use Rattle.timeline.specs.Expansions.{Closed, Extent, SegmentTimeline}
-use Rattle.timeline.specs.Faults.{are_paired, fault_if, lasts_no_time, or_fault, segment_fault}
-use Rattle.timeline.specs.Limits.{span_breaks_limits}
-use Rattle.timeline.specs.SegmentTimelines.{unless_fault}
+use Rattle.timeline.specs.{declared.fault.TimeFault.TimeFault, declared.fault.TimeFault.TheVariants.{ListLength, ZeroDuration}}
+use Rattle.timeline.specs.{declared.fault.TimeFault.TheVariants.Memory as NoRoom, declared.names.Names.TheVariants.Addresses}
+use Rattle.timeline.specs.{Expansions.{Closed, Extent, SegmentTimeline}, Faults.{are_paired, fault_if, lasts_no_time, or_fault}}
+use Rattle.timeline.specs.{Faults.segment_fault, Limits.span_breaks_limits, SegmentTimelines.unless_fault}
 use Rattle.url_parts.specs.declared.address.Part.{Part}
-use Rattle.hls_media.specs.declared.media.Media.{Media}
-use Rattle.hls_media.specs.declared.media.MediaSegment.{MediaSegment}
+use Rattle.hls_media.specs.{declared.media.Media.Media, declared.media.MediaSegment.MediaSegment}
 use Rattle.hls_master.specs.declared.track.MasterTrack.{MasterTrack}
-use Rattle.presentation.specs.declared.parts.Content.{Content}
-use Rattle.presentation.specs.declared.parts.Parts.{Parts}
-use Rattle.presentation.specs.declared.track.Track.{Track}
-use Rattle.presentation.specs.declared.track.Section.{Section}
-use Rattle.presentation.specs.Presented.{Presented, of_parts}
-use Rattle.hls_presentation.specs.declared.fault.HlsFault.{HlsFault}
-use Rattle.hls_presentation.specs.declared.fault.HlsFault.TheVariants.{NoMap, Limit, Memory}
-use Rattle.hls_presentation.specs.Tracks.{Source, sources, kept, left_out, track_faults}
-use Rattle.hls_presentation.specs.Sections.{groups_in, row_length, rows_of, whole_faults}
+use Rattle.presentation.specs.{declared.parts.Content.Content, declared.parts.Parts.Parts, declared.track.Track.Track}
+use Rattle.presentation.specs.{declared.track.Section.Section, Presented.{Presented, of_parts}}
+use Rattle.hls_presentation.specs.{declared.fault.HlsFault.HlsFault, declared.fault.HlsFault.TheVariants.{NoMap, Limit, Memory}}
+use Rattle.hls_presentation.specs.{Tracks.{Source, sources, kept, left_out, track_faults}, Sections.{groups_in, row_length, rows_of}}
+use Rattle.hls_presentation.specs.Sections.{whole_faults}
 
 -- want of memory tells nothing of playlists
 abbrev pub refusal : HlsFault → Option HlsFault

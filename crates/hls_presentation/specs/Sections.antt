@@ -1,10 +1,8 @@
 -- The sections of media playlists: the segments of one discontinuity sequence number (RFC 8216 4.3.3.3).
 use Rattle.std.specs.Prelude.{ℕ, ◌==◌, ◌^◌, ◌||◌, not, nat_le, nat_lt, max, Bool, true, false, List, [], ◌∷◌, ◌++◌, length, map, slice_get}
-use Rattle.std.specs.Prelude.{sum_by, unwrap_or, if◌then◌else◌}
-use Rattle.std.specs.List.{list_any, list_all, range_with_len}
+use Rattle.std.specs.{Prelude.{sum_by, unwrap_or, if◌then◌else◌}, List.{list_any, list_all, range_with_len}}
 use Rattle.hls_media.specs.declared.media.MediaSegment.{MediaSegment}
-use Rattle.hls_presentation.specs.declared.fault.HlsFault.{HlsFault}
-use Rattle.hls_presentation.specs.declared.fault.HlsFault.TheVariants.{SectionsDiffer, Limit, NoTracks}
+use Rattle.hls_presentation.specs.{declared.fault.HlsFault.HlsFault, declared.fault.HlsFault.TheVariants.{SectionsDiffer, Limit, NoTracks}}
 use Rattle.hls_presentation.specs.Tracks.{Source, fault_if}
 
 -- the segment is of this section

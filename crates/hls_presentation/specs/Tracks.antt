@@ -1,17 +1,12 @@
 -- The tracks of a master with their media playlists: which are kept, and what is refused of one.
 use Rattle.std.specs.Prelude.{ℕ, ◌==◌, ◌&&◌, not, Bool, true, false, List, [], ◌∷◌, ◌++◌, filter, flat_map, is_none, if◌then◌else◌}
-use Rattle.std.specs.Prelude.{bytes_eq}
-use Rattle.std.specs.List.{list_any, count_by}
-use Rattle.std.specs.Option.{option_eq}
-use Rattle.bridge_io.specs.declared.media.Kind.{Kind}
-use Rattle.bridge_io.specs.declared.media.Kind.TheVariants.{Video, Audio, Text}
-use Rattle.url_parts.specs.declared.address.Part.{Part}
-use Rattle.url_parts.specs.declared.range.Range.{Range}
-use Rattle.hls_media.specs.declared.media.Media.{Media}
-use Rattle.hls_media.specs.declared.media.MediaSegment.{MediaSegment}
+use Rattle.std.specs.{Prelude.bytes_eq, List.{list_any, count_by}, Option.option_eq}
+use Rattle.bridge_io.specs.{declared.media.Kind.Kind, declared.media.Kind.TheVariants.{Video, Audio, Text}}
+use Rattle.url_parts.specs.{declared.address.Part.Part, declared.range.Range.Range}
+use Rattle.hls_media.specs.{declared.media.Media.Media, declared.media.MediaSegment.MediaSegment}
 use Rattle.hls_master.specs.declared.track.MasterTrack.{MasterTrack}
-use Rattle.hls_presentation.specs.declared.fault.HlsFault.{HlsFault}
-use Rattle.hls_presentation.specs.declared.fault.HlsFault.TheVariants.{NotEnded, NoMap, MapChanged, ZeroDuration}
+use Rattle.hls_presentation.specs.{declared.fault.HlsFault.HlsFault, declared.fault.HlsFault.TheVariants.{NotEnded, NoMap, MapChanged}}
+use Rattle.hls_presentation.specs.declared.fault.HlsFault.TheVariants.{ZeroDuration}
 
 -- a track of a master with its media playlist
 pub record Source : Type 0 where

@@ -1,9 +1,8 @@
 -- The codes of some tracks, each once.
 use Rattle.std.proofs.Common.{◌≡◌, ℕ, ◌&&◌, if◌then◌else◌, true, false, List, [], ◌∷◌, slice_get, Option, Some, None, is_some, option_map}
-use Rattle.std.proofs.Common.{option_and_then, unwrap_or, refl, sym, ◌∙◌, ap}
-use Rattle.std.specs.List.{list_all}
-use Rattle.std.proofs.lemmas.Bool.{cond-true, cond-false}
+use Rattle.std.proofs.{Common.{option_and_then, unwrap_or, refl, sym, ◌∙◌, ap}, lemmas.Bool.{cond-true, cond-false}}
 use Rattle.std.proofs.lemmas.Option.{slice_get-map}
+use Rattle.std.specs.List.{list_all}
 use Rattle.presentation.specs.declared.track.Track.{Track}
 use Rattle.text_lists.specs.Lists.{parts_in, list_at, with_text, with_texts, merged, merged_from}
 use Rattle.hls_writer.specs.Variants.{codecs_at, code_lists, codes_from, codes_of, codes_in, has_codes, with_codes}

@@ -1,6 +1,5 @@
 -- The last decimal digits of a number.
-use Rattle.std.proofs.Common.{◌≡◌, ℕ, zero, suc, ◌+◌, ◌-◌, length, take, drop, refl, ap, arith}
-use Rattle.std.proofs.lemmas.List.{take_all}
+use Rattle.std.proofs.{Common.{◌≡◌, ℕ, zero, suc, ◌+◌, ◌-◌, length, take, drop, refl, ap, arith}, lemmas.List.take_all}
 use Rattle.iso_time.specs.Digits.{padded_digits}
 
 length-padded_digits : (width n : ℕ) → length (padded_digits width n) ≡ width

@@ -1,15 +1,9 @@
 -- Items one after another.
 use Rattle.std.proofs.Common.{◌≡◌, ℕ, ◌+◌, ◌<◌, Bool, true, false, List, [], ◌∷◌, ◌++◌, length, drop, get_or, map, Option, refl, sym, ap}
-use Rattle.std.proofs.Common.{◌∙◌}
+use Rattle.std.proofs.{Common.◌∙◌, lemmas.List.{drop_more, map-append}, lemmas.List.Concat.flat_map-append}
 use Rattle.std.specs.Bool.{then_some}
-use Rattle.std.proofs.lemmas.List.{drop_more, map-append}
-use Rattle.std.proofs.lemmas.List.Concat.{flat_map-append}
-use Rattle.hls_writer.specs.Items.{item_of}
-use Rattle.hls_writer.specs.Lines.{WrittenLine, line_text, lines_text}
-use Rattle.hls_writer.specs.Playlists.{items_lines, end_lines, last_section}
-use Rattle.hls_writer.specs.Rows.{all_written}
-use Rattle.hls_writer.specs.declared.line.Tag.{Tag}
-use Rattle.hls_writer.specs.declared.line.Tag.TheVariants.{EndList}
+use Rattle.hls_writer.specs.{Items.item_of, Lines.{WrittenLine, line_text, lines_text}, Playlists.{items_lines, end_lines, last_section}}
+use Rattle.hls_writer.specs.{Rows.all_written, declared.line.Tag.Tag, declared.line.Tag.TheVariants.EndList}
 use Rattle.hls_writer.specs.declared.items.MediaItem.{MediaItem}
 use Rattle.hls_writer.proofs.Sections.{more_items}
 

@@ -1,13 +1,9 @@
 -- Attributes, renditions and variants one after another.
 use Rattle.std.proofs.Common.{◌≡◌, ℕ, List, [], ◌∷◌, ◌++◌, map, flat_map, get_or, Option, None, Some, option_map, option_to_list, refl, sym}
-use Rattle.std.proofs.Common.{ap, ◌∙◌}
+use Rattle.std.proofs.{Common.{ap, ◌∙◌}, lemmas.List.append-nil, lemmas.List.Concat.flat_map-append}
 use Rattle.std.specs.Borrow.{Bor}
-use Rattle.std.proofs.lemmas.List.{append-nil}
-use Rattle.std.proofs.lemmas.List.Concat.{flat_map-append}
-use Rattle.hls_writer.specs.Attributes.{attribute_bytes, further_bytes}
-use Rattle.hls_writer.specs.AttributeRows.{told, all_told, texts_of}
-use Rattle.hls_writer.specs.Lines.{WrittenLine, line_text, lines_text}
-use Rattle.hls_writer.specs.declared.attribute.Attribute.{Attribute}
+use Rattle.hls_writer.specs.{Attributes.{attribute_bytes, further_bytes}, AttributeRows.{told, all_told, texts_of}, Lines.WrittenLine}
+use Rattle.hls_writer.specs.{Lines.{line_text, lines_text}, declared.attribute.Attribute.Attribute}
 
 abbrev pub code_after : Bor (List ℕ) → List ℕ
 code_after code = 44 ∷ code.now

@@ -1,13 +1,9 @@
 -- Lines that may be missing.
 use Rattle.std.proofs.Common.{◌≡◌, ℕ, List, [], ◌∷◌, ◌++◌, flat_map, get_or, Option, None, Some, option_map, option_to_list, refl, sym, ap}
-use Rattle.std.proofs.Common.{◌∙◌, append_assoc, replicate, if◌then◌else◌}
-use Rattle.std.proofs.lemmas.List.{append-nil}
-use Rattle.std.proofs.lemmas.List.Concat.{flat_map-append}
+use Rattle.std.proofs.{Common.{◌∙◌, append_assoc, replicate, if◌then◌else◌}, lemmas.List.append-nil, lemmas.List.Concat.flat_map-append}
 use Rattle.hls_writer.specs.Lines.{WrittenLine, line_text, lines_text, discontinuity, initialization, program_date_time, duration}
-use Rattle.hls_writer.specs.Lines.{byte_range, uri}
-use Rattle.hls_writer.specs.Playlists.{Item, begins_section, front_lines, item_lines, last_lines, rise}
-use Rattle.hls_writer.specs.Rows.{written, all_written}
-use Rattle.hls_writer.specs.declared.line.Tag.{Tag}
+use Rattle.hls_writer.specs.{Lines.{byte_range, uri}, Playlists.{Item, begins_section, front_lines, item_lines, last_lines, rise}}
+use Rattle.hls_writer.specs.{Rows.{written, all_written}, declared.line.Tag.Tag}
 
 -- the text of a line, if it is there
 abbrev pub there_text : Option Tag → List ℕ

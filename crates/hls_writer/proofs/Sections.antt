@@ -1,18 +1,13 @@
 -- The segments of a section one after another.
 use Rattle.std.proofs.Common.{◌≡◌, ℕ, List, [], ◌∷◌, ◌++◌, All, Option, None, Some, Ok, IfSome, option_map, refl, sym, ap, ◌∙◌}
-use Rattle.std.proofs.Common.{append_assoc}
-use Rattle.std.proofs.lemmas.List.Concat.{flat_map-append}
-use Rattle.std.proofs.lemmas.List.Elements.{All-head, All-tail}
+use Rattle.std.proofs.{Common.append_assoc, lemmas.List.Concat.flat_map-append, lemmas.List.Elements.{All-head, All-tail}}
 use Rattle.url_parts.specs.declared.address.Part.{Part}
-use Rattle.timeline.specs.Listed.{part_of_timing}
-use Rattle.presentation.specs.Laws.{HasAddress}
-use Rattle.presentation.specs.Printing.{IsAtEnd, IsPassed, PrintedRest, PrintedTiming, printed_timings, rest_of}
-use Rattle.std.specs.Option.{option_map_or}
-use Rattle.timeline.specs.Expansions.{Timing}
+use Rattle.timeline.specs.{Listed.part_of_timing, Expansions.Timing}
+use Rattle.presentation.specs.{Laws.HasAddress, Printing.{IsAtEnd, IsPassed, PrintedRest, PrintedTiming, printed_timings, rest_of}}
 use Rattle.presentation.specs.declared.parts.Content.{Content}
-use Rattle.hls_writer.specs.Finished.{content_items, item_of, items_at}
-use Rattle.hls_writer.specs.Lines.{line_text, lines_text}
-use Rattle.hls_writer.specs.Playlists.{Item, item_lines, items_lines, last_section}
+use Rattle.std.specs.Option.{option_map_or}
+use Rattle.hls_writer.specs.{Finished.{content_items, item_of, items_at}, Lines.{line_text, lines_text}, Playlists.{Item, item_lines}}
+use Rattle.hls_writer.specs.Playlists.{items_lines, last_section}
 
 -- one more item is added to what goes on to a whole text
 pub one_more : (digits : ℕ) (former : Option ℕ) (item : Item) (items : List Item) (done whole : List ℕ)

@@ -1,11 +1,9 @@
 -- Attributes as they are written.
-use Rattle.std.specs.Prelude.{ℕ, List, map, Option, option_map}
-use Rattle.std.specs.Borrow.{Bor}
-use Rattle.hls_writer.specs.Attributes.{WrittenAttribute, media_type, group_id, name, language, default, autoselect, playlist, bandwidth}
-use Rattle.hls_writer.specs.Attributes.{codecs, resolution, frame_rate, renditions}
-use Rattle.hls_writer.specs.Renditions.{present}
-use Rattle.hls_writer.specs.declared.attribute.Attribute.{Attribute}
 use Rattle.hls_writer.specs.declared.attribute.Attribute.TheVariants as attribute
+use Rattle.std.specs.{Prelude.{ℕ, List, map, Option, option_map}, Borrow.Bor}
+use Rattle.hls_writer.specs.Attributes.{WrittenAttribute, media_type, group_id, name, language, default, autoselect, playlist, bandwidth}
+use Rattle.hls_writer.specs.{Attributes.{codecs, resolution, frame_rate, renditions}, Renditions.present}
+use Rattle.hls_writer.specs.declared.attribute.Attribute.{Attribute}
 
 abbrev pub texts_of : List (Bor (List ℕ)) → List (List ℕ)
 texts_of texts = map (λ text. text.now) texts

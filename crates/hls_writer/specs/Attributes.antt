@@ -1,11 +1,10 @@
 -- The attributes of the lines of a master, and their texts (RFC 8216, 4.2).
-use Rattle.std.specs.Prelude.{ℕ, ◌/◌, Bool, List, [], ◌∷◌, ◌++◌, codes, decimal, Option, if◌then◌else◌}
-use Rattle.std.specs.List.{flat_map}
+use Rattle.std.specs.{Prelude.{ℕ, ◌/◌, Bool, List, [], ◌∷◌, ◌++◌, codes, decimal, Option, if◌then◌else◌}, List.flat_map}
 use Rattle.std.specs.Option.{option_map_or}
 use Rattle.iso_time.specs.Digits.{padded_digits}
 use Rattle.bridge_io.specs.declared.media.Size.{Size}
-use Rattle.hls_writer.specs.declared.attribute.RenditionGroup.{RenditionGroup}
-use Rattle.hls_writer.specs.declared.attribute.RenditionGroup.TheVariants.{Audio, Subtitles}
+use Rattle.hls_writer.specs.{declared.attribute.RenditionGroup.RenditionGroup, declared.attribute.RenditionGroup.TheVariants.Audio}
+use Rattle.hls_writer.specs.declared.attribute.RenditionGroup.TheVariants.{Subtitles}
 
 pub data WrittenAttribute : Type 0 where
   -- TYPE of a rendition of a group

@@ -1,16 +1,10 @@
 -- The playlist of a track of a finished presentation.
-use Rattle.std.specs.Prelude.{ℕ, ◌+◌, ◌*◌, ◌/◌, ◌%◌, ◌^◌, nat_le, max, if◌then◌else◌, List, [], map, None, Result, Ok, Err}
-use Rattle.std.specs.List.{flat_map}
+use Rattle.std.specs.{Prelude.{ℕ, ◌+◌, ◌*◌, ◌/◌, ◌%◌, ◌^◌, nat_le, max, if◌then◌else◌, List, [], map, None, Result, Ok, Err}, List.flat_map}
 use Rattle.std.specs.Option.{option_map_or}
 use Rattle.url_parts.specs.declared.address.Part.{Part}
-use Rattle.timeline.specs.declared.fault.ListFault.{ListFault}
-use Rattle.timeline.specs.Expansions.{SegmentTimeline, Timing}
-use Rattle.timeline.specs.Listed.{part_of_timing}
-use Rattle.presentation.specs.declared.parts.Content.{Content}
-use Rattle.presentation.specs.Presented.{Presented, content_at, listed_at}
-use Rattle.presentation.specs.Counting.{sections_of}
-use Rattle.presentation.specs.Printing.{PrintedTiming, printed_timings}
-use Rattle.presentation.specs.Verifying.{longest_of}
+use Rattle.timeline.specs.{declared.fault.ListFault.ListFault, Expansions.{SegmentTimeline, Timing}, Listed.part_of_timing}
+use Rattle.presentation.specs.{declared.parts.Content.Content, Presented.{Presented, content_at, listed_at}, Counting.sections_of}
+use Rattle.presentation.specs.{Printing.{PrintedTiming, printed_timings}, Verifying.longest_of}
 use Rattle.hls_writer.specs.Playlists.{Item, finished_text}
 
 -- the part of a segment that has an address

@@ -1,8 +1,6 @@
 -- Playlists as they are handed in.
 use Rattle.std.specs.Prelude.{ℕ, List, map, Some}
-use Rattle.hls_writer.specs.Playlists.{Item, Head, followed_text}
-use Rattle.hls_writer.specs.declared.items.MediaHead.{MediaHead}
-use Rattle.hls_writer.specs.declared.items.MediaItem.{MediaItem}
+use Rattle.hls_writer.specs.{Playlists.{Item, Head, followed_text}, declared.items.MediaHead.MediaHead, declared.items.MediaItem.MediaItem}
 
 abbrev pub head_of : MediaHead → Head
 head_of head = record {

@@ -1,6 +1,5 @@
 -- Laws of written texts.
-use Rattle.std.specs.Prelude.{◌≡◌, ◌==◌, false, List, [], ◌∷◌, ◌++◌, map, All}
-use Rattle.std.specs.List.{slice_split}
+use Rattle.std.specs.{Prelude.{◌≡◌, ◌==◌, false, List, [], ◌∷◌, ◌++◌, map, All}, List.slice_split}
 use Rattle.hls_writer.specs.Lines.{WrittenLine, line_bytes, lines_text}
 
 -- no LF stands in a line but at its end

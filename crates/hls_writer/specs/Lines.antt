@@ -1,10 +1,7 @@
 -- The lines of a written playlist, and their texts (RFC 8216, 4.3). Every line ends by one LF.
-use Rattle.std.specs.Prelude.{ℕ, ◌/◌, ◌^◌, List, [], ◌∷◌, ◌++◌, codes, decimal, ℤ}
-use Rattle.std.specs.List.{flat_map}
-use Rattle.iso_time.specs.Civil.{instant_text}
-use Rattle.iso_time.specs.Digits.{padded_digits, optional_text}
-use Rattle.url_parts.specs.declared.address.Part.{Part}
-use Rattle.url_parts.specs.declared.range.Range.{Range}
+use Rattle.std.specs.{Prelude.{ℕ, ◌/◌, ◌^◌, List, [], ◌∷◌, ◌++◌, codes, decimal, ℤ}, List.flat_map}
+use Rattle.iso_time.specs.{Civil.instant_text, Digits.{padded_digits, optional_text}}
+use Rattle.url_parts.specs.{declared.address.Part.Part, declared.range.Range.Range}
 use Rattle.hls_writer.specs.Attributes.{WrittenAttribute, attributes_bytes}
 
 pub data WrittenLine : Type 0 where

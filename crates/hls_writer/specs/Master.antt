@@ -1,12 +1,8 @@
 -- The master playlist of a presentation (RFC 8216, 4.3.4).
-use Rattle.std.specs.Prelude.{ℕ, List, [], ◌∷◌, ◌++◌, map}
-use Rattle.std.specs.List.{flat_map}
 use Rattle.bridge_io.specs.declared.media.Kind.TheVariants as kind
-use Rattle.presentation.specs.declared.track.Track.{Track}
-use Rattle.presentation.specs.Groups.{groups_of}
-use Rattle.presentation.specs.Presented.{Presented}
-use Rattle.hls_writer.specs.Lines.{WrittenLine, header, version, lines_text}
-use Rattle.hls_writer.specs.Renditions.{places_of, renditions_of, rendition_line}
+use Rattle.std.specs.{Prelude.{ℕ, List, [], ◌∷◌, ◌++◌, map}, List.flat_map}
+use Rattle.presentation.specs.{declared.track.Track.Track, Groups.groups_of, Presented.Presented}
+use Rattle.hls_writer.specs.{Lines.{WrittenLine, header, version, lines_text}, Renditions.{places_of, renditions_of, rendition_line}}
 use Rattle.hls_writer.specs.Variants.{variants_of, variant_lines}
 
 abbrev pub lines_with : List Track → (groups : List (List ℕ)) → List WrittenLine

@@ -1,7 +1,6 @@
 -- The lines of media playlists (RFC 8216, 4.3.2 and 4.3.3), finished and followed.
 use Rattle.std.specs.Prelude.{ℕ, ◌-◌, nat_lt, Bool, true, List, [], ◌∷◌, ◌++◌, replicate, Option, Some, None, option_map, option_to_list}
-use Rattle.std.specs.Prelude.{if◌then◌else◌, ℤ}
-use Rattle.std.specs.List.{flat_map}
+use Rattle.std.specs.{Prelude.{if◌then◌else◌, ℤ}, List.flat_map}
 use Rattle.url_parts.specs.declared.address.Part.{Part}
 use Rattle.hls_writer.specs.Lines.{WrittenLine, header, version, target_duration, media_sequence, discontinuity_sequence, on_demand}
 use Rattle.hls_writer.specs.Lines.{discontinuity, initialization, program_date_time, duration, byte_range, uri, end_list, lines_text}

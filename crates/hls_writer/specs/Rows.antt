@@ -1,12 +1,10 @@
 -- Lines and segments as they are written.
+use Rattle.hls_writer.specs.declared.line.Tag.TheVariants as line
 use Rattle.std.specs.Prelude.{⊤, List, map, Option, option_map, IfSome}
 use Rattle.iso_time.specs.Instant.{IsWritable}
 use Rattle.hls_writer.specs.Lines.{WrittenLine, header, version, target_duration, media_sequence, discontinuity_sequence, on_demand}
-use Rattle.hls_writer.specs.Lines.{discontinuity, initialization, program_date_time, byte_range, end_list}
-use Rattle.hls_writer.specs.Playlists.{Item, present}
-use Rattle.hls_writer.specs.declared.line.Tag.{Tag}
-use Rattle.hls_writer.specs.declared.line.Tag.TheVariants as line
-use Rattle.hls_writer.specs.declared.entry.Entry.{Entry}
+use Rattle.hls_writer.specs.{Lines.{discontinuity, initialization, program_date_time, byte_range, end_list}, Playlists.{Item, present}}
+use Rattle.hls_writer.specs.{declared.line.Tag.Tag, declared.entry.Entry.Entry}
 
 -- what a line says
 abbrev pub written : Tag → WrittenLine

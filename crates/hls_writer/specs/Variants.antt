@@ -1,19 +1,13 @@
 -- The variants of a master (RFC 8216, 4.3.4.2).
-use Rattle.std.specs.Prelude.{ℕ, Bool, is_some, ◌+◌, ◌*◌, ◌==◌, max, List, [], ◌∷◌, ◌++◌, map, slice_get, if◌then◌else◌, Option, Some, None}
-use Rattle.std.specs.Prelude.{option_map, option_and_then, option_to_list, unwrap_or}
-use Rattle.std.specs.List.{flat_map, list_any, slice_split}
-use Rattle.std.specs.Option.{option_map_or}
 use Rattle.bridge_io.specs.declared.media.Kind.TheVariants as kind
-use Rattle.bridge_io.specs.declared.media.Ratio.{Ratio}
-use Rattle.bridge_io.specs.declared.media.Size.{Size}
-use Rattle.presentation.specs.declared.track.Track.{Track}
-use Rattle.presentation.specs.Groups.{same_text}
+use Rattle.std.specs.Prelude.{ℕ, Bool, is_some, ◌+◌, ◌*◌, ◌==◌, max, List, [], ◌∷◌, ◌++◌, map, slice_get, if◌then◌else◌, Option, Some, None}
+use Rattle.std.specs.{Prelude.{option_map, option_and_then, option_to_list, unwrap_or}, List.{flat_map, list_any, slice_split}}
+use Rattle.std.specs.Option.{option_map_or}
+use Rattle.bridge_io.specs.{declared.media.Ratio.Ratio, declared.media.Size.Size}
+use Rattle.presentation.specs.{declared.track.Track.Track, Groups.same_text}
 use Rattle.hls_writer.specs.Attributes.{WrittenAttribute, bandwidth, codecs, resolution, frame_rate, renditions, playlist_name}
-use Rattle.hls_writer.specs.Finished.{rounded}
-use Rattle.hls_writer.specs.Lines.{WrittenLine, variant, uri, lines_text}
-use Rattle.hls_writer.specs.Renditions.{places_of, members_in, present}
-use Rattle.hls_writer.specs.declared.attribute.RenditionGroup.TheVariants.{Audio, Subtitles}
-use Rattle.hls_writer.specs.declared.variants.Variant.{Variant}
+use Rattle.hls_writer.specs.{Finished.rounded, Lines.{WrittenLine, variant, uri, lines_text}, Renditions.{places_of, members_in, present}}
+use Rattle.hls_writer.specs.{declared.attribute.RenditionGroup.TheVariants.{Audio, Subtitles}, declared.variants.Variant.Variant}
 use Rattle.text_lists.specs.Lists.{parts_in}
 
 -- a group without video, by the member of the first audio set

@@ -1,7 +1,6 @@
 -- Presentations whose segments all have addresses.
 use Rattle.std.specs.Prelude.{◌≡◌, ℕ, ◌^◌, List, Ok}
-use Rattle.presentation.specs.Presented.{Presented}
-use Rattle.presentation.specs.Verifying.{verified}
+use Rattle.presentation.specs.{Presented.Presented, Verifying.verified}
 
 -- `verify` answers Ok with this number of digits
 pub record IsVerified (p : Presented) (digits : ℕ) : Type 0 where

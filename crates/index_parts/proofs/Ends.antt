@@ -1,7 +1,6 @@
 -- What faults of references leave, and where references end.
 use Rattle.std.proofs.Common.{◌≡◌, ◌≤◌, ℕ, ◌+◌, List, [], ◌∷◌, Ok, ap, arith}
-use Rattle.segment_index.specs.declared.reference.Reference.{Reference}
-use Rattle.segment_index.specs.Laws.{end_from}
+use Rattle.segment_index.specs.{declared.reference.Reference.Reference, Laws.end_from}
 use Rattle.index_parts.specs.Refusals.{unless_any}
 
 pub passed_value : {Y E : Type 0} (faults : List E) (y value : Y) → unless_any faults y ≡ Ok value → value ≡ y

@@ -1,14 +1,10 @@
 -- What is kept of tracks, one after another.
 use Rattle.std.proofs.Common.{◌≡◌, ◌<◌, ◌≤◌, ◌⊎◌, inl, inr, ℕ, ◌+◌, ◌==◌, Bool, true, false, nat_lt, List, [], ◌∷◌, ◌++◌, length}
-use Rattle.std.proofs.Common.{if◌then◌else◌, refl, sym, ◌∙◌, ap, arith, append_assoc, length-append}
-use Rattle.std.proofs.lemmas.Bool.{cases_lt, eq-eqb, le-ltb, lt-ltb, ne_eqb}
-use Rattle.std.proofs.lemmas.List.{append-nil, length-map}
-use Rattle.std.proofs.lemmas.List.Sums.{sum_by-cons}
+use Rattle.std.proofs.{Common.{if◌then◌else◌, refl, sym, ◌∙◌, ap, arith, append_assoc, length-append}, lemmas.Bool.{cases_lt, eq-eqb}}
+use Rattle.std.proofs.{lemmas.Bool.{le-ltb, lt-ltb, ne_eqb}, lemmas.List.{append-nil, length-map}, lemmas.List.Sums.sum_by-cons}
 use Rattle.presentation.specs.declared.parts.Content.{Content}
-use Rattle.index_parts.specs.declared.located.Listed.{Listed}
-use Rattle.index_parts.specs.declared.parts.Gathering.{Gathering}
-use Rattle.index_parts.specs.Kept.{all_kept, counted_with, keep, none_kept}
-use Rattle.index_parts.specs.Presented.{contents_in, few_segments, total}
+use Rattle.index_parts.specs.{declared.located.Listed.Listed, declared.parts.Gathering.Gathering, Kept.{all_kept, counted_with, keep}}
+use Rattle.index_parts.specs.{Kept.none_kept, Presented.{contents_in, few_segments, total}}
 
 abbrev pub keep_all : Gathering → List Listed → Gathering
 keep_all g [] = g

@@ -1,12 +1,8 @@
 -- Segments one behind another.
 use Rattle.std.proofs.Common.{◌≡◌, ℕ, List, [], ◌∷◌, map, refl, ap}
 use Rattle.std.specs.List.{list_any}
-use Rattle.timeline.specs.declared.entry.Scale.{Scale}
-use Rattle.timeline.specs.declared.names.Names.TheVariants.{Addresses}
-use Rattle.timeline.specs.declared.span.Span.{Span}
-use Rattle.timeline.specs.Durations.{expansion_of_list, extent_of}
-use Rattle.timeline.specs.Expansions.{Closed, Extent}
-use Rattle.timeline.specs.Faults.{lasts_no_time}
+use Rattle.timeline.specs.{declared.entry.Scale.Scale, declared.names.Names.TheVariants.Addresses, declared.span.Span.Span}
+use Rattle.timeline.specs.{Durations.{expansion_of_list, extent_of}, Expansions.{Closed, Extent}, Faults.lasts_no_time}
 use Rattle.timeline.specs.SegmentTimelines.{timeline_of_spans}
 use Rattle.url_parts.specs.declared.address.Part.{Part}
 use Rattle.index_parts.specs.Segments.{timeline_of}

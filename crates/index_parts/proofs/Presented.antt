@@ -1,24 +1,14 @@
 -- A presentation that is made track by track is the one that is meant.
 use Rattle.std.proofs.Common.{◌≡◌, ℕ, suc, Bool, true, false, nat_lt, List, [], ◌∷◌, ◌++◌, cond, filter, length, map, if◌then◌else◌, Result}
-use Rattle.std.proofs.Common.{Ok, Err, refl, sym, ◌∙◌, ap}
-use Rattle.std.proofs.lemmas.List.{length-map}
+use Rattle.std.proofs.{Common.{Ok, Err, refl, sym, ◌∙◌, ap}, lemmas.List.length-map}
 use Rattle.bridge_io.proofs.AndThen.{steps_of}
-use Rattle.bridge_io.specs.Answer.{and_then}
-use Rattle.bridge_io.specs.declared.media.Kind.{Kind}
-use Rattle.bridge_io.specs.declared.media.Kind.TheVariants.{Video, Audio, Text}
-use Rattle.bridge_io.specs.Outside.{Files}
-use Rattle.presentation.specs.declared.fault.PresentationFault.TheVariants.{Limit}
-use Rattle.presentation.specs.declared.track.Track.{Track}
-use Rattle.presentation.specs.Presented.{Presented}
+use Rattle.bridge_io.specs.{Answer.and_then, declared.media.Kind.Kind, declared.media.Kind.TheVariants.{Video, Audio, Text}, Outside.Files}
+use Rattle.presentation.specs.{declared.fault.PresentationFault.TheVariants.Limit, declared.track.Track.Track, Presented.Presented}
 use Rattle.presentation.specs.Rows.{in_order, is_of, track_of}
-use Rattle.index_parts.specs.declared.fault.IndexFault.{IndexFault}
-use Rattle.index_parts.specs.declared.fault.IndexFault.TheVariants.{Presentation}
-use Rattle.index_parts.specs.declared.located.Listed.{Listed}
-use Rattle.index_parts.specs.declared.parts.Gathering.{Gathering}
-use Rattle.index_parts.specs.Kept.{all_gathered, all_kept, keep, kept_with, kind_kept, none_kept, presented_kept, presented_of}
-use Rattle.index_parts.specs.Located.{track_parts}
-use Rattle.index_parts.specs.Presented.{all_parts, few_segments, presented_in, presented_with}
-use Rattle.index_parts.specs.Rows.{Period, Row}
+use Rattle.index_parts.specs.{declared.fault.IndexFault.IndexFault, declared.fault.IndexFault.TheVariants.Presentation}
+use Rattle.index_parts.specs.{declared.located.Listed.Listed, declared.parts.Gathering.Gathering, Kept.{all_gathered, all_kept, keep}}
+use Rattle.index_parts.specs.{Kept.{kept_with, kind_kept, none_kept, presented_kept, presented_of}, Located.track_parts}
+use Rattle.index_parts.specs.{Presented.{all_parts, few_segments, presented_in, presented_with}, Rows.{Period, Row}}
 use Rattle.index_parts.proofs.Kept.{finished, keep_all}
 
 then_same : {X Y : Type 0} (r : Result X IndexFault) (f g : X → Result Y IndexFault) → ((x : X) → f x ≡ g x) → and_then r f ≡ and_then r g

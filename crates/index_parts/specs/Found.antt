@@ -2,13 +2,10 @@
 use Rattle.std.specs.Prelude.{◌^◌, ◌==◌, nat_lt, List, [], ◌∷◌, ◌++◌, length, flat_map, if◌then◌else◌, Option, Some, None, Result, Ok, Err}
 use Rattle.bridge_io.specs.Answer.{and_then}
 use Rattle.box_reader.specs.Boxes.{Left}
-use Rattle.segment_index.specs.declared.reference.Reference.{Reference}
-use Rattle.segment_index.specs.Index.{Index, index_of}
-use Rattle.segment_index.specs.Laws.{end_from}
+use Rattle.segment_index.specs.{declared.reference.Reference.Reference, Index.{Index, index_of}, Laws.end_from}
 use Rattle.presentation.specs.Told.{told_as}
-use Rattle.index_parts.specs.declared.fault.FileFault.{FileFault}
-use Rattle.index_parts.specs.declared.fault.FileFault.TheVariants.{Boxes, NoIndex, Scale, Empty, Nested, ZeroSize, Range}
-use Rattle.index_parts.specs.Refusals.{unless_any}
+use Rattle.index_parts.specs.{declared.fault.FileFault.FileFault, declared.fault.FileFault.TheVariants.{Boxes, NoIndex, Scale, Empty}}
+use Rattle.index_parts.specs.{declared.fault.FileFault.TheVariants.{Nested, ZeroSize, Range}, Refusals.unless_any}
 
 abbrev pub scale_faults : Index → List FileFault
 scale_faults index = if index.timescale == 0 then Scale index.at ∷ [] else []

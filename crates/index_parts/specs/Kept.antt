@@ -1,21 +1,11 @@
 -- The presentation of a Period, made track by track, where contents past the limit of segments aren't kept.
 use Rattle.std.specs.Prelude.{ℕ, ◌+◌, ◌-◌, ◌^◌, ◌==◌, min, nat_lt, List, [], ◌∷◌, ◌++◌, length, map, if◌then◌else◌, Result, Ok, Err}
-use Rattle.bridge_io.specs.Answer.{and_then}
-use Rattle.bridge_io.specs.declared.media.Kind.{Kind}
-use Rattle.bridge_io.specs.declared.media.Kind.TheVariants.{Video, Audio, Text}
-use Rattle.bridge_io.specs.Outside.{Files}
-use Rattle.presentation.specs.declared.fault.PresentationFault.TheVariants.{Limit}
-use Rattle.presentation.specs.declared.parts.Content.{Content}
-use Rattle.presentation.specs.declared.track.Track.{Track}
-use Rattle.presentation.specs.Presented.{Presented}
-use Rattle.presentation.specs.Rows.{in_order, is_of, track_of}
-use Rattle.index_parts.specs.declared.fault.IndexFault.{IndexFault}
-use Rattle.index_parts.specs.declared.fault.IndexFault.TheVariants.{Presentation}
-use Rattle.index_parts.specs.declared.located.Listed.{Listed}
-use Rattle.index_parts.specs.declared.parts.Gathering.{Gathering}
-use Rattle.index_parts.specs.Located.{track_parts}
-use Rattle.index_parts.specs.Presented.{few_tracks, presented_with}
-use Rattle.index_parts.specs.Rows.{Period, Row}
+use Rattle.bridge_io.specs.{Answer.and_then, declared.media.Kind.Kind, declared.media.Kind.TheVariants.{Video, Audio, Text}, Outside.Files}
+use Rattle.presentation.specs.{declared.fault.PresentationFault.TheVariants.Limit, declared.parts.Content.Content}
+use Rattle.presentation.specs.{declared.track.Track.Track, Presented.Presented, Rows.{in_order, is_of, track_of}}
+use Rattle.index_parts.specs.{declared.fault.IndexFault.IndexFault, declared.fault.IndexFault.TheVariants.Presentation}
+use Rattle.index_parts.specs.{declared.located.Listed.Listed, declared.parts.Gathering.Gathering, Located.track_parts, Presented.few_tracks}
+use Rattle.index_parts.specs.{Presented.presented_with, Rows.{Period, Row}}
 
 abbrev pub none_kept : Gathering
 none_kept = record { contents = []; segments = 0 }

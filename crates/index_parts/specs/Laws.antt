@@ -2,17 +2,10 @@
 use Rattle.std.specs.Prelude.{◌≡◌, ℕ, ◌+◌, List, [], ◌∷◌, map, length, take, drop, All, Option, Some, None, Ok}
 use Rattle.bridge_io.specs.Outside.{Files}
 use Rattle.exact_time.specs.Time.{in_units}
-use Rattle.segment_index.specs.declared.reference.Reference.{Reference}
-use Rattle.segment_index.specs.Index.{Index, index_of}
-use Rattle.segment_index.specs.Laws.{Tile, end_from}
-use Rattle.timeline.specs.declared.names.Names.TheVariants.{Addresses}
-use Rattle.timeline.specs.Expansions.{Closed, Extent}
-use Rattle.url_parts.specs.Addresses.{chain, local_name_of}
-use Rattle.url_parts.specs.declared.address.Part.{Part}
-use Rattle.url_parts.specs.declared.range.Range.{Range}
-use Rattle.index_parts.specs.declared.located.Listed.{Listed}
-use Rattle.index_parts.specs.Located.{track_parts}
-use Rattle.index_parts.specs.Rows.{Row, told_in}
+use Rattle.segment_index.specs.{declared.reference.Reference.Reference, Index.{Index, index_of}, Laws.{Tile, end_from}}
+use Rattle.timeline.specs.{declared.names.Names.TheVariants.Addresses, Expansions.{Closed, Extent}}
+use Rattle.url_parts.specs.{Addresses.{chain, local_name_of}, declared.address.Part.Part, declared.range.Range.Range}
+use Rattle.index_parts.specs.{declared.located.Listed.Listed, Located.track_parts, Rows.{Row, told_in}}
 
 -- the first byte of a part and the first one behind it
 abbrev pub bytes_by : Option Range → ℕ × ℕ

@@ -1,27 +1,16 @@
 -- What an MPD means whose media files have an index inside, without any limit, and without bounds on numbers and on the length of
 -- addresses: ISO/IEC 23009-1, 5.3.9.2 and ISO/IEC 14496-12, 8.16.3.
-use Rattle.std.specs.Prelude.{ℕ, ◌+◌, List, [], ◌∷◌, map, take, drop, Option, Some, None, option_and_then, option_map}
-use Rattle.std.specs.Result.{result_ok}
+use Rattle.std.specs.{Prelude.{ℕ, ◌+◌, List, [], ◌∷◌, map, take, drop, Option, Some, None, option_and_then, option_map}, Result.result_ok}
 use Rattle.bridge_io.specs.Outside.{Files}
 use Rattle.exact_time.specs.Time.{in_units}
 use Rattle.meaning.specs.Meanings.{Entry, Meaning, Segment}
-use Rattle.mpd_levels.specs.declared.indexed.IndexRow.{IndexRow}
-use Rattle.mpd_levels.specs.declared.initialization.Initialization.{Initialization}
-use Rattle.mpd_rules.specs.Indexes.{Index as IndexTold}
-use Rattle.mpd_rules.specs.Rules.{index_values}
-use Rattle.mpd_rules.specs.Typed.{TypedMpd}
+use Rattle.mpd_levels.specs.{declared.indexed.IndexRow.IndexRow, declared.initialization.Initialization.Initialization}
+use Rattle.mpd_rules.specs.{Indexes.Index as IndexTold, Rules.index_values, Typed.TypedMpd}
 use Rattle.mpd_text.specs.Meaning.{reading_of}
-use Rattle.presentation.specs.Meanings.{Head, address_by, deepest, head_with, meaning_with}
-use Rattle.presentation.specs.Rows.{in_order}
-use Rattle.presentation.specs.Told.{part_with}
-use Rattle.segment_index.specs.declared.reference.Reference.{Reference}
-use Rattle.segment_index.specs.Index.{Index, index_of}
-use Rattle.url_parts.specs.Addresses.{local_name_of}
-use Rattle.url_parts.specs.declared.address.Part.{Part}
-use Rattle.url_parts.specs.declared.range.Range.{Range}
-use Rattle.index_parts.specs.Located.{part_before}
-use Rattle.index_parts.specs.Rows.{Period, Row, told_in}
-use Rattle.index_parts.specs.Segments.{part_of}
+use Rattle.presentation.specs.{Meanings.{Head, address_by, deepest, head_with, meaning_with}, Rows.in_order, Told.part_with}
+use Rattle.segment_index.specs.{declared.reference.Reference.Reference, Index.{Index, index_of}}
+use Rattle.url_parts.specs.{Addresses.local_name_of, declared.address.Part.Part, declared.range.Range.Range}
+use Rattle.index_parts.specs.{Located.part_before, Rows.{Period, Row, told_in}, Segments.part_of}
 
 -- ---- segments
 

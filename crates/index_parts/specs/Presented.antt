@@ -1,19 +1,12 @@
 -- What presentation an MPD and its media files give, or the first refusal: ISO/IEC 23009-1, 5.3.9.2.
 use Rattle.std.specs.Prelude.{ℕ, nat_lt, List, [], ◌∷◌, length, map, sum_by, if◌then◌else◌, Option, Result, Ok, Err}
-use Rattle.bridge_io.specs.Answer.{and_then}
-use Rattle.bridge_io.specs.Outside.{Files}
+use Rattle.bridge_io.specs.{Answer.and_then, Outside.Files}
 use Rattle.mpd_levels.specs.declared.indexed.IndexRow.{IndexRow}
 use Rattle.mpd_rules.specs.Typed.{TypedMpd}
-use Rattle.presentation.specs.declared.fault.PresentationFault.TheVariants.{Limit}
-use Rattle.presentation.specs.declared.parts.Content.{Content}
-use Rattle.presentation.specs.declared.track.Track.{Track}
-use Rattle.presentation.specs.Presented.{Presented, of_parts}
-use Rattle.presentation.specs.Rows.{in_order, section_of, track_of}
-use Rattle.index_parts.specs.declared.fault.IndexFault.{IndexFault}
-use Rattle.index_parts.specs.declared.fault.IndexFault.TheVariants.{Presentation}
-use Rattle.index_parts.specs.declared.located.Listed.{Listed}
-use Rattle.index_parts.specs.Located.{track_parts}
-use Rattle.index_parts.specs.Rows.{Period, Row}
+use Rattle.presentation.specs.{declared.fault.PresentationFault.TheVariants.Limit, declared.parts.Content.Content}
+use Rattle.presentation.specs.{declared.track.Track.Track, Presented.{Presented, of_parts}, Rows.{in_order, section_of, track_of}}
+use Rattle.index_parts.specs.{declared.fault.IndexFault.IndexFault, declared.fault.IndexFault.TheVariants.Presentation}
+use Rattle.index_parts.specs.{declared.located.Listed.Listed, Located.track_parts, Rows.{Period, Row}}
 
 -- ---- the tracks: video, then audio, then text
 

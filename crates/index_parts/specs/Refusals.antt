@@ -1,13 +1,12 @@
 -- Why files with an index inside are refused.
+use Rattle.url_parts.specs.declared.fault.UrlFault.TheVariants as url
+use Rattle.timeline.specs.declared.fault.TimeFault.TheVariants as times
 use Rattle.std.specs.Prelude.{List, [], ◌∷◌, Option, Some, None, Result, Ok, Err, IsErrOf}
 use Rattle.bridge_io.specs.declared.place.Place.{Place}
 use Rattle.url_parts.specs.declared.fault.UrlFault.{UrlFault}
-use Rattle.url_parts.specs.declared.fault.UrlFault.TheVariants as url
 use Rattle.timeline.specs.declared.fault.TimeFault.{TimeFault}
-use Rattle.timeline.specs.declared.fault.TimeFault.TheVariants as times
 use Rattle.presentation.specs.Told.{at_times, at_url}
-use Rattle.index_parts.specs.declared.fault.IndexFault.{IndexFault}
-use Rattle.index_parts.specs.declared.fault.IndexFault.TheVariants.{Presentation, Fault, Memory}
+use Rattle.index_parts.specs.{declared.fault.IndexFault.IndexFault, declared.fault.IndexFault.TheVariants.{Presentation, Fault, Memory}}
 
 -- a read that failed and want of memory tell nothing of the files
 abbrev pub refusal : IndexFault → Option IndexFault

@@ -1,16 +1,9 @@
 -- The Representations of a Period whose files have an index inside.
 use Rattle.std.specs.Prelude.{List, map, Option, Some}
 use Rattle.mpd_levels.specs.declared.indexed.IndexRow.{IndexRow}
-use Rattle.mpd_rules.specs.declared.file_index.FileIndex.{FileIndex}
-use Rattle.mpd_rules.specs.declared.rows.PeriodRow.{PeriodRow}
-use Rattle.mpd_rules.specs.declared.rows.TrackRow.{TrackRow}
-use Rattle.mpd_rules.specs.declared.view.PeriodWalk.{PeriodWalk}
-use Rattle.mpd_rules.specs.declared.view.RepWalk.{RepWalk}
-use Rattle.mpd_rules.specs.declared.view.TrackView.{TrackView}
-use Rattle.mpd_rules.specs.declared.view.TypedPeriod.{TypedPeriod}
-use Rattle.mpd_rules.specs.Held.{Keyed}
-use Rattle.mpd_rules.specs.Indexes.{Index, index_told}
-use Rattle.mpd_rules.specs.Typed.{period_with, track_with}
+use Rattle.mpd_rules.specs.{declared.file_index.FileIndex.FileIndex, declared.rows.PeriodRow.PeriodRow, declared.rows.TrackRow.TrackRow}
+use Rattle.mpd_rules.specs.{declared.view.PeriodWalk.PeriodWalk, declared.view.RepWalk.RepWalk, declared.view.TrackView.TrackView}
+use Rattle.mpd_rules.specs.{declared.view.TypedPeriod.TypedPeriod, Held.Keyed, Indexes.{Index, index_told}, Typed.{period_with, track_with}}
 use Rattle.mpd_rules.specs.Views.{index_in, period_in, periods_left, track_in, tracks_left}
 
 -- a Representation and a Period, with how their indexes are told

@@ -1,17 +1,12 @@
 -- The segments that an index tells: each of its references is one (ISO/IEC 14496-12, 8.16.3).
-use Rattle.std.specs.Prelude.{ℕ, ◌+◌, max, not, List, [], ◌∷◌, length, map, Option, Some, None, Result}
-use Rattle.std.specs.List.{list_any}
+use Rattle.std.specs.{Prelude.{ℕ, ◌+◌, max, not, List, [], ◌∷◌, length, map, Option, Some, None, Result}, List.list_any}
 use Rattle.exact_time.specs.Time.{in_units}
 use Rattle.url_parts.specs.declared.address.Part.{Part}
-use Rattle.timeline.specs.declared.fault.TimeFault.{TimeFault}
-use Rattle.timeline.specs.declared.fault.TimeFault.TheVariants.{ListLength, ZeroDuration}
-use Rattle.timeline.specs.declared.names.Names.TheVariants.{Addresses}
-use Rattle.timeline.specs.Expansions.{Closed, Extent, SegmentTimeline}
-use Rattle.timeline.specs.Faults.{are_paired, fault_if, lasts_no_time, or_fault, segment_fault}
-use Rattle.timeline.specs.Limits.{span_breaks_limits}
+use Rattle.timeline.specs.{declared.fault.TimeFault.TimeFault, declared.fault.TimeFault.TheVariants.{ListLength, ZeroDuration}}
+use Rattle.timeline.specs.{declared.names.Names.TheVariants.Addresses, Expansions.{Closed, Extent, SegmentTimeline}, Faults.are_paired}
+use Rattle.timeline.specs.{Faults.{fault_if, lasts_no_time, or_fault, segment_fault}, Limits.span_breaks_limits}
 use Rattle.timeline.specs.SegmentTimelines.{unless_fault}
-use Rattle.segment_index.specs.declared.reference.Reference.{Reference}
-use Rattle.segment_index.specs.Index.{Index}
+use Rattle.segment_index.specs.{declared.reference.Reference.Reference, Index.Index}
 
 -- ---- which bytes, and when
 

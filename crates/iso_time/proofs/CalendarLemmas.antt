@@ -1,27 +1,17 @@
 -- The civil date and time of an instant, found by day numbers alone.
 use Rattle.std.proofs.Common.{◌≡◌, ℕ, zero, suc, ◌-◌, ◌/◌, ◌%◌, ◌<◌, ◌≤◌, inl, inr, Bool, true, false, not, refl, sym, subst, ◌∙◌, arith, ℤ}
-use Rattle.std.proofs.Common.{pos, neg_ℤ, negsuc, ◌+ℤ◌, ◌-ℤ◌, ◌*ℤ◌, ◌<ℤ◌, ◌≤ℤ◌, int_lt, unsigned_abs}
-use Rattle.std.proofs.Math.Numerals.{add-one}
+use Rattle.std.proofs.{Common.{pos, neg_ℤ, negsuc, ◌+ℤ◌, ◌-ℤ◌, ◌*ℤ◌, ◌<ℤ◌, ◌≤ℤ◌, int_lt, unsigned_abs}, Math.Numerals.add-one}
+use Rattle.std.proofs.{lemmas.Bool.{cases_lt, false≢true}, lemmas.Int.by_lt_z}
 use Rattle.std.specs.Int.{int_div_euclid, int_rem_euclid}
-use Rattle.std.proofs.lemmas.Bool.{cases_lt, false≢true}
-use Rattle.std.proofs.lemmas.Int.{by_lt_z}
-use Rattle.jiff_core.specs.declared.civil.date.Date.{Date}
-use Rattle.jiff_core.specs.declared.civil.time.Time.{Time}
-use Rattle.jiff_core.specs.declared.civil.datetime.DateTime.{DateTime}
-use Rattle.jiff_core.specs.Calendar.{days_from_civil, day_count, days_of_years, days_of_months, days_in_month}
-use Rattle.jiff_core.specs.Date.{epoch_day}
-use Rattle.jiff_core.specs.Time.{time_nanos}
-use Rattle.jiff_core.specs.DateTime.{civil_nanos}
-use Rattle.jiff_core.proofs.CalendarLemmas.{days_in_month_bounds}
-use Rattle.jiff_core.proofs.SignedLemmas.{signed_arith}
-use Rattle.jiff_core.proofs.DateLemmas.{epoch_day-lt, epoch_day-ordinal, days_from_civil-day, days_from_civil-next_month}
-use Rattle.jiff_core.proofs.DateLemmas.{days_from_civil-next_year}
+use Rattle.jiff_core.specs.{declared.civil.date.Date.Date, declared.civil.time.Time.Time, declared.civil.datetime.DateTime.DateTime}
+use Rattle.jiff_core.specs.{Calendar.{days_from_civil, day_count, days_of_years, days_of_months, days_in_month}, Date.epoch_day}
+use Rattle.jiff_core.specs.{Time.time_nanos, DateTime.civil_nanos}
+use Rattle.jiff_core.proofs.{CalendarLemmas.days_in_month_bounds, SignedLemmas.signed_arith, DateLemmas.{epoch_day-lt, epoch_day-ordinal}}
+use Rattle.jiff_core.proofs.DateLemmas.{days_from_civil-day, days_from_civil-next_month, days_from_civil-next_year}
 use Rattle.jiff_core.proofs.DateTimeLemmas.{civil_nanos-parts, epoch_day-civil_nanos, time_nanos_bound}
-use Rattle.iso_time.specs.Laws.{CalendarDaysHaveDates, IsCalendarDay}
-use Rattle.iso_time.proofs.DigitLemmas.{by_bool}
-use Rattle.iso_time.proofs.CivilLemmas.{before, not_before, from_before, from_not_before}
-use Rattle.iso_time.specs.Civil.{last_passing, year_of, month_of, day_of, civil_text, instant_text, day_nanos}
-use Rattle.iso_time.specs.Instant.{IsWritable, IsReadable}
+use Rattle.iso_time.specs.{Laws.{CalendarDaysHaveDates, IsCalendarDay}, Civil.{last_passing, year_of, month_of, day_of, civil_text}}
+use Rattle.iso_time.specs.{Civil.{instant_text, day_nanos}, Instant.{IsWritable, IsReadable}}
+use Rattle.iso_time.proofs.{DigitLemmas.by_bool, CivilLemmas.{before, not_before, from_before, from_not_before}}
 
 -- the last number that passes
 last_passing-is : (p : ℕ → Bool) (limit k : ℕ) → k ≤ limit → p k ≡ true → ((j : ℕ) → k < j → j ≤ limit → p j ≡ false)

@@ -1,21 +1,14 @@
 -- Dates, times and offsets that exist, and the nanoseconds that they name.
 use Rattle.std.proofs.Common.{◌≡◌, ◌&&◌, ◌⊎◌, inl, inr, nat_le, nat_lt, Ok, Err, true, false, not, refl, sym, ap, ◌∙◌, arith, ℤ, pos, neg_ℤ}
-use Rattle.std.proofs.Common.{◌-ℤ◌, ◌*ℤ◌, ◌<ℤ◌, ◌≤ℤ◌, int_lt, to_z, of_z}
+use Rattle.std.proofs.{Common.{◌-ℤ◌, ◌*ℤ◌, ◌<ℤ◌, ◌≤ℤ◌, int_lt, to_z, of_z}, lemmas.Bool.Decides.nat_tests, lemmas.Bool.and_parts}
+use Rattle.std.proofs.lemmas.Bool.{and_from, false≢true, leb-true, ltb-true}
 use Rattle.std.specs.Int.{w32, w128}
-use Rattle.std.proofs.lemmas.Bool.Decides.{nat_tests}
-use Rattle.std.proofs.lemmas.Bool.{and_parts, and_from, false≢true, leb-true, ltb-true}
-use Rattle.jiff_core.specs.declared.civil.datetime.DateTime.{DateTime}
-use Rattle.jiff_core.specs.Calendar.{IsWithin, days_in_month}
-use Rattle.jiff_core.specs.Date.{IsYmd}
-use Rattle.jiff_core.specs.Time.{IsHms}
+use Rattle.jiff_core.specs.{declared.civil.datetime.DateTime.DateTime, Calendar.{IsWithin, days_in_month}, Date.IsYmd, Time.IsHms}
 use Rattle.jiff_core.specs.DateTime.{IsCivilNanos, civil_nanos as jiff_nanos}
 use borrow.Author.Differences.{true_is_lt, false_is_lt}
-use Rattle.jiff_core.proofs.SignedLemmas.{signed_arith}
-use Rattle.jiff_core.proofs.DateTimeLemmas.{civil_nanos-parts}
-use Rattle.iso_time.specs.declared.instant.Offset.{Offset}
-use Rattle.iso_time.specs.declared.instant.Fields.{Fields}
-use Rattle.iso_time.specs.Instant.{IsCivil, is_civil, IsOffset, is_offset, AreShort, civil_nanos, Exists, IsReadable, is_readable}
-use Rattle.iso_time.specs.Instant.{instant_nanos, answer_of}
+use Rattle.jiff_core.proofs.{SignedLemmas.signed_arith, DateTimeLemmas.civil_nanos-parts}
+use Rattle.iso_time.specs.{declared.instant.Offset.Offset, declared.instant.Fields.Fields, Instant.{IsCivil, is_civil, IsOffset, is_offset}}
+use Rattle.iso_time.specs.Instant.{AreShort, civil_nanos, Exists, IsReadable, is_readable, instant_nanos, answer_of}
 use Rattle.iso_time.specs.declared.instant.InstantFault.TheVariants.{Date, Range}
 use Rattle.iso_time.proofs.DigitLemmas.{by_bool}
 

@@ -1,14 +1,8 @@
 -- Runs of digits: what they are worth at most, and the reader of a run.
 use Rattle.std.proofs.Common.{◌≡◌, ℕ, zero, suc, ◌+◌, ◌-◌, ◌^◌, ◌<◌, Bool, true, false, IsTrue, List, [], ◌∷◌, length, length-take, take}
-use Rattle.std.proofs.Common.{drop, refl, arith}
-use Rattle.std.proofs.Math.Numerals.{one-add}
-use Rattle.std.proofs.lemmas.Int.Digits.{digits_value-lt}
-use Rattle.std.proofs.lemmas.Str.{digit_value_digit}
-use Rattle.std.specs.List.{prefix_len}
-use Rattle.std.specs.Char.{is_ascii_digit}
+use Rattle.std.proofs.{Common.{drop, refl, arith}, Math.Numerals.one-add, lemmas.Int.Digits.digits_value-lt, lemmas.Str.digit_value_digit}
 use Rattle.std.proofs.lemmas.Bool.{and_parts, and_from}
-use Rattle.std.specs.Str.Parse.{AllDigits}
-use Rattle.std.specs.Str.{all_ascii_digits}
+use Rattle.std.specs.{List.prefix_len, Char.is_ascii_digit, Str.Parse.AllDigits, Str.all_ascii_digits}
 use Rattle.exact_time.proofs.Decimals.{digit_at, shifted_below}
 use Rattle.iso_time.specs.Digits.{number_of, fraction_nanos}
 

@@ -1,24 +1,19 @@
 -- A duration's parts are read from its text, and from nothing else.
 use Rattle.std.proofs.Common.{◌≡◌, ℕ, ◌==◌, ◌&&◌, ◌^◌, nat_le, nat_lt, ◌↔◌, false, List, [], ◌∷◌, ◌++◌, drop, Option, None, Some, IfSome}
 use Rattle.std.proofs.Common.{Result, Ok, Err, eq-eqb, eqb-true, ne_eqb, arith, ◌<◌, refl, sym, ap, subst, ◌∙◌, append_assoc}
-use Rattle.std.proofs.lemmas.List.{drop_at}
-use Rattle.std.proofs.lemmas.Option.{option_and_then_some}
-use Rattle.std.proofs.lemmas.Bool.{ltb-true, ltb-false, lt-ltb, le-ltb, false≢true}
-use Rattle.std.specs.Option.{option_map_or}
-use Rattle.std.specs.List.{prefix_len}
-use Rattle.std.specs.Char.{is_ascii_digit}
+use Rattle.std.proofs.{lemmas.List.drop_at, lemmas.Option.option_and_then_some, lemmas.Bool.{ltb-true, ltb-false, lt-ltb, le-ltb}}
+use Rattle.std.proofs.lemmas.Bool.{false≢true}
+use Rattle.std.specs.{Option.option_map_or, List.prefix_len, Char.is_ascii_digit}
 use Rattle.iso_time.specs.Digits.{leading_digits, after_mark, before_mark, fraction_at, optional_text, fraction_text, optional_rest}
 use Rattle.iso_time.specs.Duration.{SecondsParts, ClockParts, DurationParts, IsNumber, IsSeconds, IsClock, IsDuration, IsDurationText}
 use Rattle.iso_time.specs.Duration.{part_text, seconds_text, clock_text, parts_text, has_clock, has_part, part_at, seconds_of, clock_of}
 use Rattle.iso_time.specs.Duration.{parts_of, months_of, nanos_of, answer_of, duration_of, DenotesDuration}
-use Rattle.iso_time.specs.declared.duration.DurationFault.{DurationFault}
-use Rattle.iso_time.specs.declared.duration.DurationFault.TheVariants.{Shape, Calendar, Range}
-use Rattle.iso_time.specs.Laws.{DurationsHaveOneSpelling, DurationsAreDenoted}
-use Rattle.iso_time.proofs.DigitLemmas.{by_bool}
-use Rattle.iso_time.proofs.ReadingLemmas.{NoDigit, prefix_len-run, leading_digits-run, leading_digits-found, after_mark-mark}
-use Rattle.iso_time.proofs.ReadingLemmas.{after_mark-found, before_mark-mark, before_mark-found, found_or_text-cases, fraction_at-text}
-use Rattle.iso_time.proofs.ReadingLemmas.{fraction_at-found, value_at_end-found, value_if-found, optional_rest-text, optional_rest-found}
-use Rattle.iso_time.proofs.ReadingLemmas.{none_some, some_same}
+use Rattle.iso_time.specs.{declared.duration.DurationFault.DurationFault, declared.duration.DurationFault.TheVariants.{Shape, Calendar}}
+use Rattle.iso_time.specs.{declared.duration.DurationFault.TheVariants.Range, Laws.{DurationsHaveOneSpelling, DurationsAreDenoted}}
+use Rattle.iso_time.proofs.{DigitLemmas.by_bool, ReadingLemmas.{NoDigit, prefix_len-run, leading_digits-run, leading_digits-found}}
+use Rattle.iso_time.proofs.ReadingLemmas.{after_mark-mark, after_mark-found, before_mark-mark, before_mark-found, found_or_text-cases}
+use Rattle.iso_time.proofs.ReadingLemmas.{fraction_at-text, fraction_at-found, value_at_end-found, value_if-found, optional_rest-text}
+use Rattle.iso_time.proofs.ReadingLemmas.{optional_rest-found, none_some, some_same}
 
 -- the byte behind the digits at the front isn't this letter
 abbrev NotNext : ℕ → List ℕ → Type 0

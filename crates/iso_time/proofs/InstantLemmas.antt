@@ -1,21 +1,17 @@
 -- An instant's parts are read from its text, and from nothing else.
 use Rattle.std.proofs.Common.{◌≡◌, ℕ, ◌==◌, ◌^◌, ◌↔◌, Bool, true, false, if◌then◌else◌, List, [], ◌∷◌, ◌++◌, length, Option, None, Some}
 use Rattle.std.proofs.Common.{IfSome, inl, inr, Result, Ok, Err, IfOk, eqb-true, arith, ◌<◌, refl, sym, ap, subst, ◌∙◌, append_assoc}
-use Rattle.std.proofs.Common.{append-nil, ℤ}
-use Rattle.std.proofs.lemmas.Option.{option_and_then_some}
-use Rattle.std.specs.Option.{option_map_or}
-use Rattle.iso_time.specs.declared.instant.InstantFault.{InstantFault}
-use Rattle.iso_time.specs.declared.instant.InstantFault.TheVariants.{Shape, Date, Range}
-use Rattle.std.specs.Prelude.{option_map, unwrap_or}
+use Rattle.std.proofs.{Common.{append-nil, ℤ}, lemmas.Option.option_and_then_some}
+use Rattle.std.specs.{Option.option_map_or, Prelude.{option_map, unwrap_or}}
+use Rattle.iso_time.specs.{declared.instant.InstantFault.InstantFault, declared.instant.InstantFault.TheVariants.{Shape, Date, Range}}
 use Rattle.iso_time.specs.Digits.{AreDigits, number_of, fraction_nanos, after_mark, before_mark, digits_at, fraction_at, optional_text}
-use Rattle.iso_time.specs.Digits.{fraction_text}
-use Rattle.iso_time.specs.Instant.{Zone, unstated, utc, shifted, InstantParts, IsField, IsZone, IsInstant, IsInstantText, zone_text}
-use Rattle.iso_time.specs.Instant.{parts_text, colon_or_text, colon_at, shift_of, zone_of, parts_of, fields_of, answer_of, instant_of}
-use Rattle.iso_time.specs.Instant.{DenotesInstant, AreShort, IsReadable, instant_nanos}
+use Rattle.iso_time.specs.{Digits.fraction_text, Instant.{Zone, unstated, utc, shifted, InstantParts, IsField, IsZone, IsInstant}}
+use Rattle.iso_time.specs.Instant.{IsInstantText, zone_text, parts_text, colon_or_text, colon_at, shift_of, zone_of, parts_of, fields_of}
+use Rattle.iso_time.specs.Instant.{answer_of, instant_of, DenotesInstant, AreShort, IsReadable, instant_nanos}
 use Rattle.iso_time.specs.Laws.{InstantsHaveOneSpelling, InstantsAreDenoted}
-use Rattle.iso_time.proofs.DigitLemmas.{by_bool, number_of-lt, fraction_nanos-lt}
-use Rattle.iso_time.proofs.CivilLemmas.{cases_exists, cases_readable, answer_of-in_range, answer_of-out_of_range, answer_of-missing}
-use Rattle.iso_time.proofs.ReadingLemmas.{NoDigit, digits_at-run, digits_at-all, digits_at-found, after_mark-mark, after_mark-found}
+use Rattle.iso_time.proofs.{DigitLemmas.{by_bool, number_of-lt, fraction_nanos-lt}, CivilLemmas.{cases_exists, cases_readable}}
+use Rattle.iso_time.proofs.{CivilLemmas.{answer_of-in_range, answer_of-out_of_range, answer_of-missing}, ReadingLemmas.NoDigit}
+use Rattle.iso_time.proofs.ReadingLemmas.{digits_at-run, digits_at-all, digits_at-found, after_mark-mark, after_mark-found}
 use Rattle.iso_time.proofs.ReadingLemmas.{after_mark-digits, before_mark-mark, before_mark-found, fraction_at-text, fraction_at-found}
 use Rattle.iso_time.proofs.ReadingLemmas.{value_at_end-found, none_some, some_same}
 

@@ -1,21 +1,13 @@
 -- Numbers written in a fixed number of digits, and fractions.
 use Rattle.std.proofs.Common.{◌≡◌, ℕ, zero, suc, ◌+◌, ◌-◌, ◌*◌, ◌/◌, ◌%◌, ◌^◌, ◌<◌, ◌≤◌, true, List, [], ◌∷◌, ◌++◌, length, take, drop}
-use Rattle.std.proofs.Common.{refl, sym, ap, ◌∙◌, inl, inr, arith, length-drop}
-use Rattle.std.specs.Char.{digit_value, is_ascii_digit}
-use Rattle.std.specs.Str.{IsAscii}
-use Rattle.std.specs.Str.Parse.{digits_value_after}
-use Rattle.std.proofs.Math.Nat.{pow-suc, mod-one, mod-eq_of_lt, mul-div_left}
-use Rattle.std.proofs.lemmas.Nat.{pow-add, div-mul-add}
-use Rattle.std.proofs.lemmas.Bool.{and_from, le-leb, cases_lt}
-use Rattle.std.proofs.lemmas.List.{take_all, take-append-drop}
-use Rattle.std.proofs.lemmas.Str.{digit_value_digit, IsAscii-append}
-use Rattle.std.proofs.lemmas.Str.Ascii.{IsAscii-cons, IsAscii-nil}
+use Rattle.std.proofs.{Common.{refl, sym, ap, ◌∙◌, inl, inr, arith, length-drop}, Math.Nat.{pow-suc, mod-one, mod-eq_of_lt, mul-div_left}}
+use Rattle.std.proofs.{lemmas.Nat.{pow-add, div-mul-add}, lemmas.Bool.{and_from, le-leb, cases_lt}, lemmas.List.take_all}
+use Rattle.std.proofs.{lemmas.List.take-append-drop, lemmas.Str.{digit_value_digit, IsAscii-append}, lemmas.Str.Ascii.IsAscii-cons}
+use Rattle.std.proofs.lemmas.Str.Ascii.{IsAscii-nil}
+use Rattle.std.specs.{Char.{digit_value, is_ascii_digit}, Str.IsAscii, Str.Parse.digits_value_after}
 use Rattle.exact_time.proofs.Decimals.{ten_pow-pos}
-use Rattle.iso_time.specs.Digits.{AreDigits, number_of, fraction_nanos, padded_digits}
-use Rattle.iso_time.specs.Civil.{moment_text}
-use Rattle.iso_time.specs.Laws.{FractionsAreRoundedDown}
-use Rattle.iso_time.proofs.DigitLemmas.{number_of-lt, ascii_drop}
-use Rattle.iso_time.proofs.PlaceLemmas.{mod-places}
+use Rattle.iso_time.specs.{Digits.{AreDigits, number_of, fraction_nanos, padded_digits}, Civil.moment_text, Laws.FractionsAreRoundedDown}
+use Rattle.iso_time.proofs.{DigitLemmas.{number_of-lt, ascii_drop}, PlaceLemmas.mod-places}
 
 places_digit : (d : ℕ) → d < 10 → digit_value (48 + d) ≡ d
 places_digit d h = omega (arith, digit_value_digit (48 + d))

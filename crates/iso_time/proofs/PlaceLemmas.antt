@@ -1,15 +1,11 @@
 -- The decimal places of a number: which are 0, and what they write.
 use Rattle.std.proofs.Common.{◌≡◌, ℕ, zero, suc, ◌+◌, ◌*◌, ◌/◌, ◌%◌, ◌^◌, ◌<◌, ◌≤◌, ◌==◌, ◌&&◌, Bool, true, false, if◌then◌else◌, List, []}
-use Rattle.std.proofs.Common.{◌∷◌, ◌++◌, length, eq-eqb, ne_eqb, append-nil, append_assoc, refl, sym, ap, ◌∙◌, arith}
-use Rattle.std.proofs.Math.Nat.{pow-suc, mod-lt, mod-one}
-use Rattle.std.proofs.lemmas.Nat.{div-add-mod', mod-mul-add, mul-add-lt}
-use Rattle.std.proofs.lemmas.Bool.Decides.{nat_tests}
-use Rattle.std.proofs.lemmas.Bool.{false≢true}
-use Rattle.std.proofs.lemmas.Fmt.{length-decimal-le}
+use Rattle.std.proofs.{Common.{◌∷◌, ◌++◌, length, eq-eqb, ne_eqb, append-nil, append_assoc, refl, sym, ap, ◌∙◌, arith}, Math.Nat.pow-suc}
+use Rattle.std.proofs.{Math.Nat.{mod-lt, mod-one}, lemmas.Nat.{div-add-mod', mod-mul-add, mul-add-lt}, lemmas.Bool.Decides.nat_tests}
+use Rattle.std.proofs.{lemmas.Bool.false≢true, lemmas.Fmt.length-decimal-le}
 use Rattle.std.specs.Fmt.{decimal}
 use Rattle.exact_time.proofs.Decimals.{ten_pow-pos}
-use Rattle.iso_time.specs.Digits.{padded_digits}
-use Rattle.iso_time.specs.Duration.{is_empty, without_zeros}
+use Rattle.iso_time.specs.{Digits.padded_digits, Duration.{is_empty, without_zeros}}
 
 -- one more place
 mod-ten : (n p : ℕ) → 0 < p → n % (10 * p) ≡ (n / p % 10) * p + n % p

@@ -1,15 +1,9 @@
 -- What the readers of a text's front find, and that they find what is there.
 use Rattle.std.proofs.Common.{◌≡◌, ℕ, suc, ◌≤◌, nat_le, Bool, true, false, IsTrue, List, [], ◌∷◌, ◌++◌, length, take, Option, None, Some}
-use Rattle.std.proofs.Common.{IfSome, refl, sym, ap, subst, ◌∙◌, arith, append-nil, length-append, eq-eqb, ne_eqb}
-use Rattle.std.proofs.Math.Numerals.{one-add}
-use Rattle.std.proofs.lemmas.Bool.{and_parts, leb-true, false≢true, le-leb, eqb-true}
-use Rattle.std.proofs.lemmas.List.{take_at, drop_at, take-append-drop, length-take}
-use Rattle.std.proofs.lemmas.List.Sums.{prefix_len-le-length}
-use Rattle.std.proofs.lemmas.Option.{cond_some, option_and_then_some}
-use Rattle.std.specs.Option.{option_map}
-use Rattle.std.specs.List.{prefix_len}
-use Rattle.std.specs.Char.{is_ascii_digit}
-use Rattle.std.specs.Str.{all_ascii_digits}
+use Rattle.std.proofs.{Common.{IfSome, refl, sym, ap, subst, ◌∙◌, arith, append-nil, length-append, eq-eqb, ne_eqb}, Math.Numerals.one-add}
+use Rattle.std.proofs.{lemmas.Bool.{and_parts, leb-true, false≢true, le-leb, eqb-true}, lemmas.List.{take_at, drop_at, take-append-drop}}
+use Rattle.std.proofs.{lemmas.List.length-take, lemmas.List.Sums.prefix_len-le-length, lemmas.Option.{cond_some, option_and_then_some}}
+use Rattle.std.specs.{Option.option_map, List.prefix_len, Char.is_ascii_digit, Str.all_ascii_digits}
 use Rattle.iso_time.specs.Digits.{AreDigits, leading_digits, digits_at, after_mark, before_mark, fraction_at, found_or_text, optional_text}
 use Rattle.iso_time.specs.Digits.{fraction_text, value_at_end, value_if, optional_rest, Found, ◌>>=◌}
 use Rattle.iso_time.proofs.DigitLemmas.{ascii_front}

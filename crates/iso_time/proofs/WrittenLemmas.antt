@@ -1,36 +1,21 @@
 -- What is written is read again.
 use Rattle.std.proofs.Common.{◌≡◌, ℕ, suc, ◌+◌, ◌-◌, ◌*◌, ◌/◌, ◌%◌, ◌^◌, ◌<◌, ◌≤◌, ◌==◌, ◌&&◌, true, false, IsTrue, if◌then◌else◌, List, []}
 use Rattle.std.proofs.Common.{◌∷◌, length, take, Option, None, Some, IfSome, Ok, eqb-true, refl, sym, ap, subst, ◌∙◌, arith, ℤ, pos, ◌+ℤ◌}
-use Rattle.std.proofs.Common.{◌*ℤ◌, unsigned_abs}
-use Rattle.std.specs.Int.{int_div_euclid, int_rem_euclid}
-use Rattle.std.specs.Prelude.{option_map, unwrap_or}
-use Rattle.std.specs.Fmt.{decimal}
-use Rattle.std.specs.Char.{digit_value, is_ascii_digit}
-use Rattle.std.specs.Str.{all_ascii_digits}
-use Rattle.std.specs.Str.Parse.{digits_value_after}
-use Rattle.std.proofs.Math.Nat.{pow-suc, mod-eq_of_lt}
-use Rattle.std.proofs.lemmas.Bool.{and_parts, and_from, false≢true}
-use Rattle.std.proofs.lemmas.Str.Parse.{IsNumeralModel, numerals_by_value, tells_all_ascii_digits}
-use Rattle.std.proofs.lemmas.Fmt.{digits_decimal, digits_value-decimal, length-decimal-le, decimal_nonempty}
-use Rattle.std.proofs.lemmas.List.{take_all}
+use Rattle.std.proofs.{Common.{◌*ℤ◌, unsigned_abs}, Math.Nat.{pow-suc, mod-eq_of_lt}, lemmas.Bool.{and_parts, and_from, false≢true}}
+use Rattle.std.proofs.{lemmas.Str.Parse.{IsNumeralModel, numerals_by_value, tells_all_ascii_digits}, lemmas.Fmt.digits_decimal}
+use Rattle.std.proofs.{lemmas.Fmt.{digits_value-decimal, length-decimal-le, decimal_nonempty}, lemmas.List.take_all}
+use Rattle.std.specs.{Int.{int_div_euclid, int_rem_euclid}, Prelude.{option_map, unwrap_or}, Fmt.decimal, Char.digit_value}
+use Rattle.std.specs.{Char.is_ascii_digit, Str.all_ascii_digits, Str.Parse.digits_value_after}
 use Rattle.iso_time.specs.Digits.{AreDigits, number_of, fraction_nanos, padded_digits, optional_text, fraction_text}
-use Rattle.iso_time.specs.Duration.{DurationParts, is_empty, without_zeros, nanos_text, duration_text}
-use Rattle.iso_time.specs.Civil.{moment_text, instant_text, day_nanos, year_of, month_of, day_of}
-use Rattle.iso_time.specs.declared.instant.Fields.{Fields}
-use Rattle.iso_time.specs.Instant.{InstantParts, utc, IsInstantText, fields_of, AreShort, Exists, answer_of, instant_of, instant_nanos}
-use Rattle.iso_time.specs.Instant.{IsReadable}
+use Rattle.iso_time.specs.{Duration.{DurationParts, is_empty, without_zeros, nanos_text, duration_text}, Civil.{moment_text, instant_text}}
+use Rattle.iso_time.specs.{Civil.{day_nanos, year_of, month_of, day_of}, declared.instant.Fields.Fields, Instant.{InstantParts, utc}}
+use Rattle.iso_time.specs.Instant.{IsInstantText, fields_of, AreShort, Exists, answer_of, instant_of, instant_nanos, IsReadable}
 use Rattle.iso_time.specs.Laws.{DurationsAreReadAgain, InstantsAreReadAgain, IsDateOfDay, floor_millis}
-use Rattle.iso_time.proofs.DigitLemmas.{by_bool}
-use Rattle.jiff_core.proofs.SignedLemmas.{signed_arith}
-use Rattle.iso_time.proofs.CalendarLemmas.{civil_date, day_split, readable_day}
-use Rattle.jiff_core.specs.Calendar.{days_from_civil}
-use Rattle.jiff_core.specs.Time.{IsTime}
-use Rattle.jiff_core.proofs.CalendarLemmas.{days_in_month_bounds}
-use Rattle.iso_time.proofs.CivilLemmas.{answer_of-in_range}
-use Rattle.iso_time.proofs.InstantLemmas.{instant_of-spelled}
-use Rattle.iso_time.proofs.PaddedLemmas.{number_of-padded_digits, AreDigits-padded_digits}
-use Rattle.iso_time.proofs.PlaceLemmas.{is_empty-without_zeros}
-use Rattle.iso_time.proofs.DurationLemmas.{duration_of-is}
+use Rattle.iso_time.proofs.{DigitLemmas.by_bool, CalendarLemmas.{civil_date, day_split, readable_day}, CivilLemmas.answer_of-in_range}
+use Rattle.iso_time.proofs.{InstantLemmas.instant_of-spelled, PaddedLemmas.{number_of-padded_digits, AreDigits-padded_digits}}
+use Rattle.iso_time.proofs.{PlaceLemmas.is_empty-without_zeros, DurationLemmas.duration_of-is}
+use Rattle.jiff_core.proofs.{SignedLemmas.signed_arith, CalendarLemmas.days_in_month_bounds}
+use Rattle.jiff_core.specs.{Calendar.days_from_civil, Time.IsTime}
 
 -- ---- the digits without zeros at their end
 

@@ -1,9 +1,7 @@
 -- The civil date and time of an instant in UTC, by the day numbers of `jiff`.
 use Rattle.std.specs.Prelude.{ℕ, zero, suc, ◌+◌, ◌/◌, ◌%◌, Bool, not, if◌then◌else◌, List, [], ◌∷◌, ◌++◌, ℤ, pos, ◌-ℤ◌, ◌*ℤ◌, int_lt}
-use Rattle.std.specs.Prelude.{unsigned_abs}
-use Rattle.std.specs.Int.{int_div_euclid, int_rem_euclid}
-use Rattle.jiff_core.specs.Calendar.{days_from_civil}
-use Rattle.jiff_core.specs.declared.civil.datetime.DateTime.{DateTime}
+use Rattle.std.specs.{Prelude.unsigned_abs, Int.{int_div_euclid, int_rem_euclid}}
+use Rattle.jiff_core.specs.{Calendar.days_from_civil, declared.civil.datetime.DateTime.DateTime}
 use Rattle.iso_time.specs.Digits.{padded_digits}
 
 -- the nanoseconds of a day

@@ -1,10 +1,7 @@
 -- Runs of ASCII digits, and how a text begins with one.
 use Rattle.std.specs.Prelude.{ℕ, zero, suc, ◌+◌, ◌-◌, ◌*◌, ◌/◌, ◌%◌, ◌^◌, ◌≤◌, ◌==◌, ◌&&◌, nat_le, Bool, IsTrue, List, [], ◌∷◌, length}
-use Rattle.std.specs.Prelude.{take, drop, Option, Some, None, option_and_then, option_map, if◌then◌else◌}
-use Rattle.std.specs.List.{prefix_len}
-use Rattle.std.specs.Char.{is_ascii_digit}
-use Rattle.std.specs.Str.{all_ascii_digits}
-use Rattle.std.specs.Str.Parse.{digits_value}
+use Rattle.std.specs.{Prelude.{take, drop, Option, Some, None, option_and_then, option_map, if◌then◌else◌}, List.prefix_len}
+use Rattle.std.specs.{Char.is_ascii_digit, Str.all_ascii_digits, Str.Parse.digits_value}
 
 -- ASCII digits, at least so many and at most so many
 pub record AreDigits (least most : ℕ) (digits : List ℕ) : Type 0 where

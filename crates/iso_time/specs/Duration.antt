@@ -1,13 +1,11 @@
 -- Durations as XML Schema part 2, 3.2.6 writes them: `PnYnMnDTnHnMnS`.
-use Rattle.std.specs.Option.{option_map_or}
-use Rattle.std.specs.Prelude.{◌≡◌, ◌≢◌, ℕ, ◌+◌, ◌*◌, ◌/◌, ◌%◌, ◌^◌, ◌<◌, ◌≤◌, ◌==◌, ◌&&◌, ◌||◌, nat_lt, Bool, true, false, IsTrue, List, []}
-use Rattle.std.specs.Prelude.{◌∷◌, ◌++◌, Option, option_map, unwrap_or, is_some, IfSome, Result, Ok, Err, if◌then◌else◌}
-use Rattle.std.specs.Fmt.{decimal}
-use Rattle.iso_time.specs.declared.duration.DurationFault.{DurationFault}
-use Rattle.iso_time.specs.declared.duration.DurationFault.TheVariants.{Shape, Calendar, Range}
-use Rattle.iso_time.specs.declared.duration.Extent.{Extent}
-use Rattle.iso_time.specs.Digits.{AreDigits, number_of, fraction_nanos, padded_digits, optional_text, fraction_text, ◌>>=◌, value_if}
-use Rattle.iso_time.specs.Digits.{value_at_end, optional_rest, found_or_text, before_mark, after_mark, leading_digits, fraction_at}
+use Rattle.std.specs.{Option.option_map_or, Prelude.{◌≡◌, ◌≢◌, ℕ, ◌+◌, ◌*◌, ◌/◌, ◌%◌, ◌^◌, ◌<◌, ◌≤◌, ◌==◌, ◌&&◌, ◌||◌, nat_lt, Bool, true}}
+use Rattle.std.specs.Prelude.{false, IsTrue, List, [], ◌∷◌, ◌++◌, Option, option_map, unwrap_or, is_some, IfSome, Result, Ok, Err}
+use Rattle.std.specs.{Prelude.if◌then◌else◌, Fmt.decimal}
+use Rattle.iso_time.specs.{declared.duration.DurationFault.DurationFault, declared.duration.DurationFault.TheVariants.{Shape, Calendar}}
+use Rattle.iso_time.specs.{declared.duration.DurationFault.TheVariants.Range, declared.duration.Extent.Extent, Digits.AreDigits}
+use Rattle.iso_time.specs.Digits.{number_of, fraction_nanos, padded_digits, optional_text, fraction_text, ◌>>=◌, value_if, value_at_end}
+use Rattle.iso_time.specs.Digits.{optional_rest, found_or_text, before_mark, after_mark, leading_digits, fraction_at}
 
 -- the digits of the seconds, and those after their point
 pub record SecondsParts : Type 0 where

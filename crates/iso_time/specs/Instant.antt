@@ -1,16 +1,11 @@
 -- Instants as XML Schema part 2, 3.2.7 writes them: `YYYY-MM-DDThh:mm:ss` with a fraction and an offset.
-use Rattle.std.specs.Option.{option_map_or}
-use Rattle.std.specs.Prelude.{◌≡◌, ℕ, ◌+◌, ◌*◌, ◌^◌, ◌<◌, ◌≤◌, ◌==◌, ◌&&◌, not, nat_lt, nat_le, Bool, true, false, List, [], ◌∷◌, ◌++◌}
-use Rattle.std.specs.Prelude.{Option, Some, None, option_map, unwrap_or, IfSome, Result, Ok, Err, if◌then◌else◌, ℤ, pos, neg_ℤ, ◌+ℤ◌, ◌-ℤ◌}
-use Rattle.std.specs.Prelude.{◌*ℤ◌, ◌≤ℤ◌, ◌<ℤ◌, int_lt}
-use Rattle.jiff_core.specs.Calendar.{IsDate, days_in_month}
-use Rattle.jiff_core.specs.Time.{IsTime}
-use Rattle.iso_time.specs.declared.instant.InstantFault.{InstantFault}
-use Rattle.iso_time.specs.declared.instant.InstantFault.TheVariants.{Shape, Date, Range}
-use Rattle.iso_time.specs.declared.instant.Offset.{Offset}
-use Rattle.iso_time.specs.declared.instant.Fields.{Fields}
-use Rattle.iso_time.specs.Digits.{AreDigits, number_of, fraction_nanos, optional_text, fraction_text, ◌>>=◌, value_at_end, before_mark}
-use Rattle.iso_time.specs.Digits.{after_mark, digits_at, fraction_at}
+use Rattle.std.specs.{Option.option_map_or, Prelude.{◌≡◌, ℕ, ◌+◌, ◌*◌, ◌^◌, ◌<◌, ◌≤◌, ◌==◌, ◌&&◌, not, nat_lt, nat_le, Bool, true, false}}
+use Rattle.std.specs.Prelude.{List, [], ◌∷◌, ◌++◌, Option, Some, None, option_map, unwrap_or, IfSome, Result, Ok, Err, if◌then◌else◌, ℤ}
+use Rattle.std.specs.Prelude.{pos, neg_ℤ, ◌+ℤ◌, ◌-ℤ◌, ◌*ℤ◌, ◌≤ℤ◌, ◌<ℤ◌, int_lt}
+use Rattle.jiff_core.specs.{Calendar.{IsDate, days_in_month}, Time.IsTime}
+use Rattle.iso_time.specs.{declared.instant.InstantFault.InstantFault, declared.instant.InstantFault.TheVariants.{Shape, Date, Range}}
+use Rattle.iso_time.specs.{declared.instant.Offset.Offset, declared.instant.Fields.Fields, Digits.{AreDigits, number_of, fraction_nanos}}
+use Rattle.iso_time.specs.Digits.{optional_text, fraction_text, ◌>>=◌, value_at_end, before_mark, after_mark, digits_at, fraction_at}
 use Rattle.iso_time.specs.Civil.{midnight}
 
 -- what stands behind the time of day

@@ -1,11 +1,9 @@
 -- Laws of what texts denote and of the texts that are written.
 use Rattle.std.specs.Prelude.{◌≡◌, ℕ, ◌*◌, ◌/◌, ◌^◌, ◌<◌, length, ◌↔◌, List, Result, Ok, ℤ, pos, neg_ℤ, ◌*ℤ◌, ◌≤ℤ◌, ◌<ℤ◌}
 use Rattle.std.specs.Int.{int_div_euclid}
-use Rattle.iso_time.specs.declared.duration.DurationFault.{DurationFault}
-use Rattle.iso_time.specs.declared.instant.InstantFault.{InstantFault}
-use Rattle.iso_time.specs.Digits.{AreDigits, number_of, fraction_nanos}
-use Rattle.iso_time.specs.Duration.{DurationParts, IsDurationText, DenotesDuration, duration_of, duration_text}
-use Rattle.iso_time.specs.Instant.{InstantParts, IsInstantText, DenotesInstant, IsReadable, instant_of}
+use Rattle.iso_time.specs.{declared.duration.DurationFault.DurationFault, declared.instant.InstantFault.InstantFault, Digits.AreDigits}
+use Rattle.iso_time.specs.{Digits.{number_of, fraction_nanos}, Duration.{DurationParts, IsDurationText, DenotesDuration, duration_of}}
+use Rattle.iso_time.specs.{Duration.duration_text, Instant.{InstantParts, IsInstantText, DenotesInstant, IsReadable, instant_of}}
 use Rattle.iso_time.specs.Civil.{instant_text, midnight, year_of, month_of, day_of}
 use Rattle.jiff_core.specs.Calendar.{IsDate, days_from_civil}
 

@@ -1,24 +1,16 @@
 -- The rounds of a stream have a body for each track.
 use Rattle.std.proofs.Common.{◌≡◌, ◌-◌, ◌+◌, ◌==◌, ℕ, ℤ, zero, suc, Bool, true, false, List, [], ◌∷◌, length, drop, Option, Some, None}
-use Rattle.std.proofs.Common.{option_map}
-use Rattle.std.proofs.Common.{Result, Ok, Err, bytes_eq, if◌then◌else◌, refl, sym, ap, ◌∙◌, arith}
-use Rattle.std.specs.Prelude.{codes}
-use Rattle.std.specs.List.{All}
+use Rattle.std.proofs.Common.{option_map, Result, Ok, Err, bytes_eq, if◌then◌else◌, refl, sym, ap, ◌∙◌, arith}
 use Rattle.std.proofs.lemmas.List.Elements.{All-nil, All-cons}
+use Rattle.std.specs.{Prelude.codes, List.All}
 use Rattle.bridge_io.specs.declared.place.Place.{Place}
 use Rattle.bridge_jobs.specs.Frames.{behind, by_next, header_at, header_by_line, header_or_fault, line_within, most_frames, next_line}
-use Rattle.bridge_jobs.specs.Frames.{piece_of, some_of, without_end}
-use Rattle.bridge_jobs.specs.Headers.{cut_at_space}
-use Rattle.bridge_jobs.specs.Jobs.{◌>>=◌, instant_in}
-use Rattle.bridge_jobs.specs.Rounds.{Bodies, Rounded, after_bodies, and_bodies, bodies_of, counted, first_part, header_by}
-use Rattle.bridge_jobs.specs.Rounds.{header_of, lengths_of, most_bodies, most_header, next_length, next_round, round_by_line}
-use Rattle.bridge_jobs.specs.Rounds.{rounded_as}
-use Rattle.bridge_jobs.specs.Rounds.{rounded_if, rounds_by, rounds_within, timed_lengths}
-use Rattle.bridge_jobs.specs.declared.lengths.RoundHeader.{RoundHeader}
-use Rattle.bridge_jobs.specs.declared.frame.FramePos.{FramePos}
-use Rattle.bridge_jobs.specs.declared.frame.FrameFault.{FrameFault}
-use Rattle.bridge_jobs.specs.declared.frame.FrameFault.TheVariants.{Cut, Header, TooMany}
-use Rattle.bridge_jobs.specs.declared.round.Round.{Round}
+use Rattle.bridge_jobs.specs.{Frames.{piece_of, some_of, without_end}, Headers.cut_at_space, Jobs.{◌>>=◌, instant_in}, Rounds.Bodies}
+use Rattle.bridge_jobs.specs.Rounds.{Rounded, after_bodies, and_bodies, bodies_of, counted, first_part, header_by, header_of, lengths_of}
+use Rattle.bridge_jobs.specs.Rounds.{most_bodies, most_header, next_length, next_round, round_by_line, rounded_as, rounded_if, rounds_by}
+use Rattle.bridge_jobs.specs.{Rounds.{rounds_within, timed_lengths}, declared.lengths.RoundHeader.RoundHeader}
+use Rattle.bridge_jobs.specs.{declared.frame.FramePos.FramePos, declared.frame.FrameFault.FrameFault}
+use Rattle.bridge_jobs.specs.{declared.frame.FrameFault.TheVariants.{Cut, Header, TooMany}, declared.round.Round.Round}
 
 -- ---- headers
 

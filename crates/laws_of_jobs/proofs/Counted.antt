@@ -1,27 +1,22 @@
 -- How many segments runs make that follow an MPD.
+use Rattle.bridge_io.specs.declared.outside.Fail.TheVariants as fail
+use Rattle.bridge_courses.specs.declared.ending.Ending.TheVariants as ending
+use Rattle.bridge_courses.specs.declared.status.Verdict.TheVariants as verdict
 use Rattle.std.proofs.Common.{◌≡◌, ◌⊎◌, ◌≤◌, ◌+◌, ℕ, suc, IsTrue, List, length, take, Option, None, Some, inl, inr, refl, sym, ap, ◌∙◌}
 use Rattle.std.proofs.Common.{subst, arith}
 use Rattle.std.specs.Prelude.{sum_by}
-use Rattle.bridge_io.specs.InOrder.{put_all, AreBegun}
-use Rattle.bridge_io.specs.Outside.{Changes}
-use Rattle.bridge_io.specs.declared.outside.Fail.TheVariants as fail
+use Rattle.bridge_io.specs.{InOrder.{put_all, AreBegun}, Outside.Changes}
 use Rattle.bridge_jobs.specs.declared.frame.Frame.{Frame}
-use Rattle.bridge_courses.specs.Courses.{Course, Makes, Reaches, Step, World, last_step}
-use Rattle.bridge_courses.specs.Executions.{FailsTelling, Finishes, Works}
-use Rattle.bridge_courses.specs.declared.ending.Ending.{Ending}
-use Rattle.bridge_courses.specs.declared.ending.Ending.TheVariants as ending
-use Rattle.bridge_courses.specs.declared.status.Verdict.{Verdict}
-use Rattle.bridge_courses.specs.declared.status.Verdict.TheVariants as verdict
+use Rattle.bridge_courses.specs.{Courses.{Course, Makes, Reaches, Step, World, last_step}, Executions.{FailsTelling, Finishes, Works}}
+use Rattle.bridge_courses.specs.{declared.ending.Ending.Ending, declared.status.Verdict.Verdict}
 use Rattle.bridge_report.specs.Following.{Followed, verdict_by}
-use Rattle.live_meaning.specs.States.{State}
-use Rattle.live_meaning.specs.Updates.{Terms}
-use Rattle.bridge_steps.specs.Follow.{follow_course}
-use Rattle.bridge_steps.specs.LiveMpds.{followed_mpd, frame_stream}
+use Rattle.live_meaning.specs.{States.State, Updates.Terms}
+use Rattle.bridge_steps.specs.{Follow.follow_course, LiveMpds.{followed_mpd, frame_stream}}
 use Rattle.laws_of_jobs.specs.Counts.{FollowCountsSegments, MadeBeyond, MadeBy, MadeOf, MadeWanting, appended_to, refused_to}
-use Rattle.bridge_core.specs.Follow.{terms_at}
 use Rattle.laws_of_jobs.specs.Histories.{followed_at, frames_in}
-use Rattle.laws_of_jobs.proofs.Courses.{course_is, line_at_end}
-use Rattle.laws_of_jobs.proofs.Steps.{as_many_steps, it_counts, its_verdict, least_is, most_is, sum_next}
+use Rattle.bridge_core.specs.Follow.{terms_at}
+use Rattle.laws_of_jobs.proofs.{Courses.{course_is, line_at_end}, Steps.{as_many_steps, it_counts, its_verdict, least_is, most_is}}
+use Rattle.laws_of_jobs.proofs.Steps.{sum_next}
 
 module _ (terms : Terms) (out input : List ℕ) (course : Course)
     (at : course ≡ follow_course (followed_mpd terms out) frame_stream None input) where

@@ -1,16 +1,11 @@
 -- The course of a run that follows an MPD.
-use Rattle.std.proofs.Common.{◌≡◌, ℕ, List, Option, None, Some, option_map, Ok, sym, ap, ◌∙◌, subst}
-use Rattle.std.proofs.lemmas.Option.{same_Some}
+use Rattle.std.proofs.{Common.{◌≡◌, ℕ, List, Option, None, Some, option_map, Ok, sym, ap, ◌∙◌, subst}, lemmas.Option.same_Some}
 use Rattle.bridge_courses.specs.Courses.{Course}
 use Rattle.url_parts.specs.Addresses.{absolute}
-use Rattle.bridge_playlists.specs.declared.place.StorePlace.{StorePlace}
-use Rattle.bridge_playlists.specs.Places.{store_place_of}
+use Rattle.bridge_playlists.specs.{declared.place.StorePlace.StorePlace, Places.store_place_of}
 use Rattle.bridge_jobs.specs.Frames.{frames_of}
-use Rattle.bridge_steps.specs.Follow.{course_placed, fault_line, follow_course}
-use Rattle.bridge_steps.specs.LiveMpds.{frame_stream}
-use Rattle.bridge_core.specs.Courses.{course_of, course_of_job}
-use Rattle.bridge_core.specs.Follow.{follow_at, followed_course}
-use Rattle.bridge_core.specs.declared.follow.Follow.{Follow}
+use Rattle.bridge_steps.specs.{Follow.{course_placed, fault_line, follow_course}, LiveMpds.frame_stream}
+use Rattle.bridge_core.specs.{Courses.{course_of, course_of_job}, Follow.{follow_at, followed_course}, declared.follow.Follow.Follow}
 use Rattle.bridge_core.proofs.Lies.{lies_of}
 use Rattle.laws_of_jobs.specs.Histories.{IsFollowing, followed_at}
 

@@ -1,25 +1,18 @@
 -- What runs leave that follow an MPD, and durations.
-use Rattle.std.proofs.Common.{◌≡◌, ◌⊎◌, ℕ, List, [], ◌∷◌, ◌++◌, length, take, Option, None, Some, inl, inr, refl, sym, ap, ◌∙◌, subst}
-use Rattle.std.proofs.Common.{arith, take_all}
-use Rattle.std.specs.Prelude.{All, flat_map}
-use Rattle.std.specs.List.{fold}
-use Rattle.std.proofs.lemmas.List.Elements.{All-append, All-cons, All-head, All-nil, All-tail}
-use Rattle.std.proofs.lemmas.Option.{same_Some}
-use Rattle.bridge_io.specs.InOrder.{put_all, AreBegun}
-use Rattle.bridge_io.specs.Outside.{Files, Changes}
-use Rattle.bridge_jobs.specs.declared.frame.Frame.{Frame}
-use Rattle.bridge_courses.specs.Courses.{Course, files_of, files_to}
-use Rattle.bridge_courses.specs.Laws.{ReadFaultLeavesSteps, ExecutionLeavesSteps, VerdictKeepsSteps}
-use Rattle.live_meaning.specs.Updates.{Terms, Update, Values, mpd_of}
 use Rattle.live_meaning.specs.Refusals as rules
-use Rattle.live_meaning.specs.Laws.{AcceptedAreAccepted, AcceptedNeverDrift, IsTyped, accepted_of, with_accepted}
+use Rattle.std.proofs.Common.{◌≡◌, ◌⊎◌, ℕ, List, [], ◌∷◌, ◌++◌, length, take, Option, None, Some, inl, inr, refl, sym, ap, ◌∙◌, subst}
+use Rattle.std.proofs.{Common.{arith, take_all}, lemmas.List.Elements.{All-append, All-cons, All-head, All-nil, All-tail}}
+use Rattle.std.proofs.lemmas.Option.{same_Some}
+use Rattle.std.specs.{Prelude.{All, flat_map}, List.fold}
+use Rattle.bridge_io.specs.{InOrder.{put_all, AreBegun}, Outside.{Files, Changes}}
+use Rattle.bridge_jobs.specs.declared.frame.Frame.{Frame}
+use Rattle.bridge_courses.specs.{Courses.{Course, files_of, files_to}, Laws.{ReadFaultLeavesSteps, ExecutionLeavesSteps, VerdictKeepsSteps}}
+use Rattle.live_meaning.specs.{Updates.{Terms, Update, Values, mpd_of}, Laws.{AcceptedAreAccepted, AcceptedNeverDrift, IsTyped}}
+use Rattle.live_meaning.specs.Laws.{accepted_of, with_accepted}
 use Rattle.laws_of_reloads.specs.Laws.{IsReadIfAny}
-use Rattle.laws_of_jobs.specs.Histories.{FollowedNeverDrift, followed_at, frames_in, updates_to}
-use Rattle.laws_of_jobs.specs.Files.{FollowedFilesAreOfTheHistory}
+use Rattle.laws_of_jobs.specs.{Histories.{FollowedNeverDrift, followed_at, frames_in, updates_to}, Files.FollowedFilesAreOfTheHistory}
 use Rattle.laws_of_jobs.specs.Ends.{FollowLeavesHistory, FollowedToAFault, FollowedToTheEnd}
-use Rattle.laws_of_jobs.proofs.Courses.{course_is, line_at_end}
-use Rattle.laws_of_jobs.proofs.FrameStates.{accepting}
-use Rattle.laws_of_jobs.proofs.Readings.{IsReadUpdate, are_read}
+use Rattle.laws_of_jobs.proofs.{Courses.{course_is, line_at_end}, FrameStates.accepting, Readings.{IsReadUpdate, are_read}}
 use Rattle.laws_of_jobs.proofs.Steps.{as_many_steps}
 
 -- ---- whole runs

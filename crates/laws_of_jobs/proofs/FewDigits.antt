@@ -1,15 +1,12 @@
 -- A job that follows prints few decimals.
+use Rattle.bridge_jobs.specs.declared.jobs.Job.TheVariants as job
+use Rattle.bridge_jobs.specs.declared.verb.Verb.TheVariants as verb
 use Rattle.std.proofs.Common.{◌≡◌, ◌≤◌, ◌-◌, ℕ, List, Option, None, Some, IfSome, refl, subst}
 use Rattle.std.specs.Prelude.{codes}
 use Rattle.clap.specs.Words.{Row, first_of}
-use Rattle.bridge_jobs.specs.declared.jobs.Job.{Job}
-use Rattle.bridge_jobs.specs.declared.jobs.Job.TheVariants as job
-use Rattle.bridge_jobs.specs.declared.verb.Verb.{Verb}
-use Rattle.bridge_jobs.specs.declared.verb.Verb.TheVariants as verb
-use Rattle.bridge_jobs.specs.Jobs.{◌>>=◌, agree_of, base_of, check_of, dash_of, dash_times_of, digits_of, file_of, first_verb}
-use Rattle.bridge_jobs.specs.Jobs.{follow_hls_of, follow_of, hls_index_of, hls_of, job_by, job_of, make_of, now_of, out_of, reload_of}
-use Rattle.bridge_jobs.specs.Jobs.{seed_of, show_of}
-use Rattle.bridge_jobs.specs.Verbs.{values_of}
+use Rattle.bridge_jobs.specs.{declared.jobs.Job.Job, declared.verb.Verb.Verb, Jobs.{◌>>=◌, agree_of, base_of, check_of, dash_of}}
+use Rattle.bridge_jobs.specs.Jobs.{dash_times_of, digits_of, file_of, first_verb, follow_hls_of, follow_of, hls_index_of, hls_of, job_by}
+use Rattle.bridge_jobs.specs.{Jobs.{job_of, make_of, now_of, out_of, reload_of, seed_of, show_of}, Verbs.values_of}
 use Rattle.bridge_core.specs.declared.follow.Follow.{Follow}
 use Rattle.bridge_core.proofs.Asked.{few_or_six}
 use Rattle.laws_of_jobs.specs.Histories.{follow_asked}

@@ -1,16 +1,11 @@
 -- A stream has few frames.
 use Rattle.std.proofs.Common.{◌≡◌, ◌≤◌, ◌+◌, ◌==◌, ℕ, zero, suc, List, [], ◌∷◌, length, drop, Option, None, Some, Result, Ok, Err, inl, inr}
-use Rattle.std.proofs.Common.{refl, sym, ap, ◌∙◌, arith}
-use Rattle.std.proofs.lemmas.Bool.{cases_Bool}
-use Rattle.std.proofs.lemmas.Bool.Decides.{nat_tests}
+use Rattle.std.proofs.{Common.{refl, sym, ap, ◌∙◌, arith}, lemmas.Bool.cases_Bool, lemmas.Bool.Decides.nat_tests}
 use Rattle.bridge_io.specs.declared.place.Place.{Place}
-use Rattle.bridge_jobs.specs.Headers.{header_of}
-use Rattle.bridge_jobs.specs.declared.header.Header.{Header}
-use Rattle.bridge_jobs.specs.declared.frame.Frame.{Frame}
-use Rattle.bridge_jobs.specs.declared.frame.FramePos.{FramePos}
-use Rattle.bridge_jobs.specs.declared.frame.FrameFault.{FrameFault}
-use Rattle.bridge_jobs.specs.Frames.{Framed, behind, body_of, counted, frame_by_line, framed_as, framed_if, frames_of, frames_within}
-use Rattle.bridge_jobs.specs.Frames.{header_at, line_within, most_frames, most_header, next_frame, next_line, some_of, start, stream_by}
+use Rattle.bridge_jobs.specs.{Headers.header_of, declared.header.Header.Header, declared.frame.Frame.Frame}
+use Rattle.bridge_jobs.specs.{declared.frame.FramePos.FramePos, declared.frame.FrameFault.FrameFault, Frames.{Framed, behind, body_of}}
+use Rattle.bridge_jobs.specs.Frames.{counted, frame_by_line, framed_as, framed_if, frames_of, frames_within, header_at, line_within}
+use Rattle.bridge_jobs.specs.Frames.{most_frames, most_header, next_frame, next_line, some_of, start, stream_by}
 
 counted_one : (n : ℕ) (r : Result (Frame × Place × List ℕ) FrameFault) (framed : Framed) → counted n r ≡ Ok framed
     → framed.after.frames ≡ n + 1

@@ -1,40 +1,24 @@
 -- The MPD of rounds of playlists that are read can be written and read.
-use Rattle.std.proofs.Common.{◌≡◌, ℕ, Bool, true, false, List, [], ◌∷◌, map, length, All, Option, Some, None, Ok, Err}
-use Rattle.std.proofs.Common.{ℤ, pos, neg_ℤ, ◌-ℤ◌, ◌≤ℤ◌, ◌<ℤ◌, not, refl, sym, ◌∙◌, ap, subst, arith}
-use Rattle.std.specs.Prelude.{int_lt}
-use Rattle.std.proofs.lemmas.Int.{ints}
-use Rattle.std.proofs.lemmas.List.{length-map}
+use Rattle.std.proofs.Common.{◌≡◌, ℕ, Bool, true, false, List, [], ◌∷◌, map, length, All, Option, Some, None, Ok, Err, ℤ, pos, neg_ℤ, ◌-ℤ◌}
+use Rattle.std.proofs.{Common.{◌≤ℤ◌, ◌<ℤ◌, not, refl, sym, ◌∙◌, ap, subst, arith}, lemmas.Int.ints, lemmas.List.length-map}
 use Rattle.std.proofs.lemmas.List.Elements.{All-head, All-tail, All-nil, All-cons, All-map}
+use Rattle.std.specs.Prelude.{int_lt}
 use Rattle.bridge_io.proofs.AndThen.{steps_of}
 use Rattle.iso_time.specs.Instant.{IsReadable}
 use Rattle.iso_time.proofs.CivilLemmas.{from_not_before}
 use Rattle.hls_master.specs.declared.track.MasterTrack.{MasterTrack}
-use Rattle.hls_media.specs.Laws.{IsBounded}
-use Rattle.hls_media.specs.declared.media.Media.{Media}
-use Rattle.hls_presentation.specs.Presenting.{track_of}
-use Rattle.hls_presentation.specs.Tracks.{Source, sources}
-use Rattle.dash_writer.specs.declared.live.LiveMpd.{LiveMpd}
-use Rattle.dash_writer.specs.declared.live.LivePeriod.{LivePeriod}
-use Rattle.hls_follow.specs.declared.fault.LiveFault.TheVariants.{Limit}
-use Rattle.hls_follow.specs.declared.state.Followed.{Followed}
-use Rattle.hls_follow.specs.Groups.{groups_of}
-use Rattle.hls_follow.specs.Histories.{IsRound, Playlists}
-use Rattle.hls_follow.specs.Kept.{flags_of, formers_of, kept_by, periods_of}
-use Rattle.hls_follow.specs.Periods.{last_end, periods_from}
-use Rattle.hls_follow.specs.Rounds.{first_start, followed_by, followed_of, followed_with, from_1583, judged_tracks, kept_in, mpd_of}
-use Rattle.hls_follow.specs.Rounds.{mpd_or_fault, placed_of, start_of, whole_millis}
-use Rattle.hls_follow.specs.Rules.{judged_at}
-use Rattle.hls_follow.specs.Times.{timed_all}
-use Rattle.hls_follow.proofs.Histories.{from_first}
-use Rattle.hls_follow.proofs.Rounding.{millis_near}
-use Rattle.hls_follow.proofs.Staying.{Parts, parts_of}
-use Rattle.laws_of_mpds.specs.Written.{CanBeTold, HaveAddresses, ReadCanBeTold}
+use Rattle.hls_media.specs.{Laws.IsBounded, declared.media.Media.Media}
+use Rattle.hls_presentation.specs.{Presenting.track_of, Tracks.{Source, sources}}
+use Rattle.dash_writer.specs.{declared.live.LiveMpd.LiveMpd, declared.live.LivePeriod.LivePeriod}
+use Rattle.hls_follow.specs.{declared.fault.LiveFault.TheVariants.Limit, declared.state.Followed.Followed, Groups.groups_of}
+use Rattle.hls_follow.specs.{Histories.{IsRound, Playlists}, Kept.{flags_of, formers_of, kept_by, periods_of}, Periods.last_end}
+use Rattle.hls_follow.specs.{Periods.periods_from, Rounds.{first_start, followed_by, followed_of, followed_with, from_1583, judged_tracks}}
+use Rattle.hls_follow.specs.{Rounds.{kept_in, mpd_of, mpd_or_fault, placed_of, start_of, whole_millis}, Rules.judged_at, Times.timed_all}
+use Rattle.hls_follow.proofs.{Histories.from_first, Rounding.millis_near, Staying.{Parts, parts_of}}
+use Rattle.laws_of_mpds.specs.{Written.{CanBeTold, HaveAddresses, ReadCanBeTold}, Live.{IsReadableMpd, LiveTextsAreRead}, Texts.IsTellable}
 use Rattle.laws_of_mpds.proofs.Whole.{IsFit, both, sources_all}
-use Rattle.laws_of_mpds.specs.Live.{IsReadableMpd, LiveTextsAreRead}
-use Rattle.laws_of_mpds.specs.Texts.{IsTellable}
 use Rattle.laws_of_jobs.specs.Followed.{FollowedAreRead, FollowedCanBeRead, IsReadRound}
-use Rattle.laws_of_jobs.proofs.Periods.{periods_read}
-use Rattle.laws_of_jobs.proofs.Segments.{TimedSegment, all_groups_read, rows_read}
+use Rattle.laws_of_jobs.proofs.{Periods.periods_read, Segments.{TimedSegment, all_groups_read, rows_read}}
 
 -- ---- what is kept
 

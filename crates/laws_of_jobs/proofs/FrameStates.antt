@@ -1,34 +1,22 @@
 -- What frames leave is what the accepted updates among them leave.
+use Rattle.bridge_jobs.specs.declared.frame.Frame.TheVariants as frame
+use Rattle.live_meaning.specs.Refusals as rules
 use Rattle.std.proofs.Common.{◌≡◌, ◌≤◌, ℕ, ℤ, suc, ◌+◌, List, [], ◌∷◌, ◌++◌, length, map, Option, None, Some, option_map, Result, Ok, Err}
-use Rattle.std.proofs.Common.{refl, sym, ap, ◌∙◌, subst, arith}
-use Rattle.std.proofs.lemmas.List.{length-map}
-use Rattle.std.proofs.lemmas.List.FromFn.{length-range_with_len}
-use Rattle.std.specs.Prelude.{option_to_list}
-use Rattle.std.specs.List.{fold}
-use Rattle.std.specs.Result.{result_ok, result_err}
+use Rattle.std.proofs.{Common.{refl, sym, ap, ◌∙◌, subst, arith}, lemmas.List.length-map, lemmas.List.FromFn.length-range_with_len}
+use Rattle.std.specs.{Prelude.option_to_list, List.fold, Result.{result_ok, result_err}}
 use Rattle.bridge_io.proofs.AndThen.{steps_of}
-use Rattle.bridge_io.specs.Answer.{and_then}
-use Rattle.bridge_io.specs.Firsts.{first_of}
-use Rattle.presentation.specs.declared.fault.PresentationFault.{PresentationFault}
-use Rattle.presentation.specs.Counting.{tracks_of}
-use Rattle.presentation.specs.Presented.{Presented}
-use Rattle.presentation.specs.PresentedLaws.{PresentedAreFew}
-use Rattle.presentation.specs.Told.{told_as, presented_of}
+use Rattle.bridge_io.specs.{Answer.and_then, Firsts.first_of}
+use Rattle.presentation.specs.{declared.fault.PresentationFault.PresentationFault, Counting.tracks_of, Presented.Presented}
+use Rattle.presentation.specs.{PresentedLaws.PresentedAreFew, Told.{told_as, presented_of}}
 use Rattle.presentation.proofs.Filling.{ok_under}
 use Rattle.bridge_jobs.specs.declared.frame.Frame.{Frame}
-use Rattle.bridge_jobs.specs.declared.frame.Frame.TheVariants as frame
-use Rattle.live_meaning.specs.Updates.{Refresh, Reset, Terms, Update, Values, now_of, unit_of}
-use Rattle.live_meaning.specs.States.{State, Track, state_of, state_with, track_of, tracks_after}
-use Rattle.live_meaning.specs.Histories.{Common, begun_common, begun_past, common_with, force_by}
-use Rattle.live_meaning.specs.Refusals as rules
-use Rattle.live_meaning.specs.Laws.{HistoriesBegin, HistoriesGoOn, HistoriesRefuse, Shows, with_accepted}
+use Rattle.live_meaning.specs.{Updates.{Refresh, Reset, Terms, Update, Values, now_of, unit_of}, States.{State, Track, state_of}}
+use Rattle.live_meaning.specs.{States.{state_with, track_of, tracks_after}, Histories.{Common, begun_common, begun_past, common_with}}
+use Rattle.live_meaning.specs.{Histories.force_by, Laws.{HistoriesBegin, HistoriesGoOn, HistoriesRefuse, Shows, with_accepted}}
 use Rattle.live_judge.proofs.SoundGoesOn.{with_next}
 use Rattle.laws_of_reloads.proofs.FirstFiles.{begun_is}
-use Rattle.bridge_report.specs.Following.{unless_refused}
-use Rattle.bridge_report.specs.Refusals.{refusal_text}
-use Rattle.bridge_report.specs.declared.refusal.Refusal.{Refusal}
-use Rattle.bridge_steps.specs.LiveMpds.{first_state, frame_state, next_state, told_of, update_of}
-use Rattle.bridge_steps.specs.Manifests.{values_of}
+use Rattle.bridge_report.specs.{Following.unless_refused, Refusals.refusal_text, declared.refusal.Refusal.Refusal}
+use Rattle.bridge_steps.specs.{LiveMpds.{first_state, frame_state, next_state, told_of, update_of}, Manifests.values_of}
 use Rattle.bridge_steps.proofs.LiveStates.{first_is_one}
 
 -- ---- what is refused has a refusal

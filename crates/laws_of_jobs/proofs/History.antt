@@ -1,34 +1,23 @@
 -- A run over rounds leaves what its whole history of accepted rounds leaves.
+use Rattle.bridge_report.specs.declared.refusal.Refusal.TheVariants as refusal
 use Rattle.std.proofs.Common.{◌≡◌, ◌+◌, ℕ, suc, List, [], ◌∷◌, ◌++◌, length, map, take, drop, Option, Some, None, option_map}
-use Rattle.std.proofs.Common.{option_and_then, Result, Ok, Err, refl, sym, ap, ◌∙◌, subst, arith, length-append}
-use Rattle.std.specs.List.{All}
-use Rattle.std.specs.Result.{result_err, result_unwrap_or}
-use Rattle.std.proofs.lemmas.List.{length-map}
-use Rattle.std.proofs.lemmas.List.Elements.{All-nil, All-cons, All-drop, All-head, All-push, All-tail, All-take}
-use Rattle.std.proofs.Math.Seq.{take-add}
+use Rattle.std.proofs.{Common.{option_and_then, Result, Ok, Err, refl, sym, ap, ◌∙◌, subst, arith, length-append}, lemmas.List.length-map}
+use Rattle.std.proofs.{lemmas.List.Elements.{All-nil, All-cons, All-drop, All-head, All-push, All-tail, All-take}, Math.Seq.take-add}
+use Rattle.std.specs.{List.All, Result.{result_err, result_unwrap_or}}
 use Rattle.bridge_io.proofs.AndThen.{steps_of}
 use Rattle.hls_master.specs.declared.track.MasterTrack.{MasterTrack}
-use Rattle.hls_media.specs.Laws.{IsBounded, ReadIsBounded}
-use Rattle.hls_media.specs.Media.{media_of}
-use Rattle.hls_media.specs.declared.media.Media.{Media}
-use Rattle.hls_follow.specs.Histories.{IsRound, SegmentsStay, accepted_after, if_accepted}
-use Rattle.hls_follow.specs.Rounds.{Following, followed_of, next_of}
+use Rattle.hls_media.specs.{Laws.{IsBounded, ReadIsBounded}, Media.media_of, declared.media.Media.Media}
+use Rattle.hls_follow.specs.{Histories.{IsRound, SegmentsStay, accepted_after, if_accepted}, Rounds.{Following, followed_of, next_of}}
 use Rattle.hls_follow.specs.declared.state.Followed.{Followed}
 use Rattle.presentation.specs.Told.{told_as}
 use Rattle.presentation.proofs.Filling.{ok_under}
-use Rattle.bridge_jobs.specs.Frames.{start}
-use Rattle.bridge_jobs.specs.declared.round.Round.{Round}
-use Rattle.bridge_report.specs.Following.{unless_refused}
-use Rattle.bridge_report.specs.Laws.{accepted_in, state_after}
-use Rattle.bridge_report.specs.Refusals.{refusal_text}
+use Rattle.bridge_jobs.specs.{Frames.start, declared.round.Round.Round}
+use Rattle.bridge_report.specs.{Following.unless_refused, Laws.{accepted_in, state_after}, Refusals.refusal_text}
 use Rattle.bridge_report.specs.declared.refusal.Refusal.{Refusal}
-use Rattle.bridge_report.specs.declared.refusal.Refusal.TheVariants as refusal
-use Rattle.bridge_reach.specs.RoundLaws.{left_by}
-use Rattle.laws_of_jobs.specs.Rounds.{LeftIsOfTheHistory, ListedSegmentsStay, playlists_at}
-use Rattle.bridge_reach.specs.Rounds.{followed_rounds, hls_of, media_in, medias_behind, medias_of, medias_with, no_rounds, round_state}
-use Rattle.bridge_reach.specs.Rounds.{round_stream, taken, urls_of}
-use Rattle.bridge_reach.specs.declared.rounds.LiveHls.{LiveHls}
+use Rattle.bridge_reach.specs.{RoundLaws.left_by, Rounds.{followed_rounds, hls_of, media_in, medias_behind, medias_of, medias_with}}
+use Rattle.bridge_reach.specs.{Rounds.{no_rounds, round_state, round_stream, taken, urls_of}, declared.rounds.LiveHls.LiveHls}
 use Rattle.bridge_reach.specs.declared.rounds.LiveRounds.{LiveRounds}
+use Rattle.laws_of_jobs.specs.Rounds.{LeftIsOfTheHistory, ListedSegmentsStay, playlists_at}
 use Rattle.laws_of_jobs.proofs.Bodies.{all_have}
 
 -- ---- one round

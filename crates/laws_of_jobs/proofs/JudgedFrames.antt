@@ -1,22 +1,15 @@
 -- Each frame is judged by the whole history before it.
 use Rattle.std.proofs.Common.{◌≡◌, ℕ, zero, suc, ◌+◌, List, [], ◌∷◌, take, Option, None, Some, refl, sym, ap, ◌∙◌, arith}
-use Rattle.std.specs.Prelude.{option_to_list, slice_get}
-use Rattle.std.specs.List.{fold}
-use Rattle.std.specs.Result.{result_ok}
-use Rattle.std.proofs.lemmas.List.Sums.{fold-append}
-use Rattle.std.proofs.lemmas.Option.{same_Some}
+use Rattle.std.proofs.{lemmas.List.Sums.fold-append, lemmas.Option.same_Some}
+use Rattle.std.specs.{Prelude.{option_to_list, slice_get}, List.fold, Result.result_ok}
 use Rattle.bridge_jobs.specs.declared.frame.Frame.{Frame}
 use Rattle.bridge_courses.specs.Courses.{Course, Step}
-use Rattle.live_meaning.specs.Updates.{Terms, Update}
-use Rattle.live_meaning.specs.States.{State, state_of}
-use Rattle.live_meaning.specs.Laws.{HistoriesBegin, HistoriesGoOn, HistoriesRefuse}
+use Rattle.live_meaning.specs.{Updates.{Terms, Update}, States.{State, state_of}, Laws.{HistoriesBegin, HistoriesGoOn, HistoriesRefuse}}
 use Rattle.bridge_report.specs.Following.{Followed, accepted_with, course_from, next_of, step_of}
 use Rattle.bridge_steps.specs.LiveMpds.{followed_mpd, update_of}
 use Rattle.bridge_core.specs.Follow.{terms_at}
-use Rattle.laws_of_jobs.specs.Frames.{FramesAreOfTheHistory}
-use Rattle.laws_of_jobs.specs.Histories.{frames_in, history_to, updates_of}
-use Rattle.laws_of_jobs.proofs.Courses.{course_is, line_at_end}
-use Rattle.laws_of_jobs.proofs.FrameStates.{IsLeft, accepting, frame_left, history_with}
+use Rattle.laws_of_jobs.specs.{Frames.FramesAreOfTheHistory, Histories.{frames_in, history_to, updates_of}}
+use Rattle.laws_of_jobs.proofs.{Courses.{course_is, line_at_end}, FrameStates.{IsLeft, accepting, frame_left, history_with}}
 
 -- what a history leaves
 left_is : (terms : Terms) (history : List Update) (s : Option State) → IsLeft terms history s → state_of terms history ≡ s

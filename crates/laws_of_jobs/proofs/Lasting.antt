@@ -1,22 +1,16 @@
 -- Segments last longer than nothing by the times that their files state.
-use Rattle.std.proofs.Common.{◌≡◌, ℕ, ◌+◌, ◌-◌, ◌*◌, ◌<◌, ◌^◌, nat_le, nat_lt, Bool, true, false, List, [], ◌∷◌, length, slice_get}
-use Rattle.std.proofs.Common.{All, Option, Some, None, Ok, Err, refl, subst, arith}
-use Rattle.std.specs.List.{AllByRecursion}
-use Rattle.std.specs.Option.{option_map_or}
-use Rattle.std.proofs.lemmas.Bool.Decides.{nat_tests}
+use Rattle.std.proofs.Common.{◌≡◌, ℕ, ◌+◌, ◌-◌, ◌*◌, ◌<◌, ◌^◌, nat_le, nat_lt, Bool, true, false, List, [], ◌∷◌, length, slice_get, All}
+use Rattle.std.proofs.{Common.{Option, Some, None, Ok, Err, refl, subst, arith}, lemmas.Bool.Decides.nat_tests}
 use Rattle.std.proofs.lemmas.List.Elements.{All-nil, All-cons}
+use Rattle.std.specs.{List.AllByRecursion, Option.option_map_or}
 use Rattle.bridge_io.proofs.AndThen.{steps_of}
 use Rattle.timeline.specs.Expansions.{Timing}
-use Rattle.presentation.specs.Counting.{sections_of, tracks_of}
-use Rattle.presentation.specs.Presented.{Presented, listed_at}
+use Rattle.presentation.specs.{Counting.{sections_of, tracks_of}, Presented.{Presented, listed_at}}
 use Rattle.presentation.proofs.Filling.{all_gathered}
-use Rattle.fragment_times.specs.declared.fault.SegmentSpot.{SegmentSpot}
-use Rattle.fragment_times.specs.declared.fault.FileFault.TheVariants.{Order, Range as OutOfRange}
-use Rattle.fragment_times.specs.declared.fault.TimesFault.TheVariants.{Range, Segment}
-use Rattle.fragment_times.specs.declared.times.SegmentTimes.{SegmentTimes}
-use Rattle.fragment_times.specs.Durations.{all_ticks, begun_at, durations_of, is_too_long, last_of, last_ticks, last_ticks_of}
-use Rattle.fragment_times.specs.Durations.{own_ticks, section_ticks, ticks_at, ticks_behind, ticks_from, ticks_of, unless_long}
-use Rattle.fragment_times.specs.Refusals.{next_spot}
+use Rattle.fragment_times.specs.{declared.fault.SegmentSpot.SegmentSpot, declared.fault.FileFault.TheVariants.{Order, Range as OutOfRange}}
+use Rattle.fragment_times.specs.{declared.fault.TimesFault.TheVariants.{Range, Segment}, declared.times.SegmentTimes.SegmentTimes}
+use Rattle.fragment_times.specs.Durations.{all_ticks, begun_at, durations_of, is_too_long, last_of, last_ticks, last_ticks_of, own_ticks}
+use Rattle.fragment_times.specs.{Durations.{section_ticks, ticks_at, ticks_behind, ticks_from, ticks_of, unless_long}, Refusals.next_spot}
 use Rattle.fragment_times.specs.Times.{alone}
 use Rattle.bridge_reach.proofs.Runs.{unless_is}
 

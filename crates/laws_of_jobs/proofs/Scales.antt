@@ -1,26 +1,18 @@
 -- The timescale that a file of bytes states is a number of 32 bits above 0.
-use Rattle.std.proofs.Common.{◌≡◌, ℕ, zero, suc, ◌+◌, ◌<◌, ◌^◌, ◌==◌, nat_lt, Bool, true, false, List, [], ◌∷◌, length, get_or, take}
-use Rattle.std.proofs.Common.{drop, All}
-use Rattle.std.proofs.Common.{Option, Some, None, Result, Ok, Err, codes, if◌then◌else◌, refl, subst, arith}
-use Rattle.std.specs.Int.{from_be_bytes, w32}
-use Rattle.std.specs.List.{find}
-use Rattle.std.proofs.lemmas.Bool.Decides.{nat_tests}
-use Rattle.std.proofs.lemmas.List.Elements.{All-head, All-tail, All-nil, All-cons, All-drop, All-take}
+use Rattle.std.proofs.Common.{◌≡◌, ℕ, zero, suc, ◌+◌, ◌<◌, ◌^◌, ◌==◌, nat_lt, Bool, true, false, List, [], ◌∷◌, length, get_or, take, drop}
+use Rattle.std.proofs.Common.{All, Option, Some, None, Result, Ok, Err, codes, if◌then◌else◌, refl, subst, arith}
+use Rattle.std.proofs.{lemmas.Bool.Decides.nat_tests, lemmas.List.Elements.{All-head, All-tail, All-nil, All-cons, All-drop, All-take}}
+use Rattle.std.specs.{Int.{from_be_bytes, w32}, List.find}
 use Rattle.bridge_io.proofs.AndThen.{steps_of}
 use Rattle.bridge_io.specs.Outside.{Files}
-use Rattle.box_reader.specs.Boxes.{Found, Left, behind, boxes_of, else_fault, found_by, found_with, head_at, is_of, next_of}
-use Rattle.box_reader.specs.Boxes.{Walk, walk_by, walk_within}
-use Rattle.box_reader.specs.declared.head.BoxFault.{BoxFault}
-use Rattle.box_reader.specs.declared.head.BoxHead.{BoxHead}
-use Rattle.url_parts.specs.declared.address.Part.{Part}
-use Rattle.url_parts.specs.declared.range.Range.{Range}
+use Rattle.box_reader.specs.Boxes.{Found, Left, behind, boxes_of, else_fault, found_by, found_with, head_at, is_of, next_of, Walk, walk_by}
+use Rattle.box_reader.specs.{Boxes.walk_within, declared.head.BoxFault.BoxFault, declared.head.BoxHead.BoxHead}
+use Rattle.url_parts.specs.{declared.address.Part.Part, declared.range.Range.Range}
 use Rattle.presentation.proofs.Filling.{ok_under}
-use Rattle.fragment_times.specs.declared.fault.FileFault.{FileFault}
-use Rattle.fragment_times.specs.declared.fault.FileFault.TheVariants.{Scale}
-use Rattle.fragment_times.specs.declared.fault.TimesFault.TheVariants.{File}
-use Rattle.fragment_times.specs.Parts.{byte_limit, bytes_of, file_of, first_byte, scale_at, told_of}
-use Rattle.fragment_times.specs.Told.{alone, child_of, fault_among, first_box, inside, media_scale_of, needed, scale_by, scale_in}
-use Rattle.fragment_times.specs.Told.{short, track_scale, u32_in, unless_among, unless_none, version_of}
+use Rattle.fragment_times.specs.{declared.fault.FileFault.FileFault, declared.fault.FileFault.TheVariants.Scale}
+use Rattle.fragment_times.specs.{declared.fault.TimesFault.TheVariants.File, Parts.{byte_limit, bytes_of, file_of, first_byte, scale_at}}
+use Rattle.fragment_times.specs.{Parts.told_of, Told.{alone, child_of, fault_among, first_box, inside, media_scale_of, needed, scale_by}}
+use Rattle.fragment_times.specs.Told.{scale_in, short, track_scale, u32_in, unless_among, unless_none, version_of}
 use Rattle.laws_of_jobs.specs.Timed.{AreOfBytes}
 
 -- a second has ticks, by a number of 32 bits

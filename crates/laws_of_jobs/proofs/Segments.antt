@@ -1,24 +1,16 @@
 -- The segments of playlists that are read, with their times, can be written and read.
-use Rattle.std.proofs.Common.{◌≡◌, ℕ, suc, ◌+◌, ◌≤◌, ◌<◌, ◌^◌, Bool, true, false, eqb, List, [], ◌∷◌, map, length, slice_get, All}
-use Rattle.std.proofs.Common.{Option, Some, None, Ok, Err, unwrap_or, refl, sym, ◌∙◌, ap, subst, arith}
+use Rattle.std.proofs.Common.{◌≡◌, ℕ, suc, ◌+◌, ◌≤◌, ◌<◌, ◌^◌, Bool, true, false, eqb, List, [], ◌∷◌, map, length, slice_get, All, Option}
+use Rattle.std.proofs.{Common.{Some, None, Ok, Err, unwrap_or, refl, sym, ◌∙◌, ap, subst, arith}, lemmas.Bool.{cond_both, or_parts}}
+use Rattle.std.proofs.{lemmas.Bool.Decides.nat_tests, lemmas.List.length-map, lemmas.List.Elements.{All-head, All-tail, All-nil, All-cons}}
+use Rattle.std.proofs.lemmas.List.Elements.{All-map}
 use Rattle.std.specs.List.{list_any}
-use Rattle.std.proofs.lemmas.Bool.{cond_both, or_parts}
-use Rattle.std.proofs.lemmas.Bool.Decides.{nat_tests}
-use Rattle.std.proofs.lemmas.List.{length-map}
-use Rattle.std.proofs.lemmas.List.Elements.{All-head, All-tail, All-nil, All-cons, All-map}
 use Rattle.bridge_io.proofs.AndThen.{steps_of}
 use Rattle.hls_presentation.specs.Tracks.{Source}
-use Rattle.hls_follow.specs.declared.fault.LiveFault.TheVariants.{Limit}
-use Rattle.hls_follow.specs.declared.state.FollowedTrack.{FollowedTrack}
-use Rattle.hls_follow.specs.Groups.{group_at, groups_of, put_before, row_at}
-use Rattle.hls_follow.specs.Periods.{live_segment}
-use Rattle.hls_follow.specs.Times.{is_late, last_of, timed_all, timed_of, unless_late}
-use Rattle.hls_follow.proofs.Histories.{at_index}
-use Rattle.hls_follow.proofs.Listing.{segments_timed}
-use Rattle.hls_follow.proofs.Sections.{segments_in}
-use Rattle.hls_follow.proofs.Staying.{same_by}
-use Rattle.laws_of_mpds.proofs.ReadPlain.{IsPlainSegment}
-use Rattle.laws_of_mpds.proofs.Whole.{IsFit, plain_segments}
+use Rattle.hls_follow.specs.{declared.fault.LiveFault.TheVariants.Limit, declared.state.FollowedTrack.FollowedTrack, Groups.group_at}
+use Rattle.hls_follow.specs.{Groups.{groups_of, put_before, row_at}, Periods.live_segment, Times.{is_late, last_of, timed_all, timed_of}}
+use Rattle.hls_follow.specs.Times.{unless_late}
+use Rattle.hls_follow.proofs.{Histories.at_index, Listing.segments_timed, Sections.segments_in, Staying.same_by}
+use Rattle.laws_of_mpds.proofs.{ReadPlain.IsPlainSegment, Whole.{IsFit, plain_segments}}
 
 -- ---- a playlist
 

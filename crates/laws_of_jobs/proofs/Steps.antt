@@ -1,8 +1,7 @@
 -- The steps of a followed presentation, and how many segments they make.
 use Rattle.std.proofs.Common.{◌≡◌, ◌+◌, ℕ, zero, suc, IsTrue, List, [], ◌∷◌, ◌++◌, length, take, Option, None, Some, refl, sym, ap, ◌∙◌}
-use Rattle.std.proofs.Common.{arith}
+use Rattle.std.proofs.{Common.arith, lemmas.List.Sums.sum_by-cons}
 use Rattle.std.specs.Prelude.{slice_get, sum_by}
-use Rattle.std.proofs.lemmas.List.Sums.{sum_by-cons}
 use Rattle.bridge_courses.specs.Courses.{Step}
 use Rattle.bridge_report.specs.Following.{Followed, accepted_with, course_from, next_of, step_of, unless_refused, verdict_by}
 use Rattle.laws_of_jobs.specs.Counts.{appended_along, refused_along}

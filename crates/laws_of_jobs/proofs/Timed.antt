@@ -1,39 +1,24 @@
 -- An MPD that is written of playlists with the times of their media files can be written and read.
-use Rattle.std.proofs.Common.{◌≡◌, ℕ, zero, suc, ◌+◌, ◌*◌, ◌/◌, ◌%◌, ◌<◌, List, [], ◌∷◌, length, slice_get, All}
-use Rattle.std.proofs.Common.{Option, Some, None, Ok, refl, sym, ◌∙◌, ap, subst, arith}
+use Rattle.std.proofs.Common.{◌≡◌, ℕ, zero, suc, ◌+◌, ◌*◌, ◌/◌, ◌%◌, ◌<◌, List, [], ◌∷◌, length, slice_get, All, Option, Some, None, Ok}
+use Rattle.std.proofs.{Common.{refl, sym, ◌∙◌, ap, subst, arith}, lemmas.List.length-map, lemmas.List.Elements.{All-nil, All-cons}}
+use Rattle.std.proofs.{lemmas.Nat.div-add-mod', lemmas.Option.slice_get_within, Math.Nat.{div-lt_iff_lt-mul, mod-lt}}
 use Rattle.std.specs.Option.{option_map_or}
-use Rattle.std.proofs.lemmas.List.{length-map}
-use Rattle.std.proofs.lemmas.List.Elements.{All-nil, All-cons}
-use Rattle.std.proofs.lemmas.Nat.{div-add-mod'}
-use Rattle.std.proofs.lemmas.Option.{slice_get_within}
-use Rattle.std.proofs.Math.Nat.{div-lt_iff_lt-mul, mod-lt}
 use Rattle.bridge_io.proofs.AndThen.{steps_of}
 use Rattle.bridge_io.specs.Outside.{Files}
 use Rattle.hls_presentation.specs.Origins.{ReadAreSilent}
 use Rattle.hls_presentation.proofs.Came.{came}
-use Rattle.presentation.specs.declared.parts.Content.{Content}
-use Rattle.presentation.specs.Counting.{sections_of, tracks_of}
-use Rattle.presentation.specs.Origins.{CameFromPlaylists}
+use Rattle.presentation.specs.{declared.parts.Content.Content, Counting.{sections_of, tracks_of}, Origins.CameFromPlaylists}
 use Rattle.presentation.specs.Presented.{Presented, content_at, listed_at, listed_in, whole_window, window_of}
-use Rattle.presentation.proofs.Filling.{all_gathered}
-use Rattle.presentation.proofs.Grids.{All-at}
+use Rattle.presentation.proofs.{Filling.all_gathered, Grids.All-at}
 use Rattle.dash_writer.specs.declared.timed.TickRun.{TickRun}
-use Rattle.fragment_times.specs.declared.times.SegmentTimes.{SegmentTimes}
-use Rattle.fragment_times.specs.Durations.{durations_of}
-use Rattle.fragment_times.specs.Parts.{scale_at, start_at}
+use Rattle.fragment_times.specs.{declared.times.SegmentTimes.SegmentTimes, Durations.durations_of, Parts.{scale_at, start_at}}
 use Rattle.fragment_times.specs.Times.{all_starts, alone, content_times, parts_of, section_times, times_at, times_of, times_with}
-use Rattle.bridge_reach.specs.DashTimes.{run_of, runs_of}
-use Rattle.bridge_reach.specs.Promises.{starts_from}
-use Rattle.bridge_reach.proofs.Counted.{can_be_timed, ticked_at}
-use Rattle.bridge_reach.proofs.Places.{length_each}
-use Rattle.bridge_reach.proofs.Runs.{run_at}
-use Rattle.bridge_reach.proofs.Stated.{are_filled, stated_at}
-use Rattle.laws_of_mpds.specs.Written.{ReadAreInOrder, ReadCanBeTold}
+use Rattle.bridge_reach.specs.{DashTimes.{run_of, runs_of}, Promises.starts_from}
+use Rattle.bridge_reach.proofs.{Counted.{can_be_timed, ticked_at}, Places.length_each, Runs.run_at, Stated.{are_filled, stated_at}}
+use Rattle.laws_of_mpds.specs.{Written.{ReadAreInOrder, ReadCanBeTold}, Timed.{AreTimesOf, TimedTextsAreRead, TimedTextsMean}}
 use Rattle.laws_of_mpds.proofs.Whole.{can_be_written}
-use Rattle.laws_of_mpds.specs.Timed.{AreTimesOf, TimedTextsAreRead, TimedTextsMean}
 use Rattle.laws_of_jobs.specs.Timed.{AreOfBytes, TimedAreRead, TimedCanBeRead, TimedMeanTheirTimes}
-use Rattle.laws_of_jobs.proofs.Lasting.{AreLasting, rows_last}
-use Rattle.laws_of_jobs.proofs.Scales.{IsScale, scale_is}
+use Rattle.laws_of_jobs.proofs.{Lasting.{AreLasting, rows_last}, Scales.{IsScale, scale_is}}
 
 -- ---- timescales
 

@@ -1,12 +1,10 @@
 -- How many segments a run makes that follows an MPD.
+use Rattle.bridge_io.specs.declared.outside.Fail.TheVariants as fail
+use Rattle.bridge_courses.specs.declared.ending.Ending.TheVariants as ending
 use Rattle.std.specs.Prelude.{◌⊎◌, ◌≤◌, ℕ, suc, ◌+◌, List, [], ◌∷◌, length, take, Option, None}
 use Rattle.std.proofs.Common.{inl, inr}
-use Rattle.bridge_io.specs.declared.outside.Fail.TheVariants as fail
 use Rattle.bridge_jobs.specs.declared.frame.Frame.{Frame}
-use Rattle.bridge_courses.specs.Courses.{Course, World}
-use Rattle.bridge_courses.specs.Executions.{IsExecution, Works}
-use Rattle.bridge_courses.specs.declared.ending.Ending.{Ending}
-use Rattle.bridge_courses.specs.declared.ending.Ending.TheVariants as ending
+use Rattle.bridge_courses.specs.{Courses.{Course, World}, Executions.{IsExecution, Works}, declared.ending.Ending.Ending}
 use Rattle.bridge_courses.specs.declared.status.Status.{Status}
 use Rattle.bridge_report.specs.Following.{Followed, next_of, unless_refused}
 use Rattle.bridge_playlists.specs.declared.place.StorePlace.{StorePlace}

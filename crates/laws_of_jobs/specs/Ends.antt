@@ -1,16 +1,12 @@
 -- The files that a run leaves which follows an MPD, however it ends.
-use Rattle.std.specs.Prelude.{◌≡◌, ◌⊎◌, ℕ, List, [], ◌∷◌, ◌++◌, length, slice_get, Some}
-use Rattle.bridge_io.specs.InOrder.{put_all, AreBegun}
-use Rattle.bridge_io.specs.Outside.{Files, Changes}
-use Rattle.bridge_courses.specs.Courses.{Course, Step, World, files_to, last_step}
-use Rattle.bridge_courses.specs.Executions.{IsExecution, status_by}
-use Rattle.bridge_courses.specs.declared.status.Status.{Status}
 use Rattle.bridge_courses.specs.declared.status.Status.TheVariants as status
-use Rattle.bridge_courses.specs.declared.status.Verdict.{Verdict}
+use Rattle.std.specs.Prelude.{◌≡◌, ◌⊎◌, ℕ, List, [], ◌∷◌, ◌++◌, length, slice_get, Some}
+use Rattle.bridge_io.specs.{InOrder.{put_all, AreBegun}, Outside.{Files, Changes}}
+use Rattle.bridge_courses.specs.{Courses.{Course, Step, World, files_to, last_step}, Executions.{IsExecution, status_by}}
+use Rattle.bridge_courses.specs.{declared.status.Status.Status, declared.status.Verdict.Verdict}
 use Rattle.bridge_playlists.specs.declared.place.StorePlace.{StorePlace}
 use Rattle.bridge_core.specs.declared.follow.Follow.{Follow}
-use Rattle.laws_of_jobs.specs.Histories.{IsFollowing, frames_in}
-use Rattle.laws_of_jobs.specs.Files.{HoldsHistory}
+use Rattle.laws_of_jobs.specs.{Histories.{IsFollowing, frames_in}, Files.HoldsHistory}
 
 -- the files of the first n frames, over the files that were there, are those of their accepted history
 pub record AreOfFrames (job : Follow) (place : StorePlace) (input : List ℕ) (course : Course) (n : ℕ) (first mid : Files) : Type 0 where

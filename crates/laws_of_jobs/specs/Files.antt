@@ -1,17 +1,13 @@
 -- The files of a followed MPD, frame by frame.
 use Rattle.std.specs.Prelude.{◌≡◌, ◌⊎◌, ℕ, suc, List, [], ◌∷◌, ◌++◌, slice_get, Some, None}
-use Rattle.bridge_io.specs.InOrder.{put_all}
-use Rattle.bridge_io.specs.Outside.{Files, Changes}
+use Rattle.bridge_io.specs.{InOrder.put_all, Outside.{Files, Changes}}
 use Rattle.bridge_jobs.specs.declared.frame.Frame.{Frame}
 use Rattle.bridge_courses.specs.Courses.{Course, files_to}
 use Rattle.hls_writer.specs.Attributes.{playlist_name}
-use Rattle.live_meaning.specs.States.{State}
-use Rattle.live_meaning.specs.Playlists.{FollowedPlaylist, playlist_of}
-use Rattle.laws_of_reloads.specs.First.{HoldState}
-use Rattle.laws_of_reloads.specs.Laws.{Reloads}
+use Rattle.live_meaning.specs.{States.State, Playlists.{FollowedPlaylist, playlist_of}}
+use Rattle.laws_of_reloads.specs.{First.HoldState, Laws.Reloads}
 use Rattle.bridge_playlists.specs.declared.place.StorePlace.{StorePlace}
-use Rattle.bridge_core.specs.Follow.{terms_at}
-use Rattle.bridge_core.specs.declared.follow.Follow.{Follow}
+use Rattle.bridge_core.specs.{Follow.terms_at, declared.follow.Follow.Follow}
 use Rattle.laws_of_jobs.specs.Histories.{IsFollowing, followed_at, frames_in, history_to, state_to}
 
 -- ---- after some frames

@@ -1,18 +1,12 @@
 -- What is read of the MPD that rounds of playlists leave.
-use Rattle.std.specs.Prelude.{◌≡◌, ℕ, List, map, All, Some, None, option_map, Ok}
-use Rattle.std.specs.Result.{result_ok}
+use Rattle.std.specs.{Prelude.{◌≡◌, ℕ, List, map, All, Some, None, option_map, Ok}, Result.result_ok}
 use Rattle.iso_time.specs.Instant.{IsReadable}
 use Rattle.mpd_text.specs.Meaning.{reading_of}
 use Rattle.mpd_rules.specs.Rules.{dash_values}
-use Rattle.hls_master.specs.declared.track.MasterTrack.{MasterTrack}
-use Rattle.hls_master.specs.Masters.{master_of}
-use Rattle.hls_master.specs.SeenTracks.{track_seen}
+use Rattle.hls_master.specs.{declared.track.MasterTrack.MasterTrack, Masters.master_of, SeenTracks.track_seen}
 use Rattle.dash_writer.specs.Live.{live_text}
-use Rattle.hls_follow.specs.declared.state.Followed.{Followed}
-use Rattle.hls_follow.specs.Histories.{AreAccepted, Playlists}
-use Rattle.laws_of_mpds.specs.Live.{IsReadableMpd, live_shown}
-use Rattle.laws_of_mpds.specs.Shown.{shown_of}
-use Rattle.laws_of_mpds.specs.Written.{HaveAddresses}
+use Rattle.hls_follow.specs.{declared.state.Followed.Followed, Histories.{AreAccepted, Playlists}}
+use Rattle.laws_of_mpds.specs.{Live.{IsReadableMpd, live_shown}, Shown.shown_of, Written.HaveAddresses}
 
 -- A round at an instant that can be read, whose playlists have addresses as those that are read.
 pub record IsReadRound (round : Playlists) : Type 0 where

@@ -4,8 +4,7 @@ use Rattle.bridge_jobs.specs.declared.frame.Frame.{Frame}
 use Rattle.bridge_courses.specs.Courses.{Course}
 use Rattle.bridge_report.specs.Following.{step_of}
 use Rattle.bridge_playlists.specs.declared.place.StorePlace.{StorePlace}
-use Rattle.bridge_core.specs.Follow.{terms_at}
-use Rattle.bridge_core.specs.declared.follow.Follow.{Follow}
+use Rattle.bridge_core.specs.{Follow.terms_at, declared.follow.Follow.Follow}
 use Rattle.laws_of_jobs.specs.Histories.{IsFollowing, followed_at, frames_in, state_to}
 
 -- The step of each frame is that of what the whole accepted history before it left: by that the frame is refused, written, told and

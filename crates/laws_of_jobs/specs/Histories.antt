@@ -1,23 +1,14 @@
 -- What a run follows, and the history of what it accepts.
-use Rattle.std.specs.Prelude.{◌≡◌, ℕ, List, flat_map, take, Option, Some, option_to_list}
-use Rattle.std.specs.Result.{result_ok}
-use Rattle.bridge_io.specs.Outside.{Files}
-use Rattle.bridge_jobs.specs.Frames.{frames_of}
-use Rattle.bridge_jobs.specs.Jobs.{job_of}
-use Rattle.bridge_jobs.specs.declared.frame.Frame.{Frame}
-use Rattle.bridge_jobs.specs.declared.jobs.Job.{Job}
 use Rattle.bridge_jobs.specs.declared.jobs.Job.TheVariants as jobs
+use Rattle.std.specs.{Prelude.{◌≡◌, ℕ, List, flat_map, take, Option, Some, option_to_list}, Result.result_ok}
+use Rattle.bridge_io.specs.Outside.{Files}
+use Rattle.bridge_jobs.specs.{Frames.frames_of, Jobs.job_of, declared.frame.Frame.Frame, declared.jobs.Job.Job}
 use Rattle.bridge_courses.specs.Courses.{Course}
-use Rattle.live_meaning.specs.Updates.{Terms, Update}
-use Rattle.live_meaning.specs.States.{State, state_of}
-use Rattle.live_meaning.specs.Laws.{NeverDrifts, accepted_of}
+use Rattle.live_meaning.specs.{Updates.{Terms, Update}, States.{State, state_of}, Laws.{NeverDrifts, accepted_of}}
 use Rattle.bridge_report.specs.Following.{Followed}
-use Rattle.bridge_playlists.specs.Places.{store_place_of}
-use Rattle.bridge_playlists.specs.declared.place.StorePlace.{StorePlace}
+use Rattle.bridge_playlists.specs.{Places.store_place_of, declared.place.StorePlace.StorePlace}
 use Rattle.bridge_steps.specs.LiveMpds.{followed_mpd, update_of}
-use Rattle.bridge_core.specs.Courses.{course_of}
-use Rattle.bridge_core.specs.Follow.{terms_at}
-use Rattle.bridge_core.specs.declared.follow.Follow.{Follow}
+use Rattle.bridge_core.specs.{Courses.course_of, Follow.terms_at, declared.follow.Follow.Follow}
 
 -- ---- what is followed
 

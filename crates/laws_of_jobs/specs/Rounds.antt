@@ -1,14 +1,9 @@
 -- The rounds of a run that follows playlists, as playlists that are accepted one behind another.
-use Rattle.std.specs.Prelude.{◌≡◌, ℕ, ◌+◌, List, [], map, Some, None}
-use Rattle.std.specs.Result.{result_unwrap_or}
+use Rattle.std.specs.{Prelude.{◌≡◌, ℕ, ◌+◌, List, [], map, Some, None}, Result.result_unwrap_or}
 use Rattle.hls_master.specs.declared.track.MasterTrack.{MasterTrack}
-use Rattle.hls_follow.specs.Histories.{HasNumber, IsPlaced, Playlists, accepted_after}
-use Rattle.hls_follow.specs.Listed.{Placed}
-use Rattle.hls_follow.specs.declared.state.Followed.{Followed}
+use Rattle.hls_follow.specs.{Histories.{HasNumber, IsPlaced, Playlists, accepted_after}, Listed.Placed, declared.state.Followed.Followed}
 use Rattle.bridge_jobs.specs.declared.round.Round.{Round}
-use Rattle.bridge_reach.specs.RoundLaws.{accepted_among, left_by}
-use Rattle.bridge_reach.specs.Rounds.{hls_of, medias_of}
-use Rattle.bridge_reach.specs.declared.rounds.LiveHls.{LiveHls}
+use Rattle.bridge_reach.specs.{RoundLaws.{accepted_among, left_by}, Rounds.{hls_of, medias_of}, declared.rounds.LiveHls.LiveHls}
 
 -- a round's playlists at its instant
 abbrev pub playlists_at : LiveHls → Round → Playlists

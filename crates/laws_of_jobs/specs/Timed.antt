@@ -1,25 +1,16 @@
 -- What is read of an MPD that is written of playlists with the times of their media files.
-use Rattle.std.specs.Prelude.{◌≡◌, ◌<◌, ℕ, ℤ, List, map, All, Option, Some, option_map, Ok}
-use Rattle.std.specs.Result.{result_ok}
+use Rattle.std.specs.{Prelude.{◌≡◌, ◌<◌, ℕ, ℤ, List, map, All, Option, Some, option_map, Ok}, Result.result_ok}
 use Rattle.bridge_io.specs.Outside.{Files}
 use Rattle.mpd_text.specs.Meaning.{reading_of}
 use Rattle.mpd_rules.specs.Rules.{dash_values}
-use Rattle.hls_master.specs.declared.track.MasterTrack.{MasterTrack}
-use Rattle.hls_master.specs.Masters.{master_of}
-use Rattle.hls_master.specs.SeenTracks.{track_seen}
-use Rattle.hls_media.specs.Laws.{IsBounded}
-use Rattle.hls_media.specs.declared.media.Media.{Media}
+use Rattle.hls_master.specs.{declared.track.MasterTrack.MasterTrack, Masters.master_of, SeenTracks.track_seen}
+use Rattle.hls_media.specs.{Laws.IsBounded, declared.media.Media.Media}
 use Rattle.hls_presentation.specs.Presenting.{hls_presented_of}
-use Rattle.presentation.specs.Meanings.{dash_meaning, meaning_of}
-use Rattle.presentation.specs.Presented.{Presented}
-use Rattle.fragment_times.specs.Durations.{durations_of}
-use Rattle.fragment_times.specs.Times.{times_of}
-use Rattle.fragment_times.specs.declared.times.SegmentTimes.{SegmentTimes}
+use Rattle.presentation.specs.{Meanings.{dash_meaning, meaning_of}, Presented.Presented}
+use Rattle.fragment_times.specs.{Durations.durations_of, Times.times_of, declared.times.SegmentTimes.SegmentTimes}
 use Rattle.dash_writer.specs.Timed.{timed_text}
 use Rattle.bridge_reach.specs.DashTimes.{runs_of}
-use Rattle.laws_of_mpds.specs.Shown.{shown_of}
-use Rattle.laws_of_mpds.specs.Timed.{IsTimed, timed_as, timed_shown}
-use Rattle.laws_of_mpds.specs.Written.{HaveAddresses}
+use Rattle.laws_of_mpds.specs.{Shown.shown_of, Timed.{IsTimed, timed_as, timed_shown}, Written.HaveAddresses}
 
 abbrev pub AreOfBytes : Files → Type 0
 AreOfBytes files = (name bytes : List ℕ) → files name ≡ Some bytes → All (λ b. b < 256) bytes

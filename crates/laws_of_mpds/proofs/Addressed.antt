@@ -1,11 +1,9 @@
 -- An address gives itself.
 use Rattle.std.proofs.Common.{◌≡◌, Bool, true, false, List, ℕ, None, Result, Ok, Err, if◌then◌else◌}
-use Rattle.std.specs.Prelude.{length, nat_lt, not}
-use Rattle.std.specs.List.{list_all}
-use Rattle.url.specs.Parser.{Parsed, parse_url}
-use Rattle.url.specs.Parts.{Parts}
-use Rattle.url_parts.specs.declared.fault.UrlFault.TheVariants.{Refused, Scheme, TooLong}
-use Rattle.url_parts.specs.Addresses.{IsAddress, absolute, accepted, accepted_url, is_address_byte, is_web, text_of}
+use Rattle.std.specs.{Prelude.{length, nat_lt, not}, List.list_all}
+use Rattle.url.specs.{Parser.{Parsed, parse_url}, Parts.Parts}
+use Rattle.url_parts.specs.{declared.fault.UrlFault.TheVariants.{Refused, Scheme, TooLong}, Addresses.{IsAddress, absolute, accepted}}
+use Rattle.url_parts.specs.Addresses.{accepted_url, is_address_byte, is_web, text_of}
 use Rattle.presentation.specs.Meanings.{address_of, written}
 
 if_not : {X E : Type 0} (b : Bool) (e : E) (r : Result X E) (x : X) → (if b then Err e else r) ≡ Ok x → r ≡ Ok x

@@ -1,26 +1,18 @@
 -- The lines of a file are of bytes.
 use Rattle.std.proofs.Common.{◌≡◌, ℕ, ◌-◌, ◌+◌, ◌/◌, ◌%◌, ◌<◌, ◌==◌, nat_lt, Bool, true, false, List, [], ◌∷◌, length, All, Option, Some}
-use Rattle.std.proofs.Common.{None, IfSome, unwrap_or, Ok, Err, if◌then◌else◌, refl, ◌∙◌, subst, arith}
-use Rattle.std.specs.Prelude.{codes, nat_eq, IsUtf8}
-use Rattle.std.specs.List.{AllByRecursion, list_all, slice_split, starts_with, suffix_len}
-use Rattle.std.specs.Str.{is_utf8}
-use Rattle.std.proofs.lemmas.Bool.{and_parts, cond_both, ltb-true}
-use Rattle.std.proofs.lemmas.List.Elements.{All-nil, All-cons}
-use Rattle.std.proofs.lemmas.List.Folds.{list_all-append}
+use Rattle.std.proofs.{Common.{None, IfSome, unwrap_or, Ok, Err, if◌then◌else◌, refl, ◌∙◌, subst, arith}, lemmas.Bool.and_parts}
+use Rattle.std.proofs.{lemmas.Bool.{cond_both, ltb-true}, lemmas.List.Elements.{All-nil, All-cons}, lemmas.List.Folds.list_all-append}
 use Rattle.std.proofs.lemmas.Str.{IsUtf8-from_is_utf8}
+use Rattle.std.specs.{Prelude.{codes, nat_eq, IsUtf8}, List.{AllByRecursion, list_all, slice_split, starts_with, suffix_len}, Str.is_utf8}
+use Rattle.std.specs.Str.Lossy.{utf8_valid_len}
 use lib.Utf8.{scalar, scalars, encode, encodes}
 use Rattle.byte_scan.specs.Lines.{is_line_feed}
-use Rattle.bridge_io.specs.declared.place.Place.{Place}
+use Rattle.bridge_io.specs.{declared.place.Place.Place, Places.place_of}
 use Rattle.hls_lines.specs.Lines.{PlaylistLine, behind, clean, is_blank, is_colon, line_behind, line_of, lines_of, has_header}
 use Rattle.hls_lines.specs.Lines.{lines_if_clean, said_from, start, tag, tag_parts, text_lines, trimmed, unless_control, uri, with_line}
-use Rattle.hls_lines.specs.Characters.{first_control}
-use Rattle.hls_lines.specs.Marks.{after_mark, parts_at}
-use Rattle.hls_lines.specs.declared.fault.LineFault.{LineFault}
+use Rattle.hls_lines.specs.{Characters.first_control, Marks.{after_mark, parts_at}, declared.fault.LineFault.LineFault}
 use Rattle.hls_lines.specs.declared.fault.LineFault.TheVariants.{Header, NotUtf8}
-use Rattle.bridge_io.specs.Places.{place_of}
-use Rattle.std.specs.Str.Lossy.{utf8_valid_len}
-use Rattle.laws_of_mpds.proofs.Plain.{ArePlain, is_plain}
-use Rattle.laws_of_mpds.proofs.Parts.{Are, cut, front, marked, split}
+use Rattle.laws_of_mpds.proofs.{Plain.{ArePlain, is_plain}, Parts.{Are, cut, front, marked, split}}
 
 abbrev pub is_byte : ℕ → Bool
 is_byte b = nat_lt b 256

@@ -1,30 +1,20 @@
 -- What is read of a track in a section means what was written.
-use Rattle.std.proofs.Common.{◌≡◌, ℕ, zero, suc, ◌+◌, ◌-◌, ◌<◌, ◌≤◌, max, List, [], ◌∷◌, length, map, filter, drop, get_or, Some, None}
-use Rattle.std.proofs.Common.{unwrap_or, refl, sym, ◌∙◌, ap, ap₂, arith}
-use Rattle.std.specs.Prelude.{slice_get}
-use Rattle.std.specs.List.{AllByRecursion}
-use Rattle.std.proofs.Math.Seq.{drop-cons}
-use Rattle.std.proofs.lemmas.List.{drop_all}
-use Rattle.std.proofs.lemmas.Option.{slice_get-get_or}
-use Rattle.url_parts.specs.declared.address.Part.{Part}
-use Rattle.timeline.specs.declared.entry.End.{End}
 use Rattle.timeline.specs.declared.names.Names.TheVariants as names
-use Rattle.timeline.specs.Expansions.{Closed, Extent, SegmentTimeline, numbered}
-use Rattle.timeline.specs.Listed.{instant_of, is_listed, part_of_timing}
-use Rattle.timeline.specs.SegmentTimelines.{timeline_from}
+use Rattle.std.proofs.Common.{◌≡◌, ℕ, zero, suc, ◌+◌, ◌-◌, ◌<◌, ◌≤◌, max, List, [], ◌∷◌, length, map, filter, drop, get_or, Some, None}
+use Rattle.std.proofs.{Common.{unwrap_or, refl, sym, ◌∙◌, ap, ap₂, arith}, Math.Seq.drop-cons, lemmas.List.drop_all}
+use Rattle.std.proofs.lemmas.Option.{slice_get-get_or}
+use Rattle.std.specs.{Prelude.slice_get, List.AllByRecursion}
+use Rattle.url_parts.specs.declared.address.Part.{Part}
+use Rattle.timeline.specs.{declared.entry.End.End, Expansions.{Closed, Extent, SegmentTimeline, numbered}, Listed.{instant_of, is_listed}}
+use Rattle.timeline.specs.{Listed.part_of_timing, SegmentTimelines.timeline_from}
 use Rattle.mpd_levels.specs.Segments.{if_any}
 use Rattle.mpd_rules.specs.declared.rows.Description.{Description}
-use Rattle.presentation.specs.declared.parts.Content.{Content}
-use Rattle.presentation.specs.Presented.{listed_in, whole_window}
-use Rattle.presentation.specs.Meanings.{content_meant, entry_of, entry_with, listed_part, own_part, part_meant, segment_of}
-use Rattle.presentation.specs.Scales.{scale_of}
-use Rattle.presentation.specs.Told.{name_of}
+use Rattle.presentation.specs.{declared.parts.Content.Content, Presented.{listed_in, whole_window}, Meanings.{content_meant, entry_of}}
+use Rattle.presentation.specs.{Meanings.{entry_with, listed_part, own_part, part_meant, segment_of}, Scales.scale_of, Told.name_of}
 use Rattle.dash_writer.specs.Segments.{duration_of, part_or_none}
-use Rattle.laws_of_mpds.specs.Rows.{in_row}
-use Rattle.laws_of_mpds.specs.Told.{list_told, told_of, url_of}
-use Rattle.laws_of_mpds.specs.Contents.{IsOwnPart, IsPlain, IsPlainFrom, ContentsAreMeant, TimedContentsAreMeant}
-use Rattle.laws_of_mpds.proofs.Addressed.{own_address}
-use Rattle.laws_of_mpds.proofs.Times.{all_listed, durations_are, extents_closed, timeline_expands}
+use Rattle.laws_of_mpds.specs.{Rows.in_row, Told.{list_told, told_of, url_of}, Contents.{IsOwnPart, IsPlain, IsPlainFrom, ContentsAreMeant}}
+use Rattle.laws_of_mpds.specs.Contents.{TimedContentsAreMeant}
+use Rattle.laws_of_mpds.proofs.{Addressed.own_address, Times.{all_listed, durations_are, extents_closed, timeline_expands}}
 
 -- ---- parts
 

@@ -1,28 +1,16 @@
 -- What the tracks of a finished presentation have in its sections.
-use Rattle.std.proofs.Common.{◌≡◌, ℕ, ◌+◌, ◌*◌, ◌<◌, List, [], ◌∷◌, length, map, Option, Some, None, option_map, refl, sym, ◌∙◌, ap}
-use Rattle.std.proofs.Common.{ap₂, arith, inl, inr}
-use Rattle.std.specs.Prelude.{option_to_list}
-use Rattle.std.specs.List.{AllByRecursion}
-use Rattle.std.specs.Option.{option_map_or}
-use Rattle.std.proofs.Math.Nat.{mul-le-mul_left}
-use Rattle.std.proofs.lemmas.Option.{slice_get_cases}
+use Rattle.std.proofs.Common.{◌≡◌, ℕ, ◌+◌, ◌*◌, ◌<◌, List, [], ◌∷◌, length, map, Option, Some, None, option_map, refl, sym, ◌∙◌, ap, ap₂}
+use Rattle.std.proofs.{Common.{arith, inl, inr}, Math.Nat.mul-le-mul_left, lemmas.Option.slice_get_cases}
+use Rattle.std.specs.{Prelude.option_to_list, List.AllByRecursion, Option.option_map_or}
 use Rattle.url_parts.specs.declared.address.Part.{Part}
 use Rattle.mpd_text.proofs.HoldingLemmas.{All-at}
 use Rattle.mpd_levels.specs.Segments.{Segments}
-use Rattle.presentation.specs.declared.parts.Content.{Content}
-use Rattle.presentation.specs.Presented.{Presented, content_at, listed_in, start_of, window_at, window_of, whole_window}
-use Rattle.presentation.specs.Meanings.{entry_at, entry_of}
-use Rattle.dash_writer.specs.Lists.{list_with}
-use Rattle.dash_writer.specs.Segments.{duration_of, segment_list}
-use Rattle.dash_writer.specs.Manifest.{segment_lists}
-use Rattle.laws_of_mpds.specs.Contents.{IsOwnPart, IsPlain}
-use Rattle.laws_of_mpds.specs.Meant.{IsWritable, TreesMean}
-use Rattle.laws_of_mpds.specs.Told.{IsReadable, told_of}
-use Rattle.laws_of_mpds.proofs.Contents.{contents_are_meant, listed_is, parts_are, told_is}
-use Rattle.laws_of_mpds.proofs.Lists.{list_is}
-use Rattle.laws_of_mpds.proofs.Periods.{Means, outline_means}
-use Rattle.laws_of_mpds.proofs.Representations.{Has}
-use Rattle.laws_of_mpds.proofs.Times.{durations_are}
+use Rattle.presentation.specs.{declared.parts.Content.Content, Presented.{Presented, content_at, listed_in, start_of, window_at, window_of}}
+use Rattle.presentation.specs.{Presented.whole_window, Meanings.{entry_at, entry_of}}
+use Rattle.dash_writer.specs.{Lists.list_with, Segments.{duration_of, segment_list}, Manifest.segment_lists}
+use Rattle.laws_of_mpds.specs.{Contents.{IsOwnPart, IsPlain}, Meant.{IsWritable, TreesMean}, Told.{IsReadable, told_of}}
+use Rattle.laws_of_mpds.proofs.{Contents.{contents_are_meant, listed_is, parts_are, told_is}, Lists.list_is, Periods.{Means, outline_means}}
+use Rattle.laws_of_mpds.proofs.{Representations.Has, Times.durations_are}
 
 -- the track at a place has a plain content
 abbrev pub HasPlain : Presented → (section place : ℕ) → Type 0

@@ -1,35 +1,23 @@
 -- The elements of a written SegmentList are read as they were written.
-use Rattle.std.proofs.Common.{◌≡◌, ℕ, zero, suc, ◌≤◌, ◌==◌, pos, Bool, true, false, List, [], ◌∷◌, ◌++◌, length, map, filter, codes}
-use Rattle.std.proofs.Common.{Option, Some, None, if◌then◌else◌, IfSome, option_map, option_and_then, unwrap_or, refl, sym, ◌∙◌, ap, ap₂}
-use Rattle.std.proofs.Common.{subst, arith}
-use Rattle.std.proofs.lemmas.List.{length-map}
-use Rattle.std.proofs.lemmas.Simd.{map-map}
-use Rattle.std.specs.Prelude.{decimal}
-use Rattle.std.specs.List.{AllByRecursion}
+use Rattle.mpd_levels.specs.Segments as level
+use Rattle.std.proofs.Common.{◌≡◌, ℕ, zero, suc, ◌≤◌, ◌==◌, pos, Bool, true, false, List, [], ◌∷◌, ◌++◌, length, map, filter, codes, Option}
+use Rattle.std.proofs.Common.{Some, None, if◌then◌else◌, IfSome, option_map, option_and_then, unwrap_or, refl, sym, ◌∙◌, ap, ap₂, subst}
+use Rattle.std.proofs.{Common.arith, lemmas.List.length-map, lemmas.Simd.map-map}
+use Rattle.std.specs.{Prelude.decimal, List.AllByRecursion}
 use Rattle.bridge_io.specs.declared.place.Place.{Place}
-use Rattle.url_parts.specs.declared.address.Part.{Part}
-use Rattle.url_parts.specs.declared.range.Range.{Range}
-use Rattle.mpd_text.specs.Trees.{Element}
-use Rattle.mpd_text.specs.Grammar.{past}
-use Rattle.mpd_text.specs.Views.{side_by_side}
+use Rattle.url_parts.specs.{declared.address.Part.Part, declared.range.Range.Range}
+use Rattle.mpd_text.specs.{Trees.Element, Grammar.past, Views.side_by_side}
 use Rattle.mpd_profile.specs.Heads.{is_named, or_else}
 use Rattle.mpd_values.specs.Numbers.{signed_of}
-use Rattle.mpd_levels.specs.Segments.{segments_of}
-use Rattle.mpd_levels.specs.Segments as level
-use Rattle.mpd_levels.specs.declared.initialization.Initialization.{Initialization}
-use Rattle.mpd_markup.specs.Markup.{opening}
-use Rattle.mpd_markup.specs.Placed.{placed}
-use Rattle.dash_writer.specs.Elements.{Element as Written, in_order, leaf, node}
-use Rattle.dash_writer.specs.Lists.{list_with}
-use Rattle.dash_writer.specs.Runs.{longest_runs, with_first}
+use Rattle.mpd_levels.specs.{Segments.segments_of, declared.initialization.Initialization.Initialization}
+use Rattle.mpd_markup.specs.{Markup.opening, Placed.placed}
+use Rattle.dash_writer.specs.{Elements.{Element as Written, in_order, leaf, node}, Lists.list_with, Runs.{longest_runs, with_first}}
 use Rattle.dash_writer.specs.Segments.{s_element, s_elements, same_duration, duration_of, part_or_none, segment_url, segment_list}
 use Rattle.dash_writer.specs.Segments.{initialization, list_attributes, timeline_elements}
-use Rattle.timeline.specs.Expansions.{SegmentTimeline, Timing}
-use Rattle.timeline.specs.Listed.{part_of_timing}
+use Rattle.timeline.specs.{Expansions.{SegmentTimeline, Timing}, Listed.part_of_timing}
 use Rattle.laws_of_mpds.specs.Told.{list_told, ListsAreRead, TimedListsAreRead, AreReadableTimes, told_of, read_at, run_told, runs_of}
 use Rattle.laws_of_mpds.specs.Told.{url_of, IsReadable, IsShort}
-use Rattle.laws_of_mpds.proofs.Views.{behind, none_named, nothing_above}
-use Rattle.laws_of_mpds.proofs.Numbers.{number_read, signed_read, range_read}
+use Rattle.laws_of_mpds.proofs.{Views.{behind, none_named, nothing_above}, Numbers.{number_read, signed_read, range_read}}
 
 -- ---- an element alone
 

@@ -1,34 +1,22 @@
 -- Segments and maps of a playlist that is read have addresses, where its references are of bytes.
-use Rattle.std.proofs.Common.{◌≡◌, ℕ, ◌==◌, ◌||◌, ◌<◌, length, inl, inr, Bool, true, false, List, [], ◌∷◌, All, Option, Some, None, IfSome}
-use Rattle.std.proofs.Common.{Result, Ok, Err, if◌then◌else◌, refl, sym, ap, subst}
-use Rattle.std.specs.Prelude.{codes, bytes_eq}
-use Rattle.std.specs.List.{list_any}
-use Rattle.std.proofs.lemmas.Bool.{cases_Bool}
-use Rattle.std.proofs.lemmas.List.Elements.{All-nil, All-cons, All-append, All-head, All-tail}
-use Rattle.bridge_io.proofs.AndThen.{steps_of}
-use Rattle.bridge_io.specs.Answer.{and_then}
-use Rattle.bridge_io.specs.declared.place.Place.{Place}
-use Rattle.url_parts.specs.Addresses.{IsAddress, resolve}
-use Rattle.url_parts.specs.declared.address.Part.{Part}
-use Rattle.url_parts.specs.declared.fault.UrlFault.{UrlFault}
-use Rattle.url_parts.proofs.Parsed.{resolved_is_address}
-use Rattle.hls_lines.specs.Attributes.{NameValue, attributes_of, value_of}
-use Rattle.hls_lines.specs.declared.fault.LineFault.{LineFault}
-use Rattle.hls_lines.specs.Lines.{PlaylistLine, tag, uri, is_uri, lines_of}
 use Rattle.hls_media.specs.Media as media
-use Rattle.hls_media.specs.Media.{after, after_all, fault_in, line_fault, line_faults, map_at, map_in, map_of, map_value, segment_at}
-use Rattle.hls_media.specs.Media.{segment_lasting, segment_of, segment_value, with_fault, media_values}
-use Rattle.hls_media.specs.Tags.{tag_of}
-use Rattle.bridge_io.specs.Places.{place_of}
-use Rattle.hls_media.specs.States.{State, nothing}
-use Rattle.hls_media.specs.declared.fault.MediaFault.{MediaFault}
 use Rattle.hls_media.specs.declared.fault.MediaFault.TheVariants as fault
-use Rattle.hls_media.specs.declared.media.MediaSegment.{MediaSegment}
-use Rattle.hls_media.proofs.Bounded.{media_in-ok, read_lines_ok}
-use Rattle.hls_media.proofs.Meanings.{map_told, segment_told}
+use Rattle.std.proofs.Common.{◌≡◌, ℕ, ◌==◌, ◌||◌, ◌<◌, length, inl, inr, Bool, true, false, List, [], ◌∷◌, All, Option, Some, None, IfSome}
+use Rattle.std.proofs.{Common.{Result, Ok, Err, if◌then◌else◌, refl, sym, ap, subst}, lemmas.Bool.cases_Bool, lemmas.List.Elements.All-nil}
+use Rattle.std.proofs.lemmas.List.Elements.{All-cons, All-append, All-head, All-tail}
+use Rattle.std.specs.{Prelude.{codes, bytes_eq}, List.list_any}
+use Rattle.bridge_io.proofs.AndThen.{steps_of}
+use Rattle.bridge_io.specs.{Answer.and_then, declared.place.Place.Place, Places.place_of}
+use Rattle.url_parts.specs.{Addresses.{IsAddress, resolve}, declared.address.Part.Part, declared.fault.UrlFault.UrlFault}
+use Rattle.url_parts.proofs.Parsed.{resolved_is_address}
+use Rattle.hls_lines.specs.{Attributes.{NameValue, attributes_of, value_of}, declared.fault.LineFault.LineFault, Lines.{PlaylistLine, tag}}
+use Rattle.hls_lines.specs.Lines.{uri, is_uri, lines_of}
+use Rattle.hls_media.specs.Media.{after, after_all, fault_in, line_fault, line_faults, map_at, map_in, map_of, map_value, segment_at}
+use Rattle.hls_media.specs.{Media.{segment_lasting, segment_of, segment_value, with_fault, media_values}, Tags.tag_of, States.State}
+use Rattle.hls_media.specs.{States.nothing, declared.fault.MediaFault.MediaFault, declared.media.MediaSegment.MediaSegment}
+use Rattle.hls_media.proofs.{Bounded.{media_in-ok, read_lines_ok}, Meanings.{map_told, segment_told}}
 use Rattle.laws_of_mpds.specs.Written.{HasAddresses, HaveAddresses, ReadHaveAddresses}
-use Rattle.laws_of_mpds.proofs.Bytes.{AreBytes, IsOfBytes, all_bytes, is_byte, lines_are_bytes}
-use Rattle.laws_of_mpds.proofs.Parts.{some_of, value_in}
+use Rattle.laws_of_mpds.proofs.{Bytes.{AreBytes, IsOfBytes, all_bytes, is_byte, lines_are_bytes}, Parts.{some_of, value_in}}
 
 resolved : (place : Place) (r : Result (List ℕ) UrlFault) (address : List ℕ) → media.address_or_fault place r ≡ Ok address → r ≡ Ok address
 resolved place (Ok a) address is = (let same : a ≡ address = cc in ap Ok same)

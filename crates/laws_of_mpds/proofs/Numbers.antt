@@ -1,22 +1,13 @@
 -- Numbers and ranges are read as they were written.
-use Rattle.std.proofs.Common.{◌≡◌, ℕ, ◌+◌, ◌-◌, ◌^◌, ◌<◌, ◌≤◌, ◌==◌, ◌&&◌, not, pos, nat_lt, nat_le, Bool, true, false, List, [], ◌∷◌}
-use Rattle.std.proofs.Common.{◌++◌, length, reverse, take, position, Some, refl, sym, ◌∙◌, ap, arith, length-append}
-use Rattle.std.specs.Prelude.{decimal}
-use Rattle.std.specs.Char.{is_ascii_digit}
-use Rattle.std.specs.List.{list_all, prefix_len, suffix_len}
-use Rattle.std.specs.Str.{all_ascii_digits}
+use Rattle.std.proofs.Common.{◌≡◌, ℕ, ◌+◌, ◌-◌, ◌^◌, ◌<◌, ◌≤◌, ◌==◌, ◌&&◌, not, pos, nat_lt, nat_le, Bool, true, false, List, [], ◌∷◌, ◌++◌}
+use Rattle.std.proofs.{Common.{length, reverse, take, position, Some, refl, sym, ◌∙◌, ap, arith, length-append}, lemmas.Bool.and_parts}
+use Rattle.std.proofs.{lemmas.Fmt.decimal_is_IsNumeral_wide, lemmas.List.{take_all, reverse-append}, Math.Seq.take-append_seam}
+use Rattle.std.proofs.{Math.Seq.drop-append-add, lemmas.List.Folds.list_all-append, lemmas.Str.Parse.{IsNumeralModel, numerals_by_value}}
+use Rattle.std.proofs.lemmas.Str.Parse.{tells_all_ascii_digits}
+use Rattle.std.specs.{Prelude.decimal, Char.is_ascii_digit, List.{list_all, prefix_len, suffix_len}, Str.all_ascii_digits}
 use Rattle.std.specs.Str.Parse.{digits_value}
-use Rattle.std.proofs.lemmas.Bool.{and_parts}
-use Rattle.std.proofs.lemmas.Fmt.{decimal_is_IsNumeral_wide}
-use Rattle.std.proofs.lemmas.List.{take_all, reverse-append}
-use Rattle.std.proofs.Math.Seq.{take-append_seam, drop-append-add}
-use Rattle.std.proofs.lemmas.List.Folds.{list_all-append}
-use Rattle.std.proofs.lemmas.Str.Parse.{IsNumeralModel, numerals_by_value, tells_all_ascii_digits}
-use Rattle.url_parts.specs.declared.range.Range.{Range}
-use Rattle.url_parts.specs.Ranges.{place_of, range_of, range_at, range_between}
-use Rattle.mpd_values.specs.declared.blank.Blank.TheVariants.{Space}
-use Rattle.mpd_values.specs.Blanks.{is_blank, trimmed}
-use Rattle.mpd_values.specs.Numbers.{number_of, signed_of, has_minus}
+use Rattle.url_parts.specs.{declared.range.Range.Range, Ranges.{place_of, range_of, range_at, range_between}}
+use Rattle.mpd_values.specs.{declared.blank.Blank.TheVariants.Space, Blanks.{is_blank, trimmed}, Numbers.{number_of, signed_of, has_minus}}
 use Rattle.mpd_levels.specs.Readings.{range_in}
 use Rattle.dash_writer.specs.Values.{range_text}
 use Rattle.laws_of_mpds.specs.Told.{IsShort, IsSomeBytes}

@@ -1,7 +1,6 @@
 -- Tracks of which some are left out still stand in order.
 use Rattle.std.proofs.Common.{◌≡◌, ℕ, zero, suc, take, Bool, true, false, List, [], ◌∷◌, map, filter, if◌then◌else◌, refl}
-use Rattle.bridge_io.specs.declared.media.Kind.{Kind}
-use Rattle.bridge_io.specs.declared.media.Kind.TheVariants.{Video, Audio, Text}
+use Rattle.bridge_io.specs.{declared.media.Kind.Kind, declared.media.Kind.TheVariants.{Video, Audio, Text}}
 use Rattle.laws_of_mpds.specs.Meant.{are_audio_then_text, are_in_order, are_text}
 
 -- what stays of text is text, and so on

@@ -1,15 +1,13 @@
 -- What is so of each byte of a text is so of its parts.
 use Rattle.std.proofs.Common.{◌≡◌, ℕ, zero, suc, ◌+◌, ◌==◌, Bool, true, false, cond, List, [], ◌∷◌, take, drop, length, position, Option}
 use Rattle.std.proofs.Common.{Some, None, option_map, option_and_then, unwrap_or, IfSome, Ok, Err, if◌then◌else◌, refl, ap, subst}
-use Rattle.std.specs.Prelude.{bytes_eq}
-use Rattle.std.specs.List.{AllByRecursion, list_all, slice_split, onto_first}
 use Rattle.std.proofs.lemmas.Bool.{and_parts}
+use Rattle.std.specs.{Prelude.bytes_eq, List.{AllByRecursion, list_all, slice_split, onto_first}}
 use Rattle.bridge_io.specs.declared.place.Place.{Place}
 use Rattle.hls_lines.specs.Attributes.{NameValue, after_comma, attribute_at, attribute_with, attributes_at, attributes_in, attributes_of}
 use Rattle.hls_lines.specs.Attributes.{ends_value, is_equals, is_name, is_quote, more_by, names_of, repeats_after, unless_double, value_at}
-use Rattle.hls_lines.specs.Attributes.{value_behind, value_of}
-use Rattle.hls_lines.specs.declared.fault.LineFault.TheVariants.{DoubleAttribute}
-use Rattle.hls_lines.specs.Marks.{after_mark, parts_at, without_spaces}
+use Rattle.hls_lines.specs.{Attributes.{value_behind, value_of}, declared.fault.LineFault.TheVariants.DoubleAttribute, Marks.after_mark}
+use Rattle.hls_lines.specs.Marks.{parts_at, without_spaces}
 
 then_some : {A B : Type 0} (P : A → Type 0) (Q : B → Type 0) (f : A → Option B) → ((a : A) → P a → IfSome (f a) Q) → (o : Option A)
     → IfSome o P

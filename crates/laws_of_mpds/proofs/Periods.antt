@@ -1,45 +1,27 @@
 -- The Periods of a written MPD mean the sections that were written.
+use Rattle.mpd_profile.specs.declared.listed.Listed.TheVariants as listed
+use Rattle.presentation.specs.Rows as row
 use Rattle.std.proofs.Common.{◌≡◌, ℕ, ◌+◌, ◌<◌, ◌≤◌, ℤ, true, false, List, [], ◌∷◌, ◌++◌, length, map, filter, codes, Option, Some, None}
 use Rattle.std.proofs.Common.{unwrap_or, refl, sym, ◌∙◌, ap, ap₂, arith}
-use Rattle.std.specs.List.{range_with_len}
-use Rattle.std.specs.Option.{option_map_or}
+use Rattle.std.specs.{List.range_with_len, Option.option_map_or}
 use Rattle.bridge_io.specs.declared.place.Place.{Place}
-use Rattle.timeline.specs.declared.entry.End.{End}
-use Rattle.timeline.specs.declared.entry.End.TheVariants.{Unbounded}
-use Rattle.mpd_text.specs.Trees.{Element}
-use Rattle.mpd_text.specs.Grammar.{past}
-use Rattle.mpd_text.specs.Views.{side_by_side}
-use Rattle.mpd_profile.specs.declared.listed.Listed.TheVariants as listed
+use Rattle.timeline.specs.{declared.entry.End.End, declared.entry.End.TheVariants.Unbounded}
+use Rattle.mpd_text.specs.{Trees.Element, Grammar.past, Views.side_by_side}
 use Rattle.mpd_profile.specs.Heads.{is_word}
 use Rattle.mpd_levels.specs.Segments.{Segments, segments_of}
-use Rattle.mpd_rules.specs.declared.facts.Facts.{Facts}
-use Rattle.mpd_rules.specs.declared.periods.Bounds.{Bounds}
-use Rattle.mpd_rules.specs.declared.rows.Description.{Description}
-use Rattle.mpd_rules.specs.Kept.{is_kept, paths_of}
-use Rattle.mpd_rules.specs.Periods.{bounds_from, timed_of, total_of, first_start}
-use Rattle.mpd_rules.specs.Readings.{base_reference}
-use Rattle.mpd_rules.specs.Rules.{dash_values}
-use Rattle.mpd_rules.specs.Typed.{facts_of, period_of, track_of}
-use Rattle.presentation.specs.declared.track.Track.{Track}
-use Rattle.presentation.specs.declared.track.Section.{Section}
-use Rattle.presentation.specs.Presented.{Presented, whole_window, window_at}
-use Rattle.presentation.specs.Rows.{Row, first_rows}
-use Rattle.presentation.specs.Rows as row
-use Rattle.presentation.specs.Told.{end_of, following_of, untold}
-use Rattle.presentation.specs.Meanings.{content_meant, content_of_row, entry_at, entry_of, head_of, head_of_row, head_with, meaning_of}
-use Rattle.presentation.specs.Meanings.{meaning_with, mpd_meaning, row_at, row_meant}
-use Rattle.mpd_markup.specs.Markup.{opening}
-use Rattle.mpd_markup.specs.Placed.{placed, root_place}
-use Rattle.dash_writer.specs.Elements.{Element as Written, in_order, tag_of}
-use Rattle.dash_writer.specs.Manifest.{all_period_attributes, period_attributes, root_attributes}
-use Rattle.dash_writer.specs.Outline.{Outline, period_element, period_elements, root_element}
-use Rattle.laws_of_mpds.specs.Told.{read_at}
-use Rattle.laws_of_mpds.specs.Meant.{are_in_order, Seen, seen_of, seen_from}
-use Rattle.laws_of_mpds.specs.Shown.{ShownTrack, shown_row, shown_tracks}
-use Rattle.laws_of_mpds.proofs.Orders.{in_order_already}
-use Rattle.laws_of_mpds.proofs.Representations.{Has, HasAll}
-use Rattle.laws_of_mpds.proofs.Shown.{heads_named, period_tracks}
-use Rattle.laws_of_mpds.proofs.Views.{behind, no_base, value_read}
+use Rattle.mpd_rules.specs.{declared.facts.Facts.Facts, declared.periods.Bounds.Bounds, declared.rows.Description.Description, Kept.is_kept}
+use Rattle.mpd_rules.specs.{Kept.paths_of, Periods.{bounds_from, timed_of, total_of, first_start}, Readings.base_reference}
+use Rattle.mpd_rules.specs.{Rules.dash_values, Typed.{facts_of, period_of, track_of}}
+use Rattle.presentation.specs.{declared.track.Track.Track, declared.track.Section.Section, Presented.{Presented, whole_window, window_at}}
+use Rattle.presentation.specs.{Rows.{Row, first_rows}, Told.{end_of, following_of, untold}, Meanings.{content_meant, content_of_row}}
+use Rattle.presentation.specs.Meanings.{entry_at, entry_of, head_of, head_of_row, head_with, meaning_of, meaning_with, mpd_meaning, row_at}
+use Rattle.presentation.specs.Meanings.{row_meant}
+use Rattle.mpd_markup.specs.{Markup.opening, Placed.{placed, root_place}}
+use Rattle.dash_writer.specs.{Elements.{Element as Written, in_order, tag_of}, Manifest.{all_period_attributes, period_attributes}}
+use Rattle.dash_writer.specs.{Manifest.root_attributes, Outline.{Outline, period_element, period_elements, root_element}}
+use Rattle.laws_of_mpds.specs.{Told.read_at, Meant.{are_in_order, Seen, seen_of, seen_from}, Shown.{ShownTrack, shown_row, shown_tracks}}
+use Rattle.laws_of_mpds.proofs.{Orders.in_order_already, Representations.{Has, HasAll}, Shown.{heads_named, period_tracks}, Views.behind}
+use Rattle.laws_of_mpds.proofs.Views.{no_base, value_read}
 
 -- ---- what is told by what counts of Representations
 

@@ -1,14 +1,12 @@
 -- The sections of a track whose section numbers don't fall.
 use Rattle.std.proofs.Common.{◌≡◌, ℕ, suc, ◌+◌, ◌<◌, ◌≤◌, Bool, true, false, cond, eqb, List, [], ◌∷◌, ◌++◌, map, length, get_or, All, refl}
-use Rattle.std.proofs.Common.{sym, ◌∙◌, ap, subst, append_assoc, arith}
+use Rattle.std.proofs.{Common.{sym, ◌∙◌, ap, subst, append_assoc, arith}, lemmas.Bool.{eq-eqb, eqb-false, eqb-true, ne_eqb}}
+use Rattle.std.proofs.{lemmas.List.append-nil, lemmas.List.Elements.{All-append, All-cons, All-head, All-nil, All-tail, All-weaker}}
+use Rattle.std.proofs.lemmas.List.Elements.{filter-append}
 use Rattle.std.specs.List.Sorted.{IsNonDecreasingBy}
-use Rattle.std.proofs.lemmas.Bool.{eq-eqb, eqb-false, eqb-true, ne_eqb}
-use Rattle.std.proofs.lemmas.List.{append-nil}
-use Rattle.std.proofs.lemmas.List.Elements.{All-append, All-cons, All-head, All-nil, All-tail, All-weaker, filter-append}
 use Rattle.hls_media.specs.declared.media.MediaSegment.{MediaSegment}
 use Rattle.hls_meaning.specs.Sections.{entry_of, is_in, segments_in}
-use Rattle.hls_presentation.specs.Presenting.{flattened}
-use Rattle.hls_presentation.specs.Sections.{are_alike, groups_of, put_before}
+use Rattle.hls_presentation.specs.{Presenting.flattened, Sections.{are_alike, groups_of, put_before}}
 
 -- the first number is at least so much, and none is below the one before it
 abbrev IsRising : ℕ → List MediaSegment → Type 0

@@ -1,27 +1,18 @@
 -- What the files of a master and of its media playlists mean.
 use Rattle.std.proofs.Common.{◌≡◌, ℕ, List, [], ◌∷◌, map, All, Option, Some, None, option_map, option_and_then, Result, Ok, Err, refl, ◌∙◌}
-use Rattle.std.proofs.Common.{ap}
-use Rattle.std.proofs.lemmas.List.Elements.{All-cons, All-nil}
-use Rattle.bridge_io.specs.Firsts.{first_some}
-use Rattle.bridge_io.specs.Outside.{Files}
-use Rattle.bridge_io.specs.declared.place.Place.{Place}
-use Rattle.hls_lines.specs.Lines.{PlaylistLine, lines_of}
-use Rattle.hls_lines.specs.declared.fault.LineFault.{LineFault}
-use Rattle.hls_master.specs.declared.fault.MasterFault.{MasterFault}
-use Rattle.hls_master.specs.declared.track.MasterTrack.{MasterTrack}
-use Rattle.hls_master.specs.Faults.{answer}
-use Rattle.hls_master.specs.Masters.{faults_of, master_by, master_in, master_of, master_values, values_by}
-use Rattle.hls_master.specs.SeenTracks.{track_seen}
+use Rattle.std.proofs.{Common.ap, lemmas.List.Elements.{All-cons, All-nil}}
+use Rattle.bridge_io.specs.{Firsts.first_some, Outside.Files, declared.place.Place.Place}
+use Rattle.hls_lines.specs.{Lines.{PlaylistLine, lines_of}, declared.fault.LineFault.LineFault}
+use Rattle.hls_master.specs.{declared.fault.MasterFault.MasterFault, declared.track.MasterTrack.MasterTrack, Faults.answer}
+use Rattle.hls_master.specs.{Masters.{faults_of, master_by, master_in, master_of, master_values, values_by}, SeenTracks.track_seen}
 use Rattle.hls_master.specs.Tracks.{TrackValue}
-use Rattle.hls_media.specs.Laws.{IsBounded}
-use Rattle.hls_media.specs.declared.media.Media.{Media}
+use Rattle.hls_media.specs.{Laws.IsBounded, declared.media.Media.Media}
 use Rattle.hls_media.proofs.Bounded.{read_is_bounded, read_is_meant}
 use Rattle.hls_meaning.specs.Meanings.{Source as Told, hls_meaning, meaning_by, meaning_of_sources, media_at, media_by, source_of}
 use Rattle.hls_meaning.specs.Meanings.{sources_of}
 use Rattle.hls_presentation.specs.Tracks.{sources}
 use Rattle.hls_presentation.proofs.Silent.{read_are_silent}
-use Rattle.laws_of_mpds.specs.PresentedFiles.{ArePlaylists, IsPlaylist, PresentedMeanTheirFiles}
-use Rattle.laws_of_mpds.specs.PresentedLaws.{told_by}
+use Rattle.laws_of_mpds.specs.{PresentedFiles.{ArePlaylists, IsPlaylist, PresentedMeanTheirFiles}, PresentedLaws.told_by}
 use Rattle.laws_of_mpds.proofs.PresentedMeant.{presented_mean_what_is_told}
 
 -- ---- the master

@@ -1,54 +1,36 @@
 -- What a presentation of playlists means.
 use Rattle.std.proofs.Common.{◌≡◌, ℕ, zero, suc, ◌+◌, ◌*◌, ◌%◌, ◌<◌, ◌||◌, ◌&&◌, inl, inr, Bool, true, false, cond, not, eqb, List, [], ◌∷◌}
 use Rattle.std.proofs.Common.{◌++◌, map, filter, get_or, slice_get, length, All, Option, Some, None, option_and_then, is_some, Ok, refl}
-use Rattle.std.proofs.Common.{sym, ◌∙◌, ap, subst, arith}
+use Rattle.std.proofs.{Common.{sym, ◌∙◌, ap, subst, arith}, Math.ListN.get_or-map, lemmas.Bool.{eqb-false, eqb-true}}
+use Rattle.std.proofs.{lemmas.List.{length-map, get_or-map as at_map}, lemmas.List.Elements.{All-cons, All-filter, All-head, All-map}}
+use Rattle.std.proofs.{lemmas.List.Elements.{All-nil, All-tail, All-weaker}, lemmas.List.FromFn.get_or-range_with_len}
+use Rattle.std.proofs.{lemmas.List.FromFn.length-range_with_len, lemmas.Option.unwrap_or-slice_get}
 use Rattle.std.specs.List.{list_all, list_any, range_with_len}
-use Rattle.std.proofs.Math.ListN.{get_or-map}
-use Rattle.std.proofs.lemmas.Bool.{eqb-false, eqb-true}
-use Rattle.std.proofs.lemmas.List.{length-map}
-use Rattle.std.proofs.lemmas.List.{get_or-map as at_map}
-use Rattle.std.proofs.lemmas.List.Elements.{All-cons, All-filter, All-head, All-map, All-nil, All-tail, All-weaker}
-use Rattle.std.proofs.lemmas.List.FromFn.{get_or-range_with_len, length-range_with_len}
-use Rattle.std.proofs.lemmas.Option.{unwrap_or-slice_get}
 use Rattle.bridge_io.proofs.AndThen.{steps_of}
-use Rattle.bridge_io.specs.declared.media.Kind.{Kind}
-use Rattle.bridge_io.specs.declared.media.Kind.TheVariants.{Video, Audio, Text}
+use Rattle.bridge_io.specs.{declared.media.Kind.Kind, declared.media.Kind.TheVariants.{Video, Audio, Text}}
 use Rattle.hls_master.specs.declared.track.MasterTrack.{MasterTrack}
-use Rattle.hls_media.specs.Laws.{IsBounded}
-use Rattle.hls_media.specs.declared.media.Media.{Media}
-use Rattle.hls_media.specs.declared.media.MediaSegment.{MediaSegment}
+use Rattle.hls_media.specs.{Laws.IsBounded, declared.media.Media.Media, declared.media.MediaSegment.MediaSegment}
 use Rattle.hls_meaning.specs.Meanings.{Source as Told, meaning_of_kept, meaning_of_sources, meaning_over as meaning_over_told}
-use Rattle.hls_meaning.specs.Meanings.{numbers_among, track_over}
-use Rattle.hls_meaning.specs.Meanings.{is_kept as is_kept_told, is_text as is_text_told}
-use Rattle.hls_meaning.specs.Sections.{is_in}
+use Rattle.hls_meaning.specs.{Meanings.{numbers_among, track_over, is_kept as is_kept_told, is_text as is_text_told}, Sections.is_in}
 use Rattle.hls_meaning.specs.Sections.{entry_in as entry_told, entry_of as entry_of_told}
 use Rattle.hls_meaning.proofs.Numbers.{numbers_are_told, numbers_rise}
-use Rattle.meaning.specs.Meanings.{Entry}
-use Rattle.meaning.specs.Same.{IsSameTime, Pairwise, Same, SameEntries, SameTrack}
-use Rattle.presentation.specs.Counting.{sections_of}
-use Rattle.presentation.specs.declared.parts.Content.{Content}
-use Rattle.presentation.specs.Meanings.{entry_at, entry_in, entry_of, head_of, is_kept, language_of, meaning_of, meaning_over}
-use Rattle.presentation.specs.Meanings.{rows_of as rows_meant, row_at as row_meant, tracks_from}
-use Rattle.presentation.specs.Presented.{Presented, of_parts, whole_window}
-use Rattle.hls_presentation.specs.declared.fault.HlsFault.{HlsFault}
-use Rattle.hls_presentation.specs.declared.fault.HlsFault.TheVariants.{Limit, NoTracks, SectionsDiffer}
-use Rattle.hls_presentation.specs.Origins.{IsSilentTrack}
-use Rattle.hls_presentation.specs.Presenting.{are_micros, content_of, contents_of, flattened, hls_presented_of, is_micros, nanos_by_tick}
-use Rattle.hls_presentation.specs.Presenting.{parts_with, presented_from, presented_of_kept, track_of}
+use Rattle.meaning.specs.{Meanings.Entry, Same.{IsSameTime, Pairwise, Same, SameEntries, SameTrack}}
+use Rattle.presentation.specs.{Counting.sections_of, declared.parts.Content.Content, Meanings.{entry_at, entry_in, entry_of, head_of}}
+use Rattle.presentation.specs.Meanings.{is_kept, language_of, meaning_of, meaning_over, rows_of as rows_meant, row_at as row_meant}
+use Rattle.presentation.specs.{Meanings.tracks_from, Presented.{Presented, of_parts, whole_window}}
+use Rattle.hls_presentation.specs.{declared.fault.HlsFault.HlsFault, declared.fault.HlsFault.TheVariants.{Limit, NoTracks, SectionsDiffer}}
+use Rattle.hls_presentation.specs.{Origins.IsSilentTrack, Presenting.{are_micros, content_of, contents_of, flattened, hls_presented_of}}
+use Rattle.hls_presentation.specs.Presenting.{is_micros, nanos_by_tick, parts_with, presented_from, presented_of_kept, track_of}
 use Rattle.hls_presentation.specs.Sections.{all_alike, are_alike, group_at, groups_in, is_over_limit, rows_of, section_count, whole_faults}
 use Rattle.hls_presentation.specs.Tracks.{Source, fault_if, is_text, kept, lacks_maps, left_out, sources, track_faults}
 use Rattle.hls_presentation.specs.Tracks.{is_kept as is_source_kept}
-use Rattle.hls_presentation.proofs.Came.{length_sections}
-use Rattle.hls_presentation.proofs.Counting.{flat_at, gathered_same}
-use Rattle.hls_presentation.proofs.Faults.{given, none_given}
-use Rattle.hls_presentation.proofs.Grouping.{IsGroup, all_groups, all_long, one_at, places_below}
-use Rattle.hls_presentation.proofs.Only.{media_bounded, no_front, none_if, not_passes}
-use Rattle.hls_presentation.proofs.Rows.{count_rows}
-use Rattle.hls_presentation.proofs.Spanned.{IsUnit}
+use Rattle.hls_presentation.proofs.{Came.length_sections, Counting.{flat_at, gathered_same}, Faults.{given, none_given}, Grouping.IsGroup}
+use Rattle.hls_presentation.proofs.{Grouping.{all_groups, all_long, one_at, places_below}, Only.{media_bounded, no_front, none_if}}
+use Rattle.hls_presentation.proofs.{Only.not_passes, Rows.count_rows, Spanned.IsUnit}
 use Rattle.laws_of_mpds.specs.PresentedLaws.{PresentedMeanWhatIsTold, told_by}
-use Rattle.laws_of_mpds.proofs.PresentedApart.{AreApart, alike_heads, entries_are, groups_apart, heads, rises}
-use Rattle.laws_of_mpds.proofs.PresentedNumbers.{any_same, has, heads_rise, rises_from, told, unique}
-use Rattle.laws_of_mpds.proofs.PresentedTimes.{AreWhole, content_entry, entry_by, timed_same}
+use Rattle.laws_of_mpds.proofs.{PresentedApart.{AreApart, alike_heads, entries_are, groups_apart, heads, rises}, PresentedNumbers.any_same}
+use Rattle.laws_of_mpds.proofs.{PresentedNumbers.{has, heads_rise, rises_from, told, unique}, PresentedTimes.{AreWhole, content_entry}}
+use Rattle.laws_of_mpds.proofs.PresentedTimes.{entry_by, timed_same}
 
 -- ---- lists
 

@@ -1,11 +1,8 @@
 -- The numbers of the sections of tracks that have the same ones.
 use Rattle.std.proofs.Common.{◌≡◌, ℕ, suc, ◌+◌, ◌<◌, ◌≤◌, ◌||◌, Bool, true, false, cond, eqb, List, [], ◌∷◌, length, All, refl, sym, ◌∙◌}
-use Rattle.std.proofs.Common.{ap, subst, ⊎_elim, arith}
-use Rattle.std.specs.Prelude.{slice_index}
-use Rattle.std.specs.List.{list_any}
-use Rattle.std.specs.List.Sorted.{IsStrictlyIncreasing}
-use Rattle.std.proofs.lemmas.Bool.{cases_lt, eq-eqb, eqb-true, ne_eqb, or_from}
+use Rattle.std.proofs.{Common.{ap, subst, ⊎_elim, arith}, lemmas.Bool.{cases_lt, eq-eqb, eqb-true, ne_eqb, or_from}}
 use Rattle.std.proofs.lemmas.List.Elements.{All-head, All-tail}
+use Rattle.std.specs.{Prelude.slice_index, List.list_any, List.Sorted.IsStrictlyIncreasing}
 use Rattle.hls_media.specs.declared.media.MediaSegment.{MediaSegment}
 use Rattle.hls_meaning.specs.Sections.{is_in}
 use Rattle.hls_presentation.specs.Sections.{groups_of, put_before}

@@ -1,33 +1,23 @@
 -- What a track has in a section, in ticks and in nanoseconds.
 use Rattle.std.proofs.Common.{◌≡◌, ℕ, suc, ◌+◌, ◌-◌, ◌/◌, ◌%◌, inl, inr, ◌*ℤ◌, Bool, true, false, List, [], ◌∷◌, map, slice_get, unwrap_or}
-use Rattle.std.proofs.Common.{All, Option, Some, None, Ok, refl, sym, ◌∙◌, ap, subst, arith}
+use Rattle.std.proofs.{Common.{All, Option, Some, None, Ok, refl, sym, ◌∙◌, ap, subst, arith}, Math.Nat.div-one, lemmas.Bool.or_parts}
+use Rattle.std.proofs.{lemmas.Int.ints, lemmas.List.Elements.{All-head, All-tail}}
 use Rattle.std.specs.List.{list_any}
-use Rattle.std.proofs.Math.Nat.{div-one}
-use Rattle.std.proofs.lemmas.Bool.{or_parts}
-use Rattle.std.proofs.lemmas.Int.{ints}
-use Rattle.std.proofs.lemmas.List.Elements.{All-head, All-tail}
 use Rattle.bridge_io.proofs.AndThen.{steps_of}
 use Rattle.exact_time.specs.Time.{difference, in_units}
-use Rattle.timeline.specs.declared.fault.TimeFault.{TimeFault}
-use Rattle.timeline.specs.declared.fault.TimeFault.TheVariants.{ZeroDuration}
-use Rattle.timeline.specs.declared.names.Names.TheVariants.{Addresses}
-use Rattle.timeline.specs.Expansions.{SegmentTimeline, Timing, numbered}
-use Rattle.timeline.specs.Faults.{fault_if, lasts_no_time, or_fault}
-use Rattle.timeline.specs.Listed.{listed}
-use Rattle.timeline.specs.SegmentTimelines.{unless_fault}
+use Rattle.timeline.specs.{declared.fault.TimeFault.TimeFault, declared.fault.TimeFault.TheVariants.ZeroDuration}
+use Rattle.timeline.specs.{declared.names.Names.TheVariants.Addresses, Expansions.{SegmentTimeline, Timing, numbered}, Faults.fault_if}
+use Rattle.timeline.specs.{Faults.{lasts_no_time, or_fault}, Listed.listed, SegmentTimelines.unless_fault}
 use Rattle.url_parts.specs.declared.address.Part.{Part}
 use Rattle.hls_media.specs.declared.media.MediaSegment.{MediaSegment}
 use Rattle.hls_meaning.specs.Sections.{nanoseconds, no_part, part_of, timed}
-use Rattle.meaning.specs.Meanings.{Entry, Segment}
-use Rattle.meaning.specs.Same.{IsSameTime, Pairwise, SameSegment}
-use Rattle.presentation.specs.declared.parts.Content.{Content}
-use Rattle.presentation.specs.Meanings.{entry_of, entry_with, part_meant, segment_of}
-use Rattle.presentation.specs.Presented.{listed_in, whole_window}
+use Rattle.meaning.specs.{Meanings.{Entry, Segment}, Same.{IsSameTime, Pairwise, SameSegment}}
+use Rattle.presentation.specs.{declared.parts.Content.Content, Meanings.{entry_of, entry_with, part_meant, segment_of}, Presented.listed_in}
+use Rattle.presentation.specs.Presented.{whole_window}
 use Rattle.presentation.proofs.WholeWindow.{expanded, one_listed, part_at_place}
 use Rattle.hls_presentation.specs.Presenting.{content_of, content_with, extents_from, fault_of_extents, initialization_in}
 use Rattle.hls_presentation.specs.Presenting.{initialization_of, parts_of, runs_of, ticks_by_second, timeline_with}
-use Rattle.hls_presentation.proofs.Came.{timed_ok, unless_ok}
-use Rattle.hls_presentation.proofs.Spanned.{IsUnit}
+use Rattle.hls_presentation.proofs.{Came.{timed_ok, unless_ok}, Spanned.IsUnit}
 
 -- ---- an entry in ticks
 

@@ -1,26 +1,16 @@
 -- The tracks of a master that is read stand in order.
 use Rattle.std.proofs.Common.{◌≡◌, ℕ, ◌+◌, Bool, true, false, List, [], ◌∷◌, ◌++◌, map, filter, Option, Some, None, Result, Ok, Err}
-use Rattle.std.proofs.Common.{if◌then◌else◌, refl, sym, ◌∙◌, ap, subst, append_assoc}
+use Rattle.std.proofs.{Common.{if◌then◌else◌, refl, sym, ◌∙◌, ap, subst, append_assoc}, lemmas.Bool.and_parts, lemmas.List.append-nil}
+use Rattle.std.proofs.lemmas.List.{map-append}
 use Rattle.std.specs.List.{list_any}
-use Rattle.std.proofs.lemmas.Bool.{and_parts}
-use Rattle.std.proofs.lemmas.List.{append-nil, map-append}
-use Rattle.bridge_io.specs.Firsts.{first_some}
-use Rattle.bridge_io.specs.declared.media.Kind.{Kind}
-use Rattle.bridge_io.specs.declared.media.Kind.TheVariants.{Video, Audio, Text}
+use Rattle.bridge_io.specs.{Firsts.first_some, declared.media.Kind.Kind, declared.media.Kind.TheVariants.{Video, Audio, Text}}
 use Rattle.bridge_io.specs.declared.place.Place.{Place}
-use Rattle.hls_lines.specs.Lines.{PlaylistLine, lines_of}
-use Rattle.hls_lines.specs.declared.fault.LineFault.{LineFault}
-use Rattle.hls_master.specs.declared.fault.MasterFault.{MasterFault}
-use Rattle.hls_master.specs.Faults.{answer}
-use Rattle.hls_master.specs.Masters.{faults_of, master_by, master_in, master_of, mentions_in}
-use Rattle.hls_master.specs.Mentions.{MentionsValue}
-use Rattle.hls_master.specs.Renditions.{same_kind}
-use Rattle.hls_master.specs.SeenTracks.{track_seen}
-use Rattle.hls_master.specs.Tracks.{Mentioned, TrackValue, by_kind, by_rendition, by_variant, firsts_of, has_kind, kind_of, same_set}
-use Rattle.hls_master.specs.Tracks.{sets_behind, track_of, tracks_among, tracks_of, tracks_of_sets, variant_kind}
-use Rattle.hls_master.specs.Variants.{VariantValue}
-use Rattle.laws_of_mpds.specs.Meant.{are_audio_then_text, are_in_order, are_text}
-use Rattle.laws_of_mpds.specs.Written.{ReadAreInOrder}
+use Rattle.hls_lines.specs.{Lines.{PlaylistLine, lines_of}, declared.fault.LineFault.LineFault}
+use Rattle.hls_master.specs.{declared.fault.MasterFault.MasterFault, Faults.answer, Masters.{faults_of, master_by, master_in, master_of}}
+use Rattle.hls_master.specs.{Masters.mentions_in, Mentions.MentionsValue, Renditions.same_kind, SeenTracks.track_seen, Tracks.Mentioned}
+use Rattle.hls_master.specs.Tracks.{TrackValue, by_kind, by_rendition, by_variant, firsts_of, has_kind, kind_of, same_set, sets_behind}
+use Rattle.hls_master.specs.{Tracks.{track_of, tracks_among, tracks_of, tracks_of_sets, variant_kind}, Variants.VariantValue}
+use Rattle.laws_of_mpds.specs.{Meant.{are_audio_then_text, are_in_order, are_text}, Written.ReadAreInOrder}
 use Rattle.laws_of_mpds.proofs.Ordered.{audio_is_behind_video, text_is_behind_audio}
 
 -- ---- one is left out

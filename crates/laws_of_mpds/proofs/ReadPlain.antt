@@ -1,32 +1,20 @@
 -- What is presented of playlists can be written and read.
+use Rattle.laws_of_mpds.specs.Rows as written
 use Rattle.std.proofs.Common.{◌≡◌, ℕ, ◌+◌, ◌/◌, ◌^◌, ◌<◌, ◌≤◌, cond, Bool, true, false, List, [], ◌∷◌, map, length, All, Option, Some, None}
-use Rattle.std.proofs.Common.{Ok, IfSome, refl, sym, ◌∙◌, ap, subst, arith}
+use Rattle.std.proofs.{Common.{Ok, IfSome, refl, sym, ◌∙◌, ap, subst, arith}, lemmas.List.length-map, lemmas.List.Elements.All-head}
+use Rattle.std.proofs.{lemmas.List.Elements.{All-tail, All-nil, All-cons}, lemmas.List.Sums.sum_by-cons, Math.Nat.div-le_self}
 use Rattle.std.specs.List.{AllByRecursion}
-use Rattle.std.proofs.lemmas.List.{length-map}
-use Rattle.std.proofs.lemmas.List.Elements.{All-head, All-tail, All-nil, All-cons}
-use Rattle.std.proofs.lemmas.List.Sums.{sum_by-cons}
-use Rattle.std.proofs.Math.Nat.{div-le_self}
 use Rattle.bridge_io.proofs.AndThen.{steps_of}
 use Rattle.exact_time.specs.Time.{Time, in_units}
-use Rattle.url_parts.specs.Addresses.{IsAddress}
-use Rattle.url_parts.specs.declared.address.Part.{Part}
-use Rattle.url_parts.specs.declared.range.Range.{Range}
-use Rattle.timeline.specs.Expansions.{Closed, Extent, Member, SegmentTimeline}
-use Rattle.timeline.specs.Ratios.{natural}
-use Rattle.hls_media.specs.Laws.{IsBoundedPart, IsBoundedRange, IsBoundedSegment}
-use Rattle.hls_media.specs.declared.media.MediaSegment.{MediaSegment}
+use Rattle.url_parts.specs.{Addresses.IsAddress, declared.address.Part.Part, declared.range.Range.Range}
+use Rattle.timeline.specs.{Expansions.{Closed, Extent, Member, SegmentTimeline}, Ratios.natural}
+use Rattle.hls_media.specs.{Laws.{IsBoundedPart, IsBoundedRange, IsBoundedSegment}, declared.media.MediaSegment.MediaSegment}
 use Rattle.presentation.specs.declared.parts.Content.{Content}
-use Rattle.hls_presentation.specs.Laid.{in_row}
-use Rattle.hls_presentation.specs.Presenting.{content_of, content_with, extents_from, gathered, initialization_in, initialization_of}
-use Rattle.hls_presentation.specs.Presenting.{part_of, parts_of, runs_of, ticks_by_second, timeline_with}
+use Rattle.hls_presentation.specs.{Laid.in_row, Presenting.{content_of, content_with, extents_from, gathered, initialization_in}}
+use Rattle.hls_presentation.specs.Presenting.{initialization_of, part_of, parts_of, runs_of, ticks_by_second, timeline_with}
 use Rattle.hls_presentation.specs.Sections.{length_of}
-use Rattle.hls_presentation.proofs.Came.{timed_ok, unless_ok}
-use Rattle.hls_presentation.proofs.Grouping.{IsRowed}
-use Rattle.hls_presentation.proofs.Laid.{row}
-use Rattle.laws_of_mpds.specs.Contents.{IsOwnPart, IsPlain}
-use Rattle.laws_of_mpds.specs.Rows as written
-use Rattle.laws_of_mpds.specs.Told.{IsShort, IsSomeBytes}
-use Rattle.laws_of_mpds.specs.Written.{HasAddresses}
+use Rattle.hls_presentation.proofs.{Came.{timed_ok, unless_ok}, Grouping.IsRowed, Laid.row}
+use Rattle.laws_of_mpds.specs.{Contents.{IsOwnPart, IsPlain}, Told.{IsShort, IsSomeBytes}, Written.HasAddresses}
 
 same_row : (ticks from : ℕ) (ds : List ℕ) → in_row ticks from ds ≡ written.in_row ticks from ds
 same_row ticks from [] = refl

@@ -1,25 +1,16 @@
 -- Frame rates of a master that is read are fractions of thousandths.
 use Rattle.std.proofs.Common.{◌≡◌, ℕ, ◌+◌, ◌*◌, ◌<◌, Bool, true, false, List, [], ◌∷◌, map, filter, flat_map, All, Option, Some, None}
-use Rattle.std.proofs.Common.{option_and_then, IfSome, Result, Ok, Err, if◌then◌else◌, subst, arith}
-use Rattle.std.specs.Prelude.{codes}
-use Rattle.std.specs.List.{list_all, before_first, after_first}
-use Rattle.std.specs.Char.{is_ascii_digit}
-use Rattle.std.proofs.lemmas.List.Elements.{All-nil, All-cons, All-append, All-map, All-filter}
-use Rattle.bridge_io.specs.Firsts.{first_some}
-use Rattle.bridge_io.specs.declared.place.Place.{Place}
+use Rattle.std.proofs.{Common.{option_and_then, IfSome, Result, Ok, Err, if◌then◌else◌, subst, arith}, lemmas.List.Elements.All-nil}
+use Rattle.std.proofs.lemmas.List.Elements.{All-cons, All-append, All-map, All-filter}
+use Rattle.std.specs.{Prelude.codes, List.{list_all, before_first, after_first}, Char.is_ascii_digit}
+use Rattle.bridge_io.specs.{Firsts.first_some, declared.place.Place.Place}
 use Rattle.mpd_values.specs.Numbers.{numeral_of}
-use Rattle.hls_lines.specs.Attributes.{attributes_of, value_of}
-use Rattle.hls_lines.specs.Lines.{PlaylistLine, lines_of}
-use Rattle.hls_lines.specs.declared.fault.LineFault.{LineFault}
-use Rattle.hls_master.specs.declared.fault.MasterFault.{MasterFault}
-use Rattle.hls_master.specs.Entries.{MasterEntry, rendition, variant, stray, known_lines, entries_of}
-use Rattle.hls_master.specs.Faults.{answer}
-use Rattle.hls_master.specs.Masters.{faults_of, master_by, master_in, master_of, mentions_in}
-use Rattle.hls_master.specs.Mentions.{MentionsValue, entry_variant}
-use Rattle.hls_master.specs.Tracks.{Mentioned, TrackValue, by_rendition, by_variant, firsts_of, mentioned, same_set, track_of, tracks_among}
-use Rattle.hls_master.specs.Tracks.{tracks_of, tracks_of_sets}
-use Rattle.hls_master.specs.Values.{is_point, rate_by, rate_of, thousandths}
-use Rattle.hls_master.specs.Variants.{VariantValue, attributes_or_none, variant_with}
+use Rattle.hls_lines.specs.{Attributes.{attributes_of, value_of}, Lines.{PlaylistLine, lines_of}, declared.fault.LineFault.LineFault}
+use Rattle.hls_master.specs.{declared.fault.MasterFault.MasterFault, Entries.{MasterEntry, rendition, variant, stray, known_lines}}
+use Rattle.hls_master.specs.{Entries.entries_of, Faults.answer, Masters.{faults_of, master_by, master_in, master_of, mentions_in}}
+use Rattle.hls_master.specs.{Mentions.{MentionsValue, entry_variant}, Tracks.{Mentioned, TrackValue, by_rendition, by_variant, firsts_of}}
+use Rattle.hls_master.specs.{Tracks.{mentioned, same_set, track_of, tracks_among, tracks_of, tracks_of_sets}, Values.{is_point, rate_by}}
+use Rattle.hls_master.specs.{Values.{rate_of, thousandths}, Variants.{VariantValue, attributes_or_none, variant_with}}
 use Rattle.laws_of_mpds.specs.Written.{ReadHaveRates}
 use Rattle.laws_of_mpds.proofs.ReadTold.{firsts_all}
 

@@ -1,41 +1,26 @@
 -- The languages and codes of a master that is read can be told in an MPD.
 use Rattle.std.proofs.Common.{◌≡◌, ℕ, zero, suc, ◌+◌, ◌-◌, ◌==◌, ◌&&◌, nat_le, Bool, true, false, cond, List, [], ◌∷◌, ◌++◌, map, filter}
 use Rattle.std.proofs.Common.{flat_map, take, drop, length, All, Option, Some, None, option_map, option_and_then, IfSome, Result, Ok, Err}
-use Rattle.std.proofs.Common.{if◌then◌else◌, refl, ◌∙◌, subst, arith}
-use Rattle.std.specs.Prelude.{codes, is_some, bytes_eq}
-use Rattle.std.specs.Option.{option_to_list, option_eq}
-use Rattle.std.specs.List.{AllByRecursion, list_all, slice_split, onto_first, join_with_byte, prefix_len, suffix_len}
-use Rattle.std.proofs.lemmas.Bool.{and_parts}
-use Rattle.std.proofs.lemmas.List.Folds.{list_all-append}
+use Rattle.std.proofs.{Common.{if◌then◌else◌, refl, ◌∙◌, subst, arith}, lemmas.Bool.and_parts, lemmas.List.Folds.list_all-append}
 use Rattle.std.proofs.lemmas.List.Elements.{All-nil, All-cons, All-head, All-tail, All-append, All-map, All-filter}
-use Rattle.bridge_io.specs.Firsts.{first_some}
-use Rattle.bridge_io.specs.Texts.{is_among}
-use Rattle.bridge_io.specs.declared.media.Kind.{Kind}
-use Rattle.bridge_io.specs.declared.place.Place.{Place}
-use Rattle.mpd_values.specs.declared.blank.Blank.TheVariants.{Space}
-use Rattle.mpd_values.specs.Blanks.{is_blank, trimmed, without_end}
-use Rattle.mpd_values.specs.Codecs.{are_read_codes, codes_of, is_code_char}
-use Rattle.mpd_values.specs.Languages.{is_language, is_language_char}
-use Rattle.hls_lines.specs.Attributes.{NameValue, attributes_of, value_of}
-use Rattle.hls_lines.specs.Lines.{PlaylistLine, lines_of}
+use Rattle.std.specs.{Prelude.{codes, is_some, bytes_eq}, Option.{option_to_list, option_eq}, List.{AllByRecursion, list_all, slice_split}}
+use Rattle.std.specs.List.{onto_first, join_with_byte, prefix_len, suffix_len}
+use Rattle.bridge_io.specs.{Firsts.first_some, Texts.is_among, declared.media.Kind.Kind, declared.place.Place.Place}
+use Rattle.mpd_values.specs.{declared.blank.Blank.TheVariants.Space, Blanks.{is_blank, trimmed, without_end}, Codecs.are_read_codes}
+use Rattle.mpd_values.specs.{Codecs.{codes_of, is_code_char}, Languages.{is_language, is_language_char}}
+use Rattle.hls_lines.specs.{Attributes.{NameValue, attributes_of, value_of}, Lines.{PlaylistLine, lines_of}}
 use Rattle.hls_lines.specs.declared.fault.LineFault.{LineFault}
-use Rattle.hls_master.specs.declared.fault.MasterFault.{MasterFault}
-use Rattle.hls_master.specs.declared.track.MasterTrack.{MasterTrack}
-use Rattle.hls_master.specs.Entries.{MasterEntry, rendition, variant, stray, known_lines, entries_of}
-use Rattle.hls_master.specs.Faults.{answer}
-use Rattle.hls_master.specs.Masters.{end_faults, faults_of, master_by, master_in, master_of, mentions_in}
-use Rattle.hls_master.specs.Mentions.{MentionsValue, entry_fault, entry_faults, entry_rendition, entry_variant}
-use Rattle.hls_master.specs.Renditions.{RenditionValue, faults_by, kind_in, malformed, missing, same_name, text_at, type_fault, uri_fault}
-use Rattle.hls_master.specs.Renditions.{rendition_fault, rendition_faults, rendition_value, rendition_with}
-use Rattle.hls_master.specs.SeenTracks.{track_seen}
-use Rattle.hls_master.specs.Tracks.{Mentioned, TrackValue, address_of, by_rendition, by_variant, firsts_behind, firsts_of, group_codecs}
-use Rattle.hls_master.specs.Tracks.{group_of, mentioned, same_set, track_of, tracks_among, tracks_of, tracks_of_sets, variant_kind}
-use Rattle.hls_master.specs.Variants.{unsupported, VariantValue, attributes_or_none, variant_fault, variant_with}
-use Rattle.laws_of_mpds.specs.Written.{CanBeTold, ReadCanBeTold}
-use Rattle.hls_master.specs.Addresses.{address_fault}
-use Rattle.hls_master.specs.Values.{is_bandwidth, rate_within, size_within}
-use Rattle.hls_master.specs.Codes.{is_of, joined, selected}
-use Rattle.laws_of_mpds.specs.Texts.{IsCarried}
+use Rattle.hls_master.specs.{declared.fault.MasterFault.MasterFault, declared.track.MasterTrack.MasterTrack, Entries.MasterEntry}
+use Rattle.hls_master.specs.{Entries.{rendition, variant, stray, known_lines, entries_of}, Faults.answer, Masters.{end_faults, faults_of}}
+use Rattle.hls_master.specs.{Masters.{master_by, master_in, master_of, mentions_in}, Mentions.{MentionsValue, entry_fault, entry_faults}}
+use Rattle.hls_master.specs.{Mentions.{entry_rendition, entry_variant}, Renditions.{RenditionValue, faults_by, kind_in, malformed, missing}}
+use Rattle.hls_master.specs.Renditions.{same_name, text_at, type_fault, uri_fault, rendition_fault, rendition_faults, rendition_value}
+use Rattle.hls_master.specs.{Renditions.rendition_with, SeenTracks.track_seen, Tracks.{Mentioned, TrackValue, address_of, by_rendition}}
+use Rattle.hls_master.specs.Tracks.{by_variant, firsts_behind, firsts_of, group_codecs, group_of, mentioned, same_set, track_of}
+use Rattle.hls_master.specs.{Tracks.{tracks_among, tracks_of, tracks_of_sets, variant_kind}, Variants.{unsupported, VariantValue}}
+use Rattle.hls_master.specs.{Variants.{attributes_or_none, variant_fault, variant_with}, Addresses.address_fault, Values.is_bandwidth}
+use Rattle.hls_master.specs.{Values.{rate_within, size_within}, Codes.{is_of, joined, selected}}
+use Rattle.laws_of_mpds.specs.{Written.{CanBeTold, ReadCanBeTold}, Texts.IsCarried}
 use Rattle.laws_of_mpds.proofs.Plain.{ArePlain, carried, is_plain}
 
 -- ---- texts

@@ -1,20 +1,14 @@
 -- Durations and instants are read as they were written.
-use Rattle.std.proofs.Common.{◌≡◌, ℕ, ◌^◌, ◌<◌, ◌==◌, nat_lt, Bool, true, false, List, [], ◌∷◌, ◌++◌, Option, Some, None, Ok, Err}
-use Rattle.std.proofs.Common.{refl, ◌∙◌, ap, arith}
-use Rattle.std.specs.Prelude.{ℤ}
-use Rattle.std.specs.List.{list_all}
-use Rattle.std.specs.Option.{option_map_or}
-use Rattle.std.specs.Result.{result_ok}
-use Rattle.std.proofs.lemmas.Bool.{and_parts}
-use Rattle.iso_time.specs.Civil.{instant_text, moment_text}
-use Rattle.iso_time.specs.Digits.{padded_digits}
-use Rattle.iso_time.specs.Duration.{DurationParts, answer_of, duration_of, duration_text, months_of, nanos_of, parts_of}
-use Rattle.iso_time.specs.Instant.{IsReadable, instant_of}
+use Rattle.std.proofs.Common.{◌≡◌, ℕ, ◌^◌, ◌<◌, ◌==◌, nat_lt, Bool, true, false, List, [], ◌∷◌, ◌++◌, Option, Some, None, Ok, Err, refl}
+use Rattle.std.proofs.{Common.{◌∙◌, ap, arith}, lemmas.Bool.and_parts}
+use Rattle.std.specs.{Prelude.ℤ, List.list_all, Option.option_map_or, Result.result_ok}
+use Rattle.iso_time.specs.{Civil.{instant_text, moment_text}, Digits.padded_digits, Duration.{DurationParts, answer_of, duration_of}}
+use Rattle.iso_time.specs.{Duration.{duration_text, months_of, nanos_of, parts_of}, Instant.{IsReadable, instant_of}}
 use Rattle.iso_time.specs.Laws.{DurationsAreReadAgain, InstantsAreReadAgain, floor_millis}
 use Rattle.iso_time.specs.declared.duration.DurationFault.TheVariants.{Calendar, Range, Shape}
 use Rattle.mpd_rules.specs.Readings.{duration_in, instant_in, nanos_unless_months}
-use Rattle.laws_of_mpds.proofs.Numbers.{is_solid, solid_stays}
-use Rattle.laws_of_mpds.proofs.Plain.{ArePlain, AreVisible, duration_visible, is_visible, joined_visible, padded_visible, plain_of}
+use Rattle.laws_of_mpds.proofs.{Numbers.{is_solid, solid_stays}, Plain.{ArePlain, AreVisible, duration_visible, is_visible, joined_visible}}
+use Rattle.laws_of_mpds.proofs.Plain.{padded_visible, plain_of}
 
 -- visible bytes are no spaces
 solid : (text : List ℕ) → AreVisible text → list_all is_solid text ≡ true

@@ -1,33 +1,22 @@
 -- The sets of a Period are read as they were written.
+use Rattle.mpd_profile.specs.declared.listed.Listed.TheVariants as listed
 use Rattle.std.proofs.Common.{◌≡◌, ℕ, suc, ◌+◌, ◌==◌, Bool, true, false, ◌&&◌, ◌||◌, List, [], ◌∷◌, ◌++◌, length, map, filter, codes}
 use Rattle.std.proofs.Common.{bytes_eq, Option, Some, None, if◌then◌else◌, refl, sym, ◌∙◌, ap, ap₂, subst, arith, length-append}
-use Rattle.std.specs.Option.{option_eq}
-use Rattle.std.specs.List.{AllByRecursion}
-use Rattle.std.proofs.lemmas.Bool.{and_parts}
-use Rattle.std.proofs.lemmas.List.{map-append}
+use Rattle.std.proofs.{lemmas.Bool.and_parts, lemmas.List.map-append}
+use Rattle.std.specs.{Option.option_eq, List.AllByRecursion}
 use Rattle.bridge_io.proofs.Texts.{same_bytes}
-use Rattle.bridge_io.specs.declared.place.Place.{Place}
-use Rattle.bridge_io.specs.declared.media.Kind.{Kind}
-use Rattle.bridge_io.specs.declared.media.Kind.TheVariants.{Video, Audio, Text}
-use Rattle.mpd_text.specs.Grammar.{past}
-use Rattle.mpd_text.specs.Views.{side_by_side}
-use Rattle.mpd_profile.specs.declared.listed.Listed.TheVariants as listed
+use Rattle.bridge_io.specs.{declared.place.Place.Place, declared.media.Kind.Kind, declared.media.Kind.TheVariants.{Video, Audio, Text}}
+use Rattle.mpd_text.specs.{Grammar.past, Views.side_by_side}
 use Rattle.mpd_profile.specs.LeftOut.{type_of, is_set_left_out}
 use Rattle.mpd_levels.specs.Segments.{Segments, segments_of}
-use Rattle.mpd_rules.specs.Kept.{is_kept, paths_in, paths_of, path_in, representations_of}
-use Rattle.mpd_rules.specs.Typed.{track_of}
-use Rattle.presentation.specs.declared.track.Track.{Track}
-use Rattle.presentation.specs.Rows.{is_of, same_language}
-use Rattle.mpd_markup.specs.Markup.{Tag, opening}
-use Rattle.mpd_markup.specs.Placed.{placed}
-use Rattle.dash_writer.specs.Elements.{Element as Written, in_order, tag_of}
-use Rattle.dash_writer.specs.Runs.{longest_runs, with_first}
-use Rattle.dash_writer.specs.Outline.{is_video, set_attributes, set_elements, sets_of, stand_together, track_elements}
-use Rattle.laws_of_mpds.specs.Told.{AreNamed, read_at}
-use Rattle.laws_of_mpds.specs.Shown.{shown_row, shown_tracks}
+use Rattle.mpd_rules.specs.{Kept.{is_kept, paths_in, paths_of, path_in, representations_of}, Typed.track_of}
+use Rattle.presentation.specs.{declared.track.Track.Track, Rows.{is_of, same_language}}
+use Rattle.mpd_markup.specs.{Markup.{Tag, opening}, Placed.placed}
+use Rattle.dash_writer.specs.{Elements.{Element as Written, in_order, tag_of}, Runs.{longest_runs, with_first}, Outline.is_video}
+use Rattle.dash_writer.specs.Outline.{set_attributes, set_elements, sets_of, stand_together, track_elements}
+use Rattle.laws_of_mpds.specs.{Told.{AreNamed, read_at}, Shown.{shown_row, shown_tracks}}
 use Rattle.laws_of_mpds.proofs.Representations.{AreOf, Around, Has, HasAll, OfSet, not_left, period_in, representations_named}
-use Rattle.laws_of_mpds.proofs.Representations.{representations_shown}
-use Rattle.laws_of_mpds.proofs.Views.{behind, has_none, nothing_above, value_read}
+use Rattle.laws_of_mpds.proofs.{Representations.representations_shown, Views.{behind, has_none, nothing_above, value_read}}
 
 -- ---- tracks that stand together are of one kind, in one language
 

@@ -1,46 +1,25 @@
 -- The text of an MPD with the times of its files means what they tell.
-use Rattle.std.proofs.Common.{◌≡◌, ℕ, zero, suc, ◌+◌, ◌*◌, ◌^◌, ◌<◌, ◌≤◌, false, List, [], ◌∷◌, ◌++◌, length, drop, codes}
-use Rattle.std.proofs.Common.{slice_get, All, Option, Some, None, option_map, refl, sym, ◌∙◌, ap, subst, arith}
-use Rattle.std.specs.Prelude.{decimal, sum, option_and_then, option_to_list}
-use Rattle.std.specs.List.{AllByRecursion}
-use Rattle.std.specs.Result.{result_ok}
-use Rattle.std.proofs.lemmas.List.Sums.{sum_by-cons}
+use Rattle.std.proofs.Common.{◌≡◌, ℕ, zero, suc, ◌+◌, ◌*◌, ◌^◌, ◌<◌, ◌≤◌, false, List, [], ◌∷◌, ◌++◌, length, drop, codes, slice_get, All}
+use Rattle.std.proofs.{Common.{Option, Some, None, option_map, refl, sym, ◌∙◌, ap, subst, arith}, lemmas.List.Sums.sum_by-cons}
+use Rattle.std.specs.{Prelude.{decimal, sum, option_and_then, option_to_list}, List.AllByRecursion, Result.result_ok}
 use Rattle.iso_time.specs.Laws.{DurationsAreReadAgain}
 use Rattle.timeline.specs.declared.window.Window.{Window}
-use Rattle.mpd_text.specs.Trees.{Element}
-use Rattle.mpd_text.specs.Grammar.{past}
-use Rattle.mpd_text.specs.Meaning.{reading_of}
+use Rattle.mpd_text.specs.{Trees.Element, Grammar.past, Meaning.reading_of}
 use Rattle.mpd_profile.specs.Heads.{is_word}
-use Rattle.mpd_rules.specs.Readings.{instant_in}
-use Rattle.mpd_rules.specs.Rules.{dash_values}
+use Rattle.mpd_rules.specs.{Readings.instant_in, Rules.dash_values}
 use Rattle.mpd_markup.specs.Placed.{PrintedAreRead, root_place}
-use Rattle.presentation.specs.declared.parts.Content.{Content}
-use Rattle.presentation.specs.declared.track.Section.{Section}
-use Rattle.presentation.specs.Presented.{Presented, content_at, whole_window, window_of}
-use Rattle.presentation.specs.Meanings.{content_meant, dash_meaning, entry_at, entry_of, mpd_meaning}
-use Rattle.dash_writer.specs.Lists.{list_with}
-use Rattle.dash_writer.specs.Manifest.{last_end, period_attributes, root_attributes}
-use Rattle.dash_writer.specs.Outline.{root_element}
-use Rattle.dash_writer.specs.Timed.{CanBeCounted, lengths, sections_from, timed_list, timed_lists, timed_outline}
-use Rattle.dash_writer.specs.Timed.{timed_sections, timed_text}
-use Rattle.dash_writer.specs.declared.timed.TickRun.{TickRun}
-use Rattle.laws_of_mpds.specs.Contents.{IsOwnPart, IsPlain, IsPlainFrom}
-use Rattle.laws_of_mpds.specs.Meant.{IsWritable}
-use Rattle.laws_of_mpds.specs.Shown.{shown_of}
-use Rattle.laws_of_mpds.specs.Texts.{IsTellable}
+use Rattle.presentation.specs.{declared.parts.Content.Content, declared.track.Section.Section, Presented.{Presented, content_at}}
+use Rattle.presentation.specs.{Presented.{whole_window, window_of}, Meanings.{content_meant, dash_meaning, entry_at, entry_of, mpd_meaning}}
+use Rattle.dash_writer.specs.{Lists.list_with, Manifest.{last_end, period_attributes, root_attributes}, Outline.root_element}
+use Rattle.dash_writer.specs.Timed.{CanBeCounted, lengths, sections_from, timed_list, timed_lists, timed_outline, timed_sections}
+use Rattle.dash_writer.specs.{Timed.timed_text, declared.timed.TickRun.TickRun}
+use Rattle.laws_of_mpds.specs.{Contents.{IsOwnPart, IsPlain, IsPlainFrom}, Meant.IsWritable, Shown.shown_of, Texts.IsTellable}
 use Rattle.laws_of_mpds.specs.Timed.{AreTimesOf, IsTimed, TimedTextsAreRead, TimedTextsMean, content_with, contents_with, files_of}
-use Rattle.laws_of_mpds.specs.Timed.{run_told, timed_as, told_in}
-use Rattle.laws_of_mpds.specs.Told.{IsShort, list_told, read_at}
-use Rattle.laws_of_mpds.proofs.Contents.{parts_are, timed_contents}
-use Rattle.laws_of_mpds.proofs.Fine.{AreFine, by_recursion, fine_list, finished_legal, root_legal}
-use Rattle.laws_of_mpds.proofs.Given.{HasPlain, all_readable, fits, has_plain, window_is}
-use Rattle.laws_of_mpds.proofs.Legal.{IsFine}
-use Rattle.laws_of_mpds.proofs.Live.{at_index, some_at}
-use Rattle.laws_of_mpds.proofs.Periods.{AreMeant, Means, outline_means}
-use Rattle.laws_of_mpds.proofs.Representations.{Has}
-use Rattle.laws_of_mpds.proofs.Shown.{AreTold, TellsRoot, outline_shown}
-use Rattle.laws_of_mpds.proofs.Texts.{printable}
-use Rattle.laws_of_mpds.proofs.Views.{value_read}
+use Rattle.laws_of_mpds.specs.{Timed.{run_told, timed_as, told_in}, Told.{IsShort, list_told, read_at}}
+use Rattle.laws_of_mpds.proofs.{Contents.{parts_are, timed_contents}, Fine.{AreFine, by_recursion, fine_list, finished_legal, root_legal}}
+use Rattle.laws_of_mpds.proofs.{Given.{HasPlain, all_readable, fits, has_plain, window_is}, Legal.IsFine, Live.{at_index, some_at}}
+use Rattle.laws_of_mpds.proofs.{Periods.{AreMeant, Means, outline_means}, Representations.Has, Shown.{AreTold, TellsRoot, outline_shown}}
+use Rattle.laws_of_mpds.proofs.{Texts.printable, Views.value_read}
 
 -- ---- numbers below a sum of theirs
 

@@ -1,22 +1,15 @@
 -- The times of a written SegmentTimeline are those that it was written of.
 use Rattle.std.proofs.Common.{◌≡◌, ℕ, suc, ◌+◌, ◌*◌, ◌<◌, ℤ, pos, ◌-ℤ◌, ◌+ℤ◌, Bool, true, false, List, [], ◌∷◌, ◌++◌, length, map, filter}
-use Rattle.std.proofs.Common.{Option, Some, None, if◌then◌else◌, unwrap_or, refl, sym, ◌∙◌, ap, ap₂, arith}
-use Rattle.std.specs.List.{AllByRecursion}
-use Rattle.std.proofs.lemmas.Int.{ints}
+use Rattle.std.proofs.{Common.{Option, Some, None, if◌then◌else◌, unwrap_or, refl, sym, ◌∙◌, ap, ap₂, arith}, lemmas.Int.ints}
 use Rattle.std.proofs.lemmas.List.{map-append}
+use Rattle.std.specs.List.{AllByRecursion}
 use Rattle.exact_time.specs.Time.{Time, in_units, before, seconds}
-use Rattle.timeline.specs.declared.entry.End.{End}
-use Rattle.timeline.specs.declared.entry.Scale.{Scale}
-use Rattle.timeline.specs.Expansions.{Extent, Closed, extents, numbered, repeated, repeat_of}
-use Rattle.timeline.specs.Listed.{is_listed}
-use Rattle.timeline.specs.Ratios.{natural}
-use Rattle.timeline.specs.Timelines.{expansion_of_timeline, extent_from, members_from}
-use Rattle.presentation.specs.Presented.{whole_window}
-use Rattle.presentation.specs.Told.{entries_of}
-use Rattle.dash_writer.specs.Runs.{longest_runs, with_first}
-use Rattle.dash_writer.specs.Segments.{duration_of, same_duration}
-use Rattle.laws_of_mpds.specs.Rows.{in_row}
-use Rattle.laws_of_mpds.specs.Told.{runs_of}
+use Rattle.timeline.specs.{declared.entry.End.End, declared.entry.Scale.Scale, Expansions.{Extent, Closed, extents, numbered, repeated}}
+use Rattle.timeline.specs.{Expansions.repeat_of, Listed.is_listed, Ratios.natural, Timelines.{expansion_of_timeline, extent_from}}
+use Rattle.timeline.specs.Timelines.{members_from}
+use Rattle.presentation.specs.{Presented.whole_window, Told.entries_of}
+use Rattle.dash_writer.specs.{Runs.{longest_runs, with_first}, Segments.{duration_of, same_duration}}
+use Rattle.laws_of_mpds.specs.{Rows.in_row, Told.runs_of}
 
 -- ---- durations
 

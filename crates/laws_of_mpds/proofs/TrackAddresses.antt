@@ -1,41 +1,28 @@
 -- The addresses of the tracks of a master that is read are of bytes.
 use Rattle.std.proofs.Common.{◌≡◌, ℕ, ◌+◌, ◌<◌, Bool, true, false, List, [], ◌∷◌, ◌++◌, map, filter, flat_map, All, Option, Some, None}
 use Rattle.std.proofs.Common.{option_map, unwrap_or, IfSome, Result, Ok, Err, if◌then◌else◌, refl, sym, subst}
-use Rattle.std.specs.Prelude.{codes, bytes_eq, is_some}
-use Rattle.std.specs.Option.{option_to_list}
 use Rattle.std.proofs.lemmas.List.Elements.{All-nil, All-cons, All-head, All-tail, All-append, All-map, All-filter, All-take}
-use Rattle.bridge_io.specs.Firsts.{first_some}
-use Rattle.bridge_io.specs.Names.{is_name}
-use Rattle.bridge_io.specs.declared.media.Kind.{Kind}
-use Rattle.bridge_io.specs.declared.place.Place.{Place}
+use Rattle.std.specs.{Prelude.{codes, bytes_eq, is_some}, Option.option_to_list}
+use Rattle.bridge_io.specs.{Firsts.first_some, Names.is_name, declared.media.Kind.Kind, declared.place.Place.Place}
 use Rattle.url_parts.specs.Addresses.{IsAddress, beside, folder_of, is_normal, resolve, through_last_slash, unchanged, unless_long}
-use Rattle.url_parts.specs.Addresses.{without_tail}
-use Rattle.url_parts.specs.declared.fault.UrlFault.{UrlFault}
+use Rattle.url_parts.specs.{Addresses.without_tail, declared.fault.UrlFault.UrlFault}
 use Rattle.url_parts.proofs.Parsed.{resolved_is_address}
-use Rattle.hls_lines.specs.Attributes.{NameValue, attributes_of, value_of}
-use Rattle.hls_lines.specs.Lines.{PlaylistLine, tag, uri, lines_of}
+use Rattle.hls_lines.specs.{Attributes.{NameValue, attributes_of, value_of}, Lines.{PlaylistLine, tag, uri, lines_of}}
 use Rattle.hls_lines.specs.declared.fault.LineFault.{LineFault}
-use Rattle.hls_master.specs.declared.fault.MasterFault.{MasterFault}
-use Rattle.hls_master.specs.Addresses.{address_fault, address_of, address_value, fault_if_refused}
+use Rattle.hls_master.specs.{declared.fault.MasterFault.MasterFault, Addresses.{address_fault, address_of, address_value, fault_if_refused}}
 use Rattle.hls_master.specs.Entries.{KnownLine, MasterEntry, media, stream, address, refused, rendition, variant, stray, known_line}
-use Rattle.hls_master.specs.Entries.{known_lines, entries_of, refused_tag, with_known}
-use Rattle.hls_master.specs.Faults.{answer}
-use Rattle.hls_master.specs.Masters.{end_faults, faults_of, master_by, master_in, master_of, mentions_in}
-use Rattle.hls_master.specs.Mentions.{MentionsValue, entry_fault, entry_faults, entry_rendition, entry_variant}
-use Rattle.hls_master.specs.Renditions.{RenditionValue, faults_by, kind_in, malformed, missing, same_name, text_at, type_fault, uri_fault}
-use Rattle.hls_master.specs.Renditions.{rendition_fault, rendition_faults, rendition_value, rendition_with}
-use Rattle.hls_master.specs.Tracks.{Mentioned, TrackValue, by_rendition, by_variant, firsts_of, mentioned, same_set, track_of, tracks_among}
-use Rattle.hls_master.specs.Tracks.{tracks_of, tracks_of_sets}
-use Rattle.hls_master.specs.Values.{is_bandwidth, rate_within, size_within}
-use Rattle.hls_master.specs.Variants.{unsupported, VariantValue, attributes_or_none, variant_fault, variant_with}
+use Rattle.hls_master.specs.{Entries.{known_lines, entries_of, refused_tag, with_known}, Faults.answer, Masters.{end_faults, faults_of}}
+use Rattle.hls_master.specs.{Masters.{master_by, master_in, master_of, mentions_in}, Mentions.{MentionsValue, entry_fault, entry_faults}}
+use Rattle.hls_master.specs.{Mentions.{entry_rendition, entry_variant}, Renditions.{RenditionValue, faults_by, kind_in, malformed, missing}}
+use Rattle.hls_master.specs.Renditions.{same_name, text_at, type_fault, uri_fault, rendition_fault, rendition_faults, rendition_value}
+use Rattle.hls_master.specs.{Renditions.rendition_with, Tracks.{Mentioned, TrackValue, by_rendition, by_variant, firsts_of, mentioned}}
+use Rattle.hls_master.specs.{Tracks.{same_set, track_of, tracks_among, tracks_of, tracks_of_sets}, Values.{is_bandwidth, rate_within}}
+use Rattle.hls_master.specs.{Values.size_within, Variants.{unsupported, VariantValue, attributes_or_none, variant_fault, variant_with}}
 use Rattle.hls_master.proofs.Addresses.{given_is_value}
-use Rattle.mpd_values.specs.Codecs.{are_read_codes}
-use Rattle.mpd_values.specs.Languages.{is_language}
+use Rattle.mpd_values.specs.{Codecs.are_read_codes, Languages.is_language}
 use Rattle.laws_of_mpds.specs.Written.{TracksAreOfBytes}
-use Rattle.laws_of_mpds.proofs.Plain.{address_plain}
-use Rattle.laws_of_mpds.proofs.Bytes.{AreBytes, IsOfBytes, all_bytes, is_byte, lines_are_bytes, plain_bytes}
-use Rattle.laws_of_mpds.proofs.Parts.{value_in}
-use Rattle.laws_of_mpds.proofs.ReadTold.{firsts_all, free, free_front}
+use Rattle.laws_of_mpds.proofs.{Plain.address_plain, Bytes.{AreBytes, IsOfBytes, all_bytes, is_byte, lines_are_bytes, plain_bytes}}
+use Rattle.laws_of_mpds.proofs.{Parts.value_in, ReadTold.{firsts_all, free, free_front}}
 
 -- ---- an address
 

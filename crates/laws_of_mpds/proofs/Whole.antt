@@ -1,27 +1,19 @@
 -- What is presented of playlists is written as an MPD that means the same.
 use Rattle.std.proofs.Common.{◌≡◌, ℕ, take, ◌==◌, ◌<◌, not, Bool, true, false, List, [], ◌∷◌, ◌++◌, map, length, All, Ok, refl, sym, ◌∙◌}
-use Rattle.std.proofs.Common.{ap, subst, arith}
-use Rattle.std.proofs.lemmas.List.Elements.{All-head, All-tail, All-nil, All-cons, All-map, All-filter}
+use Rattle.std.proofs.{Common.{ap, subst, arith}, lemmas.List.Elements.{All-head, All-tail, All-nil, All-cons, All-map, All-filter}}
 use Rattle.bridge_io.proofs.AndThen.{steps_of}
 use Rattle.hls_master.specs.declared.track.MasterTrack.{MasterTrack}
-use Rattle.hls_media.specs.Laws.{IsBounded}
-use Rattle.hls_media.specs.declared.media.Media.{Media}
-use Rattle.presentation.specs.declared.track.Track.{Track}
-use Rattle.presentation.specs.Presented.{Presented, of_parts}
-use Rattle.hls_presentation.specs.declared.fault.HlsFault.TheVariants.{Limit, NoTracks, SectionsDiffer}
-use Rattle.hls_presentation.specs.Presenting.{contents_of, flattened, hls_presented_of, nanos_by_tick, parts_with, presented_from}
-use Rattle.hls_presentation.specs.Presenting.{presented_of_kept, track_of}
-use Rattle.hls_presentation.specs.Sections.{all_alike, groups_in, is_over_limit, rows_of, section_count, whole_faults}
-use Rattle.hls_presentation.specs.Tracks.{Source, fault_if, is_kept, kept, left_out, sources, track_faults}
-use Rattle.hls_presentation.proofs.Came.{all_filled, length_sections}
-use Rattle.hls_presentation.proofs.Faults.{given, none_given}
-use Rattle.hls_presentation.proofs.Grouping.{IsGroup, all_groups, all_rowed}
-use Rattle.hls_presentation.proofs.Rows.{count_rows, within_limit}
-use Rattle.laws_of_mpds.specs.Meant.{IsWritable, are_in_order}
-use Rattle.laws_of_mpds.specs.Texts.{IsTellable, TextsMean}
-use Rattle.laws_of_mpds.specs.Written.{CanBeTold, HaveAddresses, PlaylistsMeanTheSame}
-use Rattle.laws_of_mpds.proofs.Ordered.{front_in_order, kept_in_order}
-use Rattle.laws_of_mpds.proofs.ReadPlain.{IsPlainSegment, all_plain, ticks_by}
+use Rattle.hls_media.specs.{Laws.IsBounded, declared.media.Media.Media}
+use Rattle.presentation.specs.{declared.track.Track.Track, Presented.{Presented, of_parts}}
+use Rattle.hls_presentation.specs.{declared.fault.HlsFault.TheVariants.{Limit, NoTracks, SectionsDiffer}, Presenting.contents_of}
+use Rattle.hls_presentation.specs.Presenting.{flattened, hls_presented_of, nanos_by_tick, parts_with, presented_from, presented_of_kept}
+use Rattle.hls_presentation.specs.{Presenting.track_of, Sections.{all_alike, groups_in, is_over_limit, rows_of, section_count}}
+use Rattle.hls_presentation.specs.{Sections.whole_faults, Tracks.{Source, fault_if, is_kept, kept, left_out, sources, track_faults}}
+use Rattle.hls_presentation.proofs.{Came.{all_filled, length_sections}, Faults.{given, none_given}, Grouping.{IsGroup, all_groups}}
+use Rattle.hls_presentation.proofs.{Grouping.all_rowed, Rows.{count_rows, within_limit}}
+use Rattle.laws_of_mpds.specs.{Meant.{IsWritable, are_in_order}, Texts.{IsTellable, TextsMean}, Written.{CanBeTold, HaveAddresses}}
+use Rattle.laws_of_mpds.specs.Written.{PlaylistsMeanTheSame}
+use Rattle.laws_of_mpds.proofs.{Ordered.{front_in_order, kept_in_order}, ReadPlain.{IsPlainSegment, all_plain, ticks_by}}
 
 -- ---- what is so of tracks and playlists is so of both together
 

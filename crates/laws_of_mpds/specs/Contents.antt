@@ -1,17 +1,10 @@
 -- What is read of a track in a section means what was written.
-use Rattle.std.specs.Prelude.{◌≡◌, ℕ, ◌+◌, ◌<◌, List, [], length, map}
-use Rattle.std.specs.List.{AllByRecursion}
-use Rattle.url_parts.specs.Addresses.{IsAddress}
-use Rattle.url_parts.specs.declared.address.Part.{Part}
-use Rattle.timeline.specs.declared.entry.End.{End}
-use Rattle.timeline.specs.declared.names.Names.TheVariants.{Addresses}
-use Rattle.timeline.specs.Expansions.{Closed}
+use Rattle.std.specs.{Prelude.{◌≡◌, ℕ, ◌+◌, ◌<◌, List, [], length, map}, List.AllByRecursion}
+use Rattle.url_parts.specs.{Addresses.IsAddress, declared.address.Part.Part}
+use Rattle.timeline.specs.{declared.entry.End.End, declared.names.Names.TheVariants.Addresses, Expansions.Closed}
 use Rattle.mpd_rules.specs.declared.rows.Description.{Description}
-use Rattle.presentation.specs.declared.parts.Content.{Content}
-use Rattle.presentation.specs.Presented.{listed_in, whole_window}
-use Rattle.presentation.specs.Meanings.{content_meant, entry_of}
-use Rattle.laws_of_mpds.specs.Rows.{in_row}
-use Rattle.laws_of_mpds.specs.Told.{IsReadable, IsShort, list_told, told_of}
+use Rattle.presentation.specs.{declared.parts.Content.Content, Presented.{listed_in, whole_window}, Meanings.{content_meant, entry_of}}
+use Rattle.laws_of_mpds.specs.{Rows.in_row, Told.{IsReadable, IsShort, list_told, told_of}}
 
 -- a file, or some bytes of one, by an address that is resolved to itself
 pub record IsOwnPart (part : Part) : Type 0 where

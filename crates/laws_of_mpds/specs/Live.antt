@@ -1,22 +1,13 @@
 -- What is read of the text of a live MPD.
 use Rattle.std.specs.Prelude.{◌≡◌, ℕ, ◌^◌, ◌<◌, ℤ, not, List, length, map, slice_get, decimal, All, Option, Some, None, option_map}
-use Rattle.std.specs.Prelude.{option_and_then, if◌then◌else◌}
-use Rattle.std.specs.List.{AllByRecursion}
-use Rattle.std.specs.Result.{result_ok}
-use Rattle.iso_time.specs.Instant.{IsReadable as IsReadableInstant}
-use Rattle.iso_time.specs.Laws.{floor_millis}
+use Rattle.std.specs.{Prelude.{option_and_then, if◌then◌else◌}, List.AllByRecursion, Result.result_ok}
+use Rattle.iso_time.specs.{Instant.IsReadable as IsReadableInstant, Laws.floor_millis}
 use Rattle.mpd_text.specs.Meaning.{reading_of}
 use Rattle.mpd_levels.specs.Segments.{Segments}
 use Rattle.mpd_rules.specs.Rules.{dash_values}
-use Rattle.dash_writer.specs.Live.{IsLive, first_time, live_text, part_of}
-use Rattle.dash_writer.specs.declared.live.LiveMpd.{LiveMpd}
-use Rattle.dash_writer.specs.declared.live.LivePeriod.{LivePeriod}
-use Rattle.dash_writer.specs.declared.live.LiveRun.{LiveRun}
-use Rattle.dash_writer.specs.declared.live.LiveSegment.{LiveSegment}
-use Rattle.laws_of_mpds.specs.Contents.{IsOwnPart}
-use Rattle.laws_of_mpds.specs.Shown.{Shown, shown_of, shown_periods}
-use Rattle.laws_of_mpds.specs.Texts.{IsTellable}
-use Rattle.laws_of_mpds.specs.Told.{IsShort, list_told}
+use Rattle.dash_writer.specs.{Live.{IsLive, first_time, live_text, part_of}, declared.live.LiveMpd.LiveMpd}
+use Rattle.dash_writer.specs.{declared.live.LivePeriod.LivePeriod, declared.live.LiveRun.LiveRun, declared.live.LiveSegment.LiveSegment}
+use Rattle.laws_of_mpds.specs.{Contents.IsOwnPart, Shown.{Shown, shown_of, shown_periods}, Texts.IsTellable, Told.{IsShort, list_told}}
 
 -- ---- what is told
 

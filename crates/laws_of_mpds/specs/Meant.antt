@@ -1,18 +1,14 @@
 -- What a written MPD means is what its presentation means.
 use Rattle.std.specs.Prelude.{◌≡◌, ℕ, ◌+◌, ◌<◌, ℤ, Bool, true, false, List, [], ◌∷◌, length, map, All, Option, None}
-use Rattle.bridge_io.specs.declared.media.Kind.{Kind}
-use Rattle.bridge_io.specs.declared.media.Kind.TheVariants.{Video, Audio, Text}
+use Rattle.bridge_io.specs.{declared.media.Kind.Kind, declared.media.Kind.TheVariants.{Video, Audio, Text}}
 use Rattle.meaning.specs.Meanings.{Entry}
 use Rattle.timeline.specs.declared.entry.End.{End}
 use Rattle.mpd_rules.specs.Rules.{dash_values}
-use Rattle.presentation.specs.declared.track.Track.{Track}
-use Rattle.presentation.specs.Presented.{Presented, AreFilled, whole_window}
-use Rattle.presentation.specs.Meanings.{content_of_row, entry_at, entry_of, meaning_of, mpd_meaning}
-use Rattle.presentation.specs.Rows.{Row}
+use Rattle.presentation.specs.{declared.track.Track.Track, Presented.{Presented, AreFilled, whole_window}, Meanings.content_of_row}
+use Rattle.presentation.specs.{Meanings.{entry_at, entry_of, meaning_of, mpd_meaning}, Rows.Row}
 use Rattle.mpd_markup.specs.Placed.{root_place}
 use Rattle.dash_writer.specs.Manifest.{root_of}
-use Rattle.laws_of_mpds.specs.Told.{read_at}
-use Rattle.laws_of_mpds.specs.Contents.{IsPlain}
+use Rattle.laws_of_mpds.specs.{Told.read_at, Contents.IsPlain}
 
 -- ---- what counts of a Representation
 

@@ -1,17 +1,12 @@
 -- What a presentation of the files of a master and of its media playlists means.
 use Rattle.std.specs.Prelude.{◌≡◌, ℕ, List, [], ◌∷◌, map, Some, Ok}
 use Rattle.bridge_io.specs.Outside.{Files}
-use Rattle.hls_master.specs.declared.track.MasterTrack.{MasterTrack}
-use Rattle.hls_master.specs.Masters.{master_of}
-use Rattle.hls_master.specs.SeenTracks.{track_seen}
-use Rattle.hls_media.specs.Media.{media_of}
-use Rattle.hls_media.specs.declared.media.Media.{Media}
+use Rattle.hls_master.specs.{declared.track.MasterTrack.MasterTrack, Masters.master_of, SeenTracks.track_seen}
+use Rattle.hls_media.specs.{Media.media_of, declared.media.Media.Media}
 use Rattle.hls_meaning.specs.Meanings.{file_at, hls_meaning}
 use Rattle.hls_presentation.specs.Presenting.{hls_presented_of}
-use Rattle.meaning.specs.Meanings.{Meaning}
-use Rattle.presentation.specs.Meanings.{meaning_of}
-use Rattle.presentation.specs.Presented.{Presented}
-use Rattle.meaning.specs.Same.{SameTimed}
+use Rattle.meaning.specs.{Meanings.Meaning, Same.SameTimed}
+use Rattle.presentation.specs.{Meanings.meaning_of, Presented.Presented}
 
 -- the file at a URL under a folder is a master of these tracks
 pub record IsMaster (files : Files) (folder url : List ℕ) (tracks : List MasterTrack) : Type 0 where

@@ -1,15 +1,10 @@
 -- What a presentation of playlists means.
 use Rattle.std.specs.Prelude.{◌≡◌, List, map, All, Ok}
-use Rattle.hls_master.specs.declared.track.MasterTrack.{MasterTrack}
-use Rattle.hls_master.specs.SeenTracks.{track_seen}
-use Rattle.hls_media.specs.Laws.{IsBounded}
-use Rattle.hls_media.specs.declared.media.Media.{Media}
+use Rattle.hls_master.specs.{declared.track.MasterTrack.MasterTrack, SeenTracks.track_seen}
+use Rattle.hls_media.specs.{Laws.IsBounded, declared.media.Media.Media}
 use Rattle.hls_meaning.specs.Meanings.{Source as Told, meaning_of_sources}
-use Rattle.hls_presentation.specs.Origins.{IsSilentTrack}
-use Rattle.hls_presentation.specs.Presenting.{hls_presented_of}
-use Rattle.hls_presentation.specs.Tracks.{Source, sources}
-use Rattle.presentation.specs.Meanings.{meaning_of}
-use Rattle.presentation.specs.Presented.{Presented}
+use Rattle.hls_presentation.specs.{Origins.IsSilentTrack, Presenting.hls_presented_of, Tracks.{Source, sources}}
+use Rattle.presentation.specs.{Meanings.meaning_of, Presented.Presented}
 use Rattle.meaning.specs.Same.{SameTimed}
 
 -- a track with its playlist, as a meaning has it

@@ -1,26 +1,16 @@
 -- What the text of an MPD with the times of its files means.
 use Rattle.std.specs.Prelude.{◌≡◌, ℕ, ◌+◌, ◌*◌, ◌<◌, ℤ, false, List, [], ◌∷◌, All, length, map, slice_get, decimal, Option, Some, None}
-use Rattle.std.specs.Prelude.{option_map, option_and_then}
-use Rattle.std.specs.List.{AllByRecursion}
-use Rattle.std.specs.Result.{result_ok}
+use Rattle.std.specs.{Prelude.{option_map, option_and_then}, List.AllByRecursion, Result.result_ok}
 use Rattle.url_parts.specs.declared.address.Part.{Part}
-use Rattle.timeline.specs.declared.names.Names.TheVariants.{Addresses}
-use Rattle.timeline.specs.Expansions.{Closed}
+use Rattle.timeline.specs.{declared.names.Names.TheVariants.Addresses, Expansions.Closed}
 use Rattle.mpd_text.specs.Meaning.{reading_of}
 use Rattle.mpd_levels.specs.Segments.{Segments}
 use Rattle.mpd_rules.specs.Rules.{dash_values}
-use Rattle.presentation.specs.declared.parts.Content.{Content}
-use Rattle.presentation.specs.declared.track.Section.{Section}
-use Rattle.presentation.specs.Presented.{Presented, content_at, listed_in, whole_window}
-use Rattle.presentation.specs.Meanings.{dash_meaning, meaning_of}
-use Rattle.dash_writer.specs.Lists.{parts_of}
-use Rattle.dash_writer.specs.Timed.{CanBeTimed, timed_sections, timed_text}
-use Rattle.dash_writer.specs.declared.timed.TickRun.{TickRun}
-use Rattle.laws_of_mpds.specs.Meant.{IsWritable}
-use Rattle.laws_of_mpds.specs.Rows.{in_row}
-use Rattle.laws_of_mpds.specs.Shown.{Shown, shown_of, shown_periods}
-use Rattle.laws_of_mpds.specs.Texts.{IsTellable}
-use Rattle.laws_of_mpds.specs.Told.{IsShort, list_told}
+use Rattle.presentation.specs.{declared.parts.Content.Content, declared.track.Section.Section, Presented.{Presented, content_at, listed_in}}
+use Rattle.presentation.specs.{Presented.whole_window, Meanings.{dash_meaning, meaning_of}}
+use Rattle.dash_writer.specs.{Lists.parts_of, Timed.{CanBeTimed, timed_sections, timed_text}, declared.timed.TickRun.TickRun}
+use Rattle.laws_of_mpds.specs.{Meant.IsWritable, Rows.in_row, Shown.{Shown, shown_of, shown_periods}, Texts.IsTellable, Told.IsShort}
+use Rattle.laws_of_mpds.specs.Told.{list_told}
 
 -- ---- a presentation by the times of its files
 

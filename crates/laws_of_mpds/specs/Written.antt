@@ -1,21 +1,12 @@
 -- An MPD that is written of playlists.
 use Rattle.std.specs.Prelude.{◌≡◌, ◌<◌, ℕ, ℤ, true, List, map, All, Option, Some, Ok, IfSome}
-use Rattle.url_parts.specs.Addresses.{IsAddress}
-use Rattle.url_parts.specs.declared.address.Part.{Part}
-use Rattle.hls_master.specs.declared.track.MasterTrack.{MasterTrack}
-use Rattle.hls_master.specs.Masters.{master_of}
-use Rattle.hls_master.specs.SeenTracks.{track_seen}
-use Rattle.hls_master.specs.Tracks.{TrackValue}
-use Rattle.hls_media.specs.Laws.{IsBounded}
-use Rattle.hls_media.specs.Media.{media_of}
-use Rattle.hls_media.specs.declared.media.Media.{Media}
-use Rattle.hls_media.specs.declared.media.MediaSegment.{MediaSegment}
+use Rattle.url_parts.specs.{Addresses.IsAddress, declared.address.Part.Part}
+use Rattle.hls_master.specs.{declared.track.MasterTrack.MasterTrack, Masters.master_of, SeenTracks.track_seen, Tracks.TrackValue}
+use Rattle.hls_media.specs.{Laws.IsBounded, Media.media_of, declared.media.Media.Media, declared.media.MediaSegment.MediaSegment}
 use Rattle.hls_presentation.specs.Presenting.{hls_presented_of}
-use Rattle.presentation.specs.Presented.{Presented}
-use Rattle.presentation.specs.Meanings.{dash_meaning, meaning_of}
+use Rattle.presentation.specs.{Presented.Presented, Meanings.{dash_meaning, meaning_of}}
 use Rattle.dash_writer.specs.Manifest.{manifest_text}
-use Rattle.laws_of_mpds.specs.Meant.{are_in_order}
-use Rattle.laws_of_mpds.specs.Texts.{IsCarried}
+use Rattle.laws_of_mpds.specs.{Meant.are_in_order, Texts.IsCarried}
 
 -- addresses that are resolved to themselves
 pub record HasAddresses (s : MediaSegment) : Type 0 where

@@ -1,37 +1,24 @@
 -- What a track has is what the index of its file tells.
+use Rattle.timeline.specs.declared.names.Names.TheVariants as names
+use Rattle.presentation.specs.Meanings as presentation
+use Rattle.index_parts.specs.Located as located
 use Rattle.std.proofs.Common.{◌≡◌, ℕ, suc, ◌+◌, ◌-◌, ◌<◌, ◌*ℤ◌, false, List, [], ◌∷◌, map, slice_get, take, drop, Option, None, Some, Ok}
-use Rattle.std.proofs.Common.{refl, sym, ◌∙◌, ap, arith}
-use Rattle.std.specs.Prelude.{option_and_then, option_map}
-use Rattle.std.specs.List.{list_any}
-use Rattle.std.specs.Result.{result_ok}
-use Rattle.std.proofs.lemmas.Bool.{or_parts}
+use Rattle.std.proofs.{Common.{refl, sym, ◌∙◌, ap, arith}, lemmas.Bool.or_parts}
+use Rattle.std.specs.{Prelude.{option_and_then, option_map}, List.list_any, Result.result_ok}
 use Rattle.bridge_io.proofs.AndThen.{steps_of}
 use Rattle.bridge_io.specs.Outside.{Files}
 use Rattle.exact_time.specs.Time.{in_units}
 use Rattle.meaning.specs.Meanings.{Segment}
 use Rattle.mpd_levels.specs.declared.initialization.Initialization.{Initialization}
-use Rattle.timeline.specs.declared.fault.TimeFault.TheVariants.{ZeroDuration}
-use Rattle.timeline.specs.declared.names.Names.TheVariants as names
-use Rattle.timeline.specs.Expansions.{SegmentTimeline, Timing, numbered}
-use Rattle.timeline.specs.Faults.{fault_if, lasts_no_time}
-use Rattle.timeline.specs.Listed.{listed}
-use Rattle.timeline.specs.Names.{referred}
+use Rattle.timeline.specs.{declared.fault.TimeFault.TheVariants.ZeroDuration, Expansions.{SegmentTimeline, Timing, numbered}}
+use Rattle.timeline.specs.{Faults.{fault_if, lasts_no_time}, Listed.listed, Names.referred}
 use Rattle.timeline.proofs.OpenEnds.{no_faults, unless}
-use Rattle.url_parts.specs.declared.address.Part.{Part}
-use Rattle.url_parts.specs.declared.range.Range.{Range}
-use Rattle.presentation.specs.Meanings.{part_meant, segment_of}
-use Rattle.presentation.specs.Meanings as presentation
-use Rattle.presentation.specs.Presented.{listed_in, whole_window}
-use Rattle.presentation.specs.Told.{part_with}
-use Rattle.presentation.proofs.Meant.{chained, reached}
-use Rattle.presentation.proofs.WholeWindow.{expanded, one_listed, part_at_place}
-use Rattle.segment_index.specs.declared.reference.Reference.{Reference}
-use Rattle.segment_index.specs.Index.{Index, index_of}
-use Rattle.index_parts.specs.Located.{part_before, track_parts}
-use Rattle.index_parts.specs.Located as located
-use Rattle.index_parts.specs.Meanings.{entry_at, entry_by, entry_of, entry_with, index_among, initialization_by, segments_from, segments_of}
-use Rattle.index_parts.specs.Presented.{contents_in}
-use Rattle.index_parts.specs.Rows.{Row, told_in}
+use Rattle.url_parts.specs.{declared.address.Part.Part, declared.range.Range.Range}
+use Rattle.presentation.specs.{Meanings.{part_meant, segment_of}, Presented.{listed_in, whole_window}, Told.part_with}
+use Rattle.presentation.proofs.{Meant.{chained, reached}, WholeWindow.{expanded, one_listed, part_at_place}}
+use Rattle.segment_index.specs.{declared.reference.Reference.Reference, Index.{Index, index_of}}
+use Rattle.index_parts.specs.{Located.{part_before, track_parts}, Meanings.{entry_at, entry_by, entry_of, entry_with, index_among}}
+use Rattle.index_parts.specs.{Meanings.{initialization_by, segments_from, segments_of}, Presented.contents_in, Rows.{Row, told_in}}
 use Rattle.index_parts.specs.Segments.{extents_from, extents_in, part_of, parts_from, parts_in, ticks_of}
 use Rattle.index_parts.proofs.Tiles.{IsTold, fault_in, is_told, timeline_in}
 

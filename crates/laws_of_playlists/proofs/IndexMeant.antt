@@ -1,34 +1,23 @@
 -- The presentation of an MPD and its media files means what they mean.
+use Rattle.presentation.specs.Meanings as presentation
 use Rattle.std.proofs.Common.{◌≡◌, ℕ, ◌+◌, ◌*◌, ◌<◌, List, [], ◌∷◌, length, map, slice_get, Option, Some, option_map, Ok, refl, sym, ◌∙◌}
-use Rattle.std.proofs.Common.{ap, subst, arith, zero-add}
-use Rattle.std.specs.Prelude.{option_and_then}
-use Rattle.std.specs.Result.{result_ok}
-use Rattle.std.proofs.lemmas.List.{length-map}
-use Rattle.std.proofs.lemmas.List.FromFn.{length-map-range_with_len}
+use Rattle.std.proofs.{Common.{ap, subst, arith, zero-add}, lemmas.List.length-map, lemmas.List.FromFn.length-map-range_with_len}
 use Rattle.std.proofs.lemmas.Option.{slice_get-map}
+use Rattle.std.specs.{Prelude.option_and_then, Result.result_ok}
 use Rattle.bridge_io.proofs.AndThen.{steps_of}
 use Rattle.bridge_io.specs.Outside.{Files}
 use Rattle.meaning.specs.Meanings.{Entry}
 use Rattle.mpd_levels.specs.declared.indexed.IndexRow.{IndexRow}
 use Rattle.mpd_profile.specs.declared.fault.RuleFault.{RuleFault}
-use Rattle.mpd_rules.specs.Rules.{all_index_refusals, index_values, indexed_mpd_of, unless_refused}
-use Rattle.mpd_rules.specs.Typed.{TypedMpd}
-use Rattle.presentation.specs.declared.parts.Content.{Content}
-use Rattle.presentation.specs.declared.track.Track.{Track}
-use Rattle.presentation.specs.Meanings.{meaning_with, row_at}
-use Rattle.presentation.specs.Meanings as presentation
-use Rattle.presentation.specs.Presented.{Presented, whole_window}
-use Rattle.presentation.specs.Rows.{in_order, track_of}
-use Rattle.presentation.proofs.Allowed.{each_at}
-use Rattle.presentation.proofs.Grids.{found, same_members}
-use Rattle.presentation.proofs.Joining.{seen_twice}
-use Rattle.index_parts.specs.Located.{track_parts}
-use Rattle.index_parts.specs.Meanings.{all_of, entry_of, head_of, indexed_meaning, meaning_by, meaning_of, meaning_over, with_first}
-use Rattle.index_parts.specs.Presented.{all_parts, contents_in, indexed_of, nothing, presented_by, presented_with}
-use Rattle.index_parts.specs.Rows.{Period, Row}
+use Rattle.mpd_rules.specs.{Rules.{all_index_refusals, index_values, indexed_mpd_of, unless_refused}, Typed.TypedMpd}
+use Rattle.presentation.specs.{declared.parts.Content.Content, declared.track.Track.Track, Meanings.{meaning_with, row_at}}
+use Rattle.presentation.specs.{Presented.{Presented, whole_window}, Rows.{in_order, track_of}}
+use Rattle.presentation.proofs.{Allowed.each_at, Grids.{found, same_members}, Joining.seen_twice}
+use Rattle.index_parts.specs.{Located.track_parts, Meanings.{all_of, entry_of, head_of, indexed_meaning, meaning_by, meaning_of}}
+use Rattle.index_parts.specs.{Meanings.{meaning_over, with_first}, Presented.{all_parts, contents_in, indexed_of, nothing, presented_by}}
+use Rattle.index_parts.specs.{Presented.presented_with, Rows.{Period, Row}}
 use Rattle.laws_of_playlists.specs.IndexMeant.{IndexedAreMeant, IndexedTextsAreMeant}
-use Rattle.laws_of_playlists.proofs.IndexEntries.{Listed, track_meant}
-use Rattle.laws_of_playlists.proofs.IndexPresented.{IsPresented, is_presented}
+use Rattle.laws_of_playlists.proofs.{IndexEntries.{Listed, track_meant}, IndexPresented.{IsPresented, is_presented}}
 
 -- ---- one section, track by track
 

@@ -1,13 +1,11 @@
 -- What is written of an MPD and its media files can be read again.
 use Rattle.std.proofs.Common.{All}
 use Rattle.presentation.specs.Presented.{listed_at}
-use Rattle.laws_of_playlists.specs.Origins.{AreShortInPace}
-use Rattle.laws_of_playlists.specs.ReadMedia.{IsReadableContent}
-use Rattle.laws_of_playlists.specs.SameFiles.{IsReadable, IsWritable, WrittenMeanTheSame}
-use Rattle.laws_of_playlists.proofs.SameStatic.{in_turn, part_read, short}
-use Rattle.laws_of_playlists.specs.IndexOrigins.{IndexedAreFinished, IndexedAreInPace, IndexedAreWritable, IndexedInitializationsAreLocated}
-use Rattle.laws_of_playlists.specs.IndexOrigins.{IndexedPartsAreLocated}
+use Rattle.laws_of_playlists.specs.{Origins.AreShortInPace, ReadMedia.IsReadableContent, SameFiles.{IsReadable, IsWritable}}
+use Rattle.laws_of_playlists.specs.{SameFiles.WrittenMeanTheSame, IndexOrigins.{IndexedAreFinished, IndexedAreInPace, IndexedAreWritable}}
+use Rattle.laws_of_playlists.specs.IndexOrigins.{IndexedInitializationsAreLocated, IndexedPartsAreLocated}
 use Rattle.laws_of_playlists.specs.IndexWritten.{WrittenMeansTheIndex}
+use Rattle.laws_of_playlists.proofs.SameStatic.{in_turn, part_read, short}
 
 pub written_means : IndexedAreFinished → IndexedAreWritable → IndexedInitializationsAreLocated → IndexedPartsAreLocated
     → IndexedAreInPace → AreShortInPace → WrittenMeanTheSame → WrittenMeansTheIndex

@@ -1,32 +1,24 @@
 -- Written media playlists are read, line by line.
 use Rattle.std.proofs.Common.{◌≡◌, ℕ, zero, suc, ◌+◌, ◌-◌, ◌≤◌, Bool, true, false, List, [], ◌∷◌, ◌++◌, map, replicate, option_map, Option}
 use Rattle.std.proofs.Common.{Some, None, IfSome, unwrap_or, refl, inl, inr, sym, ◌∙◌, ap, subst, arith, append_assoc}
-use Rattle.std.specs.Prelude.{ℤ, nat_lt}
-use Rattle.std.specs.List.{All}
-use Rattle.std.proofs.lemmas.Bool.{cases_Bool, ltb-false}
-use Rattle.std.proofs.lemmas.List.{append-nil}
-use Rattle.std.proofs.lemmas.List.Elements.{All-append, All-cons, All-head, All-tail}
+use Rattle.std.proofs.{lemmas.Bool.{cases_Bool, ltb-false}, lemmas.List.append-nil, lemmas.List.Elements.{All-append, All-cons, All-head}}
+use Rattle.std.proofs.lemmas.List.Elements.{All-tail}
+use Rattle.std.specs.{Prelude.{ℤ, nat_lt}, List.All}
 use Rattle.bridge_io.specs.declared.place.Place.{Place}
-use Rattle.url_parts.specs.declared.address.Part.{Part}
-use Rattle.url_parts.specs.declared.range.Range.{Range}
+use Rattle.url_parts.specs.{declared.address.Part.Part, declared.range.Range.Range}
 use Rattle.hls_lines.specs.Lines.{behind, start}
-use Rattle.hls_media.specs.Media.{after, after_all, former_end, media_at, media_values, segment_value}
-use Rattle.hls_media.specs.States.{State, nothing}
-use Rattle.hls_media.specs.Tags.{tag_of}
-use Rattle.hls_media.specs.declared.media.Media.{Media}
-use Rattle.hls_media.specs.declared.media.MediaSegment.{MediaSegment}
+use Rattle.hls_media.specs.{Media.{after, after_all, former_end, media_at, media_values, segment_value}, States.{State, nothing}}
+use Rattle.hls_media.specs.{Tags.tag_of, declared.media.Media.Media, declared.media.MediaSegment.MediaSegment}
 use Rattle.hls_writer.specs.Lines.{WrittenLine, header, version, target_duration, media_sequence, discontinuity_sequence, on_demand}
 use Rattle.hls_writer.specs.Lines.{discontinuity, initialization, program_date_time, duration, byte_range, uri, line_bytes, lines_text}
-use Rattle.hls_writer.specs.Lines.{range_bytes}
-use Rattle.hls_writer.specs.Playlists.{Item, begins_section, end_lines, finished_text, followed_text, item_lines, items_lines, media_lines}
-use Rattle.hls_writer.specs.Playlists.{own_lines, present, rise}
-use Rattle.laws_of_playlists.specs.ReadLines.{IsReadable, said_at, said_from_place}
-use Rattle.laws_of_playlists.specs.ReadMedia.{AreInOrder, AreReadable, FinishedAreRead, FollowedAreRead, GoOn, IsReadableItem}
-use Rattle.laws_of_playlists.specs.ReadMedia.{IsReadableRange, IsShortNumber, ReadsAs, nanos_of, segment_in, segment_of, segments_of}
-use Rattle.laws_of_playlists.proofs.WrittenLines.{written_are_read}
-use Rattle.laws_of_playlists.proofs.Readable.{end_lines_readable, items_readable, on_demand_readable, section_readable, sequence_readable}
-use Rattle.laws_of_playlists.proofs.Readable.{target_readable, version_readable}
-use Rattle.laws_of_playlists.proofs.Values.{address_is, duration_is, map_is, number_is, range_is}
+use Rattle.hls_writer.specs.{Lines.range_bytes, Playlists.{Item, begins_section, end_lines, finished_text, followed_text, item_lines}}
+use Rattle.hls_writer.specs.Playlists.{items_lines, media_lines, own_lines, present, rise}
+use Rattle.laws_of_playlists.specs.{ReadLines.{IsReadable, said_at, said_from_place}, ReadMedia.{AreInOrder, AreReadable, FinishedAreRead}}
+use Rattle.laws_of_playlists.specs.ReadMedia.{FollowedAreRead, GoOn, IsReadableItem, IsReadableRange, IsShortNumber, ReadsAs, nanos_of}
+use Rattle.laws_of_playlists.specs.ReadMedia.{segment_in, segment_of, segments_of}
+use Rattle.laws_of_playlists.proofs.{WrittenLines.written_are_read, Readable.{end_lines_readable, items_readable, on_demand_readable}}
+use Rattle.laws_of_playlists.proofs.{Readable.{section_readable, sequence_readable, target_readable, version_readable}, Values.address_is}
+use Rattle.laws_of_playlists.proofs.Values.{duration_is, map_is, number_is, range_is}
 
 -- from a state on, lines give these values, wherever the first of them stands
 abbrev pub Leads : List ℕ → State → List WrittenLine → Media → Type 0

@@ -1,12 +1,9 @@
 -- The attributes of a master's lines are read as they were written.
 use Rattle.std.proofs.Common.{◌≡◌, ℕ, zero, suc, ◌+◌, ◌/◌, ◌%◌, ◌^◌, ◌<◌, ◌≤◌, Bool, true, false, not, ◌&&◌, eqb, leb, List, [], ◌∷◌, ◌++◌}
 use Rattle.std.proofs.Common.{length, map, codes, decimal, Option, Ok, refl, sym, subst, arith, inl, inr, append-nil, length-append}
-use Rattle.std.specs.Bool.{⊤}
-use Rattle.std.specs.Fmt.{digits, digits_onto, digit_glyph}
-use Rattle.std.specs.List.{AllByRecursion, list_any, list_all}
-use Rattle.std.proofs.lemmas.Bool.{and_from, and_parts, cases_Bool, not-true, or_from, or_parts}
-use Rattle.std.proofs.lemmas.Bool.Decides.{nat_tests}
+use Rattle.std.proofs.{lemmas.Bool.{and_from, and_parts, cases_Bool, not-true, or_from, or_parts}, lemmas.Bool.Decides.nat_tests}
 use Rattle.std.proofs.lemmas.List.Folds.{list_all-append}
+use Rattle.std.specs.{Bool.⊤, Fmt.{digits, digits_onto, digit_glyph}, List.{AllByRecursion, list_any, list_all}}
 use Rattle.iso_time.specs.Digits.{padded_digits}
 use Rattle.bridge_io.specs.declared.place.Place.{Place}
 use Rattle.hls_lines.specs.Attributes.{NameValue, attributes_of, ends_value, is_name, is_name_byte, is_quote, names_of, repeats_after}
@@ -16,8 +13,7 @@ use Rattle.hls_writer.specs.Attributes.{WrittenAttribute, media_type, group_id, 
 use Rattle.hls_writer.specs.Attributes.{codecs, resolution, frame_rate, renditions, attribute_bytes, attributes_bytes, codes_bytes}
 use Rattle.hls_writer.specs.Attributes.{group_bytes, playlist_name, quoted, tag_or_undetermined, thousandths_bytes, type_name, yes_or_no}
 use Rattle.laws_of_playlists.specs.ReadLines.{ends_visibly, is_printable}
-use Rattle.laws_of_playlists.proofs.WrittenLines.{weaker}
-use Rattle.laws_of_playlists.proofs.MasterTypes.{IsKnown, RenditionGroup, audio_group, of_known, text_group}
+use Rattle.laws_of_playlists.proofs.{WrittenLines.weaker, MasterTypes.{IsKnown, RenditionGroup, audio_group, of_known, text_group}}
 use Rattle.laws_of_playlists.proofs.MasterNames.{decimal_digits, is_digit, named}
 
 -- ---- a name and a value

@@ -1,25 +1,16 @@
 -- A variant of a video track is told as video.
+use Rattle.url_parts.specs.declared.code.CodeClass.TheVariants as class
 use Rattle.std.proofs.Common.{◌≡◌, ℕ, Bool, true, false, not, ◌&&◌, cond, eqb, List, [], ◌∷◌, ◌++◌, map, flat_map, Option, Some, None}
 use Rattle.std.proofs.Common.{option_map, option_and_then, IfSome, refl, sym, ◌∙◌, ap, subst, inl, inr, append-nil}
-use Rattle.std.specs.List.{AllByRecursion, list_any, slice_split, onto_first, slice_get}
-use Rattle.std.proofs.lemmas.Bool.{cases_Bool, or_left, or_parts}
-use Rattle.std.proofs.lemmas.List.Elements.{All-from_recursion}
+use Rattle.std.proofs.{lemmas.Bool.{cases_Bool, or_left, or_parts}, lemmas.List.Elements.All-from_recursion}
 use Rattle.std.proofs.lemmas.List.Splits.{slice_split_at, slice_split_none}
+use Rattle.std.specs.List.{AllByRecursion, list_any, slice_split, onto_first, slice_get}
 use Rattle.bridge_io.specs.declared.media.Kind.TheVariants.{Video, Audio}
-use Rattle.url_parts.specs.declared.code.CodeClass.{CodeClass}
-use Rattle.url_parts.specs.declared.code.CodeClass.TheVariants as class
-use Rattle.url_parts.specs.Codes.{class_of}
-use Rattle.mpd_values.specs.declared.blank.Blank.TheVariants.{Space}
-use Rattle.mpd_values.specs.Blanks.{trimmed}
-use Rattle.mpd_values.specs.Codecs.{agrees, codes_of, is_foreign}
-use Rattle.hls_master.specs.Codes.{belongs, has_code, is_of}
-use Rattle.hls_master.specs.Tracks.{variant_kind}
-use Rattle.hls_master.specs.Variants.{VariantValue}
-use Rattle.hls_writer.specs.Attributes.{codes_bytes}
-use Rattle.hls_writer.specs.Variants.{codecs_at, codes_from, codes_in, with_codes}
-use Rattle.hls_writer.specs.Variants.{codes_of as codes_written}
-use Rattle.presentation.specs.declared.track.Track.{Track}
-use Rattle.presentation.specs.Groups.{same_text}
+use Rattle.url_parts.specs.{declared.code.CodeClass.CodeClass, Codes.class_of}
+use Rattle.mpd_values.specs.{declared.blank.Blank.TheVariants.Space, Blanks.trimmed, Codecs.{agrees, codes_of, is_foreign}}
+use Rattle.hls_master.specs.{Codes.{belongs, has_code, is_of}, Tracks.variant_kind, Variants.VariantValue}
+use Rattle.hls_writer.specs.{Attributes.codes_bytes, Variants.{codecs_at, codes_from, codes_in, with_codes, codes_of as codes_written}}
+use Rattle.presentation.specs.{declared.track.Track.Track, Groups.same_text}
 use Rattle.laws_of_playlists.specs.Tracks.{AreOwnCodes}
 
 abbrev is_comma : ℕ → Bool

@@ -1,17 +1,13 @@
 -- Which mentions of a master are the first of their addresses.
 use Rattle.std.proofs.Common.{◌≡◌, ℕ, zero, suc, ◌+◌, ◌<◌, ◌≤◌, true, false, List, [], ◌∷◌, ◌++◌, length, map, flat_map, Option, bytes_eq}
-use Rattle.std.proofs.Common.{refl, sym, ◌∙◌, ap, arith, inl, inr, append_assoc, append-nil}
-use Rattle.std.specs.Bool.{⊤}
-use Rattle.std.specs.List.{AllByRecursion, AllZip, range_with_len}
-use Rattle.std.proofs.lemmas.Bool.{cases_lt, false_from_ne_true, or_from, or_left, or_right}
-use Rattle.std.proofs.lemmas.Slice.Eq.{bytes_eq-Decides}
+use Rattle.std.proofs.{Common.{refl, sym, ◌∙◌, ap, arith, inl, inr, append_assoc, append-nil}, lemmas.Bool.{cases_lt, false_from_ne_true}}
+use Rattle.std.proofs.{lemmas.Bool.{or_from, or_left, or_right}, lemmas.Slice.Eq.bytes_eq-Decides}
+use Rattle.std.specs.{Bool.⊤, List.{AllByRecursion, AllZip, range_with_len}}
 use Rattle.bridge_io.proofs.Texts.{equals_itself}
-use Rattle.bridge_io.specs.Texts.{is_among}
-use Rattle.bridge_io.specs.declared.media.Kind.TheVariants.{Video}
+use Rattle.bridge_io.specs.{Texts.is_among, declared.media.Kind.TheVariants.Video}
 use Rattle.hls_master.specs.Tracks.{Mentioned, by_rendition, by_variant, address_of, firsts_behind, variant_kind}
 use Rattle.hls_writer.specs.Variants.{video_variant}
-use Rattle.laws_of_playlists.proofs.MasterTypes.{Variant}
-use Rattle.laws_of_playlists.proofs.MasterLists.{all_weaker, zip_parts}
+use Rattle.laws_of_playlists.proofs.{MasterTypes.Variant, MasterLists.{all_weaker, zip_parts}}
 
 -- what is among addresses stays out of the first mentions
 pub known : (ms rest : List Mentioned) (seen : List (List ℕ)) → AllByRecursion (λ m. is_among (address_of m) seen ≡ true) ms

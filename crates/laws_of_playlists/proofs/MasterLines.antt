@@ -1,48 +1,30 @@
 -- What a master's lines carry, and what is read of them.
 use Rattle.std.proofs.Common.{◌≡◌, ℕ, ◌+◌, Bool, true, false, ◌||◌, cond, eqb, decimal, List, [], ◌∷◌, ◌++◌, map, flat_map, codes, bytes_eq}
 use Rattle.std.proofs.Common.{All, Option, Some, None, option_map, option_and_then, option_to_list, Ok, IfSome, refl, ◌∙◌, ap, subst, arith}
-use Rattle.std.proofs.Common.{inl, inr, append-nil}
-use Rattle.std.specs.Fmt.{digits}
-use Rattle.std.specs.List.{AllByRecursion, AllZip, list_any, list_all, onto_first, slice_get}
-use Rattle.std.specs.Option.{is_some}
-use Rattle.std.proofs.lemmas.Bool.{and_parts, cases_Bool, or_parts}
-use Rattle.std.proofs.lemmas.Bool.Decides.{nat_tests}
-use Rattle.std.proofs.lemmas.List.Elements.{All-from_recursion}
-use Rattle.std.proofs.lemmas.Option.{get_or_from_slice_get, slice_get_within}
-use Rattle.bridge_io.specs.declared.media.Kind.TheVariants.{Audio, Text}
-use Rattle.bridge_io.specs.declared.media.Ratio.{Ratio}
-use Rattle.bridge_io.specs.declared.media.Size.{Size}
+use Rattle.std.proofs.{Common.{inl, inr, append-nil}, lemmas.Bool.{and_parts, cases_Bool, or_parts}, lemmas.Bool.Decides.nat_tests}
+use Rattle.std.proofs.{lemmas.List.Elements.All-from_recursion, lemmas.Option.{get_or_from_slice_get, slice_get_within}}
+use Rattle.std.specs.{Fmt.digits, List.{AllByRecursion, AllZip, list_any, list_all, onto_first, slice_get}, Option.is_some}
+use Rattle.bridge_io.specs.{declared.media.Kind.TheVariants.{Audio, Text}, declared.media.Ratio.Ratio, declared.media.Size.Size}
 use Rattle.bridge_io.specs.declared.place.Place.{Place}
-use Rattle.mpd_values.specs.Codecs.{is_code_char}
-use Rattle.mpd_values.specs.Languages.{is_language, is_language_char}
-use Rattle.hls_lines.specs.Attributes.{attributes_of, names_of, repeats_after, value_of}
-use Rattle.hls_lines.specs.Lines.{behind, start}
-use Rattle.hls_master.specs.Entries.{MasterEntry, entries_of, known_line, known_lines}
-use Rattle.hls_master.specs.Addresses.{address_value}
-use Rattle.hls_master.specs.Masters.{mentions_in}
-use Rattle.hls_master.specs.Mentions.{entry_rendition, entry_variant}
-use Rattle.hls_master.specs.Renditions.{rendition_value}
-use Rattle.hls_master.specs.Variants.{VariantValue, attributes_or_none, variant_with}
+use Rattle.mpd_values.specs.{Codecs.is_code_char, Languages.{is_language, is_language_char}}
+use Rattle.hls_lines.specs.{Attributes.{attributes_of, names_of, repeats_after, value_of}, Lines.{behind, start}}
+use Rattle.hls_master.specs.{Entries.{MasterEntry, entries_of, known_line, known_lines}, Addresses.address_value, Masters.mentions_in}
+use Rattle.hls_master.specs.{Mentions.{entry_rendition, entry_variant}, Renditions.rendition_value, Variants.VariantValue}
+use Rattle.hls_master.specs.Variants.{attributes_or_none, variant_with}
 use Rattle.hls_writer.specs.Attributes.{WrittenAttribute, media_type, group_id, name, default, autoselect, playlist, bandwidth, codecs}
-use Rattle.hls_writer.specs.Attributes.{resolution, attributes_bytes, codes_bytes, group_bytes, playlist_name}
-use Rattle.hls_writer.specs.Lines.{WrittenLine, header, version, uri, variant, line_bytes}
-use Rattle.hls_writer.specs.Renditions.{filled_renditions, is_default, keys_of, language_at, own_group, own_rendition, own_renditions}
-use Rattle.hls_writer.specs.Renditions.{places_of, present, rendition_attributes, renditions_of, rendition_line, tagged, text_from}
-use Rattle.hls_writer.specs.Variants.{bandwidth_of, cast_of, codecs_at, codes_from, codes_in, codes_of, frame_rate_at, of_rate, of_sound}
-use Rattle.hls_writer.specs.Variants.{of_texts, size_at, variant_attributes, variant_lines, variants_of, with_codes}
-use Rattle.laws_of_playlists.proofs.WrittenLines.{weaker}
-use Rattle.laws_of_playlists.proofs.MasterTypes.{IsKnown, Rendition, RenditionGroup, Variant, of_known}
-use Rattle.presentation.specs.declared.track.Track.{Track}
-use Rattle.presentation.specs.Groups.{groups_of, same_text}
-use Rattle.laws_of_playlists.specs.ReadLines.{IsReadable, said_from_place}
-use Rattle.laws_of_playlists.specs.Tracks.{AreOwnCodes, IsTold}
+use Rattle.hls_writer.specs.{Attributes.{resolution, attributes_bytes, codes_bytes, group_bytes, playlist_name}, Lines.WrittenLine}
+use Rattle.hls_writer.specs.{Lines.{header, version, uri, variant, line_bytes}, Renditions.{filled_renditions, is_default, keys_of}}
+use Rattle.hls_writer.specs.Renditions.{language_at, own_group, own_rendition, own_renditions, places_of, present, rendition_attributes}
+use Rattle.hls_writer.specs.{Renditions.{renditions_of, rendition_line, tagged, text_from}, Variants.{bandwidth_of, cast_of, codecs_at}}
+use Rattle.hls_writer.specs.Variants.{codes_from, codes_in, codes_of, frame_rate_at, of_rate, of_sound, of_texts, size_at}
+use Rattle.hls_writer.specs.Variants.{variant_attributes, variant_lines, variants_of, with_codes}
+use Rattle.laws_of_playlists.proofs.{WrittenLines.weaker, MasterTypes.{IsKnown, Rendition, RenditionGroup, Variant, of_known}}
 use Rattle.laws_of_playlists.proofs.MasterAttributes.{IsCarried, IsFine, attributes_are, carried_append, carried_text, ends_append}
-use Rattle.laws_of_playlists.proofs.MasterAttributes.{is_carried, pair_of, playlist_carried, readable_attributes}
-use Rattle.laws_of_playlists.proofs.MasterLists.{all_append, all_map, all_of, all_weaker}
-use Rattle.laws_of_playlists.proofs.MasterNumbers.{IsSound, filled_audio, groups_audio}
-use Rattle.laws_of_playlists.proofs.MasterNames.{named}
-use Rattle.laws_of_playlists.proofs.MasterOrder.{kind_of_group, seen}
-use Rattle.laws_of_playlists.proofs.MasterTold.{IsSeen}
+use Rattle.laws_of_playlists.proofs.{MasterAttributes.{is_carried, pair_of, playlist_carried, readable_attributes}, MasterLists.all_append}
+use Rattle.laws_of_playlists.proofs.{MasterLists.{all_map, all_of, all_weaker}, MasterNumbers.{IsSound, filled_audio, groups_audio}}
+use Rattle.laws_of_playlists.proofs.{MasterNames.named, MasterOrder.{kind_of_group, seen}, MasterTold.IsSeen}
+use Rattle.presentation.specs.{declared.track.Track.Track, Groups.{groups_of, same_text}}
+use Rattle.laws_of_playlists.specs.{ReadLines.{IsReadable, said_from_place}, Tracks.{AreOwnCodes, IsTold}}
 
 -- ---- the characters of languages and codes
 

@@ -1,14 +1,9 @@
 -- Lists, and where something of them stands.
 use Rattle.std.proofs.Common.{◌≡◌, ℕ, ◌<◌, ◌≤◌, Bool, true, false, ◌||◌, List, [], ◌∷◌, ◌++◌, ◌⊎◌, length, map, get_or, position, Option}
-use Rattle.std.proofs.Common.{Some, None, refl, sym, ◌∙◌, ap, arith, inl, inr}
-use Rattle.std.specs.Bool.{Decides}
-use Rattle.std.specs.List.{AllByRecursion, AllZip, list_any, position_or_len}
-use Rattle.std.specs.Option.{option_eq}
-use Rattle.std.proofs.lemmas.Bool.{cases_lt, lt-ltb, or_cases, or_left, or_right, true≢false}
-use Rattle.std.proofs.lemmas.Bool.Decides.{Decides-like}
-use Rattle.std.proofs.lemmas.List.{length-map}
-use Rattle.std.proofs.lemmas.List.Folds.{Any-from_list_any, list_any-append}
-use Rattle.std.proofs.lemmas.List.Sums.{fails_before_first, passes_at_first}
+use Rattle.std.proofs.{Common.{Some, None, refl, sym, ◌∙◌, ap, arith, inl, inr}, lemmas.Bool.{cases_lt, lt-ltb, or_cases, or_left}}
+use Rattle.std.proofs.{lemmas.Bool.{or_right, true≢false}, lemmas.Bool.Decides.Decides-like, lemmas.List.length-map}
+use Rattle.std.proofs.{lemmas.List.Folds.{Any-from_list_any, list_any-append}, lemmas.List.Sums.{fails_before_first, passes_at_first}}
+use Rattle.std.specs.{Bool.Decides, List.{AllByRecursion, AllZip, list_any, position_or_len}, Option.option_eq}
 
 pub all_append : {X : Type 0} (P : X → Type 0) (xs ys : List X) → AllByRecursion P xs → AllByRecursion P ys → AllByRecursion P (xs ++ ys)
 all_append P [] ys all more = more

@@ -1,13 +1,10 @@
 -- The names of renditions, and which renditions are of one set.
 use Rattle.std.proofs.Common.{◌≡◌, ℕ, zero, suc, ◌/◌, ◌%◌, ◌^◌, ◌<◌, Bool, true, false, ◌&&◌, eqb, List, [], ◌∷◌, ◌++◌, decimal, Option}
-use Rattle.std.proofs.Common.{bytes_eq, refl, sym, ◌∙◌, ap, ap₂, arith, inl, inr, leb}
-use Rattle.std.specs.Fmt.{digits, digits_onto, digit_glyph}
-use Rattle.std.specs.List.{list_any, list_all}
-use Rattle.std.proofs.lemmas.Bool.{and_from, and_parts, cases_Bool, eq-eqb, eqb-true, or_right, true≢false}
-use Rattle.std.proofs.lemmas.Bool.Decides.{Decides-and, Decides-eqb, Decides-like, nat_tests, same_from_decides}
-use Rattle.std.proofs.lemmas.Fmt.{decimal_injective}
-use Rattle.std.proofs.lemmas.List.Folds.{list_any-append}
+use Rattle.std.proofs.{Common.{bytes_eq, refl, sym, ◌∙◌, ap, ap₂, arith, inl, inr, leb}, lemmas.Bool.{and_from, and_parts, cases_Bool}}
+use Rattle.std.proofs.{lemmas.Bool.{eq-eqb, eqb-true, or_right, true≢false}, lemmas.Bool.Decides.{Decides-and, Decides-eqb, Decides-like}}
+use Rattle.std.proofs.{lemmas.Bool.Decides.{nat_tests, same_from_decides}, lemmas.Fmt.decimal_injective, lemmas.List.Folds.list_any-append}
 use Rattle.std.proofs.lemmas.Slice.Eq.{bytes_eq-Decides}
+use Rattle.std.specs.{Fmt.{digits, digits_onto, digit_glyph}, List.{list_any, list_all}}
 use Rattle.hls_master.specs.Renditions.{RenditionValue, same_kind, same_rendition_set}
 use Rattle.hls_writer.specs.Attributes.{tag_or_undetermined}
 use Rattle.laws_of_playlists.proofs.MasterLists.{options_decide}

@@ -1,16 +1,12 @@
 -- A rendition's number is its set's place among the audio sets.
 use Rattle.std.proofs.Common.{◌≡◌, ℕ, ◌+◌, ◌^◌, ◌<◌, Bool, true, eqb, List, [], ◌∷◌, ◌++◌, length, map, get_or, position, Option, Some}
-use Rattle.std.proofs.Common.{None, unwrap_or, IfSome, refl, sym, ◌∙◌, ap, subst, arith, inl, inr}
-use Rattle.std.specs.List.{AllByRecursion, list_any, slice_get}
-use Rattle.std.specs.Option.{option_map_or}
-use Rattle.std.proofs.lemmas.Bool.{and_from, and_parts, cases_Bool, eq-eqb, eqb-false, eqb-true, ne_eqb}
-use Rattle.std.proofs.lemmas.Option.{slice_get-get_or, slice_get-map}
-use Rattle.presentation.specs.declared.track.Track.{Track}
-use Rattle.presentation.specs.Groups.{first_place, group_for, groups_of, is_audio, is_of_codes, is_of_key, last_of, member_of, place_or}
-use Rattle.presentation.specs.Groups.{rendition_at, renditions_of}
+use Rattle.std.proofs.{Common.{None, unwrap_or, IfSome, refl, sym, ◌∙◌, ap, subst, arith, inl, inr}, lemmas.Bool.{and_from, and_parts}}
+use Rattle.std.proofs.{lemmas.Bool.{cases_Bool, eq-eqb, eqb-false, eqb-true, ne_eqb}, lemmas.Option.{slice_get-get_or, slice_get-map}}
+use Rattle.std.specs.{List.{AllByRecursion, list_any, slice_get}, Option.option_map_or}
+use Rattle.presentation.specs.{declared.track.Track.Track, Groups.{first_place, group_for, groups_of, is_audio, is_of_codes, is_of_key}}
+use Rattle.presentation.specs.Groups.{last_of, member_of, place_or, rendition_at, renditions_of}
 use Rattle.hls_writer.specs.Renditions.{filled_from, filled_renditions, is_place, is_same_key, keys_of, members_in, own_group}
-use Rattle.hls_writer.specs.Renditions.{own_rendition}
-use Rattle.hls_writer.specs.Variants.{sound_variants, sound_variant}
+use Rattle.hls_writer.specs.{Renditions.own_rendition, Variants.{sound_variants, sound_variant}}
 use Rattle.laws_of_playlists.proofs.MasterTypes.{AudioTrack, IsKnown, Key, Rendition, Variant, firsts, of_same_set, same_key}
 use Rattle.laws_of_playlists.proofs.MasterLists.{IsPlaced, all_append, all_map, all_of, all_weaker, placed, placed_alike}
 use Rattle.laws_of_playlists.proofs.MasterPlaces.{IsAt, all_at, all_firsts, finds, firsts_few, firsts_have, follow, key_of, keys_are}

@@ -1,21 +1,15 @@
 -- The renditions that audio groups are made of.
 use Rattle.std.proofs.Common.{◌≡◌, ℕ, zero, suc, ◌+◌, ◌<◌, ◌≤◌, Bool, true, ◌&&◌, ◌||◌, cond, eqb, List, [], ◌∷◌, ◌++◌, length, map, take}
 use Rattle.std.proofs.Common.{get_or, position, count_by, Option, Some, unwrap_or, refl, sym, ◌∙◌, ap, subst, arith, inl, inr, append_assoc}
-use Rattle.std.proofs.Common.{le_of_lt}
-use Rattle.std.specs.Bool.{⊤}
-use Rattle.std.specs.List.{AllByRecursion, list_any, slice_get}
-use Rattle.std.specs.Option.{option_eq}
-use Rattle.std.proofs.lemmas.Bool.{and_from, and_parts, cases_Bool, cases_order, eq-eqb, or_cases}
-use Rattle.std.proofs.lemmas.List.{length_push, take-take}
-use Rattle.std.proofs.lemmas.List.Folds.{list_any_at}
-use Rattle.std.proofs.lemmas.List.Sums.{count_by_more_yes, sum_by-take-le}
-use Rattle.std.proofs.lemmas.Option.{get_or_from_slice_get, same_Some, slice_get_within}
+use Rattle.std.proofs.{Common.le_of_lt, lemmas.Bool.{and_from, and_parts, cases_Bool, cases_order, eq-eqb, or_cases}}
+use Rattle.std.proofs.{lemmas.List.{length_push, take-take}, lemmas.List.Folds.list_any_at, lemmas.List.Sums.count_by_more_yes}
+use Rattle.std.proofs.{lemmas.List.Sums.sum_by-take-le, lemmas.Option.{get_or_from_slice_get, same_Some, slice_get_within}}
 use Rattle.std.proofs.lemmas.Slice.Eq.{bytes_eq-Decides}
-use Rattle.presentation.specs.declared.track.Track.{Track}
-use Rattle.presentation.specs.Groups.{has_codes_of, is_audio, rendition_at, renditions_from, same_text}
+use Rattle.std.specs.{Bool.⊤, List.{AllByRecursion, list_any, slice_get}, Option.option_eq}
+use Rattle.presentation.specs.{declared.track.Track.Track, Groups.{has_codes_of, is_audio, rendition_at, renditions_from, same_text}}
 use Rattle.hls_writer.specs.Renditions.{is_same_key, keys_from, with_key}
-use Rattle.laws_of_playlists.proofs.MasterTypes.{AudioTrack, Key, firsts, same_key}
-use Rattle.laws_of_playlists.proofs.MasterLists.{all_append, any_kept, any_pushed, any_wider, options_decide, placed}
+use Rattle.laws_of_playlists.proofs.{MasterTypes.{AudioTrack, Key, firsts, same_key}, MasterLists.{all_append, any_kept, any_pushed}}
+use Rattle.laws_of_playlists.proofs.MasterLists.{any_wider, options_decide, placed}
 
 -- ---- the first of their set or key
 

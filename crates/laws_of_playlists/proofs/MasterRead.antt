@@ -1,25 +1,18 @@
 -- A master is read as it was written.
 use Rattle.std.proofs.Common.{◌≡◌, ℕ, ◌+◌, ◌^◌, ◌<◌, Bool, true, false, not, eqb, leb, List, [], ◌∷◌, ◌++◌, length, codes, decimal, Some}
-use Rattle.std.proofs.Common.{refl, sym, ◌∙◌, ap, arith, append_assoc, append-nil, length-append}
-use Rattle.std.specs.List.{list_all}
-use Rattle.std.proofs.lemmas.Bool.{and_from, and_parts, le-leb, lt-leb, not-true}
-use Rattle.std.proofs.lemmas.Bool.Decides.{nat_tests}
-use Rattle.std.proofs.lemmas.Fmt.{decimal_injective, length-decimal-le}
-use Rattle.std.proofs.lemmas.List.{append_cancel_left, append_cancel_right}
+use Rattle.std.proofs.{Common.{refl, sym, ◌∙◌, ap, arith, append_assoc, append-nil, length-append}, lemmas.Bool.{and_from, and_parts}}
+use Rattle.std.proofs.{lemmas.Bool.{le-leb, lt-leb, not-true}, lemmas.Bool.Decides.nat_tests, lemmas.Fmt.decimal_injective}
+use Rattle.std.proofs.{lemmas.Fmt.length-decimal-le, lemmas.List.{append_cancel_left, append_cancel_right}}
 use Rattle.std.proofs.lemmas.List.Folds.{list_all-append}
+use Rattle.std.specs.List.{list_all}
 use Rattle.bridge_io.specs.Names.{is_name, is_name_byte, is_proper_part, parts_after}
 use Rattle.url_parts.specs.Addresses.{folder_of}
-use Rattle.hls_master.specs.Addresses.{address_value}
-use Rattle.hls_master.specs.Masters.{master_values}
+use Rattle.hls_master.specs.{Addresses.address_value, Masters.master_values}
 use Rattle.hls_writer.specs.Attributes.{playlist_name}
 use Rattle.presentation.specs.declared.track.Track.{Track}
-use Rattle.laws_of_playlists.specs.Master.{MasterIsRead}
-use Rattle.laws_of_playlists.specs.ReadLines.{WrittenLinesAreRead}
-use Rattle.laws_of_playlists.proofs.WrittenLines.{weaker}
-use Rattle.laws_of_playlists.proofs.MasterLines.{all_readable, lines_behind, mentioned}
-use Rattle.laws_of_playlists.proofs.MasterNames.{decimal_digits, is_digit}
-use Rattle.laws_of_playlists.proofs.MasterOrder.{address_at}
-use Rattle.laws_of_playlists.proofs.MasterTold.{told}
+use Rattle.laws_of_playlists.specs.{Master.MasterIsRead, ReadLines.WrittenLinesAreRead}
+use Rattle.laws_of_playlists.proofs.{WrittenLines.weaker, MasterLines.{all_readable, lines_behind, mentioned}, MasterNames.decimal_digits}
+use Rattle.laws_of_playlists.proofs.{MasterNames.is_digit, MasterOrder.address_at, MasterTold.told}
 
 -- ---- a track's playlist has a name
 

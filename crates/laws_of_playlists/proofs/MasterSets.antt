@@ -1,19 +1,12 @@
 -- Mentions that stand set by set are told in their order.
 use Rattle.std.proofs.Common.{◌≡◌, ℕ, ◌+◌, ◌<◌, ◌≤◌, Bool, true, false, eqb, List, [], ◌∷◌, ◌++◌, map, flat_map, filter, Option, None, refl}
-use Rattle.std.proofs.Common.{sym, ◌∙◌, ap, subst, arith, inl, inr, append_assoc, append-nil}
-use Rattle.std.specs.Bool.{⊤}
-use Rattle.std.specs.List.{AllByRecursion, list_any}
-use Rattle.std.proofs.lemmas.Bool.{cases_Bool, cases_lt, eq-eqb, false_from_ne_true, and_parts, ne_eqb, or_right, true≢false}
-use Rattle.std.proofs.lemmas.List.{map-append}
-use Rattle.std.proofs.lemmas.List.Concat.{flat_map-append}
-use Rattle.std.proofs.lemmas.List.Elements.{filter-append}
-use Rattle.std.proofs.lemmas.List.Folds.{list_any-append}
-use Rattle.bridge_io.specs.declared.media.Kind.{Kind}
-use Rattle.bridge_io.specs.declared.media.Kind.TheVariants.{Video, Audio, Text}
-use Rattle.hls_master.specs.Renditions.{same_kind}
-use Rattle.hls_master.specs.Tracks.{Mentioned, by_rendition, by_variant, address_of, by_kind, has_kind, kind_of, same_set, sets_behind}
-use Rattle.hls_master.specs.Tracks.{track_of, tracks_among, tracks_of_sets, variant_kind}
-use Rattle.hls_master.specs.Variants.{VariantValue}
+use Rattle.std.proofs.{Common.{sym, ◌∙◌, ap, subst, arith, inl, inr, append_assoc, append-nil}, lemmas.Bool.{cases_Bool, cases_lt, eq-eqb}}
+use Rattle.std.proofs.{lemmas.Bool.{false_from_ne_true, and_parts, ne_eqb, or_right, true≢false}, lemmas.List.map-append}
+use Rattle.std.proofs.{lemmas.List.Concat.flat_map-append, lemmas.List.Elements.filter-append, lemmas.List.Folds.list_any-append}
+use Rattle.std.specs.{Bool.⊤, List.{AllByRecursion, list_any}}
+use Rattle.bridge_io.specs.{declared.media.Kind.Kind, declared.media.Kind.TheVariants.{Video, Audio, Text}}
+use Rattle.hls_master.specs.{Renditions.same_kind, Tracks.{Mentioned, by_rendition, by_variant, address_of, by_kind, has_kind, kind_of}}
+use Rattle.hls_master.specs.{Tracks.{same_set, sets_behind, track_of, tracks_among, tracks_of_sets, variant_kind}, Variants.VariantValue}
 use Rattle.laws_of_playlists.specs.Master.{Head, head_of}
 use Rattle.laws_of_playlists.proofs.MasterLists.{all_append, all_weaker}
 

@@ -2,9 +2,8 @@
 use Rattle.std.proofs.Common.{◌≡◌, ℕ, Bool, List, [], ◌∷◌, ◌++◌, ◌⊎◌, ◌&&◌, cond, eqb, unwrap_or, sym, subst, inl, inr}
 use Rattle.std.specs.List.{list_any}
 use Rattle.presentation.specs.Groups.{member_of}
-use Rattle.hls_writer.specs.Attributes.{WrittenAttribute, autoselect, group_bytes, renditions}
-use Rattle.hls_writer.specs.Renditions.{is_same_key, own_rendition, rendition_line}
-use Rattle.hls_writer.specs.Variants.{of_sound, of_texts, variant_lines}
+use Rattle.hls_writer.specs.{Attributes.{WrittenAttribute, autoselect, group_bytes, renditions}, Renditions.{is_same_key, own_rendition}}
+use Rattle.hls_writer.specs.{Renditions.rendition_line, Variants.{of_sound, of_texts, variant_lines}}
 
 -- what a function takes
 abbrev pub Taken : {A B : Type 0} → (A → B) → Type 0

@@ -1,14 +1,10 @@
 -- The listed segments of an MPD.
-use Rattle.std.proofs.Common.{Option, None, Some, IfSome, [], arith}
+use Rattle.std.proofs.{Common.{Option, None, Some, IfSome, [], arith}, lemmas.Option.IfSome_then}
 use Rattle.std.specs.Option.{option_map_or}
-use Rattle.std.proofs.lemmas.Option.{IfSome_then}
 use Rattle.presentation.proofs.Pace.{in_pace}
-use Rattle.presentation.specs.PresentedLaws.{IsInPace}
-use Rattle.timeline.specs.declared.window.Window.{Window}
-use Rattle.timeline.specs.Listed.{IsReached}
-use Rattle.timeline.specs.OpenEnds.{DurationsEnd, EndedIsReached, TimelinesEnd}
-use Rattle.presentation.specs.declared.parts.Content.{Content}
-use Rattle.presentation.specs.Presented.{IsEnded, content_at, listed_in, window_of}
+use Rattle.presentation.specs.{PresentedLaws.IsInPace, declared.parts.Content.Content, Presented.{IsEnded, content_at, listed_in}}
+use Rattle.presentation.specs.Presented.{window_of}
+use Rattle.timeline.specs.{declared.window.Window.Window, Listed.IsReached, OpenEnds.{DurationsEnd, EndedIsReached, TimelinesEnd}}
 use Rattle.laws_of_playlists.specs.Origins.{AreInPace, StaticAreInPace, of_static}
 use Rattle.laws_of_playlists.proofs.OriginParts.{IsContentWell, at_place, contents_ended, contents_well}
 

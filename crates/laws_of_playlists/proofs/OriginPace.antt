@@ -1,13 +1,8 @@
 -- The times of the segments of an MPD.
-use Rattle.std.proofs.Common.{ℕ, ◌-◌, ◌*◌, ◌≤◌, List, [], ◌∷◌, All, map, subst, arith}
-use Rattle.std.proofs.lemmas.Int.{ints}
-use Rattle.std.proofs.lemmas.List.Elements.{All-cons, All-nil}
-use Rattle.exact_time.specs.Time.{Time, IsAtMost, IsTime, difference}
-use Rattle.exact_time.specs.Floor.{floor_in}
-use Rattle.exact_time.specs.Rounding.{AreNear, IsRising, differences}
-use Rattle.exact_time.proofs.Floors.{floor_in-difference_self}
-use Rattle.exact_time.proofs.Roundings.{floor_rises}
-use Rattle.exact_time.proofs.TimeOrder.{IsAtMost-trans}
+use Rattle.std.proofs.{Common.{ℕ, ◌-◌, ◌*◌, ◌≤◌, List, [], ◌∷◌, All, map, subst, arith}, lemmas.Int.ints, lemmas.List.Elements.All-cons}
+use Rattle.std.proofs.lemmas.List.Elements.{All-nil}
+use Rattle.exact_time.specs.{Time.{Time, IsAtMost, IsTime, difference}, Floor.floor_in, Rounding.{AreNear, IsRising, differences}}
+use Rattle.exact_time.proofs.{Floors.floor_in-difference_self, Roundings.floor_rises, TimeOrder.IsAtMost-trans}
 use Rattle.timeline.specs.Expansions.{Timing}
 use Rattle.presentation.specs.Printing.{ends_of}
 use Rattle.laws_of_playlists.specs.Origins.{AreShortInPace}

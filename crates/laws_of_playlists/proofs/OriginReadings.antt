@@ -1,21 +1,14 @@
 -- What is read of bytes is of bytes.
 use Rattle.std.proofs.Common.{◌≡◌, ℕ, ◌+◌, ◌<◌, ◌/◌, ◌%◌, ◌==◌, ◌&&◌, Bool, true, false, List, [], ◌∷◌, ◌++◌, All, map, nat_lt, Option}
-use Rattle.std.proofs.Common.{Some, None, IfSome, sym, subst, inl, inr, arith}
-use Rattle.std.specs.Prelude.{codes, option_map, if◌then◌else◌, bytes_eq}
-use Rattle.std.specs.Char.{encode_utf8}
-use Rattle.std.specs.List.{list_all}
-use Rattle.std.proofs.lemmas.Bool.{and_parts, cases_Bool, cond_both}
-use Rattle.std.proofs.lemmas.Bool.Decides.{nat_tests}
-use Rattle.std.proofs.lemmas.List.Elements.{All-append, All-cons, All-head, All-map, All-nil, All-tail}
+use Rattle.std.proofs.{Common.{Some, None, IfSome, sym, subst, inl, inr, arith}, lemmas.Bool.{and_parts, cases_Bool, cond_both}}
+use Rattle.std.proofs.{lemmas.Bool.Decides.nat_tests, lemmas.List.Elements.{All-append, All-cons, All-head, All-map, All-nil, All-tail}}
+use Rattle.std.specs.{Prelude.{codes, option_map, if◌then◌else◌, bytes_eq}, Char.encode_utf8, List.list_all}
 use Rattle.bridge_io.specs.declared.place.Place.{Place}
-use Rattle.mpd_text.specs.Characters.{is_digit, is_white}
-use Rattle.mpd_text.specs.Faults.{ReadsAs}
-use Rattle.mpd_text.specs.Grammar.{AreAttributes, AreRunsRound, IsAttribute, IsContent, IsDataRun, IsDocument, IsElementRound, OpensTag}
-use Rattle.mpd_text.specs.Grammar.{Spells, past}
-use Rattle.mpd_text.specs.Meaning.{IsOneReading, reading_of}
+use Rattle.mpd_text.specs.{Characters.{is_digit, is_white}, Faults.ReadsAs, Grammar.{AreAttributes, AreRunsRound, IsAttribute, IsContent}}
+use Rattle.mpd_text.specs.{Grammar.{IsDataRun, IsDocument, IsElementRound, OpensTag, Spells, past}, Meaning.{IsOneReading, reading_of}}
 use Rattle.mpd_text.specs.References.{content_text, is_allowed_character, is_hex_digit, line_ends_after, named_by_digits, named_by_number}
-use Rattle.mpd_text.specs.References.{number_of, referred_to, replaced_within, value_text, with_line_ends}
-use Rattle.mpd_text.specs.Trees.{Attribute, Element, Forest, Head, element, nothing}
+use Rattle.mpd_text.specs.{References.{number_of, referred_to, replaced_within, value_text, with_line_ends}, Trees.{Attribute, Element}}
+use Rattle.mpd_text.specs.Trees.{Forest, Head, element, nothing}
 use Rattle.laws_of_playlists.specs.Origins.{AreOfBytes, IsByte, IsElementOfBytes, IsOfBytes, ReadingsAreOfBytes}
 use Rattle.mpd_rules.proofs.Ranges.{below_bound, if_passes}
 use Rattle.laws_of_playlists.proofs.OriginParts.{inside, mapped}

@@ -1,27 +1,19 @@
 -- Which lines are readable.
 use Rattle.std.proofs.Common.{◌≡◌, ℕ, ◌/◌, ◌^◌, ◌&&◌, Bool, true, false, not, List, [], ◌∷◌, ◌++◌, cond, eqb, nat_le, option_map, Option}
-use Rattle.std.proofs.Common.{Some, None, IfSome, refl, arith}
-use Rattle.std.specs.Prelude.{decimal, ℤ}
-use Rattle.std.specs.Char.{is_ascii_digit}
-use Rattle.std.specs.List.{All, list_all}
-use Rattle.std.proofs.lemmas.Bool.{and_from, and_parts}
-use Rattle.std.proofs.lemmas.Bool.Decides.{nat_tests}
+use Rattle.std.proofs.{Common.{Some, None, IfSome, refl, arith}, lemmas.Bool.{and_from, and_parts}, lemmas.Bool.Decides.nat_tests}
 use Rattle.std.proofs.lemmas.List.Elements.{All-append, All-cons, All-head, All-nil, All-replicate, All-tail}
 use Rattle.std.proofs.lemmas.List.Folds.{list_all-append}
-use Rattle.iso_time.specs.Civil.{instant_text, moment_text}
-use Rattle.iso_time.specs.Digits.{optional_text, padded_digits}
+use Rattle.std.specs.{Prelude.{decimal, ℤ}, Char.is_ascii_digit, List.{All, list_all}}
+use Rattle.iso_time.specs.{Civil.{instant_text, moment_text}, Digits.{optional_text, padded_digits}}
 use Rattle.iso_time.proofs.PaddedLemmas.{AreDigits-padded_digits}
-use Rattle.url_parts.specs.Addresses.{IsAddress, is_address_byte}
-use Rattle.url_parts.specs.declared.address.Part.{Part}
-use Rattle.url_parts.specs.declared.range.Range.{Range}
+use Rattle.url_parts.specs.{Addresses.{IsAddress, is_address_byte}, declared.address.Part.Part, declared.range.Range.Range}
 use Rattle.hls_writer.specs.Lines.{WrittenLine, version, target_duration, media_sequence, discontinuity_sequence, on_demand, discontinuity}
 use Rattle.hls_writer.specs.Lines.{initialization, program_date_time, duration, byte_range, uri, end_list, line_bytes, range_attribute}
-use Rattle.hls_writer.specs.Lines.{range_bytes, seconds_bytes}
-use Rattle.hls_writer.specs.Playlists.{Item, begins_section, end_lines, item_lines, items_lines, own_lines, present, rise}
-use Rattle.laws_of_playlists.specs.ReadLines.{IsReadable, IsUriOrTag, ends_visibly, is_printable}
-use Rattle.laws_of_playlists.specs.ReadMedia.{IsReadableItem, IsReadablePart, IsReadableRange, IsShortDuration, IsShortNumber}
-use Rattle.laws_of_playlists.proofs.WrittenLines.{weaker}
-use Rattle.laws_of_playlists.proofs.Values.{address_is, decimal_is, digits_all}
+use Rattle.hls_writer.specs.{Lines.{range_bytes, seconds_bytes}, Playlists.{Item, begins_section, end_lines, item_lines, items_lines}}
+use Rattle.hls_writer.specs.Playlists.{own_lines, present, rise}
+use Rattle.laws_of_playlists.specs.{ReadLines.{IsReadable, IsUriOrTag, ends_visibly, is_printable}, ReadMedia.IsReadableItem}
+use Rattle.laws_of_playlists.specs.ReadMedia.{IsReadablePart, IsReadableRange, IsShortDuration, IsShortNumber}
+use Rattle.laws_of_playlists.proofs.{WrittenLines.weaker, Values.{address_is, decimal_is, digits_all}}
 
 -- a visible character of ASCII
 abbrev pub is_visible : ℕ → Bool

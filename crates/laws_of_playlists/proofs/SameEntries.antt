@@ -1,19 +1,12 @@
 -- What a track has in a section, and what is read of it.
 use Rattle.std.proofs.Common.{◌≡◌, ℕ, ◌^◌, ◌<◌, ◌≤◌, List, [], ◌∷◌, length, map, All, Option, None, Some, Ok, refl, arith}
-use Rattle.std.specs.Prelude.{option_and_then, IfSome}
-use Rattle.std.specs.Option.{option_map_or}
+use Rattle.std.specs.{Prelude.{option_and_then, IfSome}, Option.option_map_or}
 use Rattle.exact_time.specs.Laws.{SumsAreFloors}
-use Rattle.timeline.specs.declared.window.Window.{Window}
-use Rattle.timeline.specs.Expansions.{Timing}
-use Rattle.timeline.specs.Listed.{part_of_timing}
+use Rattle.timeline.specs.{declared.window.Window.Window, Expansions.Timing, Listed.part_of_timing}
 use Rattle.meaning.specs.Same.{IsRounded, SameEntries}
-use Rattle.presentation.specs.declared.parts.Content.{Content}
-use Rattle.presentation.specs.MeaningLaws.{VerifiedAreMeant}
-use Rattle.presentation.specs.Meanings.{part_meant, entry_with, entry_at}
-use Rattle.presentation.specs.Meanings.{entry_of as meant_entry}
-use Rattle.presentation.specs.Presented.{Presented, content_at, listed_at, listed_in, window_of}
-use Rattle.hls_writer.specs.Finished.{content_items, section_items}
-use Rattle.hls_writer.specs.Verified.{IsVerified}
+use Rattle.presentation.specs.{declared.parts.Content.Content, MeaningLaws.VerifiedAreMeant, Meanings.{part_meant, entry_with, entry_at}}
+use Rattle.presentation.specs.{Meanings.entry_of as meant_entry, Presented.{Presented, content_at, listed_at, listed_in, window_of}}
+use Rattle.hls_writer.specs.{Finished.{content_items, section_items}, Verified.IsVerified}
 use Rattle.hls_meaning.specs.Sections.{entry_of}
 use Rattle.laws_of_playlists.specs.Same.{read_of, EndInTurn}
 use Rattle.laws_of_playlists.proofs.SameTimes.{sums_are, timed_alike}

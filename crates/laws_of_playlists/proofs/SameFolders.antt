@@ -1,16 +1,11 @@
 -- Where the files of a folder lie, and their names.
 use Rattle.std.proofs.Common.{◌≡◌, ℕ, ◌+◌, ◌-◌, ◌==◌, not, ◌&&◌, Bool, true, List, [], ◌∷◌, ◌++◌, length, take, drop, reverse, None, Some}
 use Rattle.std.proofs.Common.{refl, sym, ◌∙◌, ap, arith, take_all, take_at, append_assoc, length-append, length-take}
-use Rattle.std.specs.Prelude.{nat_eq, nat_le, option_and_then}
-use Rattle.std.specs.List.{list_all, position_or_len, prefix_len, starts_with, suffix_len}
-use Rattle.std.proofs.lemmas.Bool.{and_parts, cond-true, cond_both, eq-eqb, eqb-true}
-use Rattle.std.proofs.lemmas.Bool.Decides.{Decides-eqb, nat_tests}
-use Rattle.std.proofs.lemmas.List.{drop_at, length-reverse, reverse-append}
-use Rattle.std.proofs.lemmas.List.Folds.{prefix_len-append}
-use Rattle.std.proofs.lemmas.List.Sums.{prefix_len-le-length, suffix_len-le-length}
-use Rattle.std.proofs.lemmas.Slice.Eq.{starts_is}
-use Rattle.bridge_io.specs.Names.{is_name, is_name_byte, is_proper_part, parts_after}
-use Rattle.bridge_io.specs.Outside.{Files}
+use Rattle.std.proofs.{lemmas.Bool.{and_parts, cond-true, cond_both, eq-eqb, eqb-true}, lemmas.Bool.Decides.{Decides-eqb, nat_tests}}
+use Rattle.std.proofs.{lemmas.List.{drop_at, length-reverse, reverse-append}, lemmas.List.Folds.prefix_len-append}
+use Rattle.std.proofs.{lemmas.List.Sums.{prefix_len-le-length, suffix_len-le-length}, lemmas.Slice.Eq.starts_is}
+use Rattle.std.specs.{Prelude.{nat_eq, nat_le, option_and_then}, List.{list_all, position_or_len, prefix_len, starts_with, suffix_len}}
+use Rattle.bridge_io.specs.{Names.{is_name, is_name_byte, is_proper_part, parts_after}, Outside.Files}
 use Rattle.url_parts.specs.Addresses.{folder_of, if_name, is_tail, local_name_of, through_last_slash, without_tail}
 use Rattle.hls_meaning.specs.Meanings.{file_at}
 use Rattle.hls_writer.specs.Attributes.{playlist_name}

@@ -1,34 +1,21 @@
 -- What is read of a presentation's tracks means what the presentation means, with each time rounded down.
 use Rattle.std.proofs.Common.{◌≡◌, ℕ, ◌+◌, ◌^◌, ◌<◌, ◌≤◌, cond, Bool, true, false, List, [], ◌∷◌, length, map, filter, slice_get, All}
-use Rattle.std.proofs.Common.{is_some, Option, None, Some, refl, sym, ◌∙◌, ap, subst, ⊎_elim, arith}
-use Rattle.std.specs.Prelude.{option_and_then}
-use Rattle.std.specs.List.{list_any, range_with_len}
-use Rattle.std.proofs.lemmas.Bool.{and_right, cases_lt, not_from_false, false≢true}
-use Rattle.std.proofs.lemmas.List.{length-map}
-use Rattle.std.proofs.lemmas.List.Elements.{All-filter, All-from_get_or, All-head, All-tail, All-weaker}
-use Rattle.std.proofs.lemmas.List.FromFn.{get_or-map-range_with_len, get_or-range_with_len, length-map-range_with_len}
-use Rattle.std.proofs.lemmas.List.FromFn.{length-range_with_len}
+use Rattle.std.proofs.{Common.{is_some, Option, None, Some, refl, sym, ◌∙◌, ap, subst, ⊎_elim, arith}, lemmas.Bool.{and_right, cases_lt}}
+use Rattle.std.proofs.{lemmas.Bool.{not_from_false, false≢true}, lemmas.List.length-map, lemmas.List.Elements.{All-filter, All-from_get_or}}
+use Rattle.std.proofs.{lemmas.List.Elements.{All-head, All-tail, All-weaker}, lemmas.List.FromFn.get_or-map-range_with_len}
+use Rattle.std.proofs.lemmas.List.FromFn.{get_or-range_with_len, length-map-range_with_len, length-range_with_len}
 use Rattle.std.proofs.lemmas.Option.{slice_get-get_or}
-use Rattle.exact_time.specs.Laws.{SumsAreFloors}
-use Rattle.exact_time.specs.Time.{Time}
-use Rattle.meaning.specs.Meanings.{Entry}
-use Rattle.meaning.specs.Same.{IsRounded, Pairwise, SameEntries, SameTrack, Same}
-use Rattle.presentation.specs.declared.track.Track.{Track}
-use Rattle.presentation.specs.Counting.{sections_of}
-use Rattle.presentation.specs.MeaningLaws.{VerifiedAreMeant}
-use Rattle.presentation.specs.Meanings.{entry_at, head_of, is_kept, meaning_of, row_at, rows_of, tracks_from}
-use Rattle.presentation.specs.Meanings.{entry_in as entry_of_track, meaning_over as meant_over}
-use Rattle.presentation.specs.Presented.{Presented}
-use Rattle.hls_writer.specs.Finished.{section_items, track_items}
-use Rattle.hls_writer.specs.Playlists.{Item}
-use Rattle.hls_meaning.specs.Laws.{NumbersAreThoseTold}
-use Rattle.hls_meaning.specs.Meanings.{Source, is_told, is_text, lacks_map, meaning_of_kept, meaning_of_sources, meaning_over, track_over}
-use Rattle.hls_meaning.specs.Meanings.{is_kept as is_kept_source}
-use Rattle.hls_meaning.specs.Sections.{is_in, entry_of, entry_in}
-use Rattle.laws_of_playlists.specs.ReadMedia.{track_media}
-use Rattle.laws_of_playlists.specs.Same.{AreRead, AreReadFrom, ReadMeanTheSame, read_of}
-use Rattle.laws_of_playlists.proofs.SameEntries.{entry_alike}
-use Rattle.laws_of_playlists.proofs.SameSections.{any_is_entry, section_missing, section_there}
+use Rattle.std.specs.{Prelude.option_and_then, List.{list_any, range_with_len}}
+use Rattle.exact_time.specs.{Laws.SumsAreFloors, Time.Time}
+use Rattle.meaning.specs.{Meanings.Entry, Same.{IsRounded, Pairwise, SameEntries, SameTrack, Same}}
+use Rattle.presentation.specs.{declared.track.Track.Track, Counting.sections_of, MeaningLaws.VerifiedAreMeant, Meanings.{entry_at, head_of}}
+use Rattle.presentation.specs.Meanings.{is_kept, meaning_of, row_at, rows_of, tracks_from, entry_in as entry_of_track}
+use Rattle.presentation.specs.{Meanings.meaning_over as meant_over, Presented.Presented}
+use Rattle.hls_writer.specs.{Finished.{section_items, track_items}, Playlists.Item}
+use Rattle.hls_meaning.specs.{Laws.NumbersAreThoseTold, Meanings.{Source, is_told, is_text, lacks_map, meaning_of_kept, meaning_of_sources}}
+use Rattle.hls_meaning.specs.{Meanings.{meaning_over, track_over, is_kept as is_kept_source}, Sections.{is_in, entry_of, entry_in}}
+use Rattle.laws_of_playlists.specs.{ReadMedia.track_media, Same.{AreRead, AreReadFrom, ReadMeanTheSame, read_of}}
+use Rattle.laws_of_playlists.proofs.{SameEntries.entry_alike, SameSections.{any_is_entry, section_missing, section_there}}
 
 same_some : (R : Time → Time → Type 0) (a b : Option Entry) → SameEntries R a b → is_some a ≡ is_some b
 same_some R None None same = refl

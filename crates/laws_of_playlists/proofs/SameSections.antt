@@ -1,21 +1,16 @@
 -- Which of the segments that are read of a track are a section's.
 use Rattle.std.proofs.Common.{◌≡◌, ℕ, zero, suc, ◌+◌, ◌^◌, ◌<◌, ◌≤◌, ◌==◌, ◌||◌, ◌⊎◌, cond, Bool, true, false, List, [], ◌∷◌, ◌++◌, length}
 use Rattle.std.proofs.Common.{map, flat_map, is_some, Option, None, Some, refl, ◌∙◌, ap, inl, inr, ⊎_elim, arith, append-nil}
-use Rattle.std.specs.List.{list_any, range_with_len}
-use Rattle.std.specs.Option.{option_map_or}
-use Rattle.std.proofs.lemmas.Bool.{cases_eq, eq-eqb, ne_eqb}
-use Rattle.std.proofs.lemmas.List.{map-append}
-use Rattle.std.proofs.lemmas.List.Elements.{filter-append}
+use Rattle.std.proofs.{lemmas.Bool.{cases_eq, eq-eqb, ne_eqb}, lemmas.List.map-append, lemmas.List.Elements.filter-append}
+use Rattle.std.specs.{List.{list_any, range_with_len}, Option.option_map_or}
 use Rattle.url_parts.specs.declared.address.Part.{Part}
 use Rattle.timeline.specs.Expansions.{SegmentTimeline, Timing}
-use Rattle.presentation.specs.declared.parts.Content.{Content}
-use Rattle.presentation.specs.Presented.{Presented, content_at, listed_at}
-use Rattle.presentation.specs.Printing.{PrintedTiming, printed_timings}
+use Rattle.presentation.specs.{declared.parts.Content.Content, Presented.{Presented, content_at, listed_at}, Printing.PrintedTiming}
+use Rattle.presentation.specs.Printing.{printed_timings}
 use Rattle.hls_media.specs.declared.media.MediaSegment.{MediaSegment}
 use Rattle.hls_writer.specs.Finished.{item_at, items_at, content_items, section_items}
 use Rattle.hls_meaning.specs.Sections.{is_in, segments_in, entry_of}
-use Rattle.laws_of_playlists.specs.ReadMedia.{track_media}
-use Rattle.laws_of_playlists.specs.Same.{read_of}
+use Rattle.laws_of_playlists.specs.{ReadMedia.track_media, Same.read_of}
 
 any_more : (b any : Bool) (x : MediaSegment) (rest : List MediaSegment) → any ≡ is_some (entry_of rest)
     → b || any ≡ is_some (entry_of (cond b (x ∷ rest) rest))

@@ -1,22 +1,15 @@
 -- The sums of printed durations, read in nanoseconds, are the times that are meant, rounded down.
 use Rattle.std.proofs.Common.{◌≡◌, ℕ, suc, ◌+◌, ◌-◌, ◌*◌, ◌^◌, ◌≤◌, pos, List, [], ◌∷◌, map, take, sum, slice_get, All, Some, Ok, refl, sym}
-use Rattle.std.proofs.Common.{◌∙◌, ap, subst, arith, add-one, pow-add}
-use Rattle.std.proofs.lemmas.List.Elements.{All-head, All-tail}
+use Rattle.std.proofs.{Common.{◌∙◌, ap, subst, arith, add-one, pow-add}, lemmas.List.Elements.{All-head, All-tail}}
 use Rattle.std.proofs.lemmas.List.Sums.{sum_by-cons}
-use Rattle.exact_time.specs.Floor.{floor_in}
-use Rattle.exact_time.specs.Laws.{SumsAreFloors}
-use Rattle.exact_time.specs.Rounding.{IsRising, differences, printed}
-use Rattle.exact_time.specs.Time.{Time, IsTime, difference}
+use Rattle.exact_time.specs.{Floor.floor_in, Laws.SumsAreFloors, Rounding.{IsRising, differences, printed}, Time.{Time, IsTime, difference}}
 use Rattle.url_parts.specs.declared.address.Part.{Part}
-use Rattle.timeline.specs.Expansions.{SegmentTimeline, Timing}
-use Rattle.timeline.specs.Listed.{part_of_timing}
+use Rattle.timeline.specs.{Expansions.{SegmentTimeline, Timing}, Listed.part_of_timing}
 use Rattle.meaning.specs.Same.{IsRounded, Pairwise, SameSegment}
-use Rattle.presentation.specs.Meanings.{part_meant, segment_of}
-use Rattle.presentation.specs.Printing.{ends_of, with_durations}
+use Rattle.presentation.specs.{Meanings.{part_meant, segment_of}, Printing.{ends_of, with_durations}}
 use Rattle.hls_writer.specs.Finished.{items_at, part_or_none}
 use Rattle.hls_meaning.specs.Sections.{nanoseconds, timed}
-use Rattle.laws_of_playlists.specs.ReadMedia.{nanos_of}
-use Rattle.laws_of_playlists.specs.Same.{read_of}
+use Rattle.laws_of_playlists.specs.{ReadMedia.nanos_of, Same.read_of}
 
 -- so many units are so many nanoseconds
 same_count : (floor units unit : ℕ) → units * unit ≡ 10 ^ 9 → floor * (10 ^ 9 * 10 ^ 9) ≡ (floor * units * 10 ^ 9 + 0) * unit

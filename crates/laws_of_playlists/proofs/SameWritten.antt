@@ -1,26 +1,18 @@
 -- A presentation's files mean what it means.
 use Rattle.std.proofs.Common.{◌≡◌, ℕ, ◌+◌, ◌<◌, List, [], ◌∷◌, ◌++◌, length, map, Option, None, Some, refl, ◌∙◌, ap, arith, append_assoc}
 use Rattle.std.specs.Prelude.{option_and_then, option_map}
-use Rattle.bridge_io.specs.declared.media.Kind.{Kind}
-use Rattle.bridge_io.specs.declared.media.Kind.TheVariants.{Video, Audio, Text}
-use Rattle.bridge_io.specs.Outside.{Files}
+use Rattle.bridge_io.specs.{declared.media.Kind.Kind, declared.media.Kind.TheVariants.{Video, Audio, Text}, Outside.Files}
 use Rattle.url_parts.specs.Addresses.{folder_of}
 use Rattle.hls_lines.specs.Lines.{lines_of}
-use Rattle.hls_master.specs.Masters.{master_values}
-use Rattle.hls_master.specs.Tracks.{TrackValue}
+use Rattle.hls_master.specs.{Masters.master_values, Tracks.TrackValue}
 use Rattle.hls_media.specs.declared.media.Media.{Media}
 use Rattle.hls_meaning.specs.Meanings.{Source, file_at, hls_meaning, meaning_by, meaning_of_sources, media_at, media_by, source_of}
 use Rattle.hls_meaning.specs.Meanings.{sources_of}
-use Rattle.presentation.specs.declared.track.Track.{Track}
-use Rattle.presentation.specs.Meanings.{language_of}
-use Rattle.presentation.specs.Presented.{Presented}
-use Rattle.hls_writer.specs.Attributes.{playlist_name}
-use Rattle.hls_writer.specs.Finished.{media_text}
-use Rattle.hls_writer.specs.Master.{master_text}
-use Rattle.laws_of_playlists.specs.Master.{Head, MasterIsRead, head_at, head_of, heads_from, told_language}
-use Rattle.laws_of_playlists.specs.ReadMedia.{TracksAreRead, track_media}
-use Rattle.laws_of_playlists.specs.Same.{AreReadFrom, ReadMeanTheSame}
-use Rattle.laws_of_playlists.specs.SameFiles.{HoldTracks, HoldsFiles, TracksMeanTheSame, WrittenMeanTheSame, master_name}
+use Rattle.presentation.specs.{declared.track.Track.Track, Meanings.language_of, Presented.Presented}
+use Rattle.hls_writer.specs.{Attributes.playlist_name, Finished.media_text, Master.master_text}
+use Rattle.laws_of_playlists.specs.{Master.{Head, MasterIsRead, head_at, head_of, heads_from, told_language}, ReadMedia.TracksAreRead}
+use Rattle.laws_of_playlists.specs.{ReadMedia.track_media, Same.{AreReadFrom, ReadMeanTheSame}, SameFiles.{HoldTracks, HoldsFiles}}
+use Rattle.laws_of_playlists.specs.SameFiles.{TracksMeanTheSame, WrittenMeanTheSame, master_name}
 use Rattle.laws_of_playlists.proofs.SameFolders.{file_under, folder_under}
 
 same_language : (kind : Kind) (language : Option (List ℕ)) → told_language kind language ≡ language_of kind language

@@ -1,31 +1,20 @@
 -- The playlists of a presentation's tracks.
 use Rattle.std.proofs.Common.{◌≡◌, ℕ, zero, suc, ◌+◌, ◌-◌, ◌*◌, ◌/◌, ◌%◌, ◌^◌, ◌<◌, ◌≤◌, Bool, true, false, List, [], ◌∷◌, ◌++◌, length}
 use Rattle.std.proofs.Common.{map, max, flat_map, cond, nat_le, Option, Some, None, Ok, Err, Result, IfSome, refl, sym, ◌∙◌, ap, subst}
-use Rattle.std.proofs.Common.{arith, inl, inr}
-use Rattle.std.specs.List.{All, range_with_len, slice_get, slice_index_or}
-use Rattle.std.specs.Option.{option_map_or}
-use Rattle.std.proofs.Math.Nat.{div-mul-le_self, one-le-pow}
-use Rattle.std.proofs.lemmas.Bool.{cases_Bool, cases_lt}
-use Rattle.std.proofs.lemmas.List.Elements.{All-append, All-cons, All-map, All-nil, All-weaker}
-use Rattle.std.proofs.lemmas.Option.{get_or_from_slice_get, slice_get_within}
-use Rattle.std.proofs.lemmas.Nat.{le-div}
+use Rattle.std.proofs.{Common.{arith, inl, inr}, Math.Nat.{div-mul-le_self, one-le-pow}, lemmas.Bool.{cases_Bool, cases_lt}}
+use Rattle.std.proofs.{lemmas.List.Elements.{All-append, All-cons, All-map, All-nil, All-weaker}, lemmas.Option.get_or_from_slice_get}
+use Rattle.std.proofs.{lemmas.Option.slice_get_within, lemmas.Nat.le-div}
+use Rattle.std.specs.{List.{All, range_with_len, slice_get, slice_index_or}, Option.option_map_or}
 use Rattle.bridge_io.specs.declared.place.Place.{Place}
 use Rattle.url_parts.specs.declared.address.Part.{Part}
-use Rattle.timeline.specs.declared.fault.ListFault.{ListFault}
-use Rattle.timeline.specs.declared.fault.TimeFault.TheVariants.{Range}
-use Rattle.timeline.specs.declared.window.Window.{Window}
-use Rattle.timeline.specs.Expansions.{SegmentTimeline, Timing}
-use Rattle.timeline.specs.Listed.{answered_count, is_out_of_range}
-use Rattle.presentation.specs.declared.parts.Content.{Content}
-use Rattle.presentation.specs.Counting.{count_faults, faults_of_count, is_over, limit_faults, place_at, tracks_of, section_faults}
-use Rattle.presentation.specs.Counting.{sections_of, track_faults, whole_track_faults}
-use Rattle.presentation.specs.Laws.{HasAddress}
-use Rattle.presentation.proofs.Allowed.{have_addresses}
-use Rattle.presentation.proofs.Firsts.{none_before}
-use Rattle.presentation.proofs.Reached.{none_first, none_within}
-use Rattle.presentation.specs.Presented.{Presented, content_at, listed_at, listed_in, window_of}
-use Rattle.presentation.specs.Printing.{PrintedTiming, durations_of, printed_timings, with_durations}
-use Rattle.presentation.specs.Verifying.{greatest, longest_at, longest_of, url_faults, verified}
+use Rattle.timeline.specs.{declared.fault.ListFault.ListFault, declared.fault.TimeFault.TheVariants.Range, declared.window.Window.Window}
+use Rattle.timeline.specs.{Expansions.{SegmentTimeline, Timing}, Listed.{answered_count, is_out_of_range}}
+use Rattle.presentation.specs.{declared.parts.Content.Content, Counting.{count_faults, faults_of_count, is_over, limit_faults, place_at}}
+use Rattle.presentation.specs.{Counting.{tracks_of, section_faults, sections_of, track_faults, whole_track_faults}, Laws.HasAddress}
+use Rattle.presentation.specs.{Presented.{Presented, content_at, listed_at, listed_in, window_of}, Printing.{PrintedTiming, durations_of}}
+use Rattle.presentation.specs.{Printing.{printed_timings, with_durations}, Verifying.{greatest, longest_at, longest_of, url_faults}}
+use Rattle.presentation.specs.Verifying.{verified}
+use Rattle.presentation.proofs.{Allowed.have_addresses, Firsts.none_before, Reached.{none_first, none_within}}
 use Rattle.hls_writer.specs.Finished.{content_items, item_at, items_at, media_text, part_or_none, section_items, target_of, track_items}
 use Rattle.hls_writer.specs.Playlists.{Item}
 use Rattle.laws_of_playlists.specs.ReadMedia.{AreInOrder, GoOn, IsNext, IsReadableContent, IsReadableItem, IsReadablePart, IsReadableTrack}

@@ -1,38 +1,24 @@
 -- Numbers, durations, ranges and parts are read as they were written.
 use Rattle.std.proofs.Common.{◌≡◌, ℕ, unwrap_or, take, zero, suc, ◌+◌, ◌-◌, ◌*◌, ◌/◌, ◌%◌, ◌^◌, ◌<◌, ◌≤◌, ◌&&◌, Bool, true, false, List, []}
 use Rattle.std.proofs.Common.{◌∷◌, ◌++◌, length, eqb, codes, Option, Some, None, Ok, Err, IfSome, refl, sym, ◌∙◌, ap, arith, inr}
-use Rattle.std.specs.Prelude.{decimal}
-use Rattle.std.specs.Char.{digit_value, is_ascii_digit}
-use Rattle.std.specs.List.{list_any, list_all}
-use Rattle.std.specs.Str.{all_ascii_digits}
+use Rattle.std.proofs.{Math.Nat.{pow-suc, div-one, div-div-eq-div-mul}, lemmas.Bool.{and_parts, le-leb, lt-ltb}}
+use Rattle.std.proofs.{lemmas.Bool.Decides.nat_tests, lemmas.Fmt.{decimal_is_IsNumeral_wide, length-decimal-le_wide}}
+use Rattle.std.proofs.{lemmas.List.{append-nil, take_all}, lemmas.List.Folds.list_any-append, lemmas.Nat.{pow-add, div-add-mod'}}
+use Rattle.std.proofs.{lemmas.Str.digit_value_digit, lemmas.Str.Parse.{IsNumeralModel, numerals_by_value, tells_all_ascii_digits}}
+use Rattle.std.specs.{Prelude.decimal, Char.{digit_value, is_ascii_digit}, List.{list_any, list_all}, Str.all_ascii_digits}
 use Rattle.std.specs.Str.Parse.{digits_value, digits_value_after}
-use Rattle.std.proofs.Math.Nat.{pow-suc, div-one, div-div-eq-div-mul}
-use Rattle.std.proofs.lemmas.Bool.{and_parts, le-leb, lt-ltb}
-use Rattle.std.proofs.lemmas.Bool.Decides.{nat_tests}
-use Rattle.std.proofs.lemmas.Fmt.{decimal_is_IsNumeral_wide, length-decimal-le_wide}
-use Rattle.std.proofs.lemmas.List.{append-nil, take_all}
-use Rattle.std.proofs.lemmas.List.Folds.{list_any-append}
-use Rattle.std.proofs.lemmas.Nat.{pow-add, div-add-mod'}
-use Rattle.std.proofs.lemmas.Str.{digit_value_digit}
-use Rattle.std.proofs.lemmas.Str.Parse.{IsNumeralModel, numerals_by_value, tells_all_ascii_digits}
 use Rattle.iso_time.specs.Digits.{padded_digits}
 use Rattle.iso_time.proofs.PaddedLemmas.{AreDigits-padded_digits}
-use Rattle.url.specs.Parser.{Parsed, parse_url}
-use Rattle.url.specs.Parts.{Parts}
-use Rattle.url_parts.specs.Addresses.{IsAddress, absolute, accepted, is_address_byte, is_web, text_of}
+use Rattle.url.specs.{Parser.{Parsed, parse_url}, Parts.Parts}
+use Rattle.url_parts.specs.{Addresses.{IsAddress, absolute, accepted, is_address_byte, is_web, text_of}, declared.range.Range.Range}
 use Rattle.url_parts.proofs.Bases.{at_web, bytes_from_accepted, web_from_accepted}
-use Rattle.url_parts.specs.declared.range.Range.{Range}
-use Rattle.hls_lines.specs.Attributes.{NameValue, is_quote}
-use Rattle.hls_lines.specs.Grammar.{AreWritten, IsWritten}
-use Rattle.hls_lines.proofs.AttributeTexts.{parts_there}
-use Rattle.hls_lines.proofs.Grammar.{read_are_written}
-use Rattle.hls_media.specs.Addresses.{address_of, written}
-use Rattle.hls_media.specs.Media.{map_value}
-use Rattle.hls_media.specs.Values.{before_title, decimal_parts, duration_of, fraction_nanos, nanos_of as nanos_in, is_at, is_comma}
-use Rattle.hls_media.specs.Values.{is_point, is_run, number_of, range_from}
+use Rattle.hls_lines.specs.{Attributes.{NameValue, is_quote}, Grammar.{AreWritten, IsWritten}}
+use Rattle.hls_lines.proofs.{AttributeTexts.parts_there, Grammar.read_are_written}
+use Rattle.hls_media.specs.{Addresses.{address_of, written}, Media.map_value, Values.{before_title, decimal_parts, duration_of}}
+use Rattle.hls_media.specs.Values.{fraction_nanos, nanos_of as nanos_in, is_at, is_comma, is_point, is_run, number_of, range_from}
 use Rattle.hls_writer.specs.Lines.{range_bytes, seconds_bytes}
-use Rattle.laws_of_playlists.specs.ReadLines.{begins_uri, map_bytes}
-use Rattle.laws_of_playlists.specs.ReadMedia.{IsReadableRange, IsShortDuration, IsShortNumber, nanos_of}
+use Rattle.laws_of_playlists.specs.{ReadLines.{begins_uri, map_bytes}, ReadMedia.{IsReadableRange, IsShortDuration, IsShortNumber}}
+use Rattle.laws_of_playlists.specs.ReadMedia.{nanos_of}
 
 -- ---- digits
 

@@ -1,31 +1,22 @@
 -- Written lines are read as they were written.
-use Rattle.std.proofs.Common.{◌≡◌, ℕ, suc, ◌-◌, ◌<◌, ◌||◌, Bool, true, false, not, List, [], ◌∷◌, ◌++◌, length, take, reverse, eqb, nat_eq}
-use Rattle.std.proofs.Common.{codes, Some, None, Ok, refl, ◌∙◌, ap, arith, inl, inr, append_assoc}
-use Rattle.std.specs.List.{All, list_any, list_all, position_or_len, prefix_len, slice_split, starts_with, suffix_len}
-use Rattle.std.specs.Str.{IsAscii}
-use Rattle.std.proofs.lemmas.Bool.{and_from, and_parts, le-ltb, not-true}
-use Rattle.std.proofs.lemmas.Bool.Decides.{nat_tests}
-use Rattle.std.proofs.lemmas.List.{reverse-append, take_all}
-use Rattle.std.proofs.lemmas.List.Elements.{All-cons, All-head, All-nil, All-tail}
-use Rattle.std.proofs.lemmas.List.Folds.{list_all-append}
-use Rattle.std.proofs.lemmas.List.Splits.{slice_split_at}
-use Rattle.std.proofs.lemmas.Str.{IsUtf8-from_ascii, is_utf8-from_IsUtf8}
-use Rattle.std.proofs.lemmas.Str.Ascii.{IsAscii-cons, IsAscii-nil}
-use Rattle.byte_scan.specs.Class.{is_outside}
-use Rattle.byte_scan.specs.declared.class.Class.TheVariants.{Playlist}
-use Rattle.byte_scan.specs.Lines.{is_line_feed}
-use Rattle.bridge_io.specs.declared.place.Place.{Place}
-use Rattle.hls_lines.specs.Characters.{begins_with_high_control, first_control, high_control_from}
-use Rattle.hls_lines.specs.LineGrammar.{EndsUnblank}
-use Rattle.hls_lines.specs.Lines.{behind, clean, has_header, is_blank, is_colon, line_of, lines_of, said_from, start, trimmed, with_line}
 use Rattle.hls_lines.specs.Lines as said
-use Rattle.hls_lines.proofs.AttributeTexts.{parts_there}
-use Rattle.hls_writer.specs.Attributes.{attributes_bytes}
-use Rattle.hls_writer.specs.Lines.{WrittenLine, header, version, target_duration, media_sequence, discontinuity_sequence, on_demand}
-use Rattle.hls_writer.specs.Lines.{discontinuity, initialization, program_date_time, duration, byte_range, uri, end_list, rendition}
-use Rattle.hls_writer.specs.Lines.{variant, line_bytes, lines_text, range_bytes, seconds_bytes}
-use Rattle.iso_time.specs.Civil.{instant_text}
+use Rattle.std.proofs.Common.{◌≡◌, ℕ, suc, ◌-◌, ◌<◌, ◌||◌, Bool, true, false, not, List, [], ◌∷◌, ◌++◌, length, take, reverse, eqb, nat_eq}
+use Rattle.std.proofs.{Common.{codes, Some, None, Ok, refl, ◌∙◌, ap, arith, inl, inr, append_assoc}, lemmas.Bool.{and_from, and_parts}}
+use Rattle.std.proofs.{lemmas.Bool.{le-ltb, not-true}, lemmas.Bool.Decides.nat_tests, lemmas.List.{reverse-append, take_all}}
+use Rattle.std.proofs.{lemmas.List.Elements.{All-cons, All-head, All-nil, All-tail}, lemmas.List.Folds.list_all-append}
+use Rattle.std.proofs.{lemmas.List.Splits.slice_split_at, lemmas.Str.{IsUtf8-from_ascii, is_utf8-from_IsUtf8}}
+use Rattle.std.proofs.lemmas.Str.Ascii.{IsAscii-cons, IsAscii-nil}
+use Rattle.std.specs.{List.{All, list_any, list_all, position_or_len, prefix_len, slice_split, starts_with, suffix_len}, Str.IsAscii}
 use Rattle.std.specs.Prelude.{decimal}
+use Rattle.byte_scan.specs.{Class.is_outside, declared.class.Class.TheVariants.Playlist, Lines.is_line_feed}
+use Rattle.bridge_io.specs.declared.place.Place.{Place}
+use Rattle.hls_lines.specs.{Characters.{begins_with_high_control, first_control, high_control_from}, LineGrammar.EndsUnblank, Lines.behind}
+use Rattle.hls_lines.specs.Lines.{clean, has_header, is_blank, is_colon, line_of, lines_of, said_from, start, trimmed, with_line}
+use Rattle.hls_lines.proofs.AttributeTexts.{parts_there}
+use Rattle.hls_writer.specs.{Attributes.attributes_bytes, Lines.{WrittenLine, header, version, target_duration, media_sequence}}
+use Rattle.hls_writer.specs.Lines.{discontinuity_sequence, on_demand, discontinuity, initialization, program_date_time, duration}
+use Rattle.hls_writer.specs.Lines.{byte_range, uri, end_list, rendition, variant, line_bytes, lines_text, range_bytes, seconds_bytes}
+use Rattle.iso_time.specs.Civil.{instant_text}
 use Rattle.laws_of_playlists.specs.ReadLines.{IsReadable, IsUriOrTag, WrittenLinesAreRead, begins_uri, ends_visibly, is_printable}
 use Rattle.laws_of_playlists.specs.ReadLines.{map_bytes, said_at, said_from_place}
 

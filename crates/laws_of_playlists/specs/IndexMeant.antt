@@ -1,15 +1,12 @@
 -- What a presentation means that came from an MPD whose media files have an index inside.
+use Rattle.presentation.specs.Meanings as presentation
 use Rattle.std.specs.Prelude.{◌≡◌, ℕ, List, Option, Some, Ok}
 use Rattle.bridge_io.specs.Outside.{Files}
 use Rattle.mpd_levels.specs.declared.indexed.IndexRow.{IndexRow}
-use Rattle.mpd_rules.specs.Rules.{indexed_mpd_of}
-use Rattle.mpd_rules.specs.Typed.{TypedMpd}
-use Rattle.mpd_text.specs.Meaning.{reading_of}
-use Rattle.mpd_text.specs.Trees.{Element}
-use Rattle.presentation.specs.Meanings as presentation
+use Rattle.mpd_rules.specs.{Rules.indexed_mpd_of, Typed.TypedMpd}
+use Rattle.mpd_text.specs.{Meaning.reading_of, Trees.Element}
 use Rattle.presentation.specs.Presented.{Presented}
-use Rattle.index_parts.specs.Meanings.{indexed_meaning, meaning_of}
-use Rattle.index_parts.specs.Presented.{indexed_of}
+use Rattle.index_parts.specs.{Meanings.{indexed_meaning, meaning_of}, Presented.indexed_of}
 
 -- the presentation of an MPD and its files means what they mean
 abbrev pub IndexedAreMeant : Type 0

@@ -2,14 +2,10 @@
 use Rattle.std.specs.Prelude.{◌≡◌, ℕ, ◌≤◌, true, List, length, All, Option, Ok}
 use Rattle.bridge_io.specs.Outside.{Files}
 use Rattle.mpd_levels.specs.declared.indexed.IndexRow.{IndexRow}
-use Rattle.mpd_rules.specs.Rules.{indexed_mpd_of}
-use Rattle.mpd_rules.specs.Typed.{TypedMpd}
+use Rattle.mpd_rules.specs.{Rules.indexed_mpd_of, Typed.TypedMpd}
 use Rattle.mpd_text.specs.Trees.{Element}
-use Rattle.presentation.specs.declared.parts.Content.{Content}
-use Rattle.presentation.specs.Presented.{Presented, is_finished, listed_at}
-use Rattle.presentation.specs.PresentedLaws.{IsInPace}
-use Rattle.laws_of_playlists.specs.Origins.{AreLocated, IsFound, IsLocated}
-use Rattle.laws_of_playlists.specs.Tracks.{AreWritable}
+use Rattle.presentation.specs.{declared.parts.Content.Content, Presented.{Presented, is_finished, listed_at}, PresentedLaws.IsInPace}
+use Rattle.laws_of_playlists.specs.{Origins.{AreLocated, IsFound, IsLocated}, Tracks.AreWritable}
 use Rattle.index_parts.specs.Presented.{indexed_of}
 
 -- from an MPD at a URL, of which no rule refuses anything, and from the files of a store whose folder has another one

@@ -4,8 +4,7 @@ use Rattle.bridge_io.specs.Outside.{Files}
 use Rattle.url_parts.specs.Addresses.{folder_of}
 use Rattle.presentation.specs.Presented.{Presented}
 use Rattle.hls_writer.specs.Verified.{IsVerified}
-use Rattle.laws_of_playlists.specs.Origins.{IsFound}
-use Rattle.laws_of_playlists.specs.SameFiles.{AreWritten, HoldsFiles, MeanTheSame, master_name}
+use Rattle.laws_of_playlists.specs.{Origins.IsFound, SameFiles.{AreWritten, HoldsFiles, MeanTheSame, master_name}}
 use Rattle.laws_of_playlists.specs.IndexOrigins.{CameFromIndexes}
 
 -- The master and the playlists that are written of it mean what its presentation means, with each time rounded down to the unit

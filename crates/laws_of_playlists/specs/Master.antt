@@ -1,13 +1,9 @@
 -- What is read again of a written master (RFC 8216, 4.3.4).
 use Rattle.std.specs.Prelude.{◌≡◌, ℕ, ◌+◌, List, [], ◌∷◌, ◌++◌, map, Option, Some, None, option_map}
-use Rattle.bridge_io.specs.declared.media.Kind.{Kind}
-use Rattle.bridge_io.specs.declared.media.Kind.TheVariants.{Video, Audio, Text}
+use Rattle.bridge_io.specs.{declared.media.Kind.Kind, declared.media.Kind.TheVariants.{Video, Audio, Text}}
 use Rattle.url_parts.specs.Addresses.{folder_of}
-use Rattle.hls_master.specs.Masters.{master_values}
-use Rattle.hls_master.specs.Tracks.{TrackValue}
-use Rattle.hls_writer.specs.Attributes.{playlist_name}
-use Rattle.hls_writer.specs.Lines.{lines_text}
-use Rattle.hls_writer.specs.Master.{master_lines}
+use Rattle.hls_master.specs.{Masters.master_values, Tracks.TrackValue}
+use Rattle.hls_writer.specs.{Attributes.playlist_name, Lines.lines_text, Master.master_lines}
 use Rattle.presentation.specs.declared.track.Track.{Track}
 use Rattle.laws_of_playlists.specs.Tracks.{AreWritable}
 

@@ -1,25 +1,14 @@
 -- What is so of a presentation that came from an MPD.
-use Rattle.std.specs.Prelude.{◌≡◌, ℕ, ℤ, ◌*◌, ◌<◌, ◌≤◌, List, length, All, IfSome, Option, Some, None, Ok}
-use Rattle.url_parts.specs.Addresses.{IsAddress, absolute}
-use Rattle.url_parts.specs.declared.address.Part.{Part}
-use Rattle.timeline.specs.Expansions.{SegmentTimeline, Timing}
-use Rattle.timeline.specs.Listed.{part_of_timing}
-use Rattle.mpd_levels.specs.declared.indexed.IndexRow.{IndexRow}
-use Rattle.mpd_levels.specs.Segments.{Segments}
-use Rattle.mpd_rules.specs.declared.rows.PeriodRow.{PeriodRow}
-use Rattle.mpd_rules.specs.declared.rows.TrackRow.{TrackRow}
-use Rattle.mpd_rules.specs.Indexes.{index_told}
 pub use Rattle.mpd_rules.specs.Ranges.{IsSomeBytes}
-use Rattle.mpd_rules.specs.Rules.{indexed_mpd_of, typed_mpd_of}
-use Rattle.mpd_rules.specs.Typed.{TypedMpd}
-use Rattle.mpd_text.specs.Trees.{Head, Forest, nothing, element, Element}
-use Rattle.mpd_text.specs.Meaning.{reading_of}
-use Rattle.presentation.specs.declared.parts.Content.{Content}
-use Rattle.presentation.specs.Origins.{CameFromStaticMpd}
-use Rattle.presentation.specs.Presented.{Presented, listed_at}
-use Rattle.presentation.specs.Printing.{IsCounted, durations_of}
-use Rattle.presentation.specs.Told.{presented_of}
-use Rattle.presentation.specs.PresentedLaws.{IsInPace}
+use Rattle.std.specs.Prelude.{◌≡◌, ℕ, ℤ, ◌*◌, ◌<◌, ◌≤◌, List, length, All, IfSome, Option, Some, None, Ok}
+use Rattle.url_parts.specs.{Addresses.{IsAddress, absolute}, declared.address.Part.Part}
+use Rattle.timeline.specs.{Expansions.{SegmentTimeline, Timing}, Listed.part_of_timing}
+use Rattle.mpd_levels.specs.{declared.indexed.IndexRow.IndexRow, Segments.Segments}
+use Rattle.mpd_rules.specs.{declared.rows.PeriodRow.PeriodRow, declared.rows.TrackRow.TrackRow, Indexes.index_told, Rules.indexed_mpd_of}
+use Rattle.mpd_rules.specs.{Rules.typed_mpd_of, Typed.TypedMpd}
+use Rattle.mpd_text.specs.{Trees.{Head, Forest, nothing, element, Element}, Meaning.reading_of}
+use Rattle.presentation.specs.{declared.parts.Content.Content, Origins.CameFromStaticMpd, Presented.{Presented, listed_at}}
+use Rattle.presentation.specs.{Printing.{IsCounted, durations_of}, Told.presented_of, PresentedLaws.IsInPace}
 use Rattle.laws_of_playlists.specs.Tracks.{AreWritable, AreWritableIfFew}
 
 -- ---- MPDs, static and dynamic

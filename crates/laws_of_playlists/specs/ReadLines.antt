@@ -1,16 +1,15 @@
 -- What written lines say to a reader (RFC 8216, 4.1).
+use Rattle.hls_lines.specs.Lines as said
 use Rattle.std.specs.Prelude.{◌≡◌, ℕ, ◌==◌, ◌&&◌, not, nat_le, Bool, true, false, ⊤, List, [], ◌∷◌, ◌++◌, codes, decimal, All, Ok}
 use Rattle.std.specs.List.{list_all}
 use Rattle.bridge_io.specs.declared.place.Place.{Place}
-use Rattle.iso_time.specs.Civil.{instant_text}
-use Rattle.iso_time.specs.Digits.{optional_text}
+use Rattle.iso_time.specs.{Civil.instant_text, Digits.optional_text}
 use Rattle.url_parts.specs.declared.address.Part.{Part}
 use Rattle.hls_lines.specs.Lines.{PlaylistLine, behind, lines_of, start}
-use Rattle.hls_lines.specs.Lines as said
-use Rattle.hls_writer.specs.Attributes.{attributes_bytes}
-use Rattle.hls_writer.specs.Lines.{WrittenLine, header, version, target_duration, media_sequence, discontinuity_sequence, on_demand}
-use Rattle.hls_writer.specs.Lines.{discontinuity, initialization, program_date_time, duration, byte_range, uri, end_list, rendition}
-use Rattle.hls_writer.specs.Lines.{variant, line_bytes, lines_text, range_attribute, range_bytes, seconds_bytes}
+use Rattle.hls_writer.specs.{Attributes.attributes_bytes, Lines.{WrittenLine, header, version, target_duration, media_sequence}}
+use Rattle.hls_writer.specs.Lines.{discontinuity_sequence, on_demand, discontinuity, initialization, program_date_time, duration}
+use Rattle.hls_writer.specs.Lines.{byte_range, uri, end_list, rendition, variant, line_bytes, lines_text, range_attribute, range_bytes}
+use Rattle.hls_writer.specs.Lines.{seconds_bytes}
 
 -- ---- lines that are read as they were written
 

@@ -1,23 +1,14 @@
 -- What is read of written media playlists (RFC 8216, 4.3.2 and 4.3.3).
 use Rattle.std.specs.Prelude.{◌≡◌, ℕ, ◌+◌, ◌-◌, ◌*◌, ◌/◌, ◌^◌, ◌<◌, ◌≤◌, true, ⊤, List, [], ◌∷◌, map, length, All, Some, Ok, IfSome, Option}
 use Rattle.std.specs.Prelude.{◌++◌, codes, decimal}
-use Rattle.url_parts.specs.Addresses.{IsAddress}
-use Rattle.url_parts.specs.declared.address.Part.{Part}
-use Rattle.url_parts.specs.declared.range.Range.{Range}
-use Rattle.timeline.specs.Expansions.{Timing}
-use Rattle.timeline.specs.Listed.{part_of_timing}
-use Rattle.presentation.specs.declared.parts.Content.{Content}
-use Rattle.presentation.specs.Presented.{Presented, is_finished}
-use Rattle.presentation.specs.Verifying.{longest_of}
+use Rattle.url_parts.specs.{Addresses.IsAddress, declared.address.Part.Part, declared.range.Range.Range}
+use Rattle.timeline.specs.{Expansions.Timing, Listed.part_of_timing}
+use Rattle.presentation.specs.{declared.parts.Content.Content, Presented.{Presented, is_finished}, Verifying.longest_of}
 use Rattle.hls_lines.specs.Lines.{PlaylistLine, lines_of}
-use Rattle.hls_media.specs.Media.{map_value, media_values}
-use Rattle.hls_media.specs.Values.{duration_of, number_of, range_from}
-use Rattle.hls_media.specs.declared.media.Media.{Media}
+use Rattle.hls_media.specs.{Media.{map_value, media_values}, Values.{duration_of, number_of, range_from}, declared.media.Media.Media}
 use Rattle.hls_media.specs.declared.media.MediaSegment.{MediaSegment}
-use Rattle.hls_writer.specs.Finished.{media_text, target_of, track_items}
-use Rattle.hls_writer.specs.Lines.{range_bytes, seconds_bytes}
-use Rattle.hls_writer.specs.Playlists.{Head, Item, finished_text, followed_text}
-use Rattle.hls_writer.specs.Verified.{IsVerified}
+use Rattle.hls_writer.specs.{Finished.{media_text, target_of, track_items}, Lines.{range_bytes, seconds_bytes}, Playlists.{Head, Item}}
+use Rattle.hls_writer.specs.{Playlists.{finished_text, followed_text}, Verified.IsVerified}
 use Rattle.laws_of_playlists.specs.ReadLines.{map_bytes}
 
 -- ---- segments that are read as they were written

@@ -1,17 +1,13 @@
 -- What the playlists of a presentation mean (RFC 8216, 4.3), with each time rounded down to the unit that they are written in.
 use Rattle.std.specs.Prelude.{◌≡◌, ℕ, ◌+◌, ◌^◌, ◌<◌, ◌≤◌, List, [], ◌∷◌, length}
-use Rattle.exact_time.specs.Time.{IsTime}
-use Rattle.exact_time.specs.Rounding.{IsRising}
+use Rattle.exact_time.specs.{Time.IsTime, Rounding.IsRising}
 use Rattle.timeline.specs.Expansions.{Timing}
 use Rattle.hls_media.specs.declared.media.MediaSegment.{MediaSegment}
 use Rattle.hls_meaning.specs.Meanings.{Source, meaning_of_sources}
 use Rattle.meaning.specs.Same.{SameFloor}
-use Rattle.presentation.specs.declared.track.Track.{Track}
-use Rattle.presentation.specs.Meanings.{language_of, meaning_of}
-use Rattle.presentation.specs.Presented.{Presented, listed_at}
+use Rattle.presentation.specs.{declared.track.Track.Track, Meanings.{language_of, meaning_of}, Presented.{Presented, listed_at}}
 use Rattle.presentation.specs.Printing.{begin_of, ends_of}
-use Rattle.hls_writer.specs.Playlists.{Item}
-use Rattle.hls_writer.specs.Verified.{IsVerified}
+use Rattle.hls_writer.specs.{Playlists.Item, Verified.IsVerified}
 use Rattle.laws_of_playlists.specs.ReadMedia.{segment_in, track_media}
 
 -- ---- what is read

@@ -1,22 +1,13 @@
 -- The files that are written of a presentation, and what they mean together (RFC 8216, 4.3).
 use Rattle.std.specs.Prelude.{◌≡◌, ℕ, ◌^◌, ◌<◌, ◌≤◌, true, List, [], ◌∷◌, ◌++◌, codes, length, Some}
-use Rattle.bridge_io.specs.Names.{is_name}
-use Rattle.bridge_io.specs.Outside.{Files}
+use Rattle.bridge_io.specs.{Names.is_name, Outside.Files}
 use Rattle.url_parts.specs.Addresses.{folder_of}
-use Rattle.hls_media.specs.declared.media.Media.{Media}
-use Rattle.hls_media.specs.declared.media.MediaSegment.{MediaSegment}
+use Rattle.hls_media.specs.{declared.media.Media.Media, declared.media.MediaSegment.MediaSegment}
 use Rattle.hls_meaning.specs.Meanings.{hls_meaning}
-use Rattle.meaning.specs.Meanings.{Meaning}
-use Rattle.meaning.specs.Same.{SameFloor}
-use Rattle.presentation.specs.Meanings.{meaning_of}
-use Rattle.presentation.specs.Presented.{Presented}
-use Rattle.hls_writer.specs.Attributes.{playlist_name}
-use Rattle.hls_writer.specs.Finished.{media_text}
-use Rattle.hls_writer.specs.Master.{master_text}
-use Rattle.hls_writer.specs.Verified.{IsVerified}
-use Rattle.laws_of_playlists.specs.ReadMedia.{IsReadableTrack, ReadsAs, track_media}
-use Rattle.laws_of_playlists.specs.Same.{SegmentsEndInTurn}
-use Rattle.laws_of_playlists.specs.Tracks.{AreWritable}
+use Rattle.meaning.specs.{Meanings.Meaning, Same.SameFloor}
+use Rattle.presentation.specs.{Meanings.meaning_of, Presented.Presented}
+use Rattle.hls_writer.specs.{Attributes.playlist_name, Finished.media_text, Master.master_text, Verified.IsVerified}
+use Rattle.laws_of_playlists.specs.{ReadMedia.{IsReadableTrack, ReadsAs, track_media}, Same.SegmentsEndInTurn, Tracks.AreWritable}
 
 abbrev pub master_name : List ℕ
 master_name = codes "master.m3u8"

@@ -2,11 +2,9 @@
 use Rattle.std.specs.Prelude.{◌≡◌, ℕ, ◌≤◌, List, ◌++◌, length}
 use Rattle.bridge_io.specs.Outside.{Files}
 use Rattle.url_parts.specs.Addresses.{folder_of}
-use Rattle.presentation.specs.Origins.{CameFromStaticMpd}
-use Rattle.presentation.specs.Presented.{Presented}
+use Rattle.presentation.specs.{Origins.CameFromStaticMpd, Presented.Presented}
 use Rattle.hls_writer.specs.Verified.{IsVerified}
-use Rattle.laws_of_playlists.specs.Origins.{IsFound}
-use Rattle.laws_of_playlists.specs.SameFiles.{AreWritten, HoldsFiles, MeanTheSame, master_name}
+use Rattle.laws_of_playlists.specs.{Origins.IsFound, SameFiles.{AreWritten, HoldsFiles, MeanTheSame, master_name}}
 
 -- The master and the playlists that are written of a static MPD mean what its presentation means, with each time rounded
 -- down to the unit that durations are written in.

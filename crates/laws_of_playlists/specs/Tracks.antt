@@ -1,13 +1,10 @@
 -- What is so of the tracks of an MPD: their order, their languages and their codes.
-use Rattle.std.specs.Prelude.{◌≡◌, ℕ, ◌<◌, ◌^◌, true, false, List, filter, length, map, All, IfSome}
-use Rattle.std.specs.List.{list_any}
+use Rattle.std.specs.{Prelude.{◌≡◌, ℕ, ◌<◌, ◌^◌, true, false, List, filter, length, map, All, IfSome}, List.list_any}
 use Rattle.std.specs.List.Sorted.{IsNonDecreasingBy}
 use Rattle.bridge_io.specs.declared.media.Kind.{Kind}
-use Rattle.mpd_values.specs.Codecs.{are_codes, codes_of, is_foreign}
-use Rattle.mpd_values.specs.Languages.{is_language}
+use Rattle.mpd_values.specs.{Codecs.{are_codes, codes_of, is_foreign}, Languages.is_language}
 use Rattle.mpd_rules.specs.declared.rows.TrackRow.{TrackRow}
-use Rattle.presentation.specs.declared.track.Track.{Track}
-use Rattle.presentation.specs.Rows.{by_kind, in_order, is_of, track_of}
+use Rattle.presentation.specs.{declared.track.Track.Track, Rows.{by_kind, in_order, is_of, track_of}}
 
 -- the tracks of one kind
 abbrev pub tracks_of_kind : Kind → List Track → List Track

@@ -1,34 +1,22 @@
 -- What is written of a first MPD means what the MPD means.
 use Rattle.std.proofs.Common.{◌≡◌, ℕ, ℤ, ◌^◌, ◌<◌, List, [], ◌∷◌, ◌++◌, map, length, Option, Some, None, Result, Ok, Err, refl, sym, ◌∙◌}
-use Rattle.std.proofs.Common.{ap, subst, arith}
-use Rattle.std.specs.Prelude.{option_map, slice_get}
-use Rattle.std.specs.List.{range_with_len}
-use Rattle.std.proofs.lemmas.List.FromFn.{get_or-range_with_len, length-range_with_len}
+use Rattle.std.proofs.{Common.{ap, subst, arith}, lemmas.List.FromFn.{get_or-range_with_len, length-range_with_len}}
 use Rattle.std.proofs.lemmas.Option.{slice_get-get_or, slice_get-map}
-use Rattle.presentation.specs.declared.fault.PresentationFault.{PresentationFault}
-use Rattle.presentation.specs.Counting.{count_faults, tracks_of, unless_any}
-use Rattle.presentation.specs.MeaningLaws.{VerifiedAreMeant}
-use Rattle.presentation.specs.Presented.{Presented, listed_at}
-use Rattle.presentation.specs.Told.{presented_of}
-use Rattle.presentation.specs.Verifying.{longest_of, url_faults, verified}
+use Rattle.std.specs.{Prelude.{option_map, slice_get}, List.range_with_len}
+use Rattle.presentation.specs.{declared.fault.PresentationFault.PresentationFault, Counting.{count_faults, tracks_of, unless_any}}
+use Rattle.presentation.specs.{MeaningLaws.VerifiedAreMeant, Presented.{Presented, listed_at}, Told.presented_of, Verifying.longest_of}
+use Rattle.presentation.specs.{Verifying.{url_faults, verified}, PresentedLaws.SectionsArePeriods}
 use Rattle.presentation.proofs.Reached.{all_reached}
 use Rattle.hls_writer.specs.Verified.{IsVerified}
-use Rattle.live_meaning.specs.Updates.{Refresh, Terms, Values, unit_of}
-use Rattle.live_meaning.specs.Histories.{Common, begun_common, begun_past, begun_with, numbering_of}
-use Rattle.live_meaning.specs.States.{State, shown, track_of}
-use Rattle.live_meaning.specs.Refusals.{Refusal, begun_by, begun_of, first_refusal_of}
-use Rattle.live_meaning.specs.Playlists.{FollowedPlaylist, live_text, playlist_of, playlist_with}
+use Rattle.live_meaning.specs.{Updates.{Refresh, Terms, Values, unit_of}, Histories.{Common, begun_common, begun_past, begun_with}}
+use Rattle.live_meaning.specs.{Histories.numbering_of, States.{State, shown, track_of}, Refusals.{Refusal, begun_by, begun_of}}
+use Rattle.live_meaning.specs.{Refusals.first_refusal_of, Playlists.{FollowedPlaylist, live_text, playlist_of, playlist_with}}
 use Rattle.live_meaning.specs.Laws.{HistoriesBegin, media_of}
-use Rattle.live_meaning.proofs.Allowed.{IsFirst, first_allowed}
-use Rattle.live_meaning.proofs.InForce.{first_in_force}
+use Rattle.live_meaning.proofs.{Allowed.{IsFirst, first_allowed}, InForce.first_in_force}
 use Rattle.mpd_rules.specs.Laws.{PeriodIdsDiffer}
-use Rattle.presentation.specs.PresentedLaws.{SectionsArePeriods}
-use Rattle.laws_of_playlists.specs.ReadMedia.{track_media}
+use Rattle.laws_of_playlists.specs.{ReadMedia.track_media, Origins.{AreInPace, CameFromMpd, TracksAreWritable}, SameFiles.TracksMeanTheSame}
 use Rattle.laws_of_playlists.proofs.SameStatic.{in_turn}
-use Rattle.laws_of_playlists.specs.Origins.{AreInPace, CameFromMpd, TracksAreWritable}
-use Rattle.laws_of_playlists.specs.SameFiles.{TracksMeanTheSame}
-use Rattle.laws_of_reloads.specs.First.{FirstFilesMeanTheSame}
-use Rattle.laws_of_reloads.specs.Laws.{FollowedTextsAreRead, IsRead}
+use Rattle.laws_of_reloads.specs.{First.FirstFilesMeanTheSame, Laws.{FollowedTextsAreRead, IsRead}}
 use Rattle.laws_of_reloads.proofs.FirstItems.{place_at_first, track_read}
 
 -- ---- the first MPD of a history

@@ -1,34 +1,22 @@
 -- The segments that a first MPD lists are those of its presentation, section by section.
 use Rattle.std.proofs.Common.{◌≡◌, ℕ, zero, suc, ◌+◌, ◌^◌, ◌≤◌, ◌<◌, List, [], ◌∷◌, ◌++◌, map, filter, length, Option, Some, None, Ok}
-use Rattle.std.proofs.Common.{IfSome, refl, sym, ◌∙◌, ap, subst, arith}
-use Rattle.std.specs.Prelude.{All, true, flat_map, option_map, slice_get}
-use Rattle.std.specs.List.{range_with_len}
-use Rattle.std.specs.Option.{option_map_or}
-use Rattle.std.proofs.lemmas.List.{map-append}
-use Rattle.std.proofs.lemmas.List.Elements.{All-cons, All-head, All-nil, All-tail}
-use Rattle.std.proofs.lemmas.List.FromFn.{get_or-range_with_len, length-range_with_len}
+use Rattle.std.proofs.{Common.{IfSome, refl, sym, ◌∙◌, ap, subst, arith}, lemmas.List.map-append, lemmas.List.Elements.{All-cons, All-head}}
+use Rattle.std.proofs.{lemmas.List.Elements.{All-nil, All-tail}, lemmas.List.FromFn.{get_or-range_with_len, length-range_with_len}}
 use Rattle.std.proofs.lemmas.Option.{slice_get-get_or, slice_get-map}
+use Rattle.std.specs.{Prelude.{All, true, flat_map, option_map, slice_get}, List.range_with_len, Option.option_map_or}
 use Rattle.exact_time.specs.Rounding.{printed}
-use Rattle.timeline.specs.Expansions.{SegmentTimeline, Timing}
-use Rattle.timeline.specs.Listed.{part_of_timing}
+use Rattle.timeline.specs.{Expansions.{SegmentTimeline, Timing}, Listed.part_of_timing}
 use Rattle.url_parts.specs.declared.address.Part.{Part}
-use Rattle.presentation.specs.declared.parts.Content.{Content}
-use Rattle.presentation.specs.Meanings.{part_meant}
-use Rattle.presentation.specs.Presented.{Presented, content_at, listed_at, start_of}
+use Rattle.presentation.specs.{declared.parts.Content.Content, Meanings.part_meant, Presented.{Presented, content_at, listed_at, start_of}}
 use Rattle.presentation.specs.Printing.{durations_of, ends_of, with_durations}
 use Rattle.hls_media.specs.declared.media.MediaSegment.{MediaSegment}
-use Rattle.hls_writer.specs.Finished.{content_items, items_at, part_or_none, section_items, track_items}
-use Rattle.hls_writer.specs.Playlists.{Item}
+use Rattle.hls_writer.specs.{Finished.{content_items, items_at, part_or_none, section_items, track_items}, Playlists.Item}
 use Rattle.mpd_rules.specs.Laws.{are_once}
-use Rattle.followed.specs.Durations.{Last, durations, ends, last_behind, last_with, told, told_behind}
-use Rattle.followed.specs.Order.{IsElsewhere}
+use Rattle.followed.specs.{Durations.{Last, durations, ends, last_behind, last_with, told, told_behind}, Order.IsElsewhere}
 use Rattle.followed.proofs.PrintedSections.{goes_on, last_section, new_section}
 use Rattle.live_meaning.specs.Segments.{Kept, Numbering, Segment, id_at, listed_in_period, listed_of, place_of, segment_with, segments_of}
-use Rattle.live_meaning.specs.Known.{Known, ids_of, is_new, known_at, known_with, periods_of}
-use Rattle.live_meaning.specs.Playlists.{item_of}
-use Rattle.live_meaning.specs.Laws.{segment_of}
-use Rattle.live_meaning.proofs.Ids.{placed_at}
-use Rattle.live_meaning.proofs.Tracks.{told-segments}
+use Rattle.live_meaning.specs.{Known.{Known, ids_of, is_new, known_at, known_with, periods_of}, Playlists.item_of, Laws.segment_of}
+use Rattle.live_meaning.proofs.{Ids.placed_at, Tracks.told-segments}
 use Rattle.laws_of_playlists.specs.ReadMedia.{segment_in}
 
 -- ---- Periods are numbered by their places

@@ -1,42 +1,24 @@
 -- Segments of accepted updates have addresses, and so have their maps.
-use Rattle.std.proofs.Common.{◌≡◌, ℕ, ◌+◌, ◌-◌, ◌^◌, ◌≤◌, ◌<◌, Bool, true, ℤ, List, [], ◌∷◌, ◌++◌, map, filter, length, Option, Some, None}
-use Rattle.std.proofs.Common.{Result, Ok, Err, IfSome, refl, sym, ◌∙◌, ap, subst, inl, inr, arith}
-use Rattle.std.specs.Prelude.{All, flat_map}
-use Rattle.std.specs.Option.{option_map_or}
-use Rattle.std.proofs.Math.Nat.{one-le-pow}
-use Rattle.std.proofs.lemmas.Bool.{cases_Bool}
-use Rattle.std.proofs.lemmas.List.Elements.{All-nil, All-append, All-cons, All-head, All-tail, filter_passes}
-use Rattle.url_parts.specs.declared.address.Part.{Part}
-use Rattle.timeline.specs.declared.fault.ListFault.{ListFault}
 use Rattle.timeline.specs.declared.fault.ListFault.TheVariants as list_fault
-use Rattle.timeline.specs.Expansions.{SegmentTimeline, Timing}
-use Rattle.timeline.specs.Listed.{part_of_timing}
-use Rattle.presentation.specs.declared.fault.PresentationFault.{PresentationFault}
-use Rattle.presentation.specs.declared.parts.Content.{Content}
-use Rattle.presentation.specs.Counting.{sections_of}
-use Rattle.presentation.specs.Laws.{HasAddress}
-use Rattle.presentation.specs.MeaningLaws.{MadeAreMeant}
-use Rattle.presentation.specs.Presented.{Presented, listed_at, looked_at}
-use Rattle.presentation.specs.Told.{presented_of}
+use Rattle.std.proofs.Common.{◌≡◌, ℕ, ◌+◌, ◌-◌, ◌^◌, ◌≤◌, ◌<◌, Bool, true, ℤ, List, [], ◌∷◌, ◌++◌, map, filter, length, Option, Some, None}
+use Rattle.std.proofs.{Common.{Result, Ok, Err, IfSome, refl, sym, ◌∙◌, ap, subst, inl, inr, arith}, Math.Nat.one-le-pow}
+use Rattle.std.proofs.{lemmas.Bool.cases_Bool, lemmas.List.Elements.{All-nil, All-append, All-cons, All-head, All-tail, filter_passes}}
+use Rattle.std.specs.{Prelude.{All, flat_map}, Option.option_map_or}
+use Rattle.url_parts.specs.{declared.address.Part.Part, Addresses.IsAddress}
+use Rattle.timeline.specs.{declared.fault.ListFault.ListFault, Expansions.{SegmentTimeline, Timing}, Listed.part_of_timing}
+use Rattle.presentation.specs.{declared.fault.PresentationFault.PresentationFault, declared.parts.Content.Content, Counting.sections_of}
+use Rattle.presentation.specs.{Laws.HasAddress, MeaningLaws.MadeAreMeant, Presented.{Presented, listed_at, looked_at}, Told.presented_of}
 use Rattle.presentation.specs.Verifying.{part_fault, part_faults, url_faults}
-use Rattle.presentation.proofs.Addressed.{all_addressed}
-use Rattle.presentation.proofs.Grids.{All-at}
-use Rattle.presentation.proofs.Reached.{none_first, none_later, none_within}
+use Rattle.presentation.proofs.{Addressed.all_addressed, Grids.All-at, Reached.{none_first, none_later, none_within}}
 use Rattle.followed.specs.Durations.{Last}
-use Rattle.live_meaning.specs.Updates.{Refresh, Reset, Terms, Tick, Update, Values, mpd_of, unit_of}
-use Rattle.live_meaning.specs.Segments.{Numbering, Segment, behind, is_later, listed_of}
-use Rattle.live_meaning.specs.Histories.{Common, Whole, begun_common, begun_with, common_with, force_by, gone_on, longest_in, new_listed}
-use Rattle.live_meaning.specs.Histories.{numbering_of, whole_of}
-use Rattle.live_meaning.specs.States.{State, Track, shown, track_of}
-use Rattle.live_meaning.specs.Refusals.{Presentation, Refusal, is_new_at, new_at, urls_in, urls_told}
-use Rattle.live_meaning.specs.Laws.{IsAccepted}
-use Rattle.live_meaning.proofs.Allowed.{IsAllowed, IsFirst, accepted_hold, none_mapped, none_of_each}
-use Rattle.live_meaning.proofs.Histories.{Sound}
-use Rattle.live_meaning.proofs.Orders.{behind_have, listed_have, made_in}
-use Rattle.live_meaning.proofs.Tracks.{Each, each_after, each_begun, each_both}
+use Rattle.live_meaning.specs.{Updates.{Refresh, Reset, Terms, Tick, Update, Values, mpd_of, unit_of}, Segments.{Numbering, Segment}}
+use Rattle.live_meaning.specs.{Segments.{behind, is_later, listed_of}, Histories.{Common, Whole, begun_common, begun_with, common_with}}
+use Rattle.live_meaning.specs.{Histories.{force_by, gone_on, longest_in, new_listed, numbering_of, whole_of}, States.{State, Track, shown}}
+use Rattle.live_meaning.specs.{States.track_of, Refusals.{Presentation, Refusal, is_new_at, new_at, urls_in, urls_told}, Laws.IsAccepted}
+use Rattle.live_meaning.proofs.{Allowed.{IsAllowed, IsFirst, accepted_hold, none_mapped, none_of_each}, Histories.Sound, Orders.behind_have}
+use Rattle.live_meaning.proofs.{Orders.{listed_have, made_in}, Tracks.{Each, each_after, each_begun, each_both}}
 use Rattle.laws_of_playlists.specs.Origins.{AreInPace, AreLocated, AreShortInPace, CameFromMpd, InitializationsAreLocated, IsFound}
 use Rattle.laws_of_playlists.specs.Origins.{IsLocated, PartsAreLocated, ReadingsAreOfBytes}
-use Rattle.url_parts.specs.Addresses.{IsAddress}
 use Rattle.laws_of_reloads.specs.Laws.{IsRead, IsReadIfAny}
 use Rattle.laws_of_reloads.proofs.Targets.{longest_short, longest_told, target_short}
 

@@ -1,37 +1,24 @@
 -- No target duration is long.
 use Rattle.std.proofs.Common.{◌≡◌, ℕ, Bool, true, false, ◌+◌, ◌*◌, ◌^◌, ◌≤◌, ◌<◌, ◌==◌, ltb, List, [], ◌∷◌, ◌++◌, map, length, get_or}
-use Rattle.std.proofs.Common.{Option, Some, None, Err, Ok, IfSome, sym, subst, inl, inr, arith}
-use Rattle.std.specs.Prelude.{All, codes, if◌then◌else◌, option_and_then, unwrap_or}
-use Rattle.std.specs.List.{range_with_len}
-use Rattle.std.specs.Option.{option_map_or}
+use Rattle.std.proofs.{Common.{Option, Some, None, Err, Ok, IfSome, sym, subst, inl, inr, arith}, Math.Nat.mul-le-mul_left}
+use Rattle.std.proofs.{lemmas.Bool.{cases_Bool, cases_lt, ltb-true}, lemmas.Grind.div_ceil_times, lemmas.List.Elements.{All-head, All-map}}
+use Rattle.std.proofs.{lemmas.List.Elements.All-tail, lemmas.List.FromFn.{get_or-range_with_len, length-range_with_len}}
+use Rattle.std.specs.{Prelude.{All, codes, if◌then◌else◌, option_and_then, unwrap_or}, List.range_with_len, Option.option_map_or}
 use Rattle.std.specs.Result.{result_ok}
-use Rattle.std.proofs.Math.Nat.{mul-le-mul_left}
-use Rattle.std.proofs.lemmas.Bool.{cases_Bool, cases_lt, ltb-true}
-use Rattle.std.proofs.lemmas.Grind.{div_ceil_times}
-use Rattle.std.proofs.lemmas.List.Elements.{All-head, All-map, All-tail}
-use Rattle.std.proofs.lemmas.List.FromFn.{get_or-range_with_len, length-range_with_len}
 use Rattle.iso_time.specs.Duration.{DurationParts, answer_of, duration_of, extent_of, parts_of}
 use Rattle.iso_time.specs.declared.duration.DurationFault.TheVariants.{Calendar, Range, Shape}
 use Rattle.mpd_text.specs.Trees.{Element}
-use Rattle.mpd_values.specs.declared.blank.Blank.TheVariants.{Space}
-use Rattle.mpd_values.specs.Blanks.{trimmed}
-use Rattle.mpd_profile.specs.Heads.{is_dynamic, value_named}
-use Rattle.mpd_profile.specs.declared.listed.Addressing.TheVariants.{Segments as OneByOne}
-use Rattle.mpd_profile.proofs.Sound.{sound_root}
+use Rattle.mpd_values.specs.{declared.blank.Blank.TheVariants.Space, Blanks.trimmed}
+use Rattle.mpd_profile.specs.{Heads.{is_dynamic, value_named}, declared.listed.Addressing.TheVariants.Segments as OneByOne}
 use Rattle.mpd_profile.specs.Refusals.{feature_refusals, refusals_of, root_refusals, value_refusals}
+use Rattle.mpd_profile.proofs.Sound.{sound_root}
 use Rattle.mpd_levels.specs.Segments.{segments_of}
-use Rattle.mpd_rules.specs.Readings.{duration_within}
-use Rattle.mpd_rules.specs.Rules.{all_refusals, dash_values, segments_refused, typed_mpd_of}
+use Rattle.mpd_rules.specs.{Readings.duration_within, Rules.{all_refusals, dash_values, segments_refused, typed_mpd_of}}
 use Rattle.mpd_rules.proofs.Fitting.{mpd_fits}
-use Rattle.presentation.specs.Counting.{count_faults}
-use Rattle.presentation.specs.Presented.{Presented, listed_at}
-use Rattle.presentation.specs.Printing.{durations_of}
-use Rattle.presentation.specs.Verifying.{greatest, longest_at, longest_of}
-use Rattle.presentation.proofs.Ending.{none_behind}
-use Rattle.presentation.proofs.Reached.{all_reached}
-use Rattle.live_meaning.specs.Updates.{Values}
-use Rattle.live_meaning.specs.Histories.{longest_in}
-use Rattle.live_meaning.specs.Removal.{half_more, target_of}
+use Rattle.presentation.specs.{Counting.count_faults, Presented.{Presented, listed_at}, Printing.durations_of, Verifying.greatest}
+use Rattle.presentation.specs.Verifying.{longest_at, longest_of}
+use Rattle.presentation.proofs.{Ending.none_behind, Reached.all_reached}
+use Rattle.live_meaning.specs.{Updates.Values, Histories.longest_in, Removal.{half_more, target_of}}
 use Rattle.laws_of_playlists.specs.Origins.{AreInPace, AreShortInPace, CameFromMpd}
 use Rattle.laws_of_playlists.proofs.OriginKept.{are_untold}
 

@@ -1,48 +1,33 @@
 -- What is written of followed tracks is read again.
+use Rattle.hls_media.specs.Media as hls
+use Rattle.laws_of_playlists.specs.ReadMedia as read
 use Rattle.std.proofs.Common.{◌≡◌, ℕ, suc, ◌+◌, ◌-◌, ◌*◌, ◌/◌, ◌%◌, ◌^◌, ◌≤◌, ◌<◌, leb, List, [], ◌∷◌, ◌++◌, map, length, drop, get_or}
 use Rattle.std.proofs.Common.{Option, Some, None, Ok, IfSome, refl, sym, ◌∙◌, ap, subst, inl, inr, arith, length-append}
-use Rattle.std.specs.Prelude.{All, option_map, slice_get, unwrap_or}
-use Rattle.std.specs.List.{fold}
-use Rattle.std.specs.Option.{option_map_or}
-use Rattle.std.proofs.lemmas.Bool.{cases_Bool}
-use Rattle.std.proofs.lemmas.List.{get_or_append_left}
-use Rattle.std.proofs.lemmas.List.Sums.{fold-append}
+use Rattle.std.proofs.{lemmas.Bool.cases_Bool, lemmas.List.get_or_append_left, lemmas.List.Sums.fold-append}
 use Rattle.std.proofs.lemmas.List.Elements.{All-append, All-cons, All-drop, All-head, All-map, All-nil, All-tail}
 use Rattle.std.proofs.lemmas.Option.{slice_get-map}
-use Rattle.bridge_io.specs.Answer.{and_then}
-use Rattle.bridge_io.specs.Places.{place_of}
-use Rattle.url_parts.specs.declared.address.Part.{Part}
-use Rattle.url_parts.specs.declared.range.Range.{Range}
+use Rattle.std.specs.{Prelude.{All, option_map, slice_get, unwrap_or}, List.fold, Option.option_map_or}
+use Rattle.bridge_io.specs.{Answer.and_then, Places.place_of}
+use Rattle.url_parts.specs.{declared.address.Part.Part, declared.range.Range.Range}
 use Rattle.hls_lines.specs.Lines.{PlaylistLine, lines_of}
 use Rattle.hls_media.specs.Media.{lines_or_fault, media_in, media_of as read_media, media_values, values_or_fault}
-use Rattle.hls_media.specs.Media as hls
-use Rattle.hls_media.specs.declared.fault.MediaFault.{MediaFault}
-use Rattle.hls_media.specs.declared.media.Media.{Media}
+use Rattle.hls_media.specs.{declared.fault.MediaFault.MediaFault, declared.media.Media.Media}
 use Rattle.hls_writer.specs.Finished.{rounded}
-use Rattle.presentation.specs.MeaningLaws.{MadeAreMeant}
-use Rattle.presentation.specs.Presented.{is_finished}
+use Rattle.presentation.specs.{MeaningLaws.MadeAreMeant, Presented.is_finished}
 use Rattle.presentation.proofs.Grids.{All-at}
 use Rattle.reload_law.specs.Laws.{IsLawful, RulesAreSentences}
 use Rattle.followed.specs.Durations.{durations, told}
-use Rattle.live_meaning.specs.Updates.{Terms, Update, Values, mpd_of, unit_of}
-use Rattle.live_meaning.specs.Segments.{Kept, Segment, segments_of}
-use Rattle.live_meaning.specs.Histories.{Past, Whole, all_of, no_past, past_of, whole_of}
-use Rattle.live_meaning.specs.States.{State, Track, shown, state_of, track_of}
-use Rattle.live_meaning.specs.Refusals.{Refusal, update_refusal}
-use Rattle.live_meaning.specs.Playlists.{FollowedPlaylist, first_section, head_of, item_of, live_text, playlist_of, playlist_with}
-use Rattle.live_meaning.specs.Laws.{AcceptedAreAccepted, AreTyped, DurationsFitTarget, IsAccepted, IsTyped, NumbersStaySmall}
-use Rattle.live_meaning.specs.Laws.{ReloadsAreLawful, SectionsHaveOneMap, SectionsNeverFall, Shows, accepted_of, media_of, segment_of}
-use Rattle.live_meaning.specs.Laws.{with_accepted}
-use Rattle.live_meaning.proofs.Grown.{get_drop}
-use Rattle.live_meaning.proofs.Ids.{get_behind}
-use Rattle.live_meaning.proofs.Histories.{mapped, sound}
-use Rattle.live_meaning.proofs.Reloads.{looked_up}
-use Rattle.live_meaning.proofs.Tracks.{kept_segments, told-segments, track_at}
+use Rattle.live_meaning.specs.{Updates.{Terms, Update, Values, mpd_of, unit_of}, Segments.{Kept, Segment, segments_of}, Histories.Past}
+use Rattle.live_meaning.specs.{Histories.{Whole, all_of, no_past, past_of, whole_of}, States.{State, Track, shown, state_of, track_of}}
+use Rattle.live_meaning.specs.{Refusals.{Refusal, update_refusal}, Playlists.{FollowedPlaylist, first_section, head_of, item_of, live_text}}
+use Rattle.live_meaning.specs.{Playlists.{playlist_of, playlist_with}, Laws.{AcceptedAreAccepted, AreTyped, DurationsFitTarget, IsAccepted}}
+use Rattle.live_meaning.specs.Laws.{IsTyped, NumbersStaySmall, ReloadsAreLawful, SectionsHaveOneMap, SectionsNeverFall, Shows, accepted_of}
+use Rattle.live_meaning.specs.Laws.{media_of, segment_of, with_accepted}
+use Rattle.live_meaning.proofs.{Grown.get_drop, Ids.get_behind, Histories.{mapped, sound}, Reloads.looked_up, Tracks.kept_segments}
+use Rattle.live_meaning.proofs.Tracks.{told-segments, track_at}
 use Rattle.laws_of_playlists.specs.Origins.{AreInPace, AreShortInPace, InitializationsAreLocated, IsLocated, IsSomeBytes, PartsAreLocated}
-use Rattle.laws_of_playlists.specs.Origins.{ReadingsAreOfBytes}
-use Rattle.laws_of_playlists.specs.ReadMedia.{AreInOrder, FollowedAreRead, GoOn, IsReadableItem, IsReadablePart, IsReadableRange}
-use Rattle.laws_of_playlists.specs.ReadMedia.{IsShortNumber, ReadsAs}
-use Rattle.laws_of_playlists.specs.ReadMedia as read
+use Rattle.laws_of_playlists.specs.{Origins.ReadingsAreOfBytes, ReadMedia.{AreInOrder, FollowedAreRead, GoOn, IsReadableItem}}
+use Rattle.laws_of_playlists.specs.ReadMedia.{IsReadablePart, IsReadableRange, IsShortNumber, ReadsAs}
 use Rattle.laws_of_reloads.specs.Laws.{AreRead, FollowedTextsAreRead, FollowedTextsReload, IsFollowed, IsReadIfAny, ReadTextsReload}
 use Rattle.laws_of_reloads.proofs.Located.{IsAddressed, accepted_addressed}
 

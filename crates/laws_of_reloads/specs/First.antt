@@ -2,12 +2,9 @@
 use Rattle.std.specs.Prelude.{◌≡◌, ℕ, ℤ, List, [], ◌∷◌, ◌++◌, length, Some, Ok}
 use Rattle.bridge_io.specs.Outside.{Files}
 use Rattle.url_parts.specs.Addresses.{folder_of}
-use Rattle.hls_writer.specs.Attributes.{playlist_name}
-use Rattle.hls_writer.specs.Master.{master_text}
-use Rattle.live_meaning.specs.Updates.{Refresh, Terms, Values}
-use Rattle.live_meaning.specs.States.{State}
-use Rattle.live_meaning.specs.Refusals.{begun_of}
-use Rattle.live_meaning.specs.Playlists.{FollowedPlaylist, live_text, playlist_of}
+use Rattle.hls_writer.specs.{Attributes.playlist_name, Master.master_text}
+use Rattle.live_meaning.specs.{Updates.{Refresh, Terms, Values}, States.State, Refusals.begun_of, Playlists.{FollowedPlaylist, live_text}}
+use Rattle.live_meaning.specs.Playlists.{playlist_of}
 use Rattle.laws_of_playlists.specs.SameFiles.{HoldsFiles, MeanTheSame, master_name}
 use Rattle.laws_of_reloads.specs.Laws.{IsFollowed}
 

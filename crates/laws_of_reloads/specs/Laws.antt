@@ -1,19 +1,13 @@
 -- What is read of the written playlists of a followed presentation.
 use Rattle.std.specs.Prelude.{◌≡◌, ℕ, ◌≤◌, All, List, [], ◌∷◌, ◌++◌, length, Option, Some, None, Ok}
 use Rattle.url_parts.specs.Addresses.{IsAddress}
-use Rattle.mpd_text.specs.Trees.{Element}
-use Rattle.mpd_text.specs.Meaning.{reading_of}
+use Rattle.mpd_text.specs.{Trees.Element, Meaning.reading_of}
 use Rattle.mpd_rules.specs.Rules.{typed_mpd_of}
-use Rattle.hls_media.specs.Media.{media_of as read_media}
-use Rattle.hls_media.specs.declared.media.Media.{Media}
+use Rattle.hls_media.specs.{Media.media_of as read_media, declared.media.Media.Media}
 use Rattle.reload_law.specs.Laws.{IsLawful}
-use Rattle.live_meaning.specs.Updates.{Terms, Update, Values, mpd_of}
-use Rattle.live_meaning.specs.States.{State, state_of}
-use Rattle.live_meaning.specs.Refusals.{update_refusal}
-use Rattle.live_meaning.specs.Playlists.{FollowedPlaylist, live_text, playlist_of}
-use Rattle.live_meaning.specs.Laws.{Shows, accepted_of, media_of}
-use Rattle.laws_of_playlists.specs.Origins.{IsOfBytes}
-use Rattle.laws_of_playlists.specs.ReadMedia.{ReadsAs}
+use Rattle.live_meaning.specs.{Updates.{Terms, Update, Values, mpd_of}, States.{State, state_of}, Refusals.update_refusal}
+use Rattle.live_meaning.specs.{Playlists.{FollowedPlaylist, live_text, playlist_of}, Laws.{Shows, accepted_of, media_of}}
+use Rattle.laws_of_playlists.specs.{Origins.IsOfBytes, ReadMedia.ReadsAs}
 
 -- ---- what a run follows
 

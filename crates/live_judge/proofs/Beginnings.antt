@@ -1,9 +1,7 @@
 -- Sections that begin with the known Periods from a place on.
 use Rattle.std.proofs.Common.{◌≡◌, ℕ, ◌+◌, ◌&&◌, Bool, true, false, List, ◌∷◌, map, drop, bytes_eq, Some, refl, ◌∙◌, ap}
-use Rattle.std.specs.Prelude.{slice_get}
-use Rattle.std.specs.List.{starts_with}
-use Rattle.std.proofs.lemmas.List.{drop_more}
-use Rattle.std.proofs.lemmas.Option.{get_or_from_slice_get, slice_get-map, slice_get_within}
+use Rattle.std.proofs.{lemmas.List.drop_more, lemmas.Option.{get_or_from_slice_get, slice_get-map, slice_get_within}}
+use Rattle.std.specs.{Prelude.slice_get, List.starts_with}
 use Rattle.presentation.specs.declared.track.Section.{Section}
 use Rattle.live_meaning.specs.Known.{Known, ids_of}
 

@@ -1,24 +1,17 @@
 -- The last kept segments of a Period.
 use Rattle.std.proofs.Common.{◌≡◌, ℕ, zero, suc, ◌+◌, ◌-◌, ◌<◌, ◌≤◌, ◌==◌, Bool, true, false, List, [], ◌∷◌, length, take, drop, reverse}
-use Rattle.std.proofs.Common.{Option, None, Some, refl, sym, ◌∙◌, ap, subst, inl, inr, arith, length-drop}
-use Rattle.std.specs.Prelude.{filter, slice_get}
-use Rattle.std.specs.List.{last_or}
-use Rattle.std.proofs.lemmas.Bool.{and_parts, cases_Bool, cases_lt}
-use Rattle.std.proofs.lemmas.Bool.Decides.{nat_tests}
-use Rattle.std.proofs.lemmas.List.{get_or-reverse, length-map, length-reverse, length-take}
-use Rattle.std.proofs.lemmas.Option.{get_or_from_slice_get, same_Some, slice_get-map, slice_get_past, slice_get_within}
+use Rattle.std.proofs.{Common.{Option, None, Some, refl, sym, ◌∙◌, ap, subst, inl, inr, arith, length-drop}, lemmas.Bool.and_parts}
+use Rattle.std.proofs.{lemmas.Bool.{cases_Bool, cases_lt}, lemmas.Bool.Decides.nat_tests, lemmas.List.{get_or-reverse, length-map}}
+use Rattle.std.proofs.{lemmas.List.{length-reverse, length-take}, lemmas.Option.{get_or_from_slice_get, same_Some, slice_get-map}}
+use Rattle.std.proofs.lemmas.Option.{slice_get_past, slice_get_within}
+use Rattle.std.specs.{Prelude.{filter, slice_get}, List.last_or}
 use Rattle.presentation.proofs.Grids.{All-at, found}
 use Rattle.timeline.specs.Expansions.{Timing}
 use Rattle.followed.specs.Durations.{is_in}
-use Rattle.live_meaning.specs.Segments.{Kept, Segment, segments_of, times_of, timing_of}
-use Rattle.live_meaning.specs.Refusals.{latest_in, latest_of}
-use Rattle.live_judge.specs.declared.block.Block.{Block}
-use Rattle.live_judge.specs.declared.track.LiveTrack.{LiveTrack}
-use Rattle.live_judge.specs.Blocks.{AreOf, IsBlock, IsEndOf, IsWithin, StandBefore, in_block, is_of, segments_in}
-use Rattle.live_judge.specs.Removal.{kept_in}
-use Rattle.live_judge.specs.Sound.{AreOrdered, DoesFollow}
-use Rattle.live_judge.proofs.Holding.{filter_filter}
-use Rattle.live_judge.proofs.Keeping.{length-kepts}
+use Rattle.live_meaning.specs.{Segments.{Kept, Segment, segments_of, times_of, timing_of}, Refusals.{latest_in, latest_of}}
+use Rattle.live_judge.specs.{declared.block.Block.Block, declared.track.LiveTrack.LiveTrack, Blocks.{AreOf, IsBlock, IsEndOf, IsWithin}}
+use Rattle.live_judge.specs.{Blocks.{StandBefore, in_block, is_of, segments_in}, Removal.kept_in, Sound.{AreOrdered, DoesFollow}}
+use Rattle.live_judge.proofs.{Holding.filter_filter, Keeping.length-kepts}
 
 pub segment_at : (track : LiveTrack) (i : ℕ) (k : Kept) → slice_get (kept_in track) i ≡ Some k
     → slice_get (segments_in track) i ≡ Some k.segment

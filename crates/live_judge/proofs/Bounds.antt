@@ -1,10 +1,8 @@
 -- Numbers that stay small.
-use Rattle.std.proofs.Common.{◌≡◌, ◌≤◌, ℤ, pos, length, refl, arith}
-use Rattle.live_judge.specs.declared.coming.Next.{Next}
-use Rattle.live_judge.specs.declared.coming.Coming.{Coming}
 use Rattle.live_judge.specs.declared.coming.Coming.TheVariants as comes
+use Rattle.std.proofs.Common.{◌≡◌, ◌≤◌, ℤ, pos, length, refl, arith}
+use Rattle.live_judge.specs.{declared.coming.Next.Next, declared.coming.Coming.Coming, Coming.{IsNext, p_of, update_of}}
 use Rattle.live_meaning.specs.Updates.{is_reset}
-use Rattle.live_judge.specs.Coming.{IsNext, p_of, update_of}
 
 resets_fit : (n : Next) → IsNext n → (n.standing.now).resets ≤ 10000000
 resets_fit n is = omega (arith, is.live.resets, is.live.accepted)

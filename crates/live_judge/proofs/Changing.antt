@@ -1,24 +1,15 @@
 -- What an MPD changes, by the places of its Periods.
 use Rattle.std.proofs.Common.{◌≡◌, ℕ, zero, suc, ◌+◌, ◌<◌, ◌≤◌, ◌&&◌, ◌||◌, ◌==◌, not, Bool, true, false, List, [], ◌∷◌, ◌++◌, length}
-use Rattle.std.proofs.Common.{Option, Some, None, refl, sym, ◌∙◌, ap, subst, inl, inr, arith}
-use Rattle.std.specs.Prelude.{IfSome, flat_map, slice_get}
-use Rattle.std.specs.List.{list_any, range_with_len}
-use Rattle.std.specs.Option.{option_map_or}
-use Rattle.std.proofs.lemmas.Bool.{cases_Bool, cases_lt}
+use Rattle.std.proofs.{Common.{Option, Some, None, refl, sym, ◌∙◌, ap, subst, inl, inr, arith}, lemmas.Bool.{cases_Bool, cases_lt}}
 use Rattle.std.proofs.lemmas.Bool.Decides.{nat_tests}
+use Rattle.std.specs.{Prelude.{IfSome, flat_map, slice_get}, List.{list_any, range_with_len}, Option.option_map_or}
 use Rattle.mpd_rules.specs.Laws.{are_once}
-use Rattle.presentation.specs.Counting.{sections_of}
-use Rattle.presentation.specs.Presented.{Presented, start_of}
-use Rattle.live_meaning.specs.Updates.{Values}
-use Rattle.live_meaning.specs.Segments.{id_at}
-use Rattle.live_meaning.specs.Known.{Known, all_same, attributes_at, goes_on, ids_of, known_by}
-use Rattle.live_meaning.specs.Histories.{Common}
-use Rattle.live_meaning.specs.Refusals.{Changed, Moved, Refusal, are_alike, differs_at, ids_in, is_changed, lack_ids, moved_by, moved_told}
-use Rattle.live_meaning.specs.Refusals.{starts_otherwise, told_if}
-use Rattle.live_meaning.proofs.Ids.{new_in, placed_at}
-use Rattle.live_meaning.proofs.InForce.{id_there, known_grown}
-use Rattle.live_judge.specs.Known.{StandsAt}
-use Rattle.live_judge.specs.Changed.{AreUnmoved, first_place, has_other, moved_at, moved_from, place_among}
+use Rattle.presentation.specs.{Counting.sections_of, Presented.{Presented, start_of}}
+use Rattle.live_meaning.specs.{Updates.Values, Segments.id_at, Known.{Known, all_same, attributes_at, goes_on, ids_of, known_by}}
+use Rattle.live_meaning.specs.{Histories.Common, Refusals.{Changed, Moved, Refusal, are_alike, differs_at, ids_in, is_changed, lack_ids}}
+use Rattle.live_meaning.specs.Refusals.{moved_by, moved_told, starts_otherwise, told_if}
+use Rattle.live_meaning.proofs.{Ids.{new_in, placed_at}, InForce.{id_there, known_grown}}
+use Rattle.live_judge.specs.{Known.StandsAt, Changed.{AreUnmoved, first_place, has_other, moved_at, moved_from, place_among}}
 use Rattle.live_judge.proofs.Places.{both, known_before, new_stand, unless}
 
 -- ---- the same at each place

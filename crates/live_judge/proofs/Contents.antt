@@ -1,23 +1,15 @@
 -- Where the new segments of a section begin.
 use Rattle.std.proofs.Common.{◌≡◌, ℕ, ◌+◌, ◌<◌, nat_lt, ◌==◌, Bool, true, false, List, [], ◌∷◌, length, take, map, Option, Some, None, refl}
-use Rattle.std.proofs.Common.{sym, ◌∙◌, ap, subst, arith}
-use Rattle.std.specs.Prelude.{IfSome, filter, option_map}
-use Rattle.std.specs.Option.{option_map_or}
-use Rattle.std.proofs.lemmas.Bool.Decides.{nat_tests}
-use Rattle.std.proofs.lemmas.List.{length-map}
+use Rattle.std.proofs.{Common.{sym, ◌∙◌, ap, subst, arith}, lemmas.Bool.Decides.nat_tests, lemmas.List.length-map}
 use Rattle.std.proofs.lemmas.List.Elements.{filter_agree}
+use Rattle.std.specs.{Prelude.{IfSome, filter, option_map}, Option.option_map_or}
 use Rattle.exact_time.specs.Time.{Time, before}
-use Rattle.timeline.specs.declared.window.Window.{Window}
-use Rattle.timeline.specs.Expansions.{SegmentTimeline, Timing}
-use Rattle.timeline.specs.Listed.{IsPlaceAfter, expansion, listed, listed_from}
-use Rattle.presentation.specs.declared.parts.Content.{Content}
-use Rattle.presentation.specs.Presented.{Presented, content_at, listed_at, start_of, window_of}
-use Rattle.presentation.proofs.Extents.{listed_of}
-use Rattle.presentation.proofs.GoingOn.{listed_later}
-use Rattle.presentation.proofs.Printing.{all_listed}
+use Rattle.timeline.specs.{declared.window.Window.Window, Expansions.{SegmentTimeline, Timing}, Listed.{IsPlaceAfter, expansion, listed}}
+use Rattle.timeline.specs.Listed.{listed_from}
+use Rattle.presentation.specs.{declared.parts.Content.Content, Presented.{Presented, content_at, listed_at, start_of, window_of}}
+use Rattle.presentation.proofs.{Extents.listed_of, GoingOn.listed_later, Printing.all_listed}
 use Rattle.followed.specs.Durations.{Last}
-use Rattle.live_meaning.specs.Segments.{Numbering, is_later, segment_with}
-use Rattle.live_meaning.specs.States.{Track}
+use Rattle.live_meaning.specs.{Segments.{Numbering, is_later, segment_with}, States.Track}
 use Rattle.live_judge.specs.New.{StartsNew, new_in, new_timings}
 
 pub content_there : (o : Option Content) (r : SegmentTimeline) → option_map (λ (content : Content). content.runs) o ≡ Some r

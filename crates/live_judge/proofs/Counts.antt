@@ -1,29 +1,17 @@
 -- What is new of a track, over the sections of an update.
 use Rattle.std.proofs.Common.{◌≡◌, ℕ, ◌+◌, ◌<◌, List, [], ◌∷◌, ◌++◌, length, map, Option, Some, None, refl, sym, ◌∙◌, ap, subst, arith}
-use Rattle.std.specs.Prelude.{flat_map, slice_get, sum_by}
-use Rattle.std.specs.Option.{option_map_or}
-use Rattle.std.proofs.lemmas.List.{nil_from_length}
-use Rattle.std.proofs.lemmas.List.Concat.{length-flat_map}
-use Rattle.std.proofs.lemmas.List.Sums.{sum_by-cons}
+use Rattle.std.proofs.{lemmas.List.nil_from_length, lemmas.List.Concat.length-flat_map, lemmas.List.Sums.sum_by-cons}
 use Rattle.std.proofs.lemmas.Option.{same_Some}
-use Rattle.timeline.specs.Expansions.{Timing}
-use Rattle.timeline.specs.Steady.{IsWithinLimits}
-use Rattle.presentation.specs.declared.parts.Content.{Content}
-use Rattle.presentation.specs.Counting.{sections_of}
-use Rattle.presentation.specs.Presented.{content_at, start_of}
+use Rattle.std.specs.{Prelude.{flat_map, slice_get, sum_by}, Option.option_map_or}
+use Rattle.timeline.specs.{Expansions.Timing, Steady.IsWithinLimits}
+use Rattle.presentation.specs.{declared.parts.Content.Content, Counting.sections_of, Presented.{content_at, start_of}}
 use Rattle.presentation.proofs.Counts.{from_on, from_on-end, from_on-first}
-use Rattle.live_meaning.specs.Segments.{Numbering, Segment, id_at, segment_with, timing_of}
-use Rattle.live_meaning.specs.Known.{ids_of}
-use Rattle.live_meaning.specs.Histories.{numbering_of}
-use Rattle.live_meaning.specs.States.{new_of}
-use Rattle.live_meaning.specs.Refusals.{ids_in}
+use Rattle.live_meaning.specs.{Segments.{Numbering, Segment, id_at, segment_with, timing_of}, Known.ids_of, Histories.numbering_of}
+use Rattle.live_meaning.specs.{States.new_of, Refusals.ids_in}
 use Rattle.live_meaning.proofs.InForce.{id_there}
-use Rattle.live_judge.specs.declared.track_next.TrackNext.{TrackNext}
-use Rattle.live_judge.specs.Coming.{IsTrackNext, c_of, coming_of, p_of, t_of}
-use Rattle.live_judge.specs.New.{IsFirstNew, new_in, new_timings}
-use Rattle.live_judge.proofs.Contents.{length-new}
-use Rattle.live_judge.proofs.New.{new_is}
-use Rattle.live_judge.proofs.Places.{place_there}
+use Rattle.live_judge.specs.{declared.track_next.TrackNext.TrackNext, Coming.{IsTrackNext, c_of, coming_of, p_of, t_of}, New.IsFirstNew}
+use Rattle.live_judge.specs.New.{new_in, new_timings}
+use Rattle.live_judge.proofs.{Contents.length-new, New.new_is, Places.place_there}
 
 abbrev pub times_in : TrackNext → ℕ → List Timing
 times_in l s = new_timings (p_of l.next.now) (l.next.now).place (t_of l) l.index s

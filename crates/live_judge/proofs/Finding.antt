@@ -1,16 +1,11 @@
 -- An id is found at its place.
 use Rattle.std.proofs.Common.{◌≡◌, ℕ, zero, suc, ◌+◌, ◌<◌, ◌≤◌, Bool, true, false, List, [], ◌∷◌, length, Option, Some, None, bytes_eq}
-use Rattle.std.proofs.Common.{refl, sym, ◌∙◌, ap, inl, inr, arith}
-use Rattle.std.specs.Prelude.{slice_get, map, is_some, not}
-use Rattle.std.specs.Option.{option_map_or}
-use Rattle.std.specs.List.{list_all, list_any, position, position_or_len}
-use Rattle.std.proofs.lemmas.Bool.{cases_Bool, cases_lt, lt-ltb, le-ltb}
-use Rattle.std.proofs.lemmas.Option.{same_Some}
-use Rattle.std.proofs.lemmas.Slice.Eq.{bytes_eq-Decides}
+use Rattle.std.proofs.{Common.{refl, sym, ◌∙◌, ap, inl, inr, arith}, lemmas.Bool.{cases_Bool, cases_lt, lt-ltb, le-ltb}}
+use Rattle.std.proofs.{lemmas.Option.same_Some, lemmas.Slice.Eq.bytes_eq-Decides}
+use Rattle.std.specs.{Prelude.{slice_get, map, is_some, not}, Option.option_map_or, List.{list_all, list_any, position, position_or_len}}
 use Rattle.presentation.specs.declared.track.Section.{Section}
 use Rattle.live_meaning.specs.Known.{Known, ids_of}
-use Rattle.live_judge.specs.declared.known.KnownPeriod.{KnownPeriod}
-use Rattle.live_judge.specs.Known.{IsIndex, is_there, known_shown}
+use Rattle.live_judge.specs.{declared.known.KnownPeriod.KnownPeriod, Known.{IsIndex, is_there, known_shown}}
 
 -- the first place of an id that is there has it
 at_position : (ids : List (List ℕ)) (id : List ℕ) → position_or_len (bytes_eq id) ids < length ids

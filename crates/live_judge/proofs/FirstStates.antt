@@ -1,37 +1,23 @@
 -- The state that a first MPD leaves is sound.
 use Rattle.std.proofs.Common.{◌≡◌, ℕ, zero, suc, ◌+◌, ◌<◌, ℤ, pos, List, [], ◌∷◌, ◌++◌, map, length, Option, Some, None, Result, Ok, Err}
-use Rattle.std.proofs.Common.{refl, sym, ◌∙◌, ap, subst, arith, length-append}
-use Rattle.std.specs.Prelude.{All, IfSome, filter}
-use Rattle.std.specs.List.{range_with_len}
-use Rattle.std.specs.Option.{option_map_or}
-use Rattle.std.proofs.lemmas.List.{length-map, nil_from_length}
-use Rattle.std.proofs.lemmas.List.Elements.{All-nil, All-cons}
-use Rattle.std.proofs.lemmas.List.FromFn.{length-range_with_len}
+use Rattle.std.proofs.{Common.{refl, sym, ◌∙◌, ap, subst, arith, length-append}, lemmas.List.{length-map, nil_from_length}}
+use Rattle.std.proofs.{lemmas.List.Elements.{All-nil, All-cons}, lemmas.List.FromFn.length-range_with_len}
+use Rattle.std.specs.{Prelude.{All, IfSome, filter}, List.range_with_len, Option.option_map_or}
 use Rattle.mpd_rules.specs.Laws.{PeriodIdsDiffer}
-use Rattle.presentation.specs.declared.fault.PresentationFault.{PresentationFault}
-use Rattle.presentation.specs.Counting.{sections_of, tracks_of}
-use Rattle.presentation.specs.Presented.{Following, Presented}
-use Rattle.presentation.specs.PresentedLaws.{PresentedAreFew, PresentedAreFollowed, SectionsArePeriods}
+use Rattle.presentation.specs.{declared.fault.PresentationFault.PresentationFault, Counting.{sections_of, tracks_of}, Presented.Following}
+use Rattle.presentation.specs.{Presented.Presented, PresentedLaws.{PresentedAreFew, PresentedAreFollowed, SectionsArePeriods}}
 use Rattle.presentation.specs.Told.{presented_of}
 use Rattle.followed.specs.Durations.{last_behind}
-use Rattle.live_meaning.specs.Updates.{Terms, Values, unit_of}
-use Rattle.live_meaning.specs.Segments.{Segment, listed_of, place_behind, segments_of}
-use Rattle.live_meaning.specs.Known.{Known, ids_of, is_new, periods_of}
-use Rattle.live_meaning.specs.Histories.{Common, begun_common, begun_past, begun_with, numbering_of}
-use Rattle.live_meaning.specs.States.{State, Track, shown, track_of}
-use Rattle.live_meaning.specs.Refusals.{Refusal, begun_by as begun_state, begun_of, first_refusal_of, ids_in}
-use Rattle.live_meaning.specs.Laws.{IsTyped}
-use Rattle.live_meaning.proofs.Allowed.{IsFirst, first_allowed}
-use Rattle.live_meaning.proofs.Ids.{AreLast}
-use Rattle.live_meaning.proofs.InForce.{IsInForce, first_in_force}
-use Rattle.live_meaning.proofs.Orders.{listed_numbered}
+use Rattle.live_meaning.specs.{Updates.{Terms, Values, unit_of}, Segments.{Segment, listed_of, place_behind, segments_of}, Known.Known}
+use Rattle.live_meaning.specs.{Known.{ids_of, is_new, periods_of}, Histories.{Common, begun_common, begun_past, begun_with, numbering_of}}
+use Rattle.live_meaning.specs.{States.{State, Track, shown, track_of}, Refusals.{Refusal, begun_by as begun_state, begun_of}}
+use Rattle.live_meaning.specs.{Refusals.{first_refusal_of, ids_in}, Laws.IsTyped}
+use Rattle.live_meaning.proofs.{Allowed.{IsFirst, first_allowed}, Ids.AreLast, InForce.{IsInForce, first_in_force}, Orders.listed_numbered}
 use Rattle.live_meaning.proofs.Tracks.{told-segments}
-use Rattle.live_judge.specs.FirstStates.{FirstPeriodsStand, FirstStatesAreSound}
-use Rattle.live_judge.specs.Known.{StandsAt}
-use Rattle.live_judge.specs.Sound.{IsSegmentOf, IsSound, IsSoundTrack}
-use Rattle.live_judge.proofs.Forced.{IsNew, mpd_new}
-use Rattle.live_judge.proofs.ListedSound.{listed, order}
-use Rattle.live_judge.proofs.Reaching.{IsReached, none_reached, reached, sound_reached}
+use Rattle.live_judge.specs.{FirstStates.{FirstPeriodsStand, FirstStatesAreSound}, Known.StandsAt, Sound.{IsSegmentOf, IsSound}}
+use Rattle.live_judge.specs.Sound.{IsSoundTrack}
+use Rattle.live_judge.proofs.{Forced.{IsNew, mpd_new}, ListedSound.{listed, order}, Reaching.{IsReached, none_reached, reached}}
+use Rattle.live_judge.proofs.Reaching.{sound_reached}
 
 -- ---- all tracks
 

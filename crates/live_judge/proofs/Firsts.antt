@@ -1,14 +1,10 @@
 -- The first refusal of lists in order.
 use Rattle.std.proofs.Common.{◌≡◌, ℕ, zero, suc, ◌+◌, ◌<◌, List, [], ◌∷◌, ◌++◌, drop, length, Some, refl, sym, ◌∙◌, ap, subst, arith}
-use Rattle.std.specs.Prelude.{IsSome, None, flat_map, is_some, slice_get, true}
-use Rattle.std.specs.List.{range_with_len}
-use Rattle.std.proofs.lemmas.List.{drop_all, drop_more}
-use Rattle.std.proofs.lemmas.Option.{get_or_from_slice_get, same_Some, slice_get_within}
+use Rattle.std.proofs.{lemmas.List.{drop_all, drop_more}, lemmas.Option.{get_or_from_slice_get, same_Some, slice_get_within}}
+use Rattle.std.specs.{Prelude.{IsSome, None, flat_map, is_some, slice_get, true}, List.range_with_len}
 use Rattle.presentation.proofs.Counts.{from_on, from_on-end, from_on-first, from_on-start}
 use Rattle.live_meaning.specs.Refusals.{Refusal}
-use Rattle.live_judge.specs.declared.fault.RefreshFault.{RefreshFault}
-use Rattle.live_judge.specs.declared.track.LiveTrack.{LiveTrack}
-use Rattle.live_judge.specs.Faults.{Tells}
+use Rattle.live_judge.specs.{declared.fault.RefreshFault.RefreshFault, declared.track.LiveTrack.LiveTrack, Faults.Tells}
 
 pub told_first : (fault : RefreshFault) (xs ys : List Refusal) → Tells fault xs → Tells fault (xs ++ ys)
 told_first fault [] ys tells = absurd (let never : is_some {T = Refusal} None ≡ true = subst IsSome (sym tells.0) tells.1 in cc)

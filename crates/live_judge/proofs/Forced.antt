@@ -1,34 +1,20 @@
 -- What is so of the presentation that is in force from an accepted update on.
 use Rattle.std.proofs.Common.{◌≡◌, ℕ, ◌+◌, ◌<◌, ◌≤◌, ◌||◌, not, Bool, true, false, ℤ, pos, List, [], ◌++◌, drop, length, Option, Some, None}
-use Rattle.std.proofs.Common.{Ok, refl, sym, ◌∙◌, ap, subst, arith, length-append}
-use Rattle.std.specs.Prelude.{IfSome, filter, if◌then◌else◌, int_lt, option_map, slice_get, unwrap_or}
-use Rattle.std.specs.List.{list_any}
-use Rattle.std.specs.Option.{option_map_or}
-use Rattle.std.proofs.lemmas.List.{append-nil, drop_at}
+use Rattle.std.proofs.{Common.{Ok, refl, sym, ◌∙◌, ap, subst, arith, length-append}, lemmas.List.{append-nil, drop_at}}
 use Rattle.std.proofs.lemmas.Option.{slice_get-map}
+use Rattle.std.specs.{Prelude.{IfSome, filter, if◌then◌else◌, int_lt, option_map, slice_get, unwrap_or}, List.list_any}
+use Rattle.std.specs.Option.{option_map_or}
 use Rattle.mpd_rules.specs.Laws.{are_once}
-use Rattle.presentation.specs.Counting.{sections_of}
-use Rattle.presentation.specs.Presented.{Following, Presented, at_instant, listed_at, looked_at, start_of}
-use Rattle.presentation.specs.PresentedLaws.{PresentedAreFew, PresentedAreFollowed}
-use Rattle.presentation.specs.Told.{presented_of}
-use Rattle.live_meaning.specs.Updates.{Refresh, Reset, Tick, Update, Values}
-use Rattle.live_meaning.specs.Segments.{id_at, place_of}
-use Rattle.live_meaning.specs.Known.{Known, goes_on, ids_of, is_new, known_by, periods_of}
-use Rattle.live_meaning.specs.Histories.{Common, availability_start_of, common_with, force_by}
-use Rattle.live_meaning.specs.States.{State}
-use Rattle.live_meaning.specs.Refusals.{Changed, are_alike, differs_at, ids_in, is_changed, lack_ids, moved_told, mpd_told, older_than}
-use Rattle.live_meaning.specs.Refusals.{rewritten_told, starts_otherwise, told_if}
-use Rattle.live_meaning.proofs.Allowed.{IsAllowed, none_each, told_none}
-use Rattle.live_meaning.proofs.Grown.{get_more}
-use Rattle.live_meaning.proofs.Histories.{mapped}
-use Rattle.live_meaning.proofs.Ids.{AreLast, place_is}
-use Rattle.live_meaning.proofs.InForce.{IsInForce, IsKnownIn, later_in_force, id_there}
-use Rattle.live_meaning.proofs.Times.{period_timed}
-use Rattle.live_judge.specs.Changed.{AreUnmoved}
-use Rattle.live_judge.specs.Known.{StandsAt}
-use Rattle.live_judge.specs.Sound.{AreTimed, IsSound, StartsAt}
-use Rattle.live_judge.proofs.Listing.{starts_by}
-use Rattle.live_judge.proofs.Places.{known_there, place_there, same_stand, stands_there}
+use Rattle.presentation.specs.{Counting.sections_of, Presented.{Following, Presented, at_instant, listed_at, looked_at, start_of}}
+use Rattle.presentation.specs.{PresentedLaws.{PresentedAreFew, PresentedAreFollowed}, Told.presented_of}
+use Rattle.live_meaning.specs.{Updates.{Refresh, Reset, Tick, Update, Values}, Segments.{id_at, place_of}, Known.{Known, goes_on, ids_of}}
+use Rattle.live_meaning.specs.{Known.{is_new, known_by, periods_of}, Histories.{Common, availability_start_of, common_with, force_by}}
+use Rattle.live_meaning.specs.{States.State, Refusals.{Changed, are_alike, differs_at, ids_in, is_changed, lack_ids, moved_told, mpd_told}}
+use Rattle.live_meaning.specs.Refusals.{older_than, rewritten_told, starts_otherwise, told_if}
+use Rattle.live_meaning.proofs.{Allowed.{IsAllowed, none_each, told_none}, Grown.get_more, Histories.mapped, Ids.{AreLast, place_is}}
+use Rattle.live_meaning.proofs.{InForce.{IsInForce, IsKnownIn, later_in_force, id_there}, Times.period_timed}
+use Rattle.live_judge.specs.{Changed.AreUnmoved, Known.StandsAt, Sound.{AreTimed, IsSound, StartsAt}}
+use Rattle.live_judge.proofs.{Listing.starts_by, Places.{known_there, place_there, same_stand, stands_there}}
 
 -- ---- the Periods in force
 

@@ -1,31 +1,19 @@
 -- The places, the numbers and what is kept behind an accepted update.
 use Rattle.std.proofs.Common.{◌≡◌, ℕ, ◌+◌, ◌<◌, ◌≤◌, ltb, List, [], ◌∷◌, length, sym, ◌∙◌, subst, arith, length-append, length-drop}
+use Rattle.std.proofs.{Math.Nat.{mul-le-mul_left, one-le-pow}, lemmas.Bool.ltb-false, lemmas.List.length-map, lemmas.List.Elements.All-nil}
+use Rattle.std.proofs.lemmas.List.Elements.{All-cons, All-head, All-tail}
 use Rattle.std.specs.Prelude.{All, if◌then◌else◌, option_map}
-use Rattle.std.proofs.Math.Nat.{mul-le-mul_left, one-le-pow}
-use Rattle.std.proofs.lemmas.Bool.{ltb-false}
-use Rattle.std.proofs.lemmas.List.{length-map}
-use Rattle.std.proofs.lemmas.List.Elements.{All-nil, All-cons, All-head, All-tail}
-use Rattle.presentation.specs.Presented.{Presented, looked_at}
-use Rattle.presentation.specs.PresentedLaws.{PresentedAreFew, PresentedAreFollowed}
-use Rattle.presentation.proofs.Ending.{none_behind}
-use Rattle.presentation.proofs.Reached.{none_first}
+use Rattle.presentation.specs.{Presented.{Presented, looked_at}, PresentedLaws.{PresentedAreFew, PresentedAreFollowed}}
+use Rattle.presentation.proofs.{Ending.none_behind, Reached.none_first}
 use Rattle.followed.specs.Durations.{durations}
 use Rattle.followed.proofs.KeptPlaces.{next_is_first}
-use Rattle.live_meaning.specs.Updates.{Refresh, Reset, Tick, Update, is_reset, mpd_of, unit_of}
-use Rattle.live_meaning.specs.Segments.{Kept, segments_of}
-use Rattle.live_meaning.specs.Known.{ids_of, known_with}
-use Rattle.live_meaning.specs.Removal.{is_available}
-use Rattle.live_meaning.specs.Histories.{Common, common_with, least_length}
+use Rattle.live_meaning.specs.{Updates.{Refresh, Reset, Tick, Update, is_reset, mpd_of, unit_of}, Segments.{Kept, segments_of}}
+use Rattle.live_meaning.specs.{Known.{ids_of, known_with}, Removal.is_available, Histories.{Common, common_with, least_length}}
 use Rattle.live_meaning.specs.States.{State, Track, kept_and_new, new_told, removed_from, state_with, track_after, tracks_after}
 use Rattle.live_meaning.specs.Refusals.{Window, count_kept, counts_kept, ids_in, over_in_all, over_in_track, told_if}
-use Rattle.live_meaning.proofs.Allowed.{IsAllowed, told_none}
-use Rattle.live_meaning.proofs.Kept.{few_known, resets_most}
-use Rattle.live_judge.specs.Changed.{IsPlaceBy}
-use Rattle.live_judge.specs.Known.{StandsAt}
-use Rattle.live_judge.specs.SoundGoesOn.{IsKept, NumbersFit, KeptGoOn, NumbersGoOn, PeriodsStandOn}
-use Rattle.live_judge.proofs.Forced.{forced}
-use Rattle.live_judge.proofs.Places.{new_stand, same_stand}
-use Rattle.live_judge.proofs.SoundGoesOn.{with_next}
+use Rattle.live_meaning.proofs.{Allowed.{IsAllowed, told_none}, Kept.{few_known, resets_most}}
+use Rattle.live_judge.specs.{Changed.IsPlaceBy, Known.StandsAt, SoundGoesOn.{IsKept, NumbersFit, KeptGoOn, NumbersGoOn, PeriodsStandOn}}
+use Rattle.live_judge.proofs.{Forced.forced, Places.{new_stand, same_stand}, SoundGoesOn.with_next}
 
 -- ---- places
 

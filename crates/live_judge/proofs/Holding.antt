@@ -1,23 +1,16 @@
 -- Kept segments held against new ones from the back.
 use Rattle.std.proofs.Common.{◌≡◌, ◌⊎◌, ℕ, zero, suc, ◌+◌, ◌-◌, ◌<◌, ◌≤◌, ℤ, min, Bool, true, false, ◌&&◌, List, [], ◌∷◌, ◌++◌, length}
 use Rattle.std.proofs.Common.{take, drop, reverse, map, All, Option, None, Some, refl, sym, ◌∙◌, ap, subst, inl, inr, arith, length-drop}
-use Rattle.std.specs.Prelude.{filter, if◌then◌else◌, slice_get}
-use Rattle.std.specs.List.{last_or}
-use Rattle.std.specs.Option.{option_map_or}
-use Rattle.std.proofs.lemmas.Bool.{cases_Bool, cases_lt}
-use Rattle.std.proofs.lemmas.List.{length-reverse, length-take, reverse-append, take-append-drop}
+use Rattle.std.proofs.{lemmas.Bool.{cases_Bool, cases_lt}, lemmas.List.{length-reverse, length-take, reverse-append, take-append-drop}}
 use Rattle.std.proofs.lemmas.List.Elements.{All-cons, All-filter, All-head, All-nil, All-tail, All-weaker, filter-append}
 use Rattle.std.proofs.lemmas.Option.{same_Some}
-use Rattle.exact_time.specs.Time.{IsTime, Time, at_most, before, nanoseconds, seconds}
-use Rattle.exact_time.specs.Rounding.{IsRising}
+use Rattle.std.specs.{Prelude.{filter, if◌then◌else◌, slice_get}, List.last_or, Option.option_map_or}
+use Rattle.exact_time.specs.{Time.{IsTime, Time, at_most, before, nanoseconds, seconds}, Rounding.IsRising}
 use Rattle.exact_time.proofs.TimeOrder.{IsAtMost-trans, at_most-from, at_most-true, before-from, before-true, before_then_at_most}
-use Rattle.timeline.specs.declared.window.Window.{Window}
-use Rattle.timeline.specs.Expansions.{Timing}
-use Rattle.timeline.specs.Listed.{is_after, is_listed, is_until, listed}
+use Rattle.timeline.specs.{declared.window.Window.Window, Expansions.Timing, Listed.{is_after, is_listed, is_until, listed}}
 use Rattle.timeline.specs.Steady.{ArePaced}
 use Rattle.live_meaning.specs.Refusals.{ends_within, first_other, rewritten_by}
-use Rattle.live_judge.specs.declared.rewritten.Ended.{Ended}
-use Rattle.live_judge.specs.Rewriting.{IsLastEnded, ends_by, ends_from, held, is_same_as, or_other}
+use Rattle.live_judge.specs.{declared.rewritten.Ended.Ended, Rewriting.{IsLastEnded, ends_by, ends_from, held, is_same_as, or_other}}
 
 abbrev Found : Type 0
 Found = Option (Option Timing × Timing)

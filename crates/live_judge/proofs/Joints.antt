@@ -1,24 +1,14 @@
 -- How new segments go on behind the last ones, track by track.
 use Rattle.std.proofs.Common.{◌≡◌, ℕ, ◌+◌, ◌&&◌, ◌==◌, not, true, List, [], ◌∷◌, ◌++◌, drop, length, map, Some, refl, sym, ◌∙◌, ap, inl}
-use Rattle.std.proofs.Common.{inr, arith}
+use Rattle.std.proofs.{Common.{inr, arith}, lemmas.Bool.cases_Bool, lemmas.Bool.Decides.nat_tests, lemmas.Option.same_Some}
 use Rattle.std.specs.Prelude.{slice_get}
-use Rattle.std.proofs.lemmas.Bool.{cases_Bool}
-use Rattle.std.proofs.lemmas.Bool.Decides.{nat_tests}
-use Rattle.std.proofs.lemmas.Option.{same_Some}
 use Rattle.bridge_io.specs.Firsts.{first_of}
-use Rattle.timeline.specs.Expansions.{Timing}
-use Rattle.timeline.specs.Faults.{is_apart}
+use Rattle.timeline.specs.{Expansions.Timing, Faults.is_apart}
 use Rattle.followed.specs.Durations.{Last}
-use Rattle.live_meaning.specs.Segments.{Segment}
-use Rattle.live_meaning.specs.Histories.{Common}
-use Rattle.live_meaning.specs.States.{new_of}
-use Rattle.live_meaning.specs.Refusals.{Refusal, Step, Uneven, extent_of, step_behind, steps_told, told_if, uneven_from, uneven_told}
-use Rattle.live_judge.specs.declared.coming.Next.{Next}
-use Rattle.live_judge.specs.declared.track.LiveTrack.{LiveTrack}
-use Rattle.live_judge.specs.declared.track_next.TrackNext.{TrackNext}
-use Rattle.live_judge.specs.Coming.{c_of, coming_of, t_of}
-use Rattle.live_judge.specs.New.{IsFirstNew}
-use Rattle.live_judge.specs.Shown.{track_shown}
+use Rattle.live_meaning.specs.{Segments.Segment, Histories.Common, States.new_of, Refusals.{Refusal, Step, Uneven, extent_of, step_behind}}
+use Rattle.live_meaning.specs.Refusals.{steps_told, told_if, uneven_from, uneven_told}
+use Rattle.live_judge.specs.{declared.coming.Next.Next, declared.track.LiveTrack.LiveTrack, declared.track_next.TrackNext.TrackNext}
+use Rattle.live_judge.specs.{Coming.{c_of, coming_of, t_of}, New.IsFirstNew, Shown.track_shown}
 use Rattle.live_judge.proofs.Firsts.{IsNoneYet, at_track, each, none_left, none_next}
 
 -- ---- a gap or an overlap

@@ -1,27 +1,15 @@
 -- All refusals before those of addresses, in their parts.
 use Rattle.std.proofs.Common.{◌≡◌, ℕ, pos, true, false, Ok, List, [], ◌++◌, map, Option, Some, None, refl, sym, ◌∙◌, ap, subst}
-use Rattle.std.specs.Prelude.{int_lt, is_some}
 use Rattle.std.proofs.lemmas.List.{append_assoc}
-use Rattle.presentation.specs.Counting.{range_faults}
-use Rattle.presentation.specs.Presented.{Presented, is_finished}
-use Rattle.live_meaning.specs.Updates.{Update, Values, is_reset, mpd_of}
-use Rattle.live_meaning.specs.Histories.{Common, common_with}
-use Rattle.live_meaning.specs.Refusals.{Presentation, Refusal, mpd_told}
-use Rattle.live_meaning.specs.States.{State}
-use Rattle.live_judge.specs.declared.fault.RefreshFault.{RefreshFault}
-use Rattle.live_judge.specs.Changed.{AreUnmoved, IsPlaceBy, listed_told}
-use Rattle.live_judge.specs.Coming.{ended_and_listed_told, timed_told, told_before}
-use Rattle.presentation.specs.Counting.{unless_any}
-use Rattle.presentation.specs.Laws.{EndsAreCounted}
+use Rattle.std.specs.Prelude.{int_lt, is_some}
+use Rattle.presentation.specs.{Counting.{range_faults, unless_any}, Presented.{Presented, is_finished}, Laws.EndsAreCounted}
 use Rattle.presentation.specs.PresentedLaws.{PresentedAreFew, PresentedAreFollowed}
-use Rattle.live_judge.specs.declared.coming.Next.{Next}
-use Rattle.live_judge.specs.Coming.{Comes, IsNext, p_of, update_of}
-use Rattle.live_judge.specs.Shown.{common_shown, in_force}
-use Rattle.live_judge.specs.Sound.{IsLive}
-use Rattle.live_judge.proofs.Listing.{listed as listed_there}
-use Rattle.live_judge.specs.Faults.{Tells}
-use Rattle.live_judge.specs.Rewriting.{kept_told}
-use Rattle.live_judge.proofs.Firsts.{none_told, told_behind, told_first}
+use Rattle.live_meaning.specs.{Updates.{Update, Values, is_reset, mpd_of}, Histories.{Common, common_with}, Refusals.Presentation}
+use Rattle.live_meaning.specs.{Refusals.{Refusal, mpd_told}, States.State}
+use Rattle.live_judge.specs.{declared.fault.RefreshFault.RefreshFault, Changed.{AreUnmoved, IsPlaceBy, listed_told}}
+use Rattle.live_judge.specs.Coming.{ended_and_listed_told, timed_told, told_before, Comes, IsNext, p_of, update_of}
+use Rattle.live_judge.specs.{declared.coming.Next.Next, Shown.{common_shown, in_force}, Sound.IsLive, Faults.Tells, Rewriting.kept_told}
+use Rattle.live_judge.proofs.{Listing.listed as listed_there, Firsts.{none_told, told_behind, told_first}}
 
 mpd_split : (s : State) (o : Option Values) (p : Presented) → mpd_told s o p ≡ listed_told s.common o p ++ kept_told s.common o p s.tracks
 mpd_split s None p = refl

@@ -1,15 +1,12 @@
 -- What is kept of a track, side by side.
 use Rattle.std.proofs.Common.{◌≡◌, ℕ, zero, suc, ◌-◌, List, [], ◌∷◌, length, map, Option, Some, refl, sym, ◌∙◌, ap, arith}
-use Rattle.std.specs.Prelude.{slice_get, option_map}
-use Rattle.std.specs.Option.{option_map_or}
+use Rattle.std.specs.{Prelude.{slice_get, option_map}, Option.option_map_or}
 use Rattle.circular_buffer.specs.Buffer.{last_item}
 use Rattle.exact_time.specs.Time.{Time}
-use Rattle.timeline.specs.Expansions.{Timing}
-use Rattle.timeline.specs.Listed.{timing_of}
+use Rattle.timeline.specs.{Expansions.Timing, Listed.timing_of}
 use Rattle.hls_writer.specs.declared.items.MediaItem.{MediaItem}
 use Rattle.live_meaning.specs.Segments.{Kept, segments_of, times_of}
-use Rattle.live_judge.specs.declared.track.Fact.{Fact}
-use Rattle.live_judge.specs.Shown.{kept_of, kepts_of, last_from, last_kept}
+use Rattle.live_judge.specs.{declared.track.Fact.Fact, Shown.{kept_of, kepts_of, last_from, last_kept}}
 
 pub kept_there : (items : List MediaItem) (facts : List Fact) (k : ℕ) (item : MediaItem) (fact : Fact) → slice_get items k ≡ Some item
     → slice_get facts k ≡ Some fact → slice_get (kepts_of items facts) k ≡ Some (kept_of item fact)

@@ -3,22 +3,13 @@ use Rattle.std.proofs.Common.{◌≡◌, ℕ, ◌+◌, ◌-◌, ◌^◌, ◌<◌
 use Rattle.std.specs.Prelude.{slice_get}
 use Rattle.presentation.specs.Presented.{Following}
 use Rattle.presentation.proofs.Grids.{All-at}
-use Rattle.live_meaning.specs.Updates.{unit_of}
-use Rattle.live_meaning.specs.Segments.{Segment, listed_of, segments_of}
-use Rattle.live_meaning.specs.Histories.{least_length, numbering_of}
-use Rattle.live_meaning.specs.Removal.{is_available, removed_of}
-use Rattle.live_meaning.specs.Refusals.{count_kept}
-use Rattle.live_meaning.specs.States.{kept_and_new, new_durations, new_of, new_told, removed_from}
-use Rattle.live_meaning.proofs.Orders.{behind_have}
-use Rattle.live_meaning.proofs.Tracks.{length-told, told-segments}
-use Rattle.live_meaning.proofs.Kept.{listed_available}
-use Rattle.live_judge.specs.declared.track_next.TrackNext.{TrackNext}
-use Rattle.live_judge.specs.Coming.{IsTrackNext, c_of, p_of, t_of}
-use Rattle.live_judge.specs.Removal.{kept_in}
+use Rattle.live_meaning.specs.{Updates.unit_of, Segments.{Segment, listed_of, segments_of}, Histories.{least_length, numbering_of}}
+use Rattle.live_meaning.specs.{Removal.{is_available, removed_of}, Refusals.count_kept, States.{kept_and_new, new_durations, new_of}}
+use Rattle.live_meaning.specs.States.{new_told, removed_from}
+use Rattle.live_meaning.proofs.{Orders.behind_have, Tracks.{length-told, told-segments}, Kept.listed_available}
+use Rattle.live_judge.specs.{declared.track_next.TrackNext.TrackNext, Coming.{IsTrackNext, c_of, p_of, t_of}, Removal.kept_in}
 use Rattle.live_judge.specs.Seconds.{capped}
-use Rattle.live_judge.proofs.Keeping.{length-kepts}
-use Rattle.live_judge.proofs.Removing.{removed_by}
-use Rattle.live_judge.proofs.Tracks.{paired_there}
+use Rattle.live_judge.proofs.{Keeping.length-kepts, Removing.removed_by, Tracks.paired_there}
 
 -- ---- what is new is available
 

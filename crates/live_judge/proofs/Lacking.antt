@@ -1,9 +1,7 @@
 -- Periods without ids, however their segments are told.
 use Rattle.std.proofs.Common.{◌≡◌, ◌||◌, not, Bool, List, [], ◌∷◌, map, refl, ap}
-use Rattle.std.specs.Prelude.{is_some}
-use Rattle.std.specs.List.{list_any}
-use Rattle.mpd_rules.specs.declared.rows.PeriodRow.{PeriodRow}
-use Rattle.mpd_rules.specs.Typed.{period_with}
+use Rattle.std.specs.{Prelude.is_some, List.list_any}
+use Rattle.mpd_rules.specs.{declared.rows.PeriodRow.PeriodRow, Typed.period_with}
 
 abbrev pub lacks : {X : Type 0} → List (PeriodRow X) → Bool
 lacks periods = list_any (λ (period : PeriodRow _). not (is_some period.id)) periods

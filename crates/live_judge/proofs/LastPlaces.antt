@@ -1,14 +1,11 @@
 -- A sum of durations from the back.
 use Rattle.std.proofs.Common.{◌≡◌, ℕ, ◌+◌, ◌-◌, ◌*◌, ◌^◌, ◌<◌, ◌≤◌, List, ◌∷◌, length, drop, sum, Some, refl, sym, ◌∙◌, ap, inl, inr, arith}
-use Rattle.std.specs.Prelude.{slice_get}
-use Rattle.std.proofs.lemmas.Bool.{cases_lt}
-use Rattle.std.proofs.lemmas.List.{drop_all, drop_more, length-map}
-use Rattle.std.proofs.lemmas.List.Sums.{sum_by-cons}
+use Rattle.std.proofs.{lemmas.Bool.cases_lt, lemmas.List.{drop_all, drop_more, length-map}, lemmas.List.Sums.sum_by-cons}
 use Rattle.std.proofs.lemmas.Option.{get_or_from_slice_get, slice_get-map, slice_get_within}
+use Rattle.std.specs.Prelude.{slice_get}
 use Rattle.followed.specs.Durations.{durations}
 use Rattle.live_meaning.specs.Segments.{Kept}
-use Rattle.live_judge.specs.declared.track.LiveTrack.{LiveTrack}
-use Rattle.live_judge.specs.Removal.{kept_in}
+use Rattle.live_judge.specs.{declared.track.LiveTrack.LiveTrack, Removal.kept_in}
 use Rattle.live_judge.proofs.Keeping.{length-kepts}
 
 pub durations_long : (track : LiveTrack) → length track.items.items ≡ length track.facts.items

@@ -1,21 +1,15 @@
 -- What a presentation in force lists stands in order, and each segment of it is as a kept one is.
 use Rattle.std.proofs.Common.{◌≡◌, ℕ, ◌+◌, ◌<◌, true, false, ℤ, pos, ◌-ℤ◌, [], get_or, length, Option, Some, None, ◌∙◌, ap, subst, arith}
-use Rattle.std.specs.Prelude.{All, IfSome, is_none, option_map, slice_get}
-use Rattle.std.specs.Option.{option_map_or}
-use Rattle.std.proofs.lemmas.Bool.{and_parts}
-use Rattle.std.proofs.lemmas.List.Elements.{All-nil, filter_passes}
+use Rattle.std.proofs.{lemmas.Bool.and_parts, lemmas.List.Elements.{All-nil, filter_passes}}
+use Rattle.std.specs.{Prelude.{All, IfSome, is_none, option_map, slice_get}, Option.option_map_or}
 use Rattle.exact_time.specs.Time.{IsAtMost, Time, nanoseconds}
 use Rattle.exact_time.proofs.TimeOrder.{at_most-true}
-use Rattle.timeline.specs.declared.window.Window.{Window}
-use Rattle.timeline.specs.Expansions.{Timing}
-use Rattle.timeline.specs.Listed.{expansion, is_listed, is_until}
-use Rattle.presentation.specs.declared.parts.Content.{Content}
-use Rattle.presentation.specs.Presented.{Following, content_at, listed_at, listed_in, start_of, whole_window, window_at, window_of}
+use Rattle.timeline.specs.{declared.window.Window.Window, Expansions.Timing, Listed.{expansion, is_listed, is_until}}
+use Rattle.presentation.specs.{declared.parts.Content.Content, Presented.{Following, content_at, listed_at, listed_in, start_of}}
+use Rattle.presentation.specs.Presented.{whole_window, window_at, window_of}
 use Rattle.followed.specs.Order.{InOrder}
-use Rattle.live_meaning.specs.Segments.{id_at, listed_of, place_of}
-use Rattle.live_meaning.specs.Known.{Known, ids_of}
-use Rattle.live_meaning.specs.Histories.{Common, availability_start_of, numbering_of}
-use Rattle.live_meaning.specs.Laws.{HasRisingPeriods}
+use Rattle.live_meaning.specs.{Segments.{id_at, listed_of, place_of}, Known.{Known, ids_of}, Histories.{Common, availability_start_of}}
+use Rattle.live_meaning.specs.{Histories.numbering_of, Laws.HasRisingPeriods}
 use Rattle.live_meaning.proofs.Orders.{listed_have, periods_are_listed_in_order}
 use Rattle.live_judge.specs.Sound.{IsSegmentOf}
 use Rattle.live_judge.proofs.Forced.{IsNew, place_in, start_known}

@@ -1,34 +1,20 @@
 -- An update whose MPD is judged.
-use Rattle.std.proofs.Common.{◌≡◌, ℕ, suc, ◌≤◌, ◌||◌, ◌&&◌, Bool, true, false, ℤ, pos, List, [], ◌∷◌, ◌++◌, length, map, Option, Some, None}
-use Rattle.std.proofs.Common.{Ok, Err, Result, refl, sym, ◌∙◌, ap, subst, arith}
-use Rattle.std.specs.Prelude.{IfSome, IsSome, flat_map, int_lt, option_map, unwrap_or, if◌then◌else◌}
-use Rattle.std.specs.Option.{option_map_or}
-use Rattle.std.proofs.lemmas.Bool.{and_parts}
-use Rattle.std.proofs.lemmas.Int.{ints}
-use Rattle.std.proofs.lemmas.List.{length-map}
-use Rattle.mpd_rules.specs.Views.{segments_mpd}
-use Rattle.presentation.specs.declared.fault.PresentationFault.{PresentationFault}
-use Rattle.presentation.specs.declared.track.Track.{Track as Described}
-use Rattle.timeline.specs.declared.fault.TimeFault.{TimeFault}
-use Rattle.mpd_rules.specs.Laws.{are_once}
-use Rattle.presentation.specs.Counting.{count_at, range_at, range_by, range_faults, range_faults_of, sections_of, tracks_of, unless_any}
-use Rattle.presentation.specs.Presented.{Following, Presented, at_instant, looked_at}
-use Rattle.presentation.specs.PresentedLaws.{PresentedAreFew, PresentedAreFollowed}
-use Rattle.presentation.specs.Told.{presented_of}
-use Rattle.live_meaning.specs.Updates.{Values, mpd_of}
-use Rattle.live_meaning.specs.Known.{Known, goes_on, ids_of, known_with}
-use Rattle.live_meaning.specs.Histories.{Common, availability_start_of}
-use Rattle.live_meaning.specs.Refusals.{Presentation, Refusal, are_alike, ids_in, is_alike}
-use Rattle.live_judge.specs.declared.coming.Coming.{Coming}
 use Rattle.live_judge.specs.declared.coming.Coming.TheVariants as comes
-use Rattle.live_judge.specs.declared.standing.Standing.{Standing}
-use Rattle.live_judge.specs.declared.track.LiveTrack.{LiveTrack}
-use Rattle.live_judge.specs.Changed.{IsPlaceBy, IsPlaceOf, first_place, listed_told}
-use Rattle.live_judge.specs.Coming.{Comes, update_of}
-use Rattle.live_judge.specs.Faults.{Tells, of_presentation, told}
-use Rattle.live_judge.specs.Known.{StandsAt}
-use Rattle.live_judge.specs.Shown.{common_shown, track_shown}
-use Rattle.live_judge.specs.Sound.{IsLive, StartsAt}
+use Rattle.std.proofs.Common.{◌≡◌, ℕ, suc, ◌≤◌, ◌||◌, ◌&&◌, Bool, true, false, ℤ, pos, List, [], ◌∷◌, ◌++◌, length, map, Option, Some, None}
+use Rattle.std.proofs.{Common.{Ok, Err, Result, refl, sym, ◌∙◌, ap, subst, arith}, lemmas.Bool.and_parts, lemmas.Int.ints}
+use Rattle.std.proofs.lemmas.List.{length-map}
+use Rattle.std.specs.{Prelude.{IfSome, IsSome, flat_map, int_lt, option_map, unwrap_or, if◌then◌else◌}, Option.option_map_or}
+use Rattle.mpd_rules.specs.{Views.segments_mpd, Laws.are_once}
+use Rattle.presentation.specs.{declared.fault.PresentationFault.PresentationFault, declared.track.Track.Track as Described}
+use Rattle.presentation.specs.Counting.{count_at, range_at, range_by, range_faults, range_faults_of, sections_of, tracks_of, unless_any}
+use Rattle.presentation.specs.{Presented.{Following, Presented, at_instant, looked_at}, PresentedLaws.PresentedAreFew}
+use Rattle.presentation.specs.{PresentedLaws.PresentedAreFollowed, Told.presented_of}
+use Rattle.timeline.specs.declared.fault.TimeFault.{TimeFault}
+use Rattle.live_meaning.specs.{Updates.{Values, mpd_of}, Known.{Known, goes_on, ids_of, known_with}, Histories.Common}
+use Rattle.live_meaning.specs.{Histories.availability_start_of, Refusals.{Presentation, Refusal, are_alike, ids_in, is_alike}}
+use Rattle.live_judge.specs.{declared.coming.Coming.Coming, declared.standing.Standing.Standing, declared.track.LiveTrack.LiveTrack}
+use Rattle.live_judge.specs.{Changed.{IsPlaceBy, IsPlaceOf, first_place, listed_told}, Coming.{Comes, update_of}, Faults.Tells}
+use Rattle.live_judge.specs.{Faults.{of_presentation, told}, Known.StandsAt, Shown.{common_shown, track_shown}, Sound.{IsLive, StartsAt}}
 use Rattle.live_judge.proofs.Places.{new_stand, place_within, same_stand, unless}
 
 -- ---- open ends

@@ -1,25 +1,15 @@
 -- Segments that are longer than the target duration, run by run, section by section and track by track.
-use Rattle.std.proofs.Common.{◌≡◌, ℕ, ◌+◌, List, [], ◌∷◌, ◌++◌, map, Option, Some, None, refl, sym, ◌∙◌, ap}
-use Rattle.std.specs.Prelude.{filter, flat_map, slice_get}
-use Rattle.std.proofs.lemmas.List.{map-append}
+use Rattle.std.proofs.{Common.{◌≡◌, ℕ, ◌+◌, List, [], ◌∷◌, ◌++◌, map, Option, Some, None, refl, sym, ◌∙◌, ap}, lemmas.List.map-append}
 use Rattle.std.proofs.lemmas.List.Elements.{filter-append}
+use Rattle.std.specs.Prelude.{filter, flat_map, slice_get}
 use Rattle.bridge_io.specs.Firsts.{first_of}
 use Rattle.presentation.specs.Counting.{sections_of}
-use Rattle.live_meaning.specs.Updates.{unit_of}
-use Rattle.live_meaning.specs.Histories.{Common}
-use Rattle.live_meaning.specs.Refusals.{LongSegment, Refusal, long_told}
-use Rattle.live_meaning.specs.States.{new_durations}
-use Rattle.live_judge.specs.declared.coming.Next.{Next}
-use Rattle.live_judge.specs.declared.times.NewRun.{NewRun}
-use Rattle.live_judge.specs.declared.times.NewTimes.{NewTimes}
-use Rattle.live_judge.specs.declared.track.LiveTrack.{LiveTrack}
-use Rattle.live_judge.specs.declared.track_next.TrackNext.{TrackNext}
-use Rattle.live_judge.specs.Coming.{IsTrackNext, c_of, coming_of, p_of, t_of}
-use Rattle.live_judge.specs.Long.{is_long, longs_told}
-use Rattle.live_judge.specs.Shown.{track_shown}
-use Rattle.live_judge.specs.Times.{IsNextRun, IsRun, left_of}
-use Rattle.live_judge.proofs.Firsts.{each}
-use Rattle.live_judge.proofs.Totals.{durations_there, durs}
+use Rattle.live_meaning.specs.{Updates.unit_of, Histories.Common, Refusals.{LongSegment, Refusal, long_told}, States.new_durations}
+use Rattle.live_judge.specs.{declared.coming.Next.Next, declared.times.NewRun.NewRun, declared.times.NewTimes.NewTimes}
+use Rattle.live_judge.specs.{declared.track.LiveTrack.LiveTrack, declared.track_next.TrackNext.TrackNext, Coming.{IsTrackNext, c_of}}
+use Rattle.live_judge.specs.{Coming.{coming_of, p_of, t_of}, Long.{is_long, longs_told}, Shown.track_shown, Times.{IsNextRun, IsRun}}
+use Rattle.live_judge.specs.Times.{left_of}
+use Rattle.live_judge.proofs.{Firsts.each, Totals.{durations_there, durs}}
 
 longs_append : (unit target : ℕ) (ds es : List ℕ) → longs_told unit target (ds ++ es) ≡ longs_told unit target ds
     ++ longs_told unit target es

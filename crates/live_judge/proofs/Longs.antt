@@ -1,15 +1,10 @@
 -- Which durations are longer than a target duration.
 use Rattle.std.proofs.Common.{◌≡◌, ℕ, ◌+◌, ◌*◌, ◌/◌, ◌%◌, ◌<◌, ◌≤◌, Bool, true, false, leb, nat_lt, List, [], ◌∷◌, Some, refl, sym, ◌∙◌, ap}
-use Rattle.std.proofs.Common.{subst, inl, inr, arith}
+use Rattle.std.proofs.{Common.{subst, inl, inr, arith}, Math.Nat.mul-le-mul_left, lemmas.Bool.{cases_Bool, cases_lt, leb-true, leb-false}}
+use Rattle.std.proofs.{lemmas.Bool.Decides.nat_tests, lemmas.List.Elements.All-head}
 use Rattle.std.specs.Prelude.{All, filter, slice_get, None, nat_le, if◌then◌else◌}
-use Rattle.std.proofs.Math.Nat.{mul-le-mul_left}
-use Rattle.std.proofs.lemmas.Bool.{cases_Bool, cases_lt, leb-true, leb-false}
-use Rattle.std.proofs.lemmas.Bool.Decides.{nat_tests}
-use Rattle.std.proofs.lemmas.List.Elements.{All-head}
 use Rattle.exact_time.specs.Equal.{greatest}
-use Rattle.live_judge.specs.Long.{is_long}
-use Rattle.live_judge.specs.declared.times.NewRun.{NewRun}
-use Rattle.live_judge.specs.Times.{IsRun}
+use Rattle.live_judge.specs.{Long.is_long, declared.times.NewRun.NewRun, Times.IsRun}
 
 parts : (unit d : ℕ) → 1 ≤ unit → (unit * (d / unit) + d % unit ≡ d) × (d % unit < unit)
 parts unit d low = (omega arith, omega arith)

@@ -1,22 +1,14 @@
 -- What is new, section by section.
 use Rattle.std.proofs.Common.{◌≡◌, ℕ, zero, suc, ◌+◌, ◌<◌, ◌≤◌, ◌==◌, nat_lt, Bool, true, false, List, [], ◌∷◌, ◌++◌, length, map, Option}
-use Rattle.std.proofs.Common.{Some, None, refl, sym, ◌∙◌, ap, subst, inl, inr, ◌⊎◌, arith}
-use Rattle.std.specs.Prelude.{All, filter, flat_map}
-use Rattle.std.specs.List.{range_with_len}
-use Rattle.std.specs.Option.{option_map_or}
-use Rattle.std.proofs.lemmas.Bool.{cases_Bool, cases_lt}
-use Rattle.std.proofs.lemmas.List.{map-append}
-use Rattle.std.proofs.lemmas.List.Elements.{All-nil, All-cons, All-head, All-tail, filter-append}
+use Rattle.std.proofs.{Common.{Some, None, refl, sym, ◌∙◌, ap, subst, inl, inr, ◌⊎◌, arith}, lemmas.Bool.{cases_Bool, cases_lt}}
+use Rattle.std.proofs.{lemmas.List.map-append, lemmas.List.Elements.{All-nil, All-cons, All-head, All-tail, filter-append}}
+use Rattle.std.specs.{Prelude.{All, filter, flat_map}, List.range_with_len, Option.option_map_or}
 use Rattle.timeline.specs.Expansions.{Timing}
-use Rattle.presentation.specs.declared.parts.Content.{Content}
-use Rattle.presentation.specs.Counting.{sections_of}
-use Rattle.presentation.specs.Presented.{Presented, content_at, listed_at, start_of}
+use Rattle.presentation.specs.{declared.parts.Content.Content, Counting.sections_of, Presented.{Presented, content_at, listed_at, start_of}}
 use Rattle.followed.specs.Durations.{Last, duration_behind, durations, last_behind, last_with, told_behind}
 use Rattle.followed.proofs.PrintedSections.{last_section, new_section}
-use Rattle.live_meaning.specs.Updates.{unit_of}
-use Rattle.live_meaning.specs.Segments.{Kept, Numbering, Segment, behind, id_at, is_later, listed_in_period, place_of, segment_with}
-use Rattle.live_meaning.specs.Histories.{Common, numbering_of}
-use Rattle.live_meaning.specs.States.{Track, new_durations, new_of}
+use Rattle.live_meaning.specs.{Updates.unit_of, Segments.{Kept, Numbering, Segment, behind, id_at, is_later, listed_in_period, place_of}}
+use Rattle.live_meaning.specs.{Segments.segment_with, Histories.{Common, numbering_of}, States.{Track, new_durations, new_of}}
 use Rattle.live_judge.specs.New.{durations_in, new_in, new_timings}
 
 -- ---- new segments

@@ -1,45 +1,22 @@
 -- The printed durations of what is new in a section.
 use Rattle.std.proofs.Common.{◌≡◌, ℕ, zero, suc, ◌+◌, ◌-◌, ◌<◌, ◌≤◌, ◌==◌, ◌&&◌, cond, Bool, true, false, List, [], ◌∷◌, length, map}
-use Rattle.std.proofs.Common.{Option, Some, None, refl, sym, ◌∙◌, ap, subst, inl, inr, arith}
-use Rattle.std.specs.Prelude.{All, IfSome, filter, flat_map, option_map, slice_get}
-use Rattle.std.specs.Option.{option_map_or}
-use Rattle.std.proofs.lemmas.Bool.{cases_Bool, cases_lt}
-use Rattle.std.proofs.lemmas.Bool.Decides.{nat_tests}
-use Rattle.std.proofs.lemmas.List.Elements.{filter_agree}
-use Rattle.std.proofs.lemmas.Option.{same_Some, slice_get-map}
-use Rattle.exact_time.specs.Time.{IsAtMost, before, difference}
-use Rattle.exact_time.specs.Tick.{time_of}
-use Rattle.exact_time.specs.Floor.{floor_in}
-use Rattle.exact_time.specs.Rounding.{rounding_behind}
+use Rattle.std.proofs.{Common.{Option, Some, None, refl, sym, ◌∙◌, ap, subst, inl, inr, arith}, lemmas.Bool.{cases_Bool, cases_lt}}
+use Rattle.std.proofs.{lemmas.Bool.Decides.nat_tests, lemmas.List.Elements.filter_agree, lemmas.Option.{same_Some, slice_get-map}}
+use Rattle.std.specs.{Prelude.{All, IfSome, filter, flat_map, option_map, slice_get}, Option.option_map_or}
+use Rattle.exact_time.specs.{Time.{IsAtMost, before, difference}, Tick.time_of, Floor.floor_in, Rounding.rounding_behind}
 use Rattle.exact_time.proofs.Floors.{floor_in-difference_self}
-use Rattle.timeline.specs.Expansions.{Timing}
-use Rattle.timeline.specs.Faults.{is_apart}
-use Rattle.timeline.specs.Steady.{ArePaced, IsWithinLimits}
-use Rattle.presentation.specs.declared.parts.Content.{Content}
-use Rattle.presentation.specs.declared.segments.Behind.{Behind}
-use Rattle.presentation.specs.Kept.{ArePacedBehind, durations_behind}
-use Rattle.presentation.specs.Presented.{content_at, listed_at, start_of}
-use Rattle.presentation.specs.Printing.{FollowsNear, extent_of, later_than}
-use Rattle.presentation.proofs.Counts.{from_on-start}
-use Rattle.presentation.proofs.GoingOn.{paced_there}
-use Rattle.presentation.proofs.Grids.{All-at}
+use Rattle.timeline.specs.{Expansions.Timing, Faults.is_apart, Steady.{ArePaced, IsWithinLimits}}
+use Rattle.presentation.specs.{declared.parts.Content.Content, declared.segments.Behind.Behind, Kept.{ArePacedBehind, durations_behind}}
+use Rattle.presentation.specs.{Presented.{content_at, listed_at, start_of}, Printing.{FollowsNear, extent_of, later_than}}
+use Rattle.presentation.proofs.{Counts.from_on-start, GoingOn.paced_there, Grids.All-at}
 use Rattle.followed.specs.Durations.{Last, durations, told_behind}
-use Rattle.live_meaning.specs.Updates.{is_reset, unit_of}
-use Rattle.live_meaning.specs.Segments.{Numbering, is_later, segment_with}
-use Rattle.live_meaning.specs.Histories.{numbering_of}
-use Rattle.live_meaning.specs.States.{new_of}
-use Rattle.live_meaning.specs.Refusals.{Refusal, Step, joint_told, step_behind, told_if}
-use Rattle.live_judge.specs.declared.track.LastKept.{LastKept}
-use Rattle.live_judge.specs.declared.track_next.TrackNext.{TrackNext}
-use Rattle.live_judge.specs.Coming.{IsJoined, IsTrackNext, c_of, coming_of, p_of, t_of, update_of}
-use Rattle.live_judge.specs.New.{IsFirstNew, durations_in}
-use Rattle.live_judge.specs.Shown.{common_shown, last_of, track_shown}
-use Rattle.live_judge.specs.Sound.{IsSoundTrack}
-use Rattle.live_judge.proofs.Contents.{here_by_end}
-use Rattle.live_judge.proofs.Counts.{IsNoneNew, first_new_is, news_in, none_more, times_in}
-use Rattle.live_judge.proofs.Firsts.{none_at}
-use Rattle.live_judge.proofs.Joints.{is_self, step_at, step_told, steps_each}
-use Rattle.live_judge.proofs.Tracks.{none_before}
+use Rattle.live_meaning.specs.{Updates.{is_reset, unit_of}, Segments.{Numbering, is_later, segment_with}, Histories.numbering_of}
+use Rattle.live_meaning.specs.{States.new_of, Refusals.{Refusal, Step, joint_told, step_behind, told_if}}
+use Rattle.live_judge.specs.{declared.track.LastKept.LastKept, declared.track_next.TrackNext.TrackNext, Coming.{IsJoined, IsTrackNext}}
+use Rattle.live_judge.specs.{Coming.{c_of, coming_of, p_of, t_of, update_of}, New.{IsFirstNew, durations_in}, Shown.{common_shown, last_of}}
+use Rattle.live_judge.specs.{Shown.track_shown, Sound.IsSoundTrack}
+use Rattle.live_judge.proofs.{Contents.here_by_end, Counts.{IsNoneNew, first_new_is, news_in, none_more, times_in}, Firsts.none_at}
+use Rattle.live_judge.proofs.{Joints.{is_self, step_at, step_told, steps_each}, Tracks.none_before}
 
 -- ---- of one section
 

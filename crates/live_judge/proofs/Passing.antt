@@ -1,15 +1,12 @@
 -- Segments that end by a time are the first ones of those that are listed.
 use Rattle.std.proofs.Common.{◌≡◌, ℕ, zero, suc, ◌+◌, ◌-◌, ◌<◌, ◌≤◌, ◌^◌, min, Bool, true, false, not, List, [], ◌∷◌, ◌++◌, length, take}
-use Rattle.std.proofs.Common.{drop, refl, sym, ◌∙◌, ap, inl, inr, arith, length-append, length-drop}
+use Rattle.std.proofs.{Common.{drop, refl, sym, ◌∙◌, ap, inl, inr, arith, length-append, length-drop}, lemmas.Bool.{cases_Bool, cases_lt}}
+use Rattle.std.proofs.{lemmas.List.{append-nil, drop-append-le, drop-drop, take-append-drop}, lemmas.List.Elements.{All-filter, All-head}}
+use Rattle.std.proofs.lemmas.List.Elements.{All-tail, filter-append}
 use Rattle.std.specs.Prelude.{All, filter}
-use Rattle.std.proofs.lemmas.Bool.{cases_Bool, cases_lt}
-use Rattle.std.proofs.lemmas.List.{append-nil, drop-append-le, drop-drop, take-append-drop}
-use Rattle.std.proofs.lemmas.List.Elements.{All-filter, All-head, All-tail, filter-append}
 use Rattle.exact_time.specs.Time.{Time, at_most, before}
 use Rattle.exact_time.proofs.TimeOrder.{before-is}
-use Rattle.timeline.specs.declared.window.Window.{Window}
-use Rattle.timeline.specs.Expansions.{Timing}
-use Rattle.timeline.specs.Listed.{IsPlaceAfter, is_listed, listed}
+use Rattle.timeline.specs.{declared.window.Window.Window, Expansions.Timing, Listed.{IsPlaceAfter, is_listed, listed}}
 use Rattle.live_judge.specs.Rewriting.{ends_by}
 
 -- ---- counts of what is listed behind a place

@@ -1,11 +1,9 @@
 -- The Periods of a presentation, one by one.
-use Rattle.std.proofs.Common.{◌≡◌, ℕ, ◌+◌, ◌<◌, List, [], ◌∷◌, ◌++◌, map, sym, ◌∙◌, ap}
-use Rattle.std.proofs.lemmas.List.{append_assoc, map-append}
+use Rattle.std.proofs.{Common.{◌≡◌, ℕ, ◌+◌, ◌<◌, List, [], ◌∷◌, ◌++◌, map, sym, ◌∙◌, ap}, lemmas.List.{append_assoc, map-append}}
 use Rattle.presentation.specs.Presented.{Presented}
 use Rattle.presentation.proofs.Counts.{from_on, from_on-first}
 use Rattle.live_meaning.specs.Known.{Known, known_at}
-use Rattle.live_judge.specs.declared.known.KnownPeriod.{KnownPeriod}
-use Rattle.live_judge.specs.Known.{known_shown}
+use Rattle.live_judge.specs.{declared.known.KnownPeriod.KnownPeriod, Known.known_shown}
 
 pub periods_step : (p : Presented) (n at : ℕ) (all : List KnownPeriod) (k : KnownPeriod) (whole : List Known) → at < n
     → known_shown k ≡ known_at p at

@@ -1,24 +1,16 @@
 -- The places of Periods' ids among the known ones.
 use Rattle.std.proofs.Common.{◌≡◌, ℕ, zero, suc, ◌+◌, ◌-◌, ◌<◌, ◌≤◌, min, Bool, true, false, ◌&&◌, not, List, [], ◌∷◌, ◌++◌, length, drop}
 use Rattle.std.proofs.Common.{take, map, Some, None, bytes_eq, refl, sym, ◌∙◌, ap, subst, inl, inr, arith, length-append, length-drop}
-use Rattle.std.specs.Prelude.{filter, is_none, slice_get}
-use Rattle.std.specs.List.{list_all, list_any, position_or_len, range_with_len, starts_with}
-use Rattle.std.proofs.lemmas.Bool.{cases_Bool, cases_lt, lt-ltb, le-ltb}
-use Rattle.std.proofs.lemmas.List.{append-nil, drop-map, drop_all, drop_at, length-map, take-append-drop}
-use Rattle.std.proofs.lemmas.List.Folds.{list_any-append}
-use Rattle.std.proofs.lemmas.List.Sums.{prefix_len-le-length}
-use Rattle.std.proofs.lemmas.Option.{same_Some, slice_get_past}
-use Rattle.std.proofs.lemmas.Slice.Eq.{bytes_eq-Decides, starts_is}
+use Rattle.std.proofs.{lemmas.Bool.{cases_Bool, cases_lt, lt-ltb, le-ltb}, lemmas.List.{append-nil, drop-map, drop_all, drop_at}}
+use Rattle.std.proofs.{lemmas.List.{length-map, take-append-drop}, lemmas.List.Folds.list_any-append, lemmas.List.Sums.prefix_len-le-length}
+use Rattle.std.proofs.{lemmas.Option.{same_Some, slice_get_past}, lemmas.Slice.Eq.{bytes_eq-Decides, starts_is}}
+use Rattle.std.specs.{Prelude.{filter, is_none, slice_get}, List.{list_all, list_any, position_or_len, range_with_len, starts_with}}
 use Rattle.mpd_rules.specs.Laws.{are_once}
-use Rattle.presentation.specs.declared.track.Section.{Section}
-use Rattle.presentation.specs.Presented.{Presented}
-use Rattle.live_meaning.specs.Segments.{place_of}
-use Rattle.live_meaning.specs.Known.{Known, goes_on, goes_on_from, ids_of, is_new, known_by, known_with}
+use Rattle.presentation.specs.{declared.track.Section.Section, Presented.Presented}
+use Rattle.live_meaning.specs.{Segments.place_of, Known.{Known, goes_on, goes_on_from, ids_of, is_new, known_by, known_with}}
 use Rattle.live_meaning.specs.Refusals.{ids_in}
-use Rattle.live_meaning.proofs.Ids.{AreLast, last_again, last_with_new, new_ids, new_in, placed_at, placed_in}
-use Rattle.live_meaning.proofs.InForce.{known_grown}
-use Rattle.live_judge.specs.Known.{StandsAt}
-use Rattle.live_judge.specs.Changed.{first_place, place_among, place_if}
+use Rattle.live_meaning.proofs.{Ids.{AreLast, last_again, last_with_new, new_ids, new_in, placed_at, placed_in}, InForce.known_grown}
+use Rattle.live_judge.specs.{Known.StandsAt, Changed.{first_place, place_among, place_if}}
 
 pub both : (a b : Bool) → (a && b) ≡ true → (a ≡ true) × (b ≡ true)
 both true b is = (refl, is)

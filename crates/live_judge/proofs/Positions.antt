@@ -1,9 +1,7 @@
 -- The first place of what passes a test, step by step.
-use Rattle.std.proofs.Common.{◌≡◌, ℕ, ◌+◌, Bool, true, false, List, ◌∷◌, drop, length, Some, refl, ◌∙◌, ap, arith}
-use Rattle.std.specs.Prelude.{slice_get}
-use Rattle.std.specs.List.{position_or_len}
-use Rattle.std.proofs.lemmas.List.{drop_all, drop_more}
-use Rattle.std.proofs.lemmas.Option.{get_or_from_slice_get, slice_get_within}
+use Rattle.std.proofs.{Common.{◌≡◌, ℕ, ◌+◌, Bool, true, false, List, ◌∷◌, drop, length, Some, refl, ◌∙◌, ap, arith}, lemmas.List.drop_all}
+use Rattle.std.proofs.{lemmas.List.drop_more, lemmas.Option.{get_or_from_slice_get, slice_get_within}}
+use Rattle.std.specs.{Prelude.slice_get, List.position_or_len}
 
 rest_at : {X : Type 0} (xs : List X) (i : ℕ) (x : X) → slice_get xs i ≡ Some x → drop i xs ≡ x ∷ drop (i + 1) xs
 rest_at {X} xs i x at = drop_more xs i x (slice_get_within xs i x at) ∙ ap (λ y. y ∷ drop (i + 1) xs) (get_or_from_slice_get xs i x x at)

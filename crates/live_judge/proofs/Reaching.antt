@@ -1,19 +1,14 @@
 -- What stays so of a track's segments when some come behind them.
 use Rattle.std.proofs.Common.{◌≡◌, ℕ, zero, suc, ◌+◌, ◌≤◌, true, List, [], ◌∷◌, ◌++◌, drop, Option, Some, None, refl, sym, ◌∙◌, subst, inl}
-use Rattle.std.proofs.Common.{inr, arith}
+use Rattle.std.proofs.{Common.{inr, arith}, lemmas.Bool.{cases_eq, cases_lt, eq-eqb, ne_eqb}, lemmas.Bool.Decides.nat_tests}
+use Rattle.std.proofs.{lemmas.List.{append-nil, append_assoc}, lemmas.List.Elements.{All-nil, All-cons, All-append, All-drop, All-head}}
+use Rattle.std.proofs.lemmas.List.Elements.{All-tail, All-weaker, filter_passes}
 use Rattle.std.specs.Prelude.{All, IfSome}
-use Rattle.std.proofs.lemmas.Bool.{cases_eq, cases_lt, eq-eqb, ne_eqb}
-use Rattle.std.proofs.lemmas.Bool.Decides.{nat_tests}
-use Rattle.std.proofs.lemmas.List.{append-nil, append_assoc}
-use Rattle.std.proofs.lemmas.List.Elements.{All-nil, All-cons, All-append, All-drop, All-head, All-tail, All-weaker, filter_passes}
 use Rattle.exact_time.specs.Time.{IsAtMost, IsTime, Time}
 use Rattle.exact_time.proofs.TimeOrder.{IsAtMost-from_before, IsAtMost-trans}
-use Rattle.followed.specs.Durations.{Last, last_behind, last_with}
-use Rattle.followed.specs.Order.{Behind, BehindLast, InOrder, IsTimed}
+use Rattle.followed.specs.{Durations.{Last, last_behind, last_with}, Order.{Behind, BehindLast, InOrder, IsTimed}}
 use Rattle.followed.proofs.PrintedSections.{last_section}
-use Rattle.live_meaning.specs.Segments.{Segment, behind, is_later, place_behind, segments_of}
-use Rattle.live_meaning.specs.Histories.{Common}
-use Rattle.live_meaning.specs.States.{Track}
+use Rattle.live_meaning.specs.{Segments.{Segment, behind, is_later, place_behind, segments_of}, Histories.Common, States.Track}
 use Rattle.live_meaning.proofs.Orders.{IsNumbered, behind_have, behind_in_order}
 use Rattle.live_judge.specs.Sound.{AreOrdered, AreUpTo, DoesFollow, IsSegmentOf, IsSoundTrack, IsUpTo}
 

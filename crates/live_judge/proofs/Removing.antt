@@ -1,25 +1,16 @@
 -- What is removed is found from what is kept, and how long the new segments last.
 use Rattle.std.proofs.Common.{◌≡◌, ℕ, ◌+◌, ◌-◌, ◌≤◌, min, max, Bool, true, false, not, List, [], ◌∷◌, ◌++◌, length, sum, Option, Some, None}
-use Rattle.std.proofs.Common.{refl, ◌∙◌, ap, inl, inr, arith}
-use Rattle.std.specs.Prelude.{cond, is_none, slice_get}
-use Rattle.std.specs.Option.{option_map_or}
-use Rattle.std.specs.List.{position_or_len}
-use Rattle.std.proofs.lemmas.Bool.{cases_Bool, cases_lt}
-use Rattle.std.proofs.lemmas.Bool.Decides.{nat_tests}
-use Rattle.std.proofs.lemmas.List.{length-map, map-append}
-use Rattle.std.proofs.lemmas.List.Sums.{sum_by-cons, sum_by-append, prefix_len-le-length}
-use Rattle.followed.specs.Places.{last_place}
+use Rattle.std.proofs.{Common.{refl, ◌∙◌, ap, inl, inr, arith}, lemmas.Bool.{cases_Bool, cases_lt}, lemmas.Bool.Decides.nat_tests}
+use Rattle.std.proofs.{lemmas.List.{length-map, map-append}, lemmas.List.Sums.{sum_by-cons, sum_by-append, prefix_len-le-length}}
+use Rattle.std.specs.{Prelude.{cond, is_none, slice_get}, Option.option_map_or, List.position_or_len}
+use Rattle.followed.specs.{Places.last_place, Durations.durations}
 use Rattle.exact_time.specs.Tick.{time_of}
 use Rattle.hls_writer.specs.declared.items.MediaItem.{MediaItem}
 use Rattle.timeline.specs.Listed.{is_after}
 use Rattle.presentation.specs.Presented.{Following, Presented, is_finished, whole_window, window_at, window_from}
-use Rattle.live_judge.specs.declared.track.Fact.{Fact}
-use Rattle.live_judge.specs.declared.track.LiveTrack.{LiveTrack}
-use Rattle.live_judge.specs.Removal.{is_still_available, kept_in}
+use Rattle.live_judge.specs.{declared.track.Fact.Fact, declared.track.LiveTrack.LiveTrack, Removal.{is_still_available, kept_in}}
 use Rattle.live_judge.specs.Shown.{kept_of, kepts_of}
-use Rattle.live_meaning.specs.Segments.{Kept, Segment, segments_of}
-use Rattle.live_meaning.specs.Removal.{is_available, removed_of}
-use Rattle.followed.specs.Durations.{durations}
+use Rattle.live_meaning.specs.{Segments.{Kept, Segment, segments_of}, Removal.{is_available, removed_of}}
 
 pub sum-cons : (n : ℕ) (ns : List ℕ) → sum (n ∷ ns) ≡ n + sum ns
 sum-cons n ns = sum_by-cons (λ m. m) n ns

@@ -1,48 +1,24 @@
 -- What a track keeps of a Period, and what an update's presentation has there.
 use Rattle.std.proofs.Common.{◌≡◌, ◌≤◌, ℕ, ◌+◌, ◌<◌, ◌==◌, ℤ, pos, ◌-ℤ◌, ◌++◌, min, true, false, List, [], ◌∷◌, length, map, IfSome, Option}
-use Rattle.std.proofs.Common.{None, Some, refl, sym, ◌∙◌, ap, subst, inl, inr, arith}
-use Rattle.std.specs.Prelude.{flat_map, int_lt, option_map, option_to_list, slice_get}
-use Rattle.std.specs.List.{last_or}
-use Rattle.std.specs.Option.{option_map_or}
-use Rattle.std.proofs.lemmas.Bool.{cases_lt}
-use Rattle.std.proofs.lemmas.Bool.Decides.{nat_tests}
-use Rattle.std.proofs.lemmas.Int.{ints}
-use Rattle.std.proofs.lemmas.List.{length-map}
-use Rattle.std.proofs.lemmas.Option.{same_Some, slice_get-map, slice_get_within}
+use Rattle.std.proofs.{Common.{None, Some, refl, sym, ◌∙◌, ap, subst, inl, inr, arith}, lemmas.Bool.cases_lt, lemmas.Bool.Decides.nat_tests}
+use Rattle.std.proofs.{lemmas.Int.ints, lemmas.List.length-map, lemmas.Option.{same_Some, slice_get-map, slice_get_within}}
+use Rattle.std.specs.{Prelude.{flat_map, int_lt, option_map, option_to_list, slice_get}, List.last_or, Option.option_map_or}
 use Rattle.exact_time.specs.Time.{IsAtMost, Time, nanoseconds}
 use Rattle.exact_time.proofs.TimeOrder.{IsAtMost-trans, at_most-from}
-use Rattle.timeline.specs.declared.window.Window.{Window}
-use Rattle.timeline.specs.Expansions.{SegmentTimeline, Timing}
-use Rattle.timeline.specs.Listed.{expansion, is_until}
+use Rattle.timeline.specs.{declared.window.Window.Window, Expansions.{SegmentTimeline, Timing}, Listed.{expansion, is_until}}
 use Rattle.timeline.specs.OpenEnds.{UntilTells}
-use Rattle.presentation.specs.declared.parts.Content.{Content}
-use Rattle.presentation.specs.Counting.{sections_of}
-use Rattle.presentation.specs.Presented.{Following, Presented, at_instant, content_at, start_of, whole_window, window_at, window_of}
+use Rattle.presentation.specs.{declared.parts.Content.Content, Counting.sections_of, Presented.{Following, Presented, at_instant}}
+use Rattle.presentation.specs.Presented.{content_at, start_of, whole_window, window_at, window_of}
 use Rattle.presentation.proofs.Grids.{All-at}
-use Rattle.live_meaning.specs.Segments.{Segment, id_at, place_of, times_of}
-use Rattle.live_meaning.specs.Known.{Known, ids_of}
-use Rattle.live_meaning.specs.Refusals.{Refusal, Rewritten, expansion_at, ids_in, latest_in, latest_of, rewritten_by, rewritten_in}
-use Rattle.live_meaning.specs.Refusals.{rewritten_told}
+use Rattle.live_meaning.specs.{Segments.{Segment, id_at, place_of, times_of}, Known.{Known, ids_of}, Refusals.{Refusal, Rewritten}}
+use Rattle.live_meaning.specs.Refusals.{expansion_at, ids_in, latest_in, latest_of, rewritten_by, rewritten_in, rewritten_told}
 use Rattle.live_meaning.specs.Histories.{Common, availability_start_of}
-use Rattle.live_meaning.proofs.Ids.{new_in}
-use Rattle.live_meaning.proofs.InForce.{id_there, known_grown}
-use Rattle.live_judge.specs.declared.block.Block.{Block}
-use Rattle.live_judge.specs.declared.coming.Next.{Next}
-use Rattle.live_judge.specs.declared.rewritten.Pair.{Pair}
-use Rattle.live_judge.specs.declared.track.LiveTrack.{LiveTrack}
-use Rattle.live_judge.specs.declared.track_next.TrackNext.{TrackNext}
-use Rattle.live_judge.specs.Blocks.{IsBlock, in_block, segments_in}
-use Rattle.live_judge.specs.Changed.{AreUnmoved}
-use Rattle.live_judge.specs.Coming.{IsTrackNext, p_of, t_of}
-use Rattle.live_judge.specs.Known.{StandsAt}
-use Rattle.live_judge.specs.Removal.{kept_in}
-use Rattle.live_judge.specs.Rewriting.{pair_of}
-use Rattle.live_judge.specs.Shown.{common_shown, track_shown}
-use Rattle.live_judge.specs.Sound.{IsSegmentOf, IsSoundTrack}
-use Rattle.live_judge.proofs.Blocks.{filter_none, not_eq}
-use Rattle.live_judge.proofs.Contents.{content_there}
-use Rattle.live_judge.proofs.Firsts.{each}
-use Rattle.live_judge.proofs.Places.{place_before}
+use Rattle.live_meaning.proofs.{Ids.new_in, InForce.{id_there, known_grown}}
+use Rattle.live_judge.specs.{declared.block.Block.Block, declared.coming.Next.Next, declared.rewritten.Pair.Pair}
+use Rattle.live_judge.specs.{declared.track.LiveTrack.LiveTrack, declared.track_next.TrackNext.TrackNext, Blocks.{IsBlock, in_block}}
+use Rattle.live_judge.specs.{Blocks.segments_in, Changed.AreUnmoved, Coming.{IsTrackNext, p_of, t_of}, Known.StandsAt, Removal.kept_in}
+use Rattle.live_judge.specs.{Rewriting.pair_of, Shown.{common_shown, track_shown}, Sound.{IsSegmentOf, IsSoundTrack}}
+use Rattle.live_judge.proofs.{Blocks.{filter_none, not_eq}, Contents.content_there, Firsts.each, Places.place_before}
 
 start_is : (o : Option Known) (a b : ℕ) → option_map (λ (k : Known). k.start) o ≡ Some a → IfSome o (λ (k : Known). k.start ≡ b) → a ≡ b
 start_is None a b is same = absurd (cc)

@@ -1,18 +1,12 @@
 -- How many segments are kept, track by track.
 use Rattle.std.proofs.Common.{◌≡◌, ℕ, ◌+◌, ◌<◌, nat_lt, true, false, List, [], ◌∷◌, ◌++◌, drop, length, map, Some, refl, sym, ◌∙◌, ap}
-use Rattle.std.proofs.Common.{arith}
+use Rattle.std.proofs.{Common.arith, lemmas.Bool.Decides.nat_tests, lemmas.List.drop_all}
 use Rattle.std.specs.Prelude.{slice_get}
-use Rattle.std.proofs.lemmas.Bool.Decides.{nat_tests}
-use Rattle.std.proofs.lemmas.List.{drop_all}
 use Rattle.bridge_io.specs.Firsts.{first_of}
-use Rattle.live_meaning.specs.Histories.{Common}
-use Rattle.live_meaning.specs.Refusals.{Refusal, Window, count_kept, counts_kept, over_in_all, over_in_track, told_if}
+use Rattle.live_meaning.specs.{Histories.Common, Refusals.{Refusal, Window, count_kept, counts_kept, over_in_all, over_in_track, told_if}}
 use Rattle.live_meaning.specs.States.{kept_and_new}
-use Rattle.live_judge.specs.declared.coming.Next.{Next}
-use Rattle.live_judge.specs.declared.track.LiveTrack.{LiveTrack}
-use Rattle.live_judge.specs.declared.track_next.TrackNext.{TrackNext}
-use Rattle.live_judge.specs.Coming.{c_of, coming_of, t_of}
-use Rattle.live_judge.specs.Shown.{track_shown}
+use Rattle.live_judge.specs.{declared.coming.Next.Next, declared.track.LiveTrack.LiveTrack, declared.track_next.TrackNext.TrackNext}
+use Rattle.live_judge.specs.{Coming.{c_of, coming_of, t_of}, Shown.track_shown}
 use Rattle.live_judge.proofs.Firsts.{IsNoneYet, at_track, each, rest_at}
 
 abbrev pub count_at : Common → ℕ → LiveTrack → ℕ

@@ -1,24 +1,14 @@
 -- The printed durations of segments that are equally long.
 use Rattle.std.proofs.Common.{◌≡◌, ℕ, zero, suc, ◌+◌, ◌-◌, ◌*◌, ◌<◌, List, [], ◌∷◌, ◌++◌, length, map, pos, ◌+ℤ◌, ◌<ℤ◌, ◌^◌, Some, refl}
-use Rattle.std.proofs.Common.{sym, ◌∙◌, ap, subst, inl, inr, ◌⊎◌, arith}
+use Rattle.std.proofs.{Common.{sym, ◌∙◌, ap, subst, inl, inr, ◌⊎◌, arith}, lemmas.Int.ints, lemmas.List.{length-map, map-append}}
 use Rattle.std.specs.Prelude.{slice_get}
-use Rattle.std.proofs.lemmas.Int.{ints}
-use Rattle.std.proofs.lemmas.List.{length-map, map-append}
-use Rattle.exact_time.specs.Time.{IsAtMost, Time, difference, seconds}
-use Rattle.exact_time.specs.Tick.{time_of}
-use Rattle.exact_time.specs.Floor.{floor_in}
-use Rattle.exact_time.specs.Equal.{ends_after, equal_durations, ticks_after}
-use Rattle.exact_time.specs.Rounding.{AreNear, IsRising, Rounding, differences, rounding_behind, total}
-use Rattle.exact_time.proofs.EqualSteps.{IsAtMost-ticks_after}
-use Rattle.exact_time.proofs.TimeOrder.{IsAtMost-trans}
-use Rattle.timeline.specs.Expansions.{Timing}
-use Rattle.timeline.specs.SpanRuns.{IsNextRun as PassesRun, timings_of}
-use Rattle.timeline.specs.declared.span.SpanRun.{SpanRun}
-use Rattle.presentation.specs.Kept.{durations_behind, printed_left}
-use Rattle.presentation.specs.Printing.{PrintedTiming, ends_of, with_durations}
+use Rattle.exact_time.specs.{Time.{IsAtMost, Time, difference, seconds}, Tick.time_of, Floor.floor_in, Equal.{ends_after, equal_durations}}
+use Rattle.exact_time.specs.{Equal.ticks_after, Rounding.{AreNear, IsRising, Rounding, differences, rounding_behind, total}}
+use Rattle.exact_time.proofs.{EqualSteps.IsAtMost-ticks_after, TimeOrder.IsAtMost-trans}
+use Rattle.timeline.specs.{Expansions.Timing, SpanRuns.{IsNextRun as PassesRun, timings_of}, declared.span.SpanRun.SpanRun}
+use Rattle.presentation.specs.{Kept.{durations_behind, printed_left}, Printing.{PrintedTiming, ends_of, with_durations}}
 use Rattle.presentation.proofs.NextRun.{others_near, paced_run, past_all, past_first, printed_run}
-use Rattle.live_judge.specs.Seconds.{IsSecond, IsSecondNear, second_end}
-use Rattle.live_judge.specs.Times.{IsPacedBy}
+use Rattle.live_judge.specs.{Seconds.{IsSecond, IsSecondNear, second_end}, Times.IsPacedBy}
 
 -- ---- the second one
 

@@ -1,22 +1,15 @@
 -- The attributes of the tracks in a section, one by one.
 use Rattle.std.proofs.Common.{◌≡◌, ℕ, ◌+◌, ◌<◌, ◌&&◌, ◌||◌, ◌==◌, Bool, true, false, List, [], ◌∷◌, ◌++◌, length, map, Option, Some, None}
-use Rattle.std.proofs.Common.{sym, ◌∙◌, ap, inl, inr, arith}
-use Rattle.std.specs.Prelude.{flat_map, option_map, option_to_list}
-use Rattle.std.specs.List.{list_any, range_with_len}
-use Rattle.std.proofs.lemmas.Bool.{cases_Bool}
-use Rattle.std.proofs.lemmas.Bool.Decides.{nat_tests}
+use Rattle.std.proofs.{Common.{sym, ◌∙◌, ap, inl, inr, arith}, lemmas.Bool.cases_Bool, lemmas.Bool.Decides.nat_tests}
 use Rattle.std.proofs.lemmas.List.{append_assoc, map-append}
+use Rattle.std.specs.{Prelude.{flat_map, option_map, option_to_list}, List.{list_any, range_with_len}}
 use Rattle.exact_time.specs.Time.{Time}
-use Rattle.timeline.specs.Expansions.{SegmentTimeline}
-use Rattle.timeline.specs.Listed.{offset_of}
+use Rattle.timeline.specs.{Expansions.SegmentTimeline, Listed.offset_of}
 use Rattle.url_parts.specs.declared.address.Part.{Part}
-use Rattle.presentation.specs.declared.parts.Content.{Content}
-use Rattle.presentation.specs.Presented.{Presented, content_at}
+use Rattle.presentation.specs.{declared.parts.Content.Content, Presented.{Presented, content_at}}
 use Rattle.presentation.proofs.Counts.{from_on, from_on-end, from_on-first, from_on-start}
 use Rattle.live_meaning.specs.Known.{Attributes, all_same, attributes_of, same_attributes}
-use Rattle.live_judge.specs.declared.known.KeptAttributes.{KeptAttributes}
-use Rattle.live_judge.specs.Changed.{attributes_by}
-use Rattle.live_judge.specs.Known.{attributes_shown}
+use Rattle.live_judge.specs.{declared.known.KeptAttributes.KeptAttributes, Changed.attributes_by, Known.attributes_shown}
 
 abbrev pub one_of : Presented → (section : ℕ) → (track : ℕ) → List Attributes
 one_of p s t = option_to_list (option_map attributes_of (content_at p s t))

@@ -1,31 +1,21 @@
 -- A state with an accepted update more is sound.
 use Rattle.std.proofs.Common.{◌≡◌, ℕ, ◌+◌, ◌≤◌, Bool, true, false, List, [], ◌∷◌, ◌++◌, drop, length, Option, Some, None, Result, Ok, Err}
-use Rattle.std.proofs.Common.{refl, sym, ◌∙◌, ap, subst, suc, arith}
+use Rattle.std.proofs.{Common.{refl, sym, ◌∙◌, ap, subst, suc, arith}, lemmas.List.{drop-map, map-append}, lemmas.List.Elements.All-nil}
+use Rattle.std.proofs.lemmas.List.Elements.{All-cons, All-append, All-drop, All-head, All-tail, All-weaker}
 use Rattle.std.specs.Prelude.{All, if◌then◌else◌, int_lt, option_map, slice_get}
-use Rattle.std.proofs.lemmas.List.{drop-map, map-append}
-use Rattle.std.proofs.lemmas.List.Elements.{All-nil, All-cons, All-append, All-drop, All-head, All-tail, All-weaker}
 use Rattle.bridge_io.specs.Firsts.{first_of}
-use Rattle.presentation.specs.declared.fault.PresentationFault.{PresentationFault}
-use Rattle.presentation.specs.Presented.{Presented}
-use Rattle.presentation.specs.PresentedLaws.{PresentedAreFew, PresentedAreFollowed}
+use Rattle.presentation.specs.{declared.fault.PresentationFault.PresentationFault, Presented.Presented, PresentedLaws.PresentedAreFew}
+use Rattle.presentation.specs.PresentedLaws.{PresentedAreFollowed}
 use Rattle.followed.specs.Durations.{last_behind}
-use Rattle.live_meaning.specs.Updates.{Update, is_reset, now_of, unit_of}
-use Rattle.live_meaning.specs.Segments.{Kept, Segment, listed_of, place_behind, segments_of}
-use Rattle.live_meaning.specs.Known.{Known}
-use Rattle.live_meaning.specs.Histories.{Common, availability_start_of, common_with, force_by, numbering_of}
-use Rattle.live_meaning.specs.States.{State, Track, kept_and_new, new_of, new_told, removed_from, state_with, track_after, tracks_after}
+use Rattle.live_meaning.specs.{Updates.{Update, is_reset, now_of, unit_of}, Segments.{Kept, Segment, listed_of, place_behind, segments_of}}
+use Rattle.live_meaning.specs.{Known.Known, Histories.{Common, availability_start_of, common_with, force_by, numbering_of}, States.State}
+use Rattle.live_meaning.specs.States.{Track, kept_and_new, new_of, new_told, removed_from, state_with, track_after, tracks_after}
 use Rattle.live_meaning.specs.Refusals.{ClockBack, Refusal, clock_told, ended_told, next_of, next_with, refusal_of, told_by}
-use Rattle.live_meaning.proofs.Allowed.{IsAllowed, allowed, none_each, told_none}
-use Rattle.live_meaning.proofs.Grown.{get_more}
-use Rattle.live_meaning.proofs.Histories.{mapped}
-use Rattle.live_meaning.proofs.Orders.{behind_have, listed_numbered}
-use Rattle.live_meaning.proofs.Tracks.{told-segments}
-use Rattle.live_judge.specs.Sound.{IsSegmentOf, IsSound, IsSoundTrack}
-use Rattle.live_judge.specs.SoundGoesOn.{SoundStatesGoOn}
-use Rattle.live_judge.proofs.Forced.{IsNew, forced}
-use Rattle.live_judge.proofs.ListedSound.{listed, order}
-use Rattle.live_judge.proofs.Reaching.{IsReached, lasts_of, reached_behind, reached_left, sound_reached}
-use Rattle.live_judge.proofs.Rewriting.{later_ended}
+use Rattle.live_meaning.proofs.{Allowed.{IsAllowed, allowed, none_each, told_none}, Grown.get_more, Histories.mapped, Orders.behind_have}
+use Rattle.live_meaning.proofs.{Orders.listed_numbered, Tracks.told-segments}
+use Rattle.live_judge.specs.{Sound.{IsSegmentOf, IsSound, IsSoundTrack}, SoundGoesOn.SoundStatesGoOn}
+use Rattle.live_judge.proofs.{Forced.{IsNew, forced}, ListedSound.{listed, order}, Reaching.{IsReached, lasts_of, reached_behind}}
+use Rattle.live_judge.proofs.{Reaching.{reached_left, sound_reached}, Rewriting.later_ended}
 
 -- ---- an accepted update
 

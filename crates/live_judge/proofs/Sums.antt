@@ -1,8 +1,6 @@
 -- Numbers over places in order.
-use Rattle.std.proofs.Common.{◌≡◌, ℕ, ◌+◌, ◌<◌, ◌∙◌, ap, arith}
-use Rattle.std.specs.Prelude.{sum_by}
-use Rattle.std.specs.List.{range_with_len}
-use Rattle.std.proofs.lemmas.List.Sums.{sum_by-cons}
+use Rattle.std.proofs.{Common.{◌≡◌, ℕ, ◌+◌, ◌<◌, ◌∙◌, ap, arith}, lemmas.List.Sums.sum_by-cons}
+use Rattle.std.specs.{Prelude.sum_by, List.range_with_len}
 use Rattle.presentation.proofs.Counts.{from_on, from_on-end, from_on-first, from_on-start}
 
 module _ (count : ℕ → ℕ) (n : ℕ) where

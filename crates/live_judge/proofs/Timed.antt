@@ -1,33 +1,18 @@
 -- The segments of an MPD's presentation end at times.
-use Rattle.std.proofs.Common.{◌≡◌, ℕ, ◌+◌, ◌*◌, Bool, true, false, List, [], length, All, Option, None, Some, unwrap_or, ℤ, Ok, refl, sym}
-use Rattle.std.proofs.Common.{ap, subst}
-use Rattle.std.specs.Prelude.{is_none, is_some, option_map}
-use Rattle.std.specs.Option.{option_map_or}
-use Rattle.std.proofs.lemmas.List.Elements.{All-from_recursion, All-nil}
-use Rattle.exact_time.specs.Time.{IsTime}
-use Rattle.mpd_levels.specs.declared.tables.SView.{SView}
-use Rattle.mpd_levels.specs.Segments.{Segments}
-use Rattle.mpd_rules.specs.Typed.{TypedMpd}
-use Rattle.mpd_rules.specs.Views.{segments_mpd}
-use Rattle.timeline.specs.declared.entry.End.{End}
-use Rattle.timeline.specs.declared.names.Names.{Names}
-use Rattle.timeline.specs.declared.window.Window.{Window}
-use Rattle.timeline.specs.Expansions.{SegmentTimeline, Timing}
-use Rattle.timeline.specs.Listed.{expansion}
-use Rattle.timeline.specs.Steady.{AreLasting}
-use Rattle.presentation.specs.declared.parts.Content.{Content}
-use Rattle.presentation.specs.Presented.{Presented, content_at, looked_at, window_of}
-use Rattle.presentation.specs.Scales.{scale_of}
-use Rattle.presentation.specs.Told.{entries_of, presented_of, timeline_by}
-use Rattle.presentation.proofs.Ending.{all_have}
-use Rattle.presentation.proofs.FromMpd.{is_told}
-use Rattle.presentation.proofs.Grids.{All-at}
-use Rattle.presentation.proofs.Pace.{duration_sound, entries_sound, expansion_has}
-use Rattle.live_meaning.specs.Updates.{mpd_of}
-use Rattle.live_judge.specs.declared.coming.Coming.{Coming}
 use Rattle.live_judge.specs.declared.coming.Coming.TheVariants as comes
-use Rattle.live_judge.specs.declared.standing.Standing.{Standing}
-use Rattle.live_judge.specs.Coming.{Comes, update_of}
+use Rattle.std.proofs.Common.{◌≡◌, ℕ, ◌+◌, ◌*◌, Bool, true, false, List, [], length, All, Option, None, Some, unwrap_or, ℤ, Ok, refl, sym}
+use Rattle.std.proofs.{Common.{ap, subst}, lemmas.List.Elements.{All-from_recursion, All-nil}}
+use Rattle.std.specs.{Prelude.{is_none, is_some, option_map}, Option.option_map_or}
+use Rattle.exact_time.specs.Time.{IsTime}
+use Rattle.mpd_levels.specs.{declared.tables.SView.SView, Segments.Segments}
+use Rattle.mpd_rules.specs.{Typed.TypedMpd, Views.segments_mpd}
+use Rattle.timeline.specs.{declared.entry.End.End, declared.names.Names.Names, declared.window.Window.Window, Expansions.SegmentTimeline}
+use Rattle.timeline.specs.{Expansions.Timing, Listed.expansion, Steady.AreLasting}
+use Rattle.presentation.specs.{declared.parts.Content.Content, Presented.{Presented, content_at, looked_at, window_of}, Scales.scale_of}
+use Rattle.presentation.specs.Told.{entries_of, presented_of, timeline_by}
+use Rattle.presentation.proofs.{Ending.all_have, FromMpd.is_told, Grids.All-at, Pace.{duration_sound, entries_sound, expansion_has}}
+use Rattle.live_meaning.specs.Updates.{mpd_of}
+use Rattle.live_judge.specs.{declared.coming.Coming.Coming, declared.standing.Standing.Standing, Coming.{Comes, update_of}}
 use Rattle.live_judge.specs.Rewriting.{EndAtTimes}
 
 timed_lasting : (live : Bool) (timeline : Option (List SView)) (s : Segments) (end : End) (names : Names) (runs : SegmentTimeline)

@@ -6,27 +6,13 @@ use Rattle.exact_time.specs.Tick.{time_of}
 use Rattle.presentation.specs.Counting.{sections_of}
 use Rattle.presentation.proofs.Counts.{from_on, from_on-end, from_on-first, from_on-start}
 use Rattle.followed.specs.Durations.{Last}
-use Rattle.live_meaning.specs.Updates.{is_reset}
-use Rattle.live_meaning.specs.Segments.{id_at}
-use Rattle.live_meaning.specs.Known.{ids_of}
-use Rattle.live_meaning.specs.Refusals.{ids_in}
-use Rattle.live_meaning.specs.States.{new_durations}
+use Rattle.live_meaning.specs.{Updates.is_reset, Segments.id_at, Known.ids_of, Refusals.ids_in, States.new_durations}
 use Rattle.live_meaning.proofs.InForce.{id_there}
-use Rattle.live_judge.specs.declared.times.NewTimes.{NewTimes}
-use Rattle.live_judge.specs.declared.times.NewRun.{NewRun}
-use Rattle.live_judge.specs.declared.track_next.TrackNext.{TrackNext}
-use Rattle.live_judge.specs.Coming.{IsTrackNext, c_of, coming_of, p_of, t_of, update_of}
-use Rattle.live_judge.specs.New.{durations_in}
-use Rattle.live_judge.specs.Removal.{kept_in}
-use Rattle.live_judge.specs.Seconds.{capped}
-use Rattle.live_judge.specs.Shown.{last_from}
-use Rattle.live_judge.specs.Times.{IsNextRun, IsRun, left_of}
-use Rattle.live_judge.proofs.Keeping.{length-kepts}
-use Rattle.live_judge.proofs.New.{durations_are}
-use Rattle.live_judge.proofs.NewDurations.{sound_there}
-use Rattle.live_judge.proofs.Places.{place_there}
-use Rattle.live_judge.proofs.Removing.{sum-append, sum-cons}
-use Rattle.live_judge.proofs.Tracks.{paired_there}
+use Rattle.live_judge.specs.{declared.times.NewTimes.NewTimes, declared.times.NewRun.NewRun, declared.track_next.TrackNext.TrackNext}
+use Rattle.live_judge.specs.{Coming.{IsTrackNext, c_of, coming_of, p_of, t_of, update_of}, New.durations_in, Removal.kept_in}
+use Rattle.live_judge.specs.{Seconds.capped, Shown.last_from, Times.{IsNextRun, IsRun, left_of}}
+use Rattle.live_judge.proofs.{Keeping.length-kepts, New.durations_are, NewDurations.sound_there, Places.place_there, Removing.sum-append}
+use Rattle.live_judge.proofs.{Removing.sum-cons, Tracks.paired_there}
 
 -- ---- sums
 

@@ -1,25 +1,14 @@
 -- A track of an update.
-use Rattle.std.proofs.Common.{◌≡◌, ℕ, ◌+◌, ◌<◌, [], length, take, Some, sym, ◌∙◌, subst, arith}
+use Rattle.std.proofs.{Common.{◌≡◌, ℕ, ◌+◌, ◌<◌, [], length, take, Some, sym, ◌∙◌, subst, arith}, lemmas.Option.slice_get_within}
 use Rattle.std.specs.Prelude.{option_map}
-use Rattle.std.proofs.lemmas.Option.{slice_get_within}
-use Rattle.timeline.specs.Expansions.{SegmentTimeline}
-use Rattle.timeline.specs.Listed.{IsReached}
-use Rattle.presentation.specs.declared.parts.Content.{Content}
-use Rattle.presentation.specs.Presented.{content_at, window_of}
-use Rattle.presentation.proofs.Extents.{reached_of}
-use Rattle.presentation.proofs.Grids.{All-at}
-use Rattle.live_judge.specs.declared.track_next.TrackNext.{TrackNext}
-use Rattle.live_judge.specs.Coming.{IsTrackNext, p_of}
-use Rattle.live_judge.specs.Sound.{IsPaired}
+use Rattle.timeline.specs.{Expansions.SegmentTimeline, Listed.{IsReached, IsPlaceAfter, expansion, listed, listed_from}}
 use Rattle.timeline.specs.declared.window.Window.{Window}
-use Rattle.timeline.specs.Listed.{IsPlaceAfter, expansion, listed, listed_from}
+use Rattle.presentation.specs.{declared.parts.Content.Content, Presented.{content_at, window_of}}
+use Rattle.presentation.proofs.{Extents.reached_of, Grids.All-at}
+use Rattle.live_judge.specs.{declared.track_next.TrackNext.TrackNext, Coming.{IsTrackNext, p_of, t_of}, Sound.IsPaired}
+use Rattle.live_judge.specs.{declared.track.LastKept.LastKept, New.{StartsNew, new_timings}, Shown.last_of}
 use Rattle.exact_time.specs.Tick.{time_of}
-use Rattle.live_judge.specs.declared.track.LastKept.{LastKept}
-use Rattle.live_judge.specs.Coming.{t_of}
-use Rattle.live_judge.specs.New.{StartsNew, new_timings}
-use Rattle.live_judge.specs.Shown.{last_of}
-use Rattle.live_judge.proofs.Contents.{content_there, starts_behind, starts_first, starts_there}
-use Rattle.live_judge.proofs.New.{none_earlier}
+use Rattle.live_judge.proofs.{Contents.{content_there, starts_behind, starts_first, starts_there}, New.none_earlier}
 
 pub index_within : (l : TrackNext) → IsTrackNext l → l.index < length (p_of l.next.now).tracks
 index_within l is = omega (arith, slice_get_within (l.next.now).tracks.now l.index l.track.now is.there, is.next.alike)

@@ -1,11 +1,8 @@
 -- The last kept segments of a Period.
 use Rattle.std.specs.Prelude.{◌≡◌, ℕ, ◌+◌, ◌-◌, ◌<◌, ◌≤◌, ◌==◌, ◌&&◌, Bool, true, false, List, length, take, drop, slice_get, Some}
 use Rattle.followed.specs.Durations.{is_in}
-use Rattle.live_meaning.specs.Segments.{Segment, segments_of}
-use Rattle.live_meaning.specs.Refusals.{latest_in}
-use Rattle.live_judge.specs.declared.block.Block.{Block}
-use Rattle.live_judge.specs.declared.track.LiveTrack.{LiveTrack}
-use Rattle.live_judge.specs.Removal.{kept_in}
+use Rattle.live_meaning.specs.{Segments.{Segment, segments_of}, Refusals.latest_in}
+use Rattle.live_judge.specs.{declared.block.Block.Block, declared.track.LiveTrack.LiveTrack, Removal.kept_in}
 
 abbrev pub segments_in : LiveTrack → List Segment
 segments_in track = segments_of (kept_in track)

@@ -1,17 +1,13 @@
 -- What an MPD alone breaks, by the places of its Periods.
 use Rattle.std.specs.Prelude.{◌≡◌, ℕ, ◌+◌, ◌<◌, ◌==◌, not, Bool, true, false, List, [], ◌∷◌, ◌++◌, length, slice_get, Option, Some, None}
-use Rattle.std.specs.Prelude.{IfSome, ◌&&◌, unsigned_abs}
+use Rattle.std.specs.{Prelude.{IfSome, ◌&&◌, unsigned_abs}, Option.option_map_or}
 use Rattle.exact_time.specs.Time.{Time}
 use Rattle.url_parts.specs.declared.address.Part.{Part}
-use Rattle.std.specs.Option.{option_map_or}
 use Rattle.presentation.specs.Presented.{Presented, start_of}
 use Rattle.mpd_rules.specs.Laws.{are_once}
-use Rattle.live_meaning.specs.Updates.{Values}
-use Rattle.live_meaning.specs.Segments.{place_of}
-use Rattle.live_meaning.specs.Known.{Attributes, Known, all_same, attributes_at, goes_on, ids_of}
-use Rattle.live_meaning.specs.Histories.{Common}
-use Rattle.live_meaning.specs.Refusals.{Changed, Moved, Refusal, are_alike, ids_in, is_changed, moved_told, older_than, starts_otherwise}
-use Rattle.live_meaning.specs.Refusals.{told_if}
+use Rattle.live_meaning.specs.{Updates.Values, Segments.place_of, Known.{Attributes, Known, all_same, attributes_at, goes_on, ids_of}}
+use Rattle.live_meaning.specs.{Histories.Common, Refusals.{Changed, Moved, Refusal, are_alike, ids_in, is_changed, moved_told, older_than}}
+use Rattle.live_meaning.specs.Refusals.{starts_otherwise, told_if}
 
 -- the place that the first of some ids has among the known ones, or behind them
 abbrev pub first_place : (known ids : List (List ℕ)) → ℕ

@@ -1,24 +1,14 @@
 -- An update that comes to a session, and what it would leave.
+use Rattle.live_judge.specs.declared.coming.Coming.TheVariants as comes
 use Rattle.std.specs.Prelude.{◌≡◌, ℕ, ◌<◌, ◌≤◌, ℤ, int_lt, Bool, false, List, [], ◌++◌, length, map, slice_get, Option, Some, Ok, unwrap_or}
 use Rattle.mpd_rules.specs.Views.{segments_mpd}
-use Rattle.presentation.specs.Presented.{Presented, is_finished, looked_at}
-use Rattle.presentation.specs.Counting.{range_faults}
-use Rattle.presentation.specs.Printing.{IsCounted}
-use Rattle.presentation.specs.Told.{presented_of}
-use Rattle.live_meaning.specs.Updates.{Update, Values, Refresh, Reset, Tick, is_reset, mpd_of}
-use Rattle.live_meaning.specs.Known.{ids_of}
-use Rattle.live_meaning.specs.Histories.{Common, availability_start_of, common_with}
-use Rattle.live_meaning.specs.States.{State, Track}
-use Rattle.live_meaning.specs.Refusals.{Presentation, Refusal, counts_kept, ids_in, joint_told, long_told, mpd_told, window_told}
-use Rattle.live_judge.specs.declared.coming.Coming.{Coming}
-use Rattle.live_judge.specs.declared.coming.Coming.TheVariants as comes
-use Rattle.live_judge.specs.declared.coming.Next.{Next}
-use Rattle.live_judge.specs.declared.standing.Standing.{Standing}
-use Rattle.live_judge.specs.declared.track_next.TrackNext.{TrackNext}
-use Rattle.live_judge.specs.Changed.{listed_told}
-use Rattle.live_judge.specs.Known.{StandsAt}
-use Rattle.live_judge.specs.Shown.{common_shown, in_force, track_shown}
-use Rattle.live_judge.specs.Sound.{IsLive, StartsAt}
+use Rattle.presentation.specs.{Presented.{Presented, is_finished, looked_at}, Counting.range_faults, Printing.IsCounted, Told.presented_of}
+use Rattle.live_meaning.specs.{Updates.{Update, Values, Refresh, Reset, Tick, is_reset, mpd_of}, Known.ids_of, Histories.Common}
+use Rattle.live_meaning.specs.{Histories.{availability_start_of, common_with}, States.{State, Track}, Refusals.{Presentation, Refusal}}
+use Rattle.live_meaning.specs.Refusals.{counts_kept, ids_in, joint_told, long_told, mpd_told, window_told}
+use Rattle.live_judge.specs.{declared.coming.Coming.Coming, declared.coming.Next.Next, declared.standing.Standing.Standing}
+use Rattle.live_judge.specs.{declared.track_next.TrackNext.TrackNext, Changed.listed_told, Known.StandsAt, Shown.{common_shown, in_force}}
+use Rattle.live_judge.specs.{Shown.track_shown, Sound.{IsLive, StartsAt}}
 
 abbrev pub update_of : Coming → ℤ → Update
 update_of (comes.Refresh mpd) now = Refresh (segments_mpd mpd.now) now

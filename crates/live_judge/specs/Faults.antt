@@ -1,15 +1,14 @@
 -- Why an update may not follow, as the calls tell it.
+use Rattle.presentation.specs.declared.fault.PresentationFault.TheVariants as presented
+use Rattle.live_meaning.specs.Refusals as rules
+use Rattle.live_judge.specs.declared.fault.RefreshFault.TheVariants as faults
 use Rattle.std.specs.Prelude.{◌≡◌, List, [], IsSome, MatchResult, Option, Some, None, option_map, Result}
 use Rattle.bridge_io.specs.Firsts.{first_of}
 use Rattle.exact_time.specs.Tick.{time_of}
 use Rattle.timeline.specs.Listed.{timing_of}
-use Rattle.presentation.specs.declared.fault.PresentationFault.{PresentationFault}
-use Rattle.presentation.specs.declared.fault.PresentationFault.TheVariants as presented
-use Rattle.presentation.specs.Counting.{refusal}
+use Rattle.presentation.specs.{declared.fault.PresentationFault.PresentationFault, Counting.refusal}
 use Rattle.live_meaning.specs.Refusals.{Refusal}
-use Rattle.live_meaning.specs.Refusals as rules
 use Rattle.live_judge.specs.declared.fault.RefreshFault.{RefreshFault}
-use Rattle.live_judge.specs.declared.fault.RefreshFault.TheVariants as faults
 
 -- the refusal that a fault tells; want of memory tells none
 abbrev pub told : RefreshFault → Option Refusal

@@ -1,12 +1,7 @@
 -- What holds of the state that a first MPD leaves.
 use Rattle.std.specs.Prelude.{◌≡◌, ℤ, Some, Ok}
-use Rattle.live_meaning.specs.Updates.{Terms, Values}
-use Rattle.live_meaning.specs.Known.{ids_of}
-use Rattle.live_meaning.specs.States.{State}
-use Rattle.live_meaning.specs.Refusals.{begun_of, ids_in}
-use Rattle.live_meaning.specs.Laws.{IsTyped}
-use Rattle.live_judge.specs.Known.{StandsAt}
-use Rattle.live_judge.specs.Sound.{IsSound}
+use Rattle.live_meaning.specs.{Updates.{Terms, Values}, Known.ids_of, States.State, Refusals.{begun_of, ids_in}, Laws.IsTyped}
+use Rattle.live_judge.specs.{Known.StandsAt, Sound.IsSound}
 
 -- it is sound
 abbrev pub FirstStatesAreSound : Type 0

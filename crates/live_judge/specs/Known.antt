@@ -3,8 +3,7 @@ use Rattle.std.specs.Prelude.{◌≡◌, ℕ, ◌≤◌, Bool, true, false, List
 use Rattle.std.specs.Option.{option_map_or}
 use Rattle.mpd_rules.specs.Laws.{are_once}
 use Rattle.live_meaning.specs.Known.{Attributes, Known}
-use Rattle.live_judge.specs.declared.known.KeptAttributes.{KeptAttributes}
-use Rattle.live_judge.specs.declared.known.KnownPeriod.{KnownPeriod}
+use Rattle.live_judge.specs.{declared.known.KeptAttributes.KeptAttributes, declared.known.KnownPeriod.KnownPeriod}
 
 abbrev pub attributes_shown : KeptAttributes → Attributes
 attributes_shown a = record { timescale = a.timescale; time_offset = a.time_offset; initialization = a.initialization }

@@ -1,15 +1,10 @@
 -- What an update lists behind the last segments, section by section.
-use Rattle.std.specs.Prelude.{◌≡◌, ℕ, ◌+◌, Bool, true, List, [], map, filter, slice_get, IfSome, Some}
-use Rattle.std.specs.Option.{option_map_or}
-use Rattle.timeline.specs.Expansions.{Timing}
-use Rattle.timeline.specs.Listed.{listed_from}
-use Rattle.timeline.specs.Steady.{IsWithinLimits}
+use Rattle.std.specs.{Prelude.{◌≡◌, ℕ, ◌+◌, Bool, true, List, [], map, filter, slice_get, IfSome, Some}, Option.option_map_or}
+use Rattle.timeline.specs.{Expansions.Timing, Listed.listed_from, Steady.IsWithinLimits}
 use Rattle.presentation.specs.Presented.{Presented, content_at, listed_at, start_of, window_of}
 use Rattle.followed.specs.Durations.{durations, told_behind}
-use Rattle.live_meaning.specs.Updates.{unit_of}
-use Rattle.live_meaning.specs.Segments.{Numbering, Segment, is_later, segment_with, timing_of}
-use Rattle.live_meaning.specs.Histories.{Common, numbering_of}
-use Rattle.live_meaning.specs.States.{Track}
+use Rattle.live_meaning.specs.{Updates.unit_of, Segments.{Numbering, Segment, is_later, segment_with, timing_of}, Histories.Common}
+use Rattle.live_meaning.specs.{Histories.numbering_of, States.Track}
 
 -- where the Period of a section has the place `place + section`
 abbrev pub is_new_in : (place : ℕ) → Track → (section : ℕ) → Timing → Bool

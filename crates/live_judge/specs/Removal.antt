@@ -4,9 +4,7 @@ use Rattle.exact_time.specs.Tick.{time_of}
 use Rattle.timeline.specs.Listed.{is_after}
 use Rattle.presentation.specs.Presented.{Presented, window_from}
 use Rattle.live_meaning.specs.Segments.{Kept}
-use Rattle.live_judge.specs.declared.track.Fact.{Fact}
-use Rattle.live_judge.specs.declared.track.LiveTrack.{LiveTrack}
-use Rattle.live_judge.specs.Shown.{kepts_of}
+use Rattle.live_judge.specs.{declared.track.Fact.Fact, declared.track.LiveTrack.LiveTrack, Shown.kepts_of}
 
 abbrev pub kept_in : LiveTrack → List Kept
 kept_in track = kepts_of track.items.items track.facts.items

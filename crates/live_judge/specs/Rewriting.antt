@@ -2,16 +2,11 @@
 use Rattle.std.specs.Prelude.{◌≡◌, ℕ, zero, suc, ◌-◌, ◌&&◌, not, min, Bool, false, List, [], ◌∷◌, filter, take, drop, reverse, length}
 use Rattle.std.specs.Prelude.{slice_get, All, Option, Some, None, option_map, if◌then◌else◌}
 use Rattle.exact_time.specs.Time.{IsTime, Time, at_most}
-use Rattle.timeline.specs.Expansions.{Timing}
-use Rattle.timeline.specs.Listed.{timing_of}
-use Rattle.timeline.specs.Steady.{ArePaced}
+use Rattle.timeline.specs.{Expansions.Timing, Listed.timing_of, Steady.ArePaced}
 use Rattle.presentation.specs.Presented.{Presented}
-use Rattle.live_meaning.specs.Updates.{Values}
-use Rattle.live_meaning.specs.Histories.{Common}
-use Rattle.live_meaning.specs.States.{Track}
-use Rattle.live_meaning.specs.Refusals.{Refusal, expansion_at, is_same_timing, rewritten_told}
-use Rattle.live_judge.specs.declared.rewritten.Ended.{Ended}
-use Rattle.live_judge.specs.declared.rewritten.Pair.{Pair}
+use Rattle.live_meaning.specs.{Updates.Values, Histories.Common, States.Track, Refusals.{Refusal, expansion_at, is_same_timing}}
+use Rattle.live_meaning.specs.Refusals.{rewritten_told}
+use Rattle.live_judge.specs.{declared.rewritten.Ended.Ended, declared.rewritten.Pair.Pair}
 
 -- what kept segments an update's MPD has otherwise
 abbrev pub kept_told : Common → Option Values → Presented → List Track → List Refusal

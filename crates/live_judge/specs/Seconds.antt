@@ -1,9 +1,6 @@
 -- The second of segments that are equally long, and sums that stop at the last value of a counter.
 use Rattle.std.specs.Prelude.{◌≡◌, ℕ, ◌+◌, ◌-◌, ◌^◌, min, pos, ◌+ℤ◌, ◌<ℤ◌}
-use Rattle.exact_time.specs.Time.{IsAtMost, Time, difference, seconds}
-use Rattle.exact_time.specs.Tick.{time_of}
-use Rattle.exact_time.specs.Equal.{ticks_after}
-use Rattle.exact_time.specs.Rounding.{rounding_behind, total}
+use Rattle.exact_time.specs.{Time.{IsAtMost, Time, difference, seconds}, Tick.time_of, Equal.ticks_after, Rounding.{rounding_behind, total}}
 use Rattle.timeline.specs.declared.span.SpanRun.{SpanRun}
 
 abbrev pub second_end : SpanRun → Time

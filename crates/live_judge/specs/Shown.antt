@@ -1,18 +1,12 @@
 -- What a session keeps, as the state that it shows.
-use Rattle.std.specs.Prelude.{ℕ, ◌-◌, List, [], ◌∷◌, length, map, slice_get, Option, option_map, unwrap_or}
-use Rattle.std.specs.Option.{option_map_or}
-use Rattle.exact_time.specs.Time.{Time}
-use Rattle.exact_time.specs.Tick.{time_of}
+use Rattle.std.specs.{Prelude.{ℕ, ◌-◌, List, [], ◌∷◌, length, map, slice_get, Option, option_map, unwrap_or}, Option.option_map_or}
+use Rattle.exact_time.specs.{Time.Time, Tick.time_of}
 use Rattle.url_parts.specs.declared.address.Part.{Part}
 use Rattle.hls_writer.specs.declared.items.MediaItem.{MediaItem}
 use Rattle.presentation.specs.Presented.{Presented, looked_at}
 use Rattle.followed.specs.Durations.{Last}
-use Rattle.live_meaning.specs.Segments.{Kept}
-use Rattle.live_meaning.specs.Histories.{Common}
-use Rattle.live_meaning.specs.States.{State, Track}
-use Rattle.live_judge.specs.declared.track.Fact.{Fact}
-use Rattle.live_judge.specs.declared.track.LastKept.{LastKept}
-use Rattle.live_judge.specs.declared.track.LiveTrack.{LiveTrack}
+use Rattle.live_meaning.specs.{Segments.Kept, Histories.Common, States.{State, Track}}
+use Rattle.live_judge.specs.{declared.track.Fact.Fact, declared.track.LastKept.LastKept, declared.track.LiveTrack.LiveTrack}
 use Rattle.live_judge.specs.declared.standing.Standing.{Standing}
 
 -- ---- a track

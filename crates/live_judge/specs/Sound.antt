@@ -5,16 +5,9 @@ use Rattle.exact_time.specs.Time.{AreRising, IsAtMost, IsTime, before, nanosecon
 use Rattle.timeline.specs.Expansions.{Timing}
 use Rattle.presentation.specs.Presented.{Presented, is_finished, listed_at, looked_at}
 use Rattle.followed.specs.Durations.{Last}
-use Rattle.live_meaning.specs.Segments.{Segment, segments_of}
-use Rattle.live_meaning.specs.Known.{Known, ids_of}
-use Rattle.live_meaning.specs.Histories.{Common, availability_start_of}
-use Rattle.live_meaning.specs.States.{State, Track}
-use Rattle.live_meaning.specs.Refusals.{ids_in}
-use Rattle.live_meaning.specs.Laws.{DoesLast}
-use Rattle.live_judge.specs.declared.standing.Standing.{Standing}
-use Rattle.live_judge.specs.declared.track.LiveTrack.{LiveTrack}
-use Rattle.live_judge.specs.Changed.{AreUnmoved}
-use Rattle.live_judge.specs.Known.{StandsAt}
+use Rattle.live_meaning.specs.{Segments.{Segment, segments_of}, Known.{Known, ids_of}, Histories.{Common, availability_start_of}}
+use Rattle.live_meaning.specs.{States.{State, Track}, Refusals.ids_in, Laws.DoesLast}
+use Rattle.live_judge.specs.{declared.standing.Standing.Standing, declared.track.LiveTrack.LiveTrack, Changed.AreUnmoved, Known.StandsAt}
 use Rattle.live_judge.specs.Shown.{in_force, state_shown}
 
 -- ---- segments

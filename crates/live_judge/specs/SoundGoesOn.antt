@@ -1,13 +1,7 @@
 -- What stays so of a state when an update is accepted.
 use Rattle.std.specs.Prelude.{◌≡◌, ℕ, ◌*◌, ◌<◌, ◌≤◌, All, length, Ok}
-use Rattle.live_meaning.specs.Updates.{Update, mpd_of}
-use Rattle.live_meaning.specs.Known.{ids_of}
-use Rattle.live_meaning.specs.Histories.{Common}
-use Rattle.live_meaning.specs.States.{State, Track}
-use Rattle.live_meaning.specs.Refusals.{ids_in, next_of}
-use Rattle.live_judge.specs.Changed.{IsPlaceBy}
-use Rattle.live_judge.specs.Known.{StandsAt}
-use Rattle.live_judge.specs.Sound.{IsSound}
+use Rattle.live_meaning.specs.{Updates.{Update, mpd_of}, Known.ids_of, Histories.Common, States.{State, Track}, Refusals.{ids_in, next_of}}
+use Rattle.live_judge.specs.{Changed.IsPlaceBy, Known.StandsAt, Sound.IsSound}
 
 -- it stays sound
 abbrev pub SoundStatesGoOn : Type 0

@@ -1,13 +1,9 @@
 -- The printed durations of segments that are passed run by run.
 use Rattle.std.specs.Prelude.{◌≡◌, ◌⊎◌, ℕ, ◌+◌, ◌≤◌, List, [], ◌∷◌, ◌++◌, slice_get, All, Some}
-use Rattle.exact_time.specs.Time.{IsAtMost, IsTime, Time}
-use Rattle.exact_time.specs.Tick.{time_of}
-use Rattle.exact_time.specs.Equal.{summed_up}
-use Rattle.exact_time.specs.Rounding.{Rounding}
+use Rattle.exact_time.specs.{Time.{IsAtMost, IsTime, Time}, Tick.time_of, Equal.summed_up, Rounding.Rounding}
 use Rattle.timeline.specs.Expansions.{Timing}
 use Rattle.presentation.specs.Kept.{ArePacedBehind, durations_behind}
-use Rattle.live_judge.specs.declared.times.NewTimes.{NewTimes}
-use Rattle.live_judge.specs.declared.times.NewRun.{NewRun}
+use Rattle.live_judge.specs.{declared.times.NewTimes.NewTimes, declared.times.NewRun.NewRun}
 
 -- the durations that are left
 abbrev pub left_of : NewTimes → List ℕ

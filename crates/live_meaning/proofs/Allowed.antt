@@ -3,23 +3,16 @@ use Rattle.std.proofs.Common.{◌≡◌, ℕ, ◌+◌, Bool, true, false, not, �
 use Rattle.std.proofs.Common.{◌∙◌, ap, subst}
 use Rattle.std.specs.Prelude.{option_map}
 use Rattle.bridge_io.specs.Firsts.{first_of}
-use Rattle.presentation.specs.declared.fault.PresentationFault.{PresentationFault}
-use Rattle.presentation.specs.Counting.{count_faults, range_faults}
-use Rattle.presentation.specs.Presented.{Presented, is_finished}
-use Rattle.presentation.specs.Told.{presented_of}
-use Rattle.presentation.specs.Verifying.{url_faults}
-use Rattle.presentation.proofs.Ending.{none_behind}
-use Rattle.presentation.proofs.Reached.{none_first}
-use Rattle.live_meaning.specs.Updates.{Refresh, Terms, Update, Values, is_reset, mpd_of, now_of}
-use Rattle.live_meaning.specs.Histories.{Past, Whole, begun_common, begun_with, common_with, force_by, gone_on, whole_of}
-use Rattle.live_meaning.specs.States.{State, Track, shown, state_of, track_of}
-use Rattle.live_meaning.specs.Refusals.{Ended, NotDynamic, Presentation, Refusal, clock_told, counts_kept, counts_listed, ended_told}
-use Rattle.live_meaning.specs.Refusals.{first_refusal_of, first_refusals_of, first_told_by, first_told_with, joint_told, long_told}
-use Rattle.live_meaning.specs.Refusals.{mpd_told, refusal_behind, refusal_of, segments_told, told_by, told_if, told_with, update_refusal}
-use Rattle.live_meaning.specs.Refusals.{urls_told, window_told}
-use Rattle.live_meaning.specs.Laws.{IsAccepted}
-use Rattle.live_meaning.proofs.Histories.{Sound, holds, sound}
-use Rattle.live_meaning.proofs.Tracks.{Each}
+use Rattle.presentation.specs.{declared.fault.PresentationFault.PresentationFault, Counting.{count_faults, range_faults}}
+use Rattle.presentation.specs.{Presented.{Presented, is_finished}, Told.presented_of, Verifying.url_faults}
+use Rattle.presentation.proofs.{Ending.none_behind, Reached.none_first}
+use Rattle.live_meaning.specs.{Updates.{Refresh, Terms, Update, Values, is_reset, mpd_of, now_of}, Histories.{Past, Whole, begun_common}}
+use Rattle.live_meaning.specs.{Histories.{begun_with, common_with, force_by, gone_on, whole_of}, States.{State, Track, shown, state_of}}
+use Rattle.live_meaning.specs.{States.track_of, Refusals.{Ended, NotDynamic, Presentation, Refusal, clock_told, counts_kept, counts_listed}}
+use Rattle.live_meaning.specs.Refusals.{ended_told, first_refusal_of, first_refusals_of, first_told_by, first_told_with, joint_told}
+use Rattle.live_meaning.specs.Refusals.{long_told, mpd_told, refusal_behind, refusal_of, segments_told, told_by, told_if, told_with}
+use Rattle.live_meaning.specs.{Refusals.{update_refusal, urls_told, window_told}, Laws.IsAccepted}
+use Rattle.live_meaning.proofs.{Histories.{Sound, holds, sound}, Tracks.Each}
 
 -- ---- where nothing is told
 

@@ -1,12 +1,9 @@
 -- Playlists that grow at their end, and lose segments at their front.
 use Rattle.std.proofs.Common.{◌≡◌, ℕ, zero, suc, ◌+◌, ◌-◌, ◌≤◌, Bool, true, false, leb, List, [], ◌∷◌, ◌++◌, drop, Some, None, refl, ◌∙◌}
-use Rattle.std.proofs.Common.{sym, ap, subst, inl, inr, arith, length-append, length-drop}
+use Rattle.std.proofs.{Common.{sym, ap, subst, inl, inr, arith, length-append, length-drop}, lemmas.Bool.{cases_Bool, leb-true}}
 use Rattle.std.specs.Prelude.{slice_get}
-use Rattle.std.proofs.lemmas.Bool.{cases_Bool, leb-true}
-use Rattle.hls_media.specs.declared.media.Media.{Media}
-use Rattle.hls_media.specs.declared.media.MediaSegment.{MediaSegment}
-use Rattle.reload_law.specs.Rules.{same_segment, same_section}
-use Rattle.reload_law.specs.Laws.{IsInBoth, IsLawful, ReloadsItself, RulesAreSentences, segment_at}
+use Rattle.hls_media.specs.{declared.media.Media.Media, declared.media.MediaSegment.MediaSegment}
+use Rattle.reload_law.specs.{Rules.{same_segment, same_section}, Laws.{IsInBoth, IsLawful, ReloadsItself, RulesAreSentences, segment_at}}
 use Rattle.live_meaning.specs.Grown.{media_from, GrownIsLawful}
 
 -- ---- segments by their numbers

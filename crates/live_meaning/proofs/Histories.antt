@@ -1,22 +1,13 @@
 -- A state with an update more is the state of the history with that update.
 use Rattle.std.proofs.Common.{◌≡◌, ℕ, ℤ, List, [], ◌∷◌, ◌++◌, length, Option, Some, None, Result, Ok, Err, refl, sym, ◌∙◌, ap, subst, arith}
-use Rattle.std.proofs.Common.{length-append}
-use Rattle.std.specs.Prelude.{option_map, slice_get, unwrap_or}
-use Rattle.std.specs.List.{fold}
-use Rattle.std.specs.Option.{option_map_or}
-use Rattle.std.specs.Result.{result_ok}
-use Rattle.std.proofs.lemmas.Option.{same_Some}
-use Rattle.std.proofs.lemmas.List.{append_assoc}
-use Rattle.std.proofs.lemmas.List.Sums.{fold-append}
-use Rattle.presentation.specs.declared.fault.PresentationFault.{PresentationFault}
-use Rattle.presentation.specs.Presented.{Presented}
-use Rattle.presentation.specs.Told.{presented_of}
-use Rattle.live_meaning.specs.Updates.{Terms, Update, Refresh, Reset, Tick, Values}
-use Rattle.live_meaning.specs.Histories.{Common, Past, Whole, after, begun_common, begun_with, common_with, force_by, gone_on, no_past}
-use Rattle.live_meaning.specs.Histories.{past_of, whole_of}
-use Rattle.live_meaning.specs.States.{State, shown, state_of, state_with}
-use Rattle.live_meaning.specs.Refusals.{Refusal, begun_by, begun_of, first_refusal_of, next_of, next_with, refusal_of, update_refusal}
-use Rattle.live_meaning.specs.Laws.{AcceptedAreAccepted, HistoriesBegin, HistoriesGoOn, HistoriesRefuse, IsAccepted, Shows, with_accepted}
+use Rattle.std.proofs.{Common.length-append, lemmas.Option.same_Some, lemmas.List.append_assoc, lemmas.List.Sums.fold-append}
+use Rattle.std.specs.{Prelude.{option_map, slice_get, unwrap_or}, List.fold, Option.option_map_or, Result.result_ok}
+use Rattle.presentation.specs.{declared.fault.PresentationFault.PresentationFault, Presented.Presented, Told.presented_of}
+use Rattle.live_meaning.specs.{Updates.{Terms, Update, Refresh, Reset, Tick, Values}, Histories.{Common, Past, Whole, after, begun_common}}
+use Rattle.live_meaning.specs.{Histories.{begun_with, common_with, force_by, gone_on, no_past, past_of, whole_of}, States.{State, shown}}
+use Rattle.live_meaning.specs.{States.{state_of, state_with}, Refusals.{Refusal, begun_by, begun_of, first_refusal_of, next_of, next_with}}
+use Rattle.live_meaning.specs.{Refusals.{refusal_of, update_refusal}, Laws.{AcceptedAreAccepted, HistoriesBegin, HistoriesGoOn}}
+use Rattle.live_meaning.specs.Laws.{HistoriesRefuse, IsAccepted, Shows, with_accepted}
 use Rattle.live_meaning.proofs.Tracks.{Each, IsWithin, each_after, each_begun, stays_within, tracks_go_on}
 
 -- ---- what gave a value

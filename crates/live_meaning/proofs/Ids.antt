@@ -1,17 +1,11 @@
 -- The Periods in force are the last ones of those that are known.
 use Rattle.std.proofs.Common.{◌≡◌, ℕ, zero, suc, ◌+◌, Bool, true, false, ◌||◌, not, List, [], ◌∷◌, ◌++◌, length, drop, take, filter, Some}
-use Rattle.std.proofs.Common.{bytes_eq, refl, sym, ◌∙◌, ap, subst, inl, inr, arith}
-use Rattle.std.specs.Prelude.{is_none, slice_get}
-use Rattle.std.specs.List.{list_all, list_any, position_or_len, starts_with}
-use Rattle.std.proofs.lemmas.Bool.{and_parts, cases_Bool, cases_lt, le-ltb, lt-ltb}
-use Rattle.std.proofs.lemmas.List.{append-nil, append_assoc, take-append-drop}
-use Rattle.std.proofs.lemmas.List.Folds.{list_any-append}
-use Rattle.std.proofs.lemmas.List.Sums.{prefix_len-le-length}
-use Rattle.std.proofs.lemmas.Option.{same_Some}
-use Rattle.std.proofs.lemmas.Slice.Eq.{bytes_eq-Decides, starts_is}
+use Rattle.std.proofs.{Common.{bytes_eq, refl, sym, ◌∙◌, ap, subst, inl, inr, arith}, lemmas.Bool.{and_parts, cases_Bool, cases_lt, le-ltb}}
+use Rattle.std.proofs.{lemmas.Bool.lt-ltb, lemmas.List.{append-nil, append_assoc, take-append-drop}, lemmas.List.Folds.list_any-append}
+use Rattle.std.proofs.{lemmas.List.Sums.prefix_len-le-length, lemmas.Option.same_Some, lemmas.Slice.Eq.{bytes_eq-Decides, starts_is}}
+use Rattle.std.specs.{Prelude.{is_none, slice_get}, List.{list_all, list_any, position_or_len, starts_with}}
 use Rattle.mpd_rules.specs.Laws.{are_once}
-use Rattle.live_meaning.specs.Segments.{place_of}
-use Rattle.live_meaning.specs.Known.{Known, goes_on, goes_on_from, ids_of, is_new, known_by}
+use Rattle.live_meaning.specs.{Segments.place_of, Known.{Known, goes_on, goes_on_from, ids_of, is_new, known_by}}
 
 -- ---- tests
 

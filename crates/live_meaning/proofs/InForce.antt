@@ -1,47 +1,26 @@
 -- What an accepted update leaves in force.
 use Rattle.std.proofs.Common.{◌≡◌, ℕ, zero, suc, ◌+◌, ◌*◌, ◌<◌, Bool, true, false, ◌==◌, ◌&&◌, ◌||◌, not, ℤ, List, [], ◌∷◌, ◌++◌, map}
 use Rattle.std.proofs.Common.{filter, length, get_or, bytes_eq, Option, Some, None, Ok, refl, sym, ◌∙◌, ap, subst, inl, inr, arith}
-use Rattle.std.proofs.Common.{length-append}
-use Rattle.std.specs.Prelude.{All, is_none, is_some, option_map, option_to_list, slice_get}
-use Rattle.std.specs.List.{find, list_any, position_or_len, range_with_len}
-use Rattle.std.specs.Option.{option_eq, option_map_or, option_or}
-use Rattle.std.proofs.Math.Nat.{mul-le-mul_left}
-use Rattle.std.proofs.lemmas.Bool.{and_parts, cases_Bool, eqb-true}
-use Rattle.std.proofs.lemmas.List.{append_assoc, length-map, map-append}
-use Rattle.std.proofs.lemmas.List.Folds.{find-append, find_at, list_any_at}
+use Rattle.std.proofs.{Common.length-append, Math.Nat.mul-le-mul_left, lemmas.Bool.{and_parts, cases_Bool, eqb-true}}
+use Rattle.std.proofs.{lemmas.List.{append_assoc, length-map, map-append}, lemmas.List.Folds.{find-append, find_at, list_any_at}}
 use Rattle.std.proofs.lemmas.List.FromFn.{get_or-map-range_with_len, get_or-range_with_len, length-range_with_len}
-use Rattle.std.proofs.lemmas.Option.{slice_get-get_or, slice_get-map}
-use Rattle.std.proofs.lemmas.Slice.Eq.{bytes_eq-Decides}
+use Rattle.std.proofs.{lemmas.Option.{slice_get-get_or, slice_get-map}, lemmas.Slice.Eq.bytes_eq-Decides}
+use Rattle.std.specs.{Prelude.{All, is_none, is_some, option_map, option_to_list, slice_get}, List.{find, list_any, position_or_len}}
+use Rattle.std.specs.{List.range_with_len, Option.{option_eq, option_map_or, option_or}}
 use Rattle.mpd_rules.specs.Laws.{PeriodIdsDiffer, are_once, ids_of as ids_said}
-use Rattle.presentation.specs.declared.track.Section.{Section}
-use Rattle.presentation.specs.declared.track.Track.{Track as Described}
-use Rattle.presentation.specs.Counting.{sections_of}
-use Rattle.presentation.specs.Presented.{Presented, content_at, looked_at, start_of}
-use Rattle.presentation.specs.PresentedLaws.{SectionsArePeriods}
-use Rattle.presentation.specs.Rows.{Period, Row, first_rows, in_order, section_of, track_of}
-use Rattle.presentation.specs.Told.{presented_of}
-use Rattle.presentation.specs.declared.parts.Content.{Content}
-use Rattle.presentation.proofs.Ending.{all_filled}
-use Rattle.presentation.proofs.Filling.{length_in_order}
-use Rattle.presentation.proofs.FromMpd.{is_told}
-use Rattle.presentation.proofs.Grids.{found, in_row}
-use Rattle.presentation.proofs.Reached.{none_within}
+use Rattle.presentation.specs.{declared.track.Section.Section, declared.track.Track.Track as Described, Counting.sections_of}
+use Rattle.presentation.specs.{Presented.{Presented, content_at, looked_at, start_of}, PresentedLaws.SectionsArePeriods, Rows.{Period, Row}}
+use Rattle.presentation.specs.{Rows.{first_rows, in_order, section_of, track_of}, Told.presented_of, declared.parts.Content.Content}
+use Rattle.presentation.proofs.{Ending.all_filled, Filling.length_in_order, FromMpd.is_told, Grids.{found, in_row}, Reached.none_within}
 use Rattle.reload_law.specs.Rules.{same_part, same_range}
-use Rattle.url_parts.specs.declared.address.Part.{Part}
-use Rattle.url_parts.specs.declared.range.Range.{Range}
-use Rattle.live_meaning.specs.Updates.{Refresh, Reset, Terms, Tick, Update, Values}
-use Rattle.live_meaning.specs.Segments.{Segment, id_at, listed_of, place_of}
+use Rattle.url_parts.specs.{declared.address.Part.Part, declared.range.Range.Range}
+use Rattle.live_meaning.specs.{Updates.{Refresh, Reset, Terms, Tick, Update, Values}, Segments.{Segment, id_at, listed_of, place_of}}
 use Rattle.live_meaning.specs.Known.{Attributes, Known, all_same, attributes_at, attributes_of, goes_on, has_id, ids_of, is_new, known_at}
-use Rattle.live_meaning.specs.Known.{known_by, known_with, periods_of, same_attributes}
-use Rattle.live_meaning.specs.Histories.{Common, numbering_of}
-use Rattle.live_meaning.specs.States.{State}
+use Rattle.live_meaning.specs.{Known.{known_by, known_with, periods_of, same_attributes}, Histories.{Common, numbering_of}, States.State}
 use Rattle.live_meaning.specs.Refusals.{Changed, are_alike, differs_at, ids_in, is_alike, is_changed, lack_ids, moved_by, moved_told}
-use Rattle.live_meaning.specs.Refusals.{mpd_told, older_than, rewritten_told, starts_otherwise, told_if}
-use Rattle.live_meaning.specs.Laws.{HasRisingPeriods, IsTyped}
-use Rattle.live_meaning.proofs.Allowed.{IsAllowed, IsFirst, negated, none_each, told_none}
-use Rattle.live_meaning.proofs.Ids.{AreLast, get_behind, last_again, last_at_first, last_with_new, new_ids, new_in, place_is, placed_at}
-use Rattle.live_meaning.proofs.Ids.{placed_in}
-use Rattle.live_meaning.proofs.Orders.{listed_have}
+use Rattle.live_meaning.specs.{Refusals.{mpd_told, older_than, rewritten_told, starts_otherwise, told_if}, Laws.{HasRisingPeriods, IsTyped}}
+use Rattle.live_meaning.proofs.{Allowed.{IsAllowed, IsFirst, negated, none_each, told_none}, Ids.{AreLast, get_behind, last_again}}
+use Rattle.live_meaning.proofs.{Ids.{last_at_first, last_with_new, new_ids, new_in, place_is, placed_at, placed_in}, Orders.listed_have}
 use Rattle.live_meaning.proofs.Times.{IsSoundIn, period_timed, presented_sound}
 
 -- ---- ids of Periods

@@ -1,23 +1,15 @@
 -- Worked runs: one track, whose segments go on to an open end from the start of its one Period on.
 use Rattle.std.specs.Prelude.{◌≡◌, refl, ℕ, ◌*◌, ◌^◌, ℤ, pos, neg_ℤ, List, [], ◌∷◌, ◌++◌, map, true, false, Option, Some, None}
 use Rattle.bridge_io.specs.declared.media.Kind.TheVariants.{Video}
-use Rattle.exact_time.specs.Floor.{floor_in, greatest_of}
-use Rattle.exact_time.specs.Time.{Time}
-use Rattle.timeline.specs.Ratios.{steps_within}
+use Rattle.exact_time.specs.{Floor.{floor_in, greatest_of}, Time.Time}
+use Rattle.timeline.specs.{Ratios.steps_within, declared.names.Names.TheVariants.Addresses, Expansions.{Closed, Endless, Extent, Member}}
+use Rattle.timeline.specs.Expansions.{Timing, repeated}
 use Rattle.url_parts.specs.declared.address.Part.{Part}
-use Rattle.timeline.specs.declared.names.Names.TheVariants.{Addresses}
-use Rattle.timeline.specs.Expansions.{Closed, Endless, Extent, Member, Timing, repeated}
-use Rattle.presentation.specs.declared.parts.Content.{Content}
-use Rattle.presentation.specs.declared.track.Section.{Section}
-use Rattle.presentation.specs.declared.track.Track.{Track as Described}
+use Rattle.presentation.specs.{declared.parts.Content.Content, declared.track.Section.Section, declared.track.Track.Track as Described}
 use Rattle.presentation.specs.Presented.{Following, Presented}
-use Rattle.live_meaning.specs.Updates.{Refresh, Reset, Terms, Tick, Values}
-use Rattle.live_meaning.specs.Histories.{begun_common, begun_with, common_with}
-use Rattle.live_meaning.specs.States.{State, shown, state_with}
-use Rattle.live_meaning.specs.Segments.{whole_nanos}
-use Rattle.live_meaning.specs.Known.{goes_on}
-use Rattle.live_meaning.specs.Removal.{target_of}
-use Rattle.live_meaning.specs.Refusals.{Changed, ClockBack, Ended, LongSegment, Moved, NotOpen, Older, Rewritten, Step, Window, long_told}
+use Rattle.live_meaning.specs.{Updates.{Refresh, Reset, Terms, Tick, Values}, Histories.{begun_common, begun_with, common_with}}
+use Rattle.live_meaning.specs.{States.{State, shown, state_with}, Segments.whole_nanos, Known.goes_on, Removal.target_of, Refusals.Changed}
+use Rattle.live_meaning.specs.Refusals.{ClockBack, Ended, LongSegment, Moved, NotOpen, Older, Rewritten, Step, Window, long_told}
 use Rattle.live_meaning.specs.Refusals.{makes_segments, moved_told, older_than, refusal_behind, refusal_of, rewritten_told, steps_told}
 use Rattle.live_meaning.specs.Refusals.{window_told}
 use Rattle.followed.specs.Places.{last_place}

@@ -1,35 +1,18 @@
 -- In each Period of an MPD's presentation the ends of the listed segments rise, at each instant.
 use Rattle.std.proofs.Common.{◌≡◌, ℕ, zero, suc, ◌+◌, ◌*◌, Bool, ℤ, List, [], ◌∷◌, map, length, Option, Some, None, Ok, refl, sym, ap}
-use Rattle.std.proofs.Common.{subst, inl, inr}
-use Rattle.std.specs.Prelude.{All, filter, unwrap_or}
-use Rattle.std.specs.List.{AllByRecursion}
-use Rattle.std.specs.Option.{option_map_or}
-use Rattle.std.proofs.lemmas.Bool.{cases_Bool}
-use Rattle.std.proofs.lemmas.List.Elements.{All-nil, All-filter, All-from_recursion}
+use Rattle.std.proofs.{Common.{subst, inl, inr}, lemmas.Bool.cases_Bool, lemmas.List.Elements.{All-nil, All-filter, All-from_recursion}}
+use Rattle.std.specs.{Prelude.{All, filter, unwrap_or}, List.AllByRecursion, Option.option_map_or}
 use Rattle.exact_time.specs.Time.{Time, AreRising}
 use Rattle.exact_time.proofs.TimeOrder.{IsAtMost-from_before, before_then_at_most}
-use Rattle.mpd_levels.specs.declared.tables.SView.{SView}
-use Rattle.mpd_levels.specs.Segments.{Segments}
-use Rattle.timeline.specs.declared.entry.End.{End}
-use Rattle.timeline.specs.declared.names.Names.{Names}
-use Rattle.timeline.specs.declared.window.Window.{Window}
-use Rattle.timeline.specs.Expansions.{Closed, Endless, Extent, Member, SegmentTimeline, Short, Timing, ended_by, extents, numbered}
-use Rattle.timeline.specs.Expansions.{repeat_of, repeated}
-use Rattle.timeline.specs.Limits.{too_long}
-use Rattle.timeline.specs.Listed.{instant_of, is_listed}
-use Rattle.timeline.specs.Steady.{AreLasting, Lasts, LastsTicks}
-use Rattle.timeline.proofs.KeptLemmas.{all_append}
-use Rattle.timeline.proofs.Rises.{Lasts-from_ticks, LastsTicks-repeat, ends_rise, no_step_from}
-use Rattle.presentation.specs.declared.parts.Content.{Content}
-use Rattle.presentation.specs.Presented.{Presented, content_at, listed_at, listed_in, window_of}
-use Rattle.presentation.specs.Scales.{scale_of}
-use Rattle.presentation.specs.Told.{entries_of, presented_of, timeline_by}
-use Rattle.presentation.proofs.Ending.{all_have}
-use Rattle.presentation.proofs.FromMpd.{is_told}
-use Rattle.presentation.proofs.Grids.{All-at}
-use Rattle.presentation.proofs.Pace.{IsSound, duration_sound, entries_sound}
-use Rattle.live_meaning.specs.Updates.{Values}
-use Rattle.live_meaning.specs.Laws.{DoesLast}
+use Rattle.mpd_levels.specs.{declared.tables.SView.SView, Segments.Segments}
+use Rattle.timeline.specs.{declared.entry.End.End, declared.names.Names.Names, declared.window.Window.Window, Expansions.{Closed, Endless}}
+use Rattle.timeline.specs.Expansions.{Extent, Member, SegmentTimeline, Short, Timing, ended_by, extents, numbered, repeat_of, repeated}
+use Rattle.timeline.specs.{Limits.too_long, Listed.{instant_of, is_listed}, Steady.{AreLasting, Lasts, LastsTicks}}
+use Rattle.timeline.proofs.{KeptLemmas.all_append, Rises.{Lasts-from_ticks, LastsTicks-repeat, ends_rise, no_step_from}}
+use Rattle.presentation.specs.{declared.parts.Content.Content, Presented.{Presented, content_at, listed_at, listed_in, window_of}}
+use Rattle.presentation.specs.{Scales.scale_of, Told.{entries_of, presented_of, timeline_by}}
+use Rattle.presentation.proofs.{Ending.all_have, FromMpd.is_told, Grids.All-at, Pace.{IsSound, duration_sound, entries_sound}}
+use Rattle.live_meaning.specs.{Updates.Values, Laws.DoesLast}
 
 -- ---- the segments that are listed of some whose ends rise
 

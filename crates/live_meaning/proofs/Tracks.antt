@@ -1,19 +1,12 @@
 -- What an update makes of a track's past is what it makes of what is kept of it.
 use Rattle.std.proofs.Common.{◌≡◌, ℕ, zero, suc, ◌+◌, ◌≤◌, List, [], ◌∷◌, ◌++◌, map, length, drop, Option, Some, None, refl, sym, ◌∙◌, ap}
-use Rattle.std.proofs.Common.{subst, arith, length-append}
-use Rattle.std.specs.Prelude.{Bool, ◌<◌, option_map, slice_get}
-use Rattle.std.specs.List.{range_with_len}
-use Rattle.std.proofs.lemmas.Option.{same_Some}
-use Rattle.std.proofs.lemmas.List.{drop-map, drop-drop, drop-append-le}
-use Rattle.followed.specs.Places.{next_first}
-use Rattle.followed.specs.Durations.{Last, durations, last_behind, last_with, told, told_behind}
-use Rattle.followed.proofs.KeptPlaces.{next_from_kept, next_is_first}
-use Rattle.followed.proofs.PrintedSections.{told_goes_on}
+use Rattle.std.proofs.{Common.{subst, arith, length-append}, lemmas.Option.same_Some, lemmas.List.{drop-map, drop-drop, drop-append-le}}
+use Rattle.std.specs.{Prelude.{Bool, ◌<◌, option_map, slice_get}, List.range_with_len}
+use Rattle.followed.specs.{Places.next_first, Durations.{Last, durations, last_behind, last_with, told, told_behind}}
+use Rattle.followed.proofs.{KeptPlaces.{next_from_kept, next_is_first}, PrintedSections.told_goes_on}
 use Rattle.presentation.specs.Presented.{Following}
-use Rattle.live_meaning.specs.Updates.{unit_of}
-use Rattle.live_meaning.specs.Segments.{Kept, Segment, place_behind, segments_of}
-use Rattle.live_meaning.specs.Removal.{first_kept, is_available, removed_of}
-use Rattle.live_meaning.specs.Histories.{Common, Past, begun_past, least_length, new_listed, past_after, pasts_after}
+use Rattle.live_meaning.specs.{Updates.unit_of, Segments.{Kept, Segment, place_behind, segments_of}, Removal.{first_kept, is_available}}
+use Rattle.live_meaning.specs.{Removal.removed_of, Histories.{Common, Past, begun_past, least_length, new_listed, past_after, pasts_after}}
 use Rattle.live_meaning.specs.States.{Track, kept_and_new, removed_from, track_after, track_of, tracks_after}
 
 -- ---- segments with their durations

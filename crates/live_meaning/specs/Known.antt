@@ -1,12 +1,10 @@
 -- The Periods that were seen.
 use Rattle.std.specs.Prelude.{ℕ, ◌==◌, ◌&&◌, not, Bool, true, false, List, [], ◌∷◌, ◌++◌, length, map, filter, flat_map, drop, bytes_eq}
-use Rattle.std.specs.Prelude.{Option, option_map, option_to_list, is_none}
-use Rattle.std.specs.List.{find, list_any, list_all, range_with_len, starts_with}
+use Rattle.std.specs.{Prelude.{Option, option_map, option_to_list, is_none}, List.{find, list_any, list_all, range_with_len, starts_with}}
 use Rattle.url_parts.specs.declared.address.Part.{Part}
 use Rattle.reload_law.specs.Rules.{same_part}
-use Rattle.presentation.specs.declared.parts.Content.{Content}
-use Rattle.presentation.specs.Presented.{Presented, content_at, start_of}
-use Rattle.presentation.specs.Counting.{sections_of, tracks_of}
+use Rattle.presentation.specs.{declared.parts.Content.Content, Presented.{Presented, content_at, start_of}, Counting.sections_of}
+use Rattle.presentation.specs.Counting.{tracks_of}
 use Rattle.live_meaning.specs.Segments.{id_at}
 
 -- what stays of a track in a Period

@@ -1,15 +1,10 @@
 -- The segments that a followed presentation lists.
 use Rattle.std.specs.Prelude.{ℕ, ◌+◌, ℤ, pos, ◌+ℤ◌, ◌*ℤ◌, ◌==◌, ◌&&◌, ◌||◌, nat_lt, Bool, List, [], ◌∷◌, length, map, filter, flat_map}
-use Rattle.std.specs.Prelude.{slice_get, bytes_eq, Option, Some, None, unwrap_or}
-use Rattle.std.specs.List.{position}
-use Rattle.std.specs.Int.{int_div_euclid}
-use Rattle.std.specs.Option.{option_map_or}
+use Rattle.std.specs.{Prelude.{slice_get, bytes_eq, Option, Some, None, unwrap_or}, List.position, Int.int_div_euclid, Option.option_map_or}
 use Rattle.exact_time.specs.Time.{Time, before}
 use Rattle.url_parts.specs.declared.address.Part.{Part}
 use Rattle.timeline.specs.Expansions.{Timing}
-use Rattle.presentation.specs.declared.parts.Content.{Content}
-use Rattle.presentation.specs.Presented.{Presented, content_at, listed_at, start_of}
-use Rattle.presentation.specs.Counting.{sections_of}
+use Rattle.presentation.specs.{declared.parts.Content.Content, Presented.{Presented, content_at, listed_at, start_of}, Counting.sections_of}
 use Rattle.presentation.specs.Meanings.{part_meant}
 use Rattle.followed.specs.Durations.{Last, Listed, Told}
 

@@ -2,10 +2,8 @@
 use Rattle.std.specs.Prelude.{ℕ, ◌+◌, List, [], ◌∷◌, ◌++◌, length, map, drop, Option, None, option_map}
 use Rattle.presentation.specs.Presented.{Presented}
 use Rattle.followed.specs.Durations.{Last, durations, last_behind, told, told_behind}
-use Rattle.live_meaning.specs.Updates.{Update, Terms, unit_of}
-use Rattle.live_meaning.specs.Segments.{Kept, Segment, behind, listed_of, place_behind}
-use Rattle.live_meaning.specs.Removal.{removed_of}
-use Rattle.live_meaning.specs.Histories.{Common, Past, Whole, common_with, least_length, numbering_of, whole_of}
+use Rattle.live_meaning.specs.{Updates.{Update, Terms, unit_of}, Segments.{Kept, Segment, behind, listed_of, place_behind}}
+use Rattle.live_meaning.specs.{Removal.removed_of, Histories.{Common, Past, Whole, common_with, least_length, numbering_of, whole_of}}
 
 -- of a track: the kept segments with their durations, the place of the first one among all, the last one that was
 -- listed with the start of its section's first segment ever listed, and that one's Period's place

@@ -1,41 +1,27 @@
 -- What an accepted update leaves.
 use Rattle.std.proofs.Common.{◌≡◌, ℕ, ◌+◌, ◌*◌, ◌^◌, ◌<◌, ◌≤◌, cond, Bool, true, false, ℤ, List, [], ◌∷◌, ◌++◌, map, length, sum, All}
-use Rattle.std.proofs.Common.{Option, Some, None, Ok, refl, sym, ◌∙◌, ap, subst, arith}
+use Rattle.std.proofs.{Common.{Option, Some, None, Ok, refl, sym, ◌∙◌, ap, subst, arith}, lemmas.List.Elements.{All-nil, All-cons}}
+use Rattle.std.proofs.lemmas.List.Elements.{All-append, All-head, All-tail, All-weaker}
 use Rattle.std.specs.Prelude.{unwrap_or}
-use Rattle.std.proofs.lemmas.List.Elements.{All-nil, All-cons, All-append, All-head, All-tail, All-weaker}
 use Rattle.exact_time.specs.declared.tick.Tick.{Tick}
 use Rattle.iso_time.specs.Instant.{IsWritable}
 use Rattle.hls_writer.specs.declared.items.MediaItem.{MediaItem}
-use Rattle.presentation.proofs.Ending.{none_behind}
-use Rattle.presentation.proofs.Reached.{none_first}
+use Rattle.presentation.proofs.{Ending.none_behind, Reached.none_first}
 use Rattle.presentation.specs.Presented.{Presented, looked_at}
-use Rattle.live_meaning.specs.Updates.{Terms, Update, is_reset, now_of}
-use Rattle.live_meaning.specs.Segments.{Kept}
-use Rattle.live_meaning.specs.Known.{Known, ids_of, known_with}
-use Rattle.live_meaning.specs.Histories.{Common, common_with}
-use Rattle.live_meaning.specs.Removal.{removed_of}
-use Rattle.live_meaning.specs.States.{State, Track, new_count, state_with, track_after, tracks_after}
-use Rattle.live_meaning.specs.Refusals.{appended_by, counts_kept, ids_in, makes_segments, next_of, over_in_all, over_in_track}
-use Rattle.live_meaning.proofs.Allowed.{IsAllowed, allowed}
-use Rattle.live_meaning.proofs.Kept.{few_known}
-use Rattle.live_judge.specs.declared.standing.Standing.{Standing}
-use Rattle.live_judge.specs.declared.track.Fact.{Fact}
-use Rattle.live_judge.specs.declared.track.LiveTrack.{LiveTrack}
-use Rattle.live_judge.specs.Known.{StandsAt, known_shown}
-use Rattle.live_judge.specs.Shown.{common_shown, in_force, kept_of, kepts_of, state_shown, track_shown}
-use Rattle.live_judge.specs.Sound.{IsPaired, IsSound}
-use Rattle.live_judge.specs.SoundGoesOn.{SoundStatesGoOn}
-use Rattle.live_session.specs.declared.change.Plan.{Plan}
-use Rattle.live_session.specs.Changes.{IsPlan, IsTrimmable, changed, force_of, newest_with, track_grown, tracks_grown}
-use Rattle.live_session.specs.Growth.{grown, inside_of, trimmed}
-use Rattle.live_session.specs.Kept.{AreSideBySide, with_all, without_front}
-use Rattle.live_session.specs.Making.{all_kept}
-use Rattle.live_session.specs.Sessions.{IsNumbered, IsSession}
-use Rattle.live_session.specs.Written.{IsWritten}
-use Rattle.live_session.proofs.FirstTracks.{AreDated, IsDated, all_written, kept_with, same_shown}
-use Rattle.live_session.proofs.Limits.{IsGrownOf, IsKeptOf, all_after, all_grown, all_kept_after, few_new}
-use Rattle.live_session.proofs.Pushing.{length-kepts}
-use Rattle.live_session.proofs.Refusing.{appended_all, gives_accepted}
+use Rattle.live_meaning.specs.{Updates.{Terms, Update, is_reset, now_of}, Segments.Kept, Known.{Known, ids_of, known_with}}
+use Rattle.live_meaning.specs.{Histories.{Common, common_with}, Removal.removed_of, States.{State, Track, new_count, state_with}}
+use Rattle.live_meaning.specs.{States.{track_after, tracks_after}, Refusals.{appended_by, counts_kept, ids_in, makes_segments, next_of}}
+use Rattle.live_meaning.specs.Refusals.{over_in_all, over_in_track}
+use Rattle.live_meaning.proofs.{Allowed.{IsAllowed, allowed}, Kept.few_known}
+use Rattle.live_judge.specs.{declared.standing.Standing.Standing, declared.track.Fact.Fact, declared.track.LiveTrack.LiveTrack}
+use Rattle.live_judge.specs.{Known.{StandsAt, known_shown}, Shown.{common_shown, in_force, kept_of, kepts_of, state_shown, track_shown}}
+use Rattle.live_judge.specs.{Sound.{IsPaired, IsSound}, SoundGoesOn.SoundStatesGoOn}
+use Rattle.live_session.specs.{declared.change.Plan.Plan, Changes.{IsPlan, IsTrimmable, changed, force_of, newest_with, track_grown}}
+use Rattle.live_session.specs.{Changes.tracks_grown, Growth.{grown, inside_of, trimmed}, Kept.{AreSideBySide, with_all, without_front}}
+use Rattle.live_session.specs.{Making.all_kept, Sessions.{IsNumbered, IsSession}, Written.IsWritten}
+use Rattle.live_session.proofs.{FirstTracks.{AreDated, IsDated, all_written, kept_with, same_shown}, Limits.{IsGrownOf, IsKeptOf}}
+use Rattle.live_session.proofs.{Limits.{all_after, all_grown, all_kept_after, few_new}, Pushing.length-kepts, Refusing.appended_all}
+use Rattle.live_session.proofs.Refusing.{gives_accepted}
 
 -- ---- dates
 

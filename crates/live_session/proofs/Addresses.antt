@@ -1,18 +1,11 @@
 -- The new segments without an address, where the Periods have the places from a first one on.
 use Rattle.std.proofs.Common.{◌≡◌, ℕ, zero, suc, ◌+◌, ◌<◌, ◌≤◌, List, [], ◌∷◌, ◌++◌, map, filter, flat_map, length, refl, sym, ◌∙◌, ap}
-use Rattle.std.proofs.Common.{arith}
-use Rattle.std.specs.Prelude.{true}
-use Rattle.std.specs.List.{range_with_len}
-use Rattle.std.specs.Option.{option_map_or}
-use Rattle.std.proofs.lemmas.List.{map-append}
+use Rattle.std.proofs.{Common.arith, lemmas.List.map-append}
+use Rattle.std.specs.{Prelude.true, List.range_with_len, Option.option_map_or}
 use Rattle.timeline.specs.Expansions.{Timing}
-use Rattle.presentation.specs.Counting.{sections_of}
-use Rattle.presentation.specs.Presented.{Presented, content_at, listed_at}
-use Rattle.live_meaning.specs.Segments.{id_at, is_later, place_of}
-use Rattle.live_meaning.specs.Known.{ids_of}
-use Rattle.live_meaning.specs.Histories.{Common}
-use Rattle.live_meaning.specs.States.{Track}
-use Rattle.live_meaning.specs.Refusals.{Presentation, urls_in, urls_told}
+use Rattle.presentation.specs.{Counting.sections_of, Presented.{Presented, content_at, listed_at}}
+use Rattle.live_meaning.specs.{Segments.{id_at, is_later, place_of}, Known.ids_of, Histories.Common, States.Track, Refusals.Presentation}
+use Rattle.live_meaning.specs.Refusals.{urls_in, urls_told}
 use Rattle.live_session.specs.New.{faults_by, new_faults, new_faults_in, new_faults_of}
 
 pub same_over : {X : Type 0} (f g : ℕ → List X) (i n : ℕ) → ((s : ℕ) → i ≤ s → s < i + n → f s ≡ g s)

@@ -1,55 +1,34 @@
 -- What a first MPD begins, and why it is refused.
+use Rattle.timeline.specs.declared.fault.ListFault.TheVariants as list_fault
+use Rattle.timeline.specs.declared.names.Names.TheVariants as names
+use Rattle.presentation.specs.declared.fault.PresentationFault.TheVariants as presented
+use Rattle.live_judge.specs.declared.fault.RefreshFault.TheVariants as faults
 use Rattle.std.proofs.Common.{◌≡◌, ℕ, zero, suc, ◌+◌, ◌≤◌, ◌<◌, ℤ, Bool, true, false, not, nat_lt, ◌==◌, ◌&&◌, ◌||◌, List, [], ◌∷◌, ◌++◌}
 use Rattle.std.proofs.Common.{map, flat_map, length, sum, All, Option, Some, None, Result, Ok, Err, refl, sym, ◌∙◌, ap, subst, arith}
-use Rattle.std.specs.Prelude.{IfSome, slice_get, sum_by, if◌then◌else◌}
-use Rattle.std.specs.List.{list_any, range_with_len}
-use Rattle.std.specs.Option.{option_map_or}
-use Rattle.std.proofs.lemmas.Bool.{le-ltb, lt-ltb, ltb-false}
-use Rattle.std.proofs.lemmas.List.Concat.{length-flat_map}
-use Rattle.std.proofs.lemmas.List.Elements.{All-nil, All-cons, All-append, All-head}
-use Rattle.std.proofs.lemmas.List.Sums.{sum_by-cons}
+use Rattle.std.proofs.{lemmas.Bool.{le-ltb, lt-ltb, ltb-false}, lemmas.List.Concat.length-flat_map, lemmas.List.Elements.All-nil}
+use Rattle.std.proofs.{lemmas.List.Elements.{All-cons, All-append, All-head}, lemmas.List.Sums.sum_by-cons}
+use Rattle.std.specs.{Prelude.{IfSome, slice_get, sum_by, if◌then◌else◌}, List.{list_any, range_with_len}, Option.option_map_or}
 use Rattle.bridge_io.specs.Firsts.{first_of}
-use Rattle.timeline.specs.Expansions.{Timing}
-use Rattle.timeline.specs.declared.fault.TimeFault.{TimeFault}
-use Rattle.timeline.specs.declared.window.Window.{Window}
-use Rattle.timeline.specs.declared.fault.ListFault.TheVariants as list_fault
-use Rattle.timeline.specs.Expansions.{SegmentTimeline}
-use Rattle.timeline.specs.Listed.{IsReached, answered_count, part_of_timing}
-use Rattle.template_ids.specs.Templates.{named}
-use Rattle.timeline.specs.declared.names.RefPart.{RefPart}
-use Rattle.timeline.specs.declared.names.Names.{Names}
-use Rattle.timeline.specs.declared.names.Names.TheVariants as names
-use Rattle.url_parts.specs.Addresses.{resolve}
-use Rattle.url_parts.specs.declared.fault.UrlFault.TheVariants.{Refused}
+use Rattle.timeline.specs.{Expansions.{Timing, SegmentTimeline}, declared.fault.TimeFault.TimeFault, declared.window.Window.Window}
+use Rattle.timeline.specs.{Listed.{IsReached, answered_count, part_of_timing}, declared.names.RefPart.RefPart, declared.names.Names.Names}
 use Rattle.timeline.specs.Names.{listed_part, own_part, part_at, part_of, referred}
-use Rattle.url_parts.specs.declared.address.Part.{Part}
-use Rattle.url_parts.specs.declared.fault.UrlFault.{UrlFault}
-use Rattle.url_parts.specs.declared.range.Range.{Range}
-use Rattle.presentation.specs.declared.fault.PresentationFault.{PresentationFault}
-use Rattle.presentation.specs.declared.fault.PresentationFault.TheVariants as presented
-use Rattle.presentation.specs.declared.parts.Content.{Content}
-use Rattle.presentation.specs.Counting.{count_at, count_faults, count_of_all, count_of_track, counted, faults_of_count, is_long, is_over}
+use Rattle.template_ids.specs.Templates.{named}
+use Rattle.url_parts.specs.{Addresses.resolve, declared.fault.UrlFault.TheVariants.Refused, declared.address.Part.Part}
+use Rattle.url_parts.specs.{declared.fault.UrlFault.UrlFault, declared.range.Range.Range}
+use Rattle.presentation.specs.{declared.fault.PresentationFault.PresentationFault, declared.parts.Content.Content, Counting.count_at}
+use Rattle.presentation.specs.Counting.{count_faults, count_of_all, count_of_track, counted, faults_of_count, is_long, is_over}
 use Rattle.presentation.specs.Counting.{limit_faults, listed_count, number_in, place_at, refusal, section_faults, sections_of, track_faults}
-use Rattle.presentation.specs.Counting.{tracks_of, unless_any, whole_track_faults}
-use Rattle.presentation.specs.Presented.{Presented, content_at, is_finished, listed_at, listed_in, window_of}
-use Rattle.presentation.specs.Printing.{IsCounted}
-use Rattle.presentation.specs.Told.{presented_of}
-use Rattle.presentation.specs.Verifying.{fault_at, part_fault, part_faults, url_faults, url_faults_at, url_faults_of}
-use Rattle.presentation.proofs.Counts.{from_on, from_on-end, from_on-first, from_on-start}
-use Rattle.presentation.proofs.Reached.{all_reached, none_later}
-use Rattle.live_meaning.specs.Updates.{Terms, Values}
-use Rattle.live_meaning.specs.Histories.{begun_common, begun_with}
-use Rattle.live_meaning.specs.States.{shown}
-use Rattle.live_meaning.specs.Refusals.{NotDynamic, Presentation, Refusal, Window as Windowed, begun_of, counts_listed, first_appended_by}
+use Rattle.presentation.specs.{Counting.{tracks_of, unless_any, whole_track_faults}, Presented.{Presented, content_at, is_finished}}
+use Rattle.presentation.specs.{Presented.{listed_at, listed_in, window_of}, Printing.IsCounted, Told.presented_of, Verifying.fault_at}
+use Rattle.presentation.specs.Verifying.{part_fault, part_faults, url_faults, url_faults_at, url_faults_of}
+use Rattle.presentation.proofs.{Counts.{from_on, from_on-end, from_on-first, from_on-start}, Reached.{all_reached, none_later}}
+use Rattle.live_meaning.specs.{Updates.{Terms, Values}, Histories.{begun_common, begun_with}, States.shown, Refusals.NotDynamic}
+use Rattle.live_meaning.specs.Refusals.{Presentation, Refusal, Window as Windowed, begun_of, counts_listed, first_appended_by}
 use Rattle.live_meaning.specs.Refusals.{first_refusal_of, first_told_by, is_of_address, makes_segments, over_in_all, over_in_track, told_if}
 use Rattle.live_meaning.specs.Refusals.{window_told}
-use Rattle.live_judge.specs.declared.fault.RefreshFault.{RefreshFault}
-use Rattle.live_judge.specs.declared.fault.RefreshFault.TheVariants as faults
-use Rattle.live_judge.specs.Faults.{Judges, Tells, of_presentation, told}
+use Rattle.live_judge.specs.{declared.fault.RefreshFault.RefreshFault, Faults.{Judges, Tells, of_presentation, told}}
 use Rattle.live_judge.proofs.Firsts.{none_told, told_first}
-use Rattle.live_session.specs.Begun.{first_judged}
-use Rattle.live_session.specs.Making.{IsNotMade}
-use Rattle.live_session.specs.Sessions.{CountsRefused}
+use Rattle.live_session.specs.{Begun.first_judged, Making.IsNotMade, Sessions.CountsRefused}
 
 -- ---- faults of counts
 

@@ -1,20 +1,12 @@
 -- Whether an update lists new segments, track by track; and what tells its maker.
-use Rattle.std.proofs.Common.{◌≡◌, ℕ, ◌+◌, ◌<◌, ◌≤◌, ◌==◌, not, ℤ, pos, Bool, true, false, List, map, length, drop, Some, refl, sym, ◌∙◌}
-use Rattle.std.proofs.Common.{ap, inl, inr, arith}
-use Rattle.std.specs.Prelude.{slice_get, if◌then◌else◌}
-use Rattle.std.proofs.lemmas.Bool.{cases_eq, eq-eqb, ne_eqb}
-use Rattle.std.proofs.lemmas.List.{drop_all}
-use Rattle.live_meaning.specs.Updates.{is_reset}
-use Rattle.live_meaning.specs.States.{new_count, new_of}
-use Rattle.live_judge.specs.declared.coming.Coming.{Coming}
 use Rattle.live_judge.specs.declared.coming.Coming.TheVariants as comes
-use Rattle.live_judge.specs.declared.coming.Next.{Next}
-use Rattle.live_judge.specs.declared.track.LiveTrack.{LiveTrack}
-use Rattle.live_judge.specs.declared.track_next.TrackNext.{TrackNext}
-use Rattle.live_judge.specs.Coming.{c_of, coming_of, t_of, update_of}
-use Rattle.live_judge.specs.Shown.{track_shown}
-use Rattle.live_judge.proofs.Joints.{step_at}
-use Rattle.live_judge.proofs.Firsts.{rest_at}
+use Rattle.std.proofs.Common.{◌≡◌, ℕ, ◌+◌, ◌<◌, ◌≤◌, ◌==◌, not, ℤ, pos, Bool, true, false, List, map, length, drop, Some, refl, sym, ◌∙◌}
+use Rattle.std.proofs.{Common.{ap, inl, inr, arith}, lemmas.Bool.{cases_eq, eq-eqb, ne_eqb}, lemmas.List.drop_all}
+use Rattle.std.specs.Prelude.{slice_get, if◌then◌else◌}
+use Rattle.live_meaning.specs.{Updates.is_reset, States.{new_count, new_of}}
+use Rattle.live_judge.specs.{declared.coming.Coming.Coming, declared.coming.Next.Next, declared.track.LiveTrack.LiveTrack}
+use Rattle.live_judge.specs.{declared.track_next.TrackNext.TrackNext, Coming.{c_of, coming_of, t_of, update_of}, Shown.track_shown}
+use Rattle.live_judge.proofs.{Joints.step_at, Firsts.rest_at}
 use Rattle.live_session.specs.Changes.{new_in_all, resets_with}
 
 pub new_for : (l : TrackNext) (n : Next) (t count : ℕ) → l.next.now ≡ n → l.index ≡ t → count ≡ length (new_of (c_of l) l.index (t_of l))

@@ -1,6 +1,5 @@
 -- Dates that can be written.
-use Rattle.std.proofs.Common.{ℕ, ◌^◌, ◌<◌, ℤ, pos, neg_ℤ, ◌≤ℤ◌, ◌<ℤ◌, sym, ◌∙◌, arith}
-use Rattle.std.proofs.lemmas.Int.{ints}
+use Rattle.std.proofs.{Common.{ℕ, ◌^◌, ◌<◌, ℤ, pos, neg_ℤ, ◌≤ℤ◌, ◌<ℤ◌, sym, ◌∙◌, arith}, lemmas.Int.ints}
 use Rattle.exact_time.specs.Time.{IsAtMost, IsBefore, Time, difference, seconds}
 use Rattle.exact_time.proofs.TimeOrder.{IsAtMost-from_before, IsAtMost-trans, IsAtMost_refl, at_most-from, before-true, not_at_most-from}
 use Rattle.exact_time.proofs.Times.{IsTime-difference, difference-le}
@@ -8,9 +7,7 @@ use Rattle.timeline.specs.Expansions.{Timing}
 use Rattle.timeline.proofs.Ratios.{at_most-floor, int_le-false, int_le-true}
 use Rattle.iso_time.specs.Instant.{IsReadable, IsWritable}
 use Rattle.live_meaning.specs.Segments.{whole_nanos}
-use Rattle.live_session.specs.Made.{date_of}
-use Rattle.live_session.specs.Making.{IsNear}
-use Rattle.live_session.specs.Paced.{IsDatable}
+use Rattle.live_session.specs.{Made.date_of, Making.IsNear, Paced.IsDatable}
 
 pub least_nanos : (start : Time) → IsNear start → neg_ℤ (pos 1000000000000000) ≤ℤ whole_nanos start
 least_nanos start near =

@@ -1,12 +1,9 @@
 -- The longest printed duration.
 use Rattle.std.proofs.Common.{◌≡◌, ℕ, suc, ◌+◌, ◌-◌, ◌<◌, List, [], ◌∷◌, map, refl, ap, arith}
 use Rattle.std.specs.List.{range_with_len}
-use Rattle.exact_time.specs.Time.{Time, difference}
-use Rattle.exact_time.specs.Floor.{floor_in}
-use Rattle.exact_time.specs.Rounding.{differences}
+use Rattle.exact_time.specs.{Time.{Time, difference}, Floor.floor_in, Rounding.differences}
 use Rattle.timeline.specs.Expansions.{Timing}
-use Rattle.presentation.specs.Printing.{begin_of, durations_of, printed_timings, with_durations}
-use Rattle.presentation.specs.Verifying.{greatest, longest_left}
+use Rattle.presentation.specs.{Printing.{begin_of, durations_of, printed_timings, with_durations}, Verifying.{greatest, longest_left}}
 
 durations_with : (f : Time → ℕ) (xs : List Timing) (n : ℕ)
     → map (λ x. x.duration) (with_durations xs (differences n (map f (map (λ (x : Timing). x.end) xs))))

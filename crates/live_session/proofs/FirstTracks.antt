@@ -1,52 +1,30 @@
 -- The tracks of a first MPD.
 use Rattle.std.proofs.Common.{◌≡◌, ℕ, zero, suc, ◌+◌, ◌-◌, ◌^◌, ℤ, List, [], ◌∷◌, ◌++◌, map, flat_map, filter, length, All, Option, Some}
-use Rattle.std.proofs.Common.{None, refl, sym, ◌∙◌, ap, subst, arith, length-append, append_assoc}
-use Rattle.std.specs.Prelude.{true, replicate, slice_get, sum_by}
-use Rattle.std.specs.List.{range_with_len}
-use Rattle.std.specs.Option.{option_map_or}
-use Rattle.std.proofs.lemmas.List.{append-nil, length-map}
-use Rattle.std.proofs.lemmas.List.Elements.{All-nil, All-cons, All-head, All-tail}
-use Rattle.std.proofs.lemmas.List.Sums.{sum_by-cons}
+use Rattle.std.proofs.{Common.{None, refl, sym, ◌∙◌, ap, subst, arith, length-append, append_assoc}, lemmas.List.{append-nil, length-map}}
+use Rattle.std.proofs.{lemmas.List.Elements.{All-nil, All-cons, All-head, All-tail}, lemmas.List.Sums.sum_by-cons}
+use Rattle.std.specs.{Prelude.{true, replicate, slice_get, sum_by}, List.range_with_len, Option.option_map_or}
 use Rattle.iso_time.specs.Instant.{IsWritable}
 use Rattle.hls_writer.specs.declared.items.MediaItem.{MediaItem}
-use Rattle.exact_time.specs.Tick.{time_of}
-use Rattle.exact_time.specs.declared.tick.Tick.{Tick}
+use Rattle.exact_time.specs.{Tick.time_of, declared.tick.Tick.Tick}
 use Rattle.timeline.specs.Expansions.{Timing}
 use Rattle.presentation.proofs.Grids.{All-at}
-use Rattle.presentation.specs.declared.parts.Content.{Content}
-use Rattle.presentation.specs.Counting.{sections_of}
-use Rattle.presentation.specs.Presented.{Presented, content_at, listed_at}
+use Rattle.presentation.specs.{declared.parts.Content.Content, Counting.sections_of, Presented.{Presented, content_at, listed_at}}
 use Rattle.presentation.specs.Verifying.{part_faults, url_faults_at, url_faults_of}
 use Rattle.followed.specs.Durations.{told_behind}
-use Rattle.live_meaning.specs.Updates.{Terms, Values, unit_of}
-use Rattle.live_meaning.specs.Segments.{Kept, Numbering, Segment, id_at, listed_of}
-use Rattle.live_meaning.specs.Known.{Known, ids_of, known_at, known_with, periods_of}
-use Rattle.live_meaning.specs.Removal.{target_of}
+use Rattle.live_meaning.specs.{Updates.{Terms, Values, unit_of}, Segments.{Kept, Numbering, Segment, id_at, listed_of}, Known.Known}
+use Rattle.live_meaning.specs.{Known.{ids_of, known_at, known_with, periods_of}, Removal.target_of, Histories.Common}
+use Rattle.live_meaning.specs.{Histories.{availability_start_of, begun_common, begun_past, longest_in, numbering_of}, States.Track}
+use Rattle.live_meaning.specs.{States.track_of, Refusals.ids_in}
 use Rattle.mpd_rules.specs.Laws.{are_once}
-use Rattle.live_meaning.specs.Histories.{Common, availability_start_of, begun_common, begun_past, longest_in, numbering_of}
-use Rattle.live_meaning.specs.States.{Track, track_of}
-use Rattle.live_meaning.specs.Refusals.{ids_in}
 use Rattle.live_meaning.proofs.InForce.{id_there}
-use Rattle.live_judge.specs.declared.track.Fact.{Fact}
-use Rattle.live_judge.specs.declared.track.LiveTrack.{LiveTrack}
-use Rattle.live_judge.specs.Known.{StandsAt}
-use Rattle.live_judge.specs.Shown.{kept_of, kepts_of, track_of as shown_of, track_shown}
-use Rattle.live_judge.proofs.Contents.{length-new}
-use Rattle.live_judge.proofs.FirstStates.{all_new}
-use Rattle.live_judge.proofs.New.{new_is}
-use Rattle.live_judge.proofs.Places.{place_there}
-use Rattle.live_session.specs.Begun.{AreFirst, empty_tracks, first_numbers}
-use Rattle.live_session.specs.Growth.{grown, inside_of}
-use Rattle.live_session.specs.declared.made.MadeTrack.{MadeTrack}
-use Rattle.live_session.specs.declared.maker.Maker.{Maker}
-use Rattle.live_session.specs.Making.{AreMade, AreMakeable, all_kept}
-use Rattle.live_session.specs.Kept.{AreSideBySide, empty_track, with_all, with_kept}
-use Rattle.live_session.specs.New.{IsBegun, faults_by, joins, numbers_of, shown_by, new_all, new_counted, new_faults, new_faults_in, new_in}
-use Rattle.live_session.specs.New.{new_kept}
-use Rattle.live_session.specs.Written.{IsWritten}
-use Rattle.live_session.proofs.Beginning.{many}
-use Rattle.live_session.proofs.Pushing.{grown as pushed_all}
-use Rattle.live_session.proofs.Sections.{filter_all}
+use Rattle.live_judge.specs.{declared.track.Fact.Fact, declared.track.LiveTrack.LiveTrack, Known.StandsAt, Shown.{kept_of, kepts_of}}
+use Rattle.live_judge.specs.Shown.{track_of as shown_of, track_shown}
+use Rattle.live_judge.proofs.{Contents.length-new, FirstStates.all_new, New.new_is, Places.place_there}
+use Rattle.live_session.specs.{Begun.{AreFirst, empty_tracks, first_numbers}, Growth.{grown, inside_of}, declared.made.MadeTrack.MadeTrack}
+use Rattle.live_session.specs.{declared.maker.Maker.Maker, Making.{AreMade, AreMakeable, all_kept}, Kept.{AreSideBySide, empty_track}}
+use Rattle.live_session.specs.{Kept.{with_all, with_kept}, New.{IsBegun, faults_by, joins, numbers_of, shown_by, new_all, new_counted}}
+use Rattle.live_session.specs.{New.{new_faults, new_faults_in, new_in, new_kept}, Written.IsWritten}
+use Rattle.live_session.proofs.{Beginning.many, Pushing.grown as pushed_all, Sections.filter_all}
 
 -- ---- dates
 

@@ -1,34 +1,21 @@
 -- What a session is behind an update.
 use Rattle.std.proofs.Common.{◌≡◌, true, ℕ, ℤ, [], ◌^◌, ◌<◌, ◌≤◌, List, ◌++◌, map, length, sum, All, Option, None, refl, sym, ◌∙◌, ap}
 use Rattle.std.proofs.Common.{subst, arith}
-use Rattle.live_meaning.specs.Updates.{Update, mpd_of, now_of}
-use Rattle.live_meaning.specs.Known.{Known}
-use Rattle.live_meaning.specs.Refusals.{Refusal, appended_by, clock_told, ended_told}
-use Rattle.live_judge.specs.declared.coming.Coming.{Coming}
-use Rattle.live_judge.specs.Coming.{update_of}
-use Rattle.live_judge.specs.Faults.{Tells, told}
+use Rattle.live_meaning.specs.{Updates.{Update, mpd_of, now_of}, Known.{Known, ids_of}, Refusals.{Refusal, appended_by, clock_told}}
+use Rattle.live_meaning.specs.Refusals.{ended_told}
+use Rattle.live_judge.specs.{declared.coming.Coming.Coming, Coming.update_of, Faults.{Tells, told}}
+use Rattle.live_judge.specs.{declared.fault.RefreshFault.RefreshFault, declared.fault.RefreshFault.TheVariants.Memory}
+use Rattle.live_judge.specs.{declared.standing.Standing.Standing, declared.track.LiveTrack.LiveTrack, Known.known_shown, Shown.common_shown}
+use Rattle.live_judge.specs.{Shown.{state_shown, track_shown}, SoundGoesOn.SoundStatesGoOn}
 use Rattle.std.specs.Prelude.{IfSome}
 use Rattle.presentation.specs.Presented.{Presented, looked_at}
 use Rattle.mpd_rules.specs.Laws.{are_once}
-use Rattle.live_meaning.specs.Known.{ids_of}
-use Rattle.live_judge.specs.declared.fault.RefreshFault.{RefreshFault}
-use Rattle.live_judge.specs.declared.fault.RefreshFault.TheVariants.{Memory}
-use Rattle.live_judge.specs.declared.standing.Standing.{Standing}
-use Rattle.live_judge.specs.declared.track.LiveTrack.{LiveTrack}
-use Rattle.live_judge.specs.Known.{known_shown}
-use Rattle.live_judge.specs.Shown.{common_shown, state_shown, track_shown}
-use Rattle.live_judge.specs.SoundGoesOn.{SoundStatesGoOn}
-use Rattle.live_session.specs.declared.change.Plan.{Plan}
-use Rattle.live_session.specs.Changes.{IsLeft, IsPlan, IsRefused, IsTaken, IsTrimmable, IsUnpresented, changed, force_of}
-use Rattle.live_session.specs.Growth.{grown, inside_of, trimmed}
-use Rattle.live_session.specs.Kept.{AreSideBySide}
-use Rattle.live_session.specs.Making.{all_kept}
+use Rattle.live_session.specs.{declared.change.Plan.Plan, Changes.{IsLeft, IsPlan, IsRefused, IsTaken, IsTrimmable, IsUnpresented, changed}}
+use Rattle.live_session.specs.{Changes.force_of, Growth.{grown, inside_of, trimmed}, Kept.AreSideBySide, Making.all_kept}
 use Rattle.live_session.specs.Sessions.{IsSession}
 use Rattle.live_session.proofs.Accepting.{few_made, goes, new as new_standing, same_session, same_state, session_after, side_by_side}
-use Rattle.live_session.proofs.Accepting.{trimmable}
-use Rattle.live_session.proofs.FirstTracks.{same_many, same_shown}
-use Rattle.live_session.proofs.Planning.{now_at}
-use Rattle.live_session.proofs.Refusing.{refused_early, refused_unpresented, refused_wanting}
+use Rattle.live_session.proofs.{Accepting.trimmable, FirstTracks.{same_many, same_shown}, Planning.now_at, Refusing.refused_early}
+use Rattle.live_session.proofs.Refusing.{refused_unpresented, refused_wanting}
 
 -- a refusal leaves it
 pub left : (s : Standing) (new tracks : List LiveTrack) (u : Update) (e : RefreshFault) (before after : ℕ)

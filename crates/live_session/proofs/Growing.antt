@@ -1,16 +1,11 @@
 -- Lists of tracks that are changed one after another.
 use Rattle.std.proofs.Common.{◌≡◌, ℕ, zero, suc, ◌+◌, ◌<◌, List, [], ◌∷◌, ◌++◌, map, length, take, drop, All, Some, refl, sym, ◌∙◌, ap}
-use Rattle.std.proofs.Common.{subst, inl, inr, arith}
-use Rattle.std.specs.Prelude.{slice_get, slice_set}
-use Rattle.std.proofs.lemmas.Bool.{cases_eq}
-use Rattle.std.proofs.lemmas.List.Elements.{All-cons, All-head, All-tail}
+use Rattle.std.proofs.{Common.{subst, inl, inr, arith}, lemmas.Bool.cases_eq, lemmas.List.Elements.{All-cons, All-head, All-tail}}
 use Rattle.std.proofs.lemmas.Option.{same_Some}
+use Rattle.std.specs.Prelude.{slice_get, slice_set}
 use Rattle.live_judge.specs.declared.track.LiveTrack.{LiveTrack}
-use Rattle.live_session.specs.declared.made.MadeTrack.{MadeTrack}
-use Rattle.live_meaning.specs.Segments.{Kept}
-use Rattle.live_meaning.specs.States.{Track}
-use Rattle.live_session.specs.Growth.{grown, inside_of}
-use Rattle.live_session.specs.Kept.{HasRoom, with_all}
+use Rattle.live_session.specs.{declared.made.MadeTrack.MadeTrack, Growth.{grown, inside_of}, Kept.{HasRoom, with_all}}
+use Rattle.live_meaning.specs.{Segments.Kept, States.Track}
 
 pub grown_push : (tracks : List Track) (news : List (List Kept)) (new : List Kept) (track : Track)
     → slice_get (grown tracks news) (length news) ≡ Some track

@@ -1,28 +1,18 @@
 -- How what an update lists goes on behind the last segments.
 use Rattle.std.proofs.Common.{◌≡◌, ℕ, ◌+◌, ◌<◌, ◌≤◌, ◌==◌, ◌&&◌, cond, true, get_or, List, [], ◌∷◌, map, All, Option, Some, None, sym, ◌∙◌}
-use Rattle.std.proofs.Common.{ap, subst, inl, inr, arith}
+use Rattle.std.proofs.{Common.{ap, subst, inl, inr, arith}, lemmas.Bool.{and_parts, cases_Bool, cases_lt, eq-eqb, eqb-true, le-ltb}}
+use Rattle.std.proofs.{lemmas.List.Elements.{All-head, filter_passes}, lemmas.Option.slice_get-map}
 use Rattle.std.specs.Prelude.{IfSome, option_map, slice_get}
-use Rattle.std.proofs.lemmas.Bool.{and_parts, cases_Bool, cases_lt, eq-eqb, eqb-true, le-ltb}
-use Rattle.std.proofs.lemmas.List.Elements.{All-head, filter_passes}
-use Rattle.std.proofs.lemmas.Option.{slice_get-map}
 use Rattle.exact_time.specs.Time.{Time, before}
 use Rattle.timeline.specs.Faults.{is_apart}
 use Rattle.presentation.proofs.Grids.{All-at}
 use Rattle.followed.specs.Durations.{Last}
-use Rattle.live_meaning.specs.Updates.{is_reset}
-use Rattle.live_meaning.specs.Segments.{Segment, behind, is_later, listed_of}
-use Rattle.live_meaning.specs.Histories.{numbering_of}
-use Rattle.live_meaning.specs.States.{new_of}
+use Rattle.live_meaning.specs.{Updates.is_reset, Segments.{Segment, behind, is_later, listed_of}, Histories.numbering_of, States.new_of}
 use Rattle.live_meaning.specs.Refusals.{Step, extent_of, joint_told, step_behind}
-use Rattle.live_meaning.proofs.Allowed.{told_none}
-use Rattle.live_meaning.proofs.Orders.{IsNumbered, behind_have, listed_numbered}
-use Rattle.live_judge.specs.declared.coming.Next.{Next}
-use Rattle.live_judge.specs.declared.track.LiveTrack.{LiveTrack}
-use Rattle.live_judge.specs.Coming.{IsJoined, IsNext, coming_of, p_of, update_of}
-use Rattle.live_judge.specs.Shown.{common_shown, track_shown}
-use Rattle.live_judge.specs.Sound.{IsSoundTrack}
-use Rattle.live_judge.proofs.Firsts.{none_at}
-use Rattle.live_judge.proofs.Joints.{step_at, steps_each}
+use Rattle.live_meaning.proofs.{Allowed.told_none, Orders.{IsNumbered, behind_have, listed_numbered}}
+use Rattle.live_judge.specs.{declared.coming.Next.Next, declared.track.LiveTrack.LiveTrack, Coming.{IsJoined, IsNext, coming_of, p_of}}
+use Rattle.live_judge.specs.{Coming.update_of, Shown.{common_shown, track_shown}, Sound.IsSoundTrack}
+use Rattle.live_judge.proofs.{Firsts.none_at, Joints.{step_at, steps_each}}
 use Rattle.live_session.specs.New.{joins}
 
 joined_by : (t : ℕ) (last : Option Last) (xs : List Segment) → step_behind t last xs ≡ [] → joins last xs

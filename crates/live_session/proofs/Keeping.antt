@@ -1,12 +1,10 @@
 -- The rings of a track as they change.
 use Rattle.std.proofs.Common.{◌≡◌, ℕ, ◌+◌, ◌-◌, ◌<◌, ◌≤◌, List, [], ◌∷◌, ◌++◌, length, drop, ◌∙◌, ap, arith}
 use Rattle.circular_buffer.specs.Buffer.{keep_last}
-use Rattle.exact_time.specs.Time.{Time}
-use Rattle.exact_time.specs.Tick.{time_of}
+use Rattle.exact_time.specs.{Time.Time, Tick.time_of}
 use Rattle.hls_writer.specs.declared.items.MediaItem.{MediaItem}
 use Rattle.live_meaning.specs.Segments.{Kept}
-use Rattle.live_judge.specs.declared.track.Fact.{Fact}
-use Rattle.live_judge.specs.Shown.{kept_of, kepts_of, track_of}
+use Rattle.live_judge.specs.{declared.track.Fact.Fact, Shown.{kept_of, kepts_of, track_of}}
 use Rattle.live_session.specs.Kept.{begun_at, with_kept, without_front}
 use Rattle.live_session.proofs.Pushing.{dropped, kepts-drop, kepts-push, length-kepts, pushed}
 

@@ -1,23 +1,16 @@
 -- The Periods of an update that were never seen are those behind the known ones.
+use Rattle.live_judge.specs.declared.coming.Coming.TheVariants as comes
 use Rattle.std.proofs.Common.{◌≡◌, ℕ, zero, suc, ◌+◌, ◌-◌, ◌<◌, ◌≤◌, ℤ, true, false, List, [], ◌∷◌, ◌++◌, map, length, drop, None, refl}
-use Rattle.std.proofs.Common.{sym, ◌∙◌, ap, arith, length-drop, length-append, zero-add}
-use Rattle.std.specs.Prelude.{filter, is_none, slice_get, unwrap_or}
-use Rattle.mpd_rules.specs.Laws.{are_once}
-use Rattle.std.specs.List.{range_with_len}
-use Rattle.std.proofs.lemmas.List.{length-map, map-append}
+use Rattle.std.proofs.{Common.{sym, ◌∙◌, ap, arith, length-drop, length-append, zero-add}, lemmas.List.{length-map, map-append}}
 use Rattle.std.proofs.lemmas.Option.{slice_get_past}
+use Rattle.std.specs.{Prelude.{filter, is_none, slice_get, unwrap_or}, List.range_with_len}
+use Rattle.mpd_rules.specs.Laws.{are_once}
 use Rattle.presentation.specs.Presented.{Presented}
-use Rattle.live_meaning.specs.Segments.{id_at}
-use Rattle.live_meaning.specs.Updates.{mpd_of}
-use Rattle.live_meaning.specs.Known.{Known, ids_of, is_new, known_at, known_with, periods_of}
+use Rattle.live_meaning.specs.{Segments.id_at, Updates.mpd_of, Known.{Known, ids_of, is_new, known_at, known_with, periods_of}}
 use Rattle.live_meaning.specs.Refusals.{ids_in}
 use Rattle.live_meaning.proofs.InForce.{id_there}
-use Rattle.live_judge.specs.declared.coming.Next.{Next}
-use Rattle.live_judge.specs.declared.coming.Coming.{Coming}
-use Rattle.live_judge.specs.declared.coming.Coming.TheVariants as comes
-use Rattle.live_judge.specs.declared.standing.Standing.{Standing}
-use Rattle.live_judge.specs.Coming.{Comes, IsNext, p_of, update_of}
-use Rattle.live_judge.specs.Known.{StandsAt}
+use Rattle.live_judge.specs.{declared.coming.Next.Next, declared.coming.Coming.Coming, declared.standing.Standing.Standing, Coming.Comes}
+use Rattle.live_judge.specs.{Coming.{IsNext, p_of, update_of}, Known.StandsAt}
 use Rattle.live_judge.proofs.Places.{known_before, same_stand}
 
 -- the known ones and those in force end together

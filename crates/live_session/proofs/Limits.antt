@@ -1,38 +1,23 @@
 -- How many segments an accepted update brings and leaves.
 use Rattle.std.proofs.Common.{◌≡◌, ℕ, ◌+◌, ◌*◌, ◌-◌, ◌<◌, ◌≤◌, ltb, true, get_or, List, [], ◌∷◌, map, length, sum, All, Option, Some, None}
-use Rattle.std.proofs.Common.{sym, ◌∙◌, ap, arith, length-append, length-drop}
-use Rattle.std.specs.Prelude.{slice_get, option_map}
-use Rattle.std.specs.Option.{option_map_or}
-use Rattle.std.proofs.Math.Nat.{mul-le-mul_left, one-le-pow}
-use Rattle.std.proofs.lemmas.Bool.{and_parts, ltb-false}
-use Rattle.std.proofs.lemmas.List.{length-map}
-use Rattle.std.proofs.lemmas.List.Elements.{All-nil, All-cons, All-drop, All-head, All-tail, filter_passes}
-use Rattle.std.proofs.lemmas.List.Sums.{sum_by-cons}
-use Rattle.timeline.specs.declared.window.Window.{Window}
-use Rattle.timeline.specs.Expansions.{Timing}
-use Rattle.timeline.specs.Listed.{expansion, is_listed}
-use Rattle.presentation.specs.declared.parts.Content.{Content}
-use Rattle.presentation.specs.Presented.{Following, content_at, listed_at, listed_in, start_of, whole_window, window_at, window_of}
-use Rattle.presentation.proofs.Ending.{none_behind}
-use Rattle.presentation.proofs.Grids.{All-at}
-use Rattle.presentation.proofs.Reached.{none_first}
+use Rattle.std.proofs.{Common.{sym, ◌∙◌, ap, arith, length-append, length-drop}, Math.Nat.{mul-le-mul_left, one-le-pow}}
+use Rattle.std.proofs.{lemmas.Bool.{and_parts, ltb-false}, lemmas.List.length-map, lemmas.List.Elements.{All-nil, All-cons, All-drop}}
+use Rattle.std.proofs.{lemmas.List.Elements.{All-head, All-tail, filter_passes}, lemmas.List.Sums.sum_by-cons}
+use Rattle.std.specs.{Prelude.{slice_get, option_map}, Option.option_map_or}
+use Rattle.timeline.specs.{declared.window.Window.Window, Expansions.Timing, Listed.{expansion, is_listed}}
+use Rattle.presentation.specs.{declared.parts.Content.Content, Presented.{Following, content_at, listed_at, listed_in, start_of}}
+use Rattle.presentation.specs.Presented.{whole_window, window_at, window_of}
+use Rattle.presentation.proofs.{Ending.none_behind, Grids.All-at, Reached.none_first}
 use Rattle.followed.specs.Durations.{durations}
 use Rattle.followed.proofs.KeptPlaces.{next_is_first}
-use Rattle.live_meaning.specs.Updates.{unit_of}
-use Rattle.live_meaning.specs.Segments.{Kept, Segment, listed_of, segments_of}
-use Rattle.live_meaning.specs.Removal.{is_available}
-use Rattle.live_meaning.specs.Histories.{Common, least_length, numbering_of}
-use Rattle.live_meaning.specs.States.{Track, kept_and_new, new_count, new_of, new_told, removed_from, track_after, tracks_after}
-use Rattle.live_meaning.specs.Refusals.{Window as Windowed, count_kept, counts_kept, over_in_all, over_in_track, told_if}
-use Rattle.live_meaning.proofs.Allowed.{told_none}
-use Rattle.live_meaning.proofs.Orders.{behind_have, listed_have}
-use Rattle.live_meaning.proofs.Tracks.{length-told, told-segments}
+use Rattle.live_meaning.specs.{Updates.unit_of, Segments.{Kept, Segment, listed_of, segments_of}, Removal.is_available, Histories.Common}
+use Rattle.live_meaning.specs.{Histories.{least_length, numbering_of}, States.{Track, kept_and_new, new_count, new_of, new_told}}
+use Rattle.live_meaning.specs.{States.{removed_from, track_after, tracks_after}, Refusals.{Window as Windowed, count_kept, counts_kept}}
+use Rattle.live_meaning.specs.Refusals.{over_in_all, over_in_track, told_if}
+use Rattle.live_meaning.proofs.{Allowed.told_none, Orders.{behind_have, listed_have}, Tracks.{length-told, told-segments}}
 use Rattle.live_judge.proofs.Removing.{removed_by}
-use Rattle.live_judge.specs.declared.track.LiveTrack.{LiveTrack}
-use Rattle.live_judge.specs.Shown.{track_shown}
-use Rattle.live_session.specs.Changes.{IsTrimmable, track_grown, tracks_grown}
-use Rattle.live_session.specs.Growth.{CanTrim}
-use Rattle.live_session.specs.Kept.{AreSideBySide}
+use Rattle.live_judge.specs.{declared.track.LiveTrack.LiveTrack, Shown.track_shown}
+use Rattle.live_session.specs.{Changes.{IsTrimmable, track_grown, tracks_grown}, Growth.CanTrim, Kept.AreSideBySide}
 use Rattle.live_session.proofs.Pushing.{length-kepts}
 
 module _ (c : Common) where

@@ -1,14 +1,9 @@
 -- The playlist of a track by what is written of its segments.
-use Rattle.std.proofs.Common.{◌≡◌, List, [], ◌∷◌, ◌++◌, map, length, All, Some, None, refl, ap, arith}
+use Rattle.std.proofs.{Common.{◌≡◌, List, [], ◌∷◌, ◌++◌, map, length, All, Some, None, refl, ap, arith}, lemmas.List.Elements.All-tail}
 use Rattle.std.specs.Prelude.{slice_get}
-use Rattle.std.proofs.lemmas.List.Elements.{All-tail}
-use Rattle.hls_writer.specs.declared.items.MediaItem.{MediaItem}
-use Rattle.hls_writer.specs.Items.{item_of}
-use Rattle.hls_writer.specs.Playlists.{Item}
-use Rattle.live_meaning.specs.Playlists.{first_section}
-use Rattle.live_meaning.specs.Playlists.{item_of as item_shown}
-use Rattle.live_judge.specs.declared.track.Fact.{Fact}
-use Rattle.live_judge.specs.Shown.{kepts_of}
+use Rattle.hls_writer.specs.{declared.items.MediaItem.MediaItem, Items.item_of, Playlists.Item}
+use Rattle.live_meaning.specs.Playlists.{first_section, item_of as item_shown}
+use Rattle.live_judge.specs.{declared.track.Fact.Fact, Shown.kepts_of}
 
 pub items_are : (items : List MediaItem) (facts : List Fact) → length items ≡ length facts
     → map item_shown (kepts_of items facts) ≡ map item_of items

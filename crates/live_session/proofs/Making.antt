@@ -1,44 +1,27 @@
 -- The new segments of a section as they are made one by one.
+use Rattle.timeline.specs.declared.fault.ListFault.TheVariants as list_fault
 use Rattle.std.proofs.Common.{◌≡◌, ℕ, ◌+◌, ◌-◌, ◌^◌, ◌≤◌, List, [], ◌∷◌, ◌++◌, map, length, All, Option, Some, None, Result, Ok, Err, refl}
-use Rattle.std.proofs.Common.{sym, ◌∙◌, ap, subst, arith, append_assoc}
-use Rattle.std.specs.Prelude.{false, option_map, slice_get, IfSome, IsSome}
-use Rattle.std.specs.Result.{result_unwrap_or}
-use Rattle.std.proofs.lemmas.Option.{same_Some}
-use Rattle.std.specs.Option.{option_map_or}
-use Rattle.std.proofs.lemmas.List.{append-nil, length-map, map-append}
-use Rattle.std.proofs.lemmas.List.Elements.{All-push}
+use Rattle.std.proofs.{Common.{sym, ◌∙◌, ap, subst, arith, append_assoc}, lemmas.Option.same_Some, lemmas.List.{append-nil, length-map}}
+use Rattle.std.proofs.{lemmas.List.map-append, lemmas.List.Elements.All-push}
+use Rattle.std.specs.{Prelude.{false, option_map, slice_get, IfSome, IsSome}, Result.result_unwrap_or, Option.option_map_or}
 use Rattle.exact_time.specs.Rounding.{Rounding, differences}
 use Rattle.iso_time.specs.Instant.{IsWritable}
 use Rattle.url_parts.specs.declared.address.Part.{Part}
-use Rattle.timeline.specs.declared.window.Window.{Window}
-use Rattle.timeline.specs.declared.fault.ListFault.{ListFault}
-use Rattle.timeline.specs.declared.fault.ListFault.TheVariants as list_fault
-use Rattle.timeline.specs.Expansions.{SegmentTimeline, Timing}
-use Rattle.timeline.specs.declared.fault.TimeFault.{TimeFault}
-use Rattle.timeline.specs.Listed.{IsReached, answered_count, is_out_of_range, part_of_timing}
+use Rattle.timeline.specs.{declared.window.Window.Window, declared.fault.ListFault.ListFault, Expansions.{SegmentTimeline, Timing}}
+use Rattle.timeline.specs.{declared.fault.TimeFault.TimeFault, Listed.{IsReached, answered_count, is_out_of_range, part_of_timing}}
 use Rattle.timeline.specs.Names.{list_refusal}
-use Rattle.presentation.specs.declared.fault.PresentationFault.{PresentationFault}
-use Rattle.presentation.specs.declared.parts.Content.{Content}
-use Rattle.presentation.specs.Counting.{refusal}
-use Rattle.presentation.specs.Kept.{printed_left, rounding_at}
-use Rattle.presentation.specs.Meanings.{part_meant}
-use Rattle.presentation.specs.MeaningLaws.{MadeAreMeant}
-use Rattle.presentation.specs.Presented.{Presented, content_at, listed_at, listed_in, start_of, window_of}
-use Rattle.presentation.specs.Printing.{IsCounted, PrintedRest, PrintedTiming, with_durations}
-use Rattle.presentation.specs.Verifying.{fault_at, part_fault, part_faults, times_of}
+use Rattle.presentation.specs.{declared.fault.PresentationFault.PresentationFault, declared.parts.Content.Content, Counting.refusal}
+use Rattle.presentation.specs.{Kept.{printed_left, rounding_at}, Meanings.part_meant, MeaningLaws.MadeAreMeant, Presented.Presented}
+use Rattle.presentation.specs.{Presented.{content_at, listed_at, listed_in, start_of, window_of}, Printing.{IsCounted, PrintedRest}}
+use Rattle.presentation.specs.{Printing.{PrintedTiming, with_durations}, Verifying.{fault_at, part_fault, part_faults, times_of}}
 use Rattle.live_meaning.specs.Segments.{Kept, Numbering, Segment, segments_of}
 use Rattle.followed.specs.Durations.{last_behind, told_behind}
 use Rattle.live_judge.specs.declared.track.LastKept.{LastKept}
-use Rattle.live_session.specs.declared.made.Made.{Made}
-use Rattle.live_session.specs.declared.maker.Maker.{Maker}
-use Rattle.live_session.specs.declared.maker.Section.{Section}
-use Rattle.live_session.specs.Made.{all_made, kept_as, made_kept}
-use Rattle.live_session.specs.Making.{IsKeptNext, IsMadeBehind, IsNotMade, IsRefused, IsSection, IsSectionMakeable, StandsBefore, behind_in}
-use Rattle.live_session.specs.Making.{end_in, number_of}
-use Rattle.live_session.specs.New.{faults_by, left_to_make, later_listed, new_faults_in, new_in, new_timings, numbers_of, segments_in}
-use Rattle.live_session.specs.New.{shown_by, track_at}
-use Rattle.live_session.proofs.Told.{kept_at, segment_at, told_there}
-use Rattle.live_session.proofs.Sections.{times_are}
+use Rattle.live_session.specs.{declared.made.Made.Made, declared.maker.Maker.Maker, declared.maker.Section.Section, Made.all_made}
+use Rattle.live_session.specs.{Made.{kept_as, made_kept}, Making.{IsKeptNext, IsMadeBehind, IsNotMade, IsRefused, IsSection}}
+use Rattle.live_session.specs.{Making.{IsSectionMakeable, StandsBefore, behind_in, end_in, number_of}, New.{faults_by, left_to_make}}
+use Rattle.live_session.specs.New.{later_listed, new_faults_in, new_in, new_timings, numbers_of, segments_in, shown_by, track_at}
+use Rattle.live_session.proofs.{Told.{kept_at, segment_at, told_there}, Sections.times_are}
 
 -- ---- what is there
 

@@ -1,49 +1,28 @@
 -- The new segments of an update, as its maker makes them.
 use Rattle.std.proofs.Common.{◌≡◌, ℕ, ◌+◌, ◌-◌, ◌^◌, ◌<◌, ◌≤◌, cond, Bool, true, false, List, [], ◌∷◌, ◌++◌, map, flat_map, length, sum}
-use Rattle.std.proofs.Common.{All, Option, Some, None, refl, sym, ◌∙◌, ap, subst, arith, length-append}
-use Rattle.std.specs.Prelude.{IfSome, slice_get}
-use Rattle.std.specs.Option.{option_map_or}
-use Rattle.std.proofs.lemmas.List.{append-nil, nil_from_length}
-use Rattle.std.proofs.lemmas.List.Elements.{All-append, All-nil}
-use Rattle.std.proofs.lemmas.List.Sums.{sum_by-cons}
+use Rattle.std.proofs.{Common.{All, Option, Some, None, refl, sym, ◌∙◌, ap, subst, arith, length-append}, lemmas.List.append-nil}
+use Rattle.std.proofs.{lemmas.List.nil_from_length, lemmas.List.Elements.{All-append, All-nil}, lemmas.List.Sums.sum_by-cons}
+use Rattle.std.specs.{Prelude.{IfSome, slice_get}, Option.option_map_or}
 use Rattle.bridge_io.specs.Firsts.{first_of}
-use Rattle.presentation.specs.Printing.{IsCounted}
+use Rattle.presentation.specs.{Printing.IsCounted, declared.fault.PresentationFault.PresentationFault, declared.parts.Content.Content}
+use Rattle.presentation.specs.{Counting.{refusal, sections_of}, Presented.{Presented, content_at, listed_at, looked_at}}
 use Rattle.timeline.specs.Expansions.{Timing}
-use Rattle.presentation.specs.declared.fault.PresentationFault.{PresentationFault}
-use Rattle.presentation.specs.declared.parts.Content.{Content}
-use Rattle.presentation.specs.Counting.{refusal, sections_of}
-use Rattle.presentation.specs.Presented.{Presented, content_at, listed_at, looked_at}
 use Rattle.presentation.proofs.Grids.{All-at}
 use Rattle.followed.specs.Durations.{last_behind, told_behind}
-use Rattle.live_meaning.specs.Updates.{is_reset, unit_of}
-use Rattle.live_meaning.specs.Segments.{Kept, Numbering, Segment, id_at, place_behind, place_of}
-use Rattle.live_meaning.specs.Known.{ids_of}
-use Rattle.live_meaning.specs.Histories.{Common, availability_start_of}
-use Rattle.live_meaning.specs.States.{Track, new_count, new_of}
+use Rattle.live_meaning.specs.{Updates.{is_reset, unit_of}, Segments.{Kept, Numbering, Segment, id_at, place_behind, place_of}}
+use Rattle.live_meaning.specs.{Known.ids_of, Histories.{Common, availability_start_of}, States.{Track, new_count, new_of}}
 use Rattle.live_meaning.specs.Refusals.{Presentation, Refusal, ids_in, makes_segments, urls_told}
-use Rattle.live_meaning.proofs.Tracks.{length-told}
-use Rattle.live_meaning.proofs.InForce.{id_there}
-use Rattle.live_judge.specs.declared.coming.Next.{Next}
-use Rattle.live_judge.specs.Coming.{IsJoined, IsNext, coming_of, p_of, update_of}
-use Rattle.live_judge.specs.Faults.{of_presentation}
-use Rattle.live_judge.specs.Shown.{track_shown}
-use Rattle.live_judge.specs.Sound.{IsPaired}
-use Rattle.live_judge.proofs.Contents.{length-new}
-use Rattle.live_judge.proofs.New.{new_is}
-use Rattle.live_judge.proofs.Places.{place_there}
-use Rattle.live_session.specs.declared.made.MadeTrack.{MadeTrack}
-use Rattle.live_session.specs.declared.maker.Maker.{Maker}
-use Rattle.live_session.specs.Changes.{AreNewOf, AreUnmade, IsMakerOf, new_in_all, shown_in, track_grown, tracks_grown, urls_in_all}
-use Rattle.live_session.specs.Growth.{grown}
-use Rattle.live_session.specs.Making.{AreMade, AreMakeable, IsNotMade, all_kept}
-use Rattle.live_session.specs.New.{CanMake, faults_by, joins, new_all, new_counted, new_faults, new_faults_in, new_faults_of, new_in}
-use Rattle.live_session.specs.New.{new_kept, new_timings, numbers_of, shown_by}
-use Rattle.live_session.proofs.Addresses.{urls_are}
-use Rattle.live_session.proofs.Beginning.{IsOfAddress, address_of, all_flat, counts_made, first_makes, first_mapped, parts_address, some_as}
-use Rattle.live_session.proofs.Beginning.{told_as}
-use Rattle.live_session.proofs.FirstTracks.{IsDated, made_many}
-use Rattle.live_session.proofs.Joining.{joined, not_fewer, sound_there}
-use Rattle.live_session.proofs.Pushing.{grown as pushed_all}
+use Rattle.live_meaning.proofs.{Tracks.length-told, InForce.id_there}
+use Rattle.live_judge.specs.{declared.coming.Next.Next, Coming.{IsJoined, IsNext, coming_of, p_of, update_of}, Faults.of_presentation}
+use Rattle.live_judge.specs.{Shown.track_shown, Sound.IsPaired}
+use Rattle.live_judge.proofs.{Contents.length-new, New.new_is, Places.place_there}
+use Rattle.live_session.specs.{declared.made.MadeTrack.MadeTrack, declared.maker.Maker.Maker, Changes.{AreNewOf, AreUnmade, IsMakerOf}}
+use Rattle.live_session.specs.{Changes.{new_in_all, shown_in, track_grown, tracks_grown, urls_in_all}, Growth.grown, Making.AreMade}
+use Rattle.live_session.specs.{Making.{AreMakeable, IsNotMade, all_kept}, New.{CanMake, faults_by, joins, new_all, new_counted, new_faults}}
+use Rattle.live_session.specs.New.{new_faults_in, new_faults_of, new_in, new_kept, new_timings, numbers_of, shown_by}
+use Rattle.live_session.proofs.{Addresses.urls_are, Beginning.{IsOfAddress, address_of, all_flat, counts_made, first_makes, first_mapped}}
+use Rattle.live_session.proofs.{Beginning.{parts_address, some_as, told_as}, FirstTracks.{IsDated, made_many}, Joining.{joined, not_fewer}}
+use Rattle.live_session.proofs.{Joining.sound_there, Pushing.grown as pushed_all}
 
 -- ---- no address is missing where nothing is new
 

@@ -1,22 +1,12 @@
 -- New segments whose durations can be printed in turn.
-use Rattle.std.proofs.Common.{◌≡◌, ℕ, ◌∷◌, List, Option, Some, None, All, inl, inr, refl, subst}
-use Rattle.std.specs.Prelude.{IfSome, false, true}
-use Rattle.std.proofs.lemmas.Bool.{cases_Bool}
+use Rattle.std.proofs.{Common.{◌≡◌, ℕ, ◌∷◌, List, Option, Some, None, All, inl, inr, refl, subst}, lemmas.Bool.cases_Bool}
 use Rattle.std.proofs.lemmas.List.Elements.{All-filter, All-head, All-tail, filter_passes}
-use Rattle.exact_time.specs.declared.tick.Tick.{Tick}
-use Rattle.exact_time.specs.Tick.{time_of}
-use Rattle.exact_time.specs.Time.{before, seconds}
-use Rattle.timeline.specs.declared.window.Window.{Window}
-use Rattle.timeline.specs.Listed.{is_listed, listed}
-use Rattle.exact_time.specs.Rounding.{Rounding}
-use Rattle.timeline.specs.Expansions.{Timing}
-use Rattle.timeline.specs.Steady.{ArePaced, IsWithinLimits}
-use Rattle.presentation.specs.declared.segments.Behind.{Behind}
-use Rattle.presentation.specs.Kept.{ArePacedBehind, rounding_at}
-use Rattle.presentation.specs.Printing.{GoesOn}
+use Rattle.std.specs.Prelude.{IfSome, false, true}
+use Rattle.exact_time.specs.{declared.tick.Tick.Tick, Tick.time_of, Time.{before, seconds}, Rounding.Rounding}
+use Rattle.timeline.specs.{declared.window.Window.Window, Listed.{is_listed, listed}, Expansions.Timing, Steady.{ArePaced, IsWithinLimits}}
+use Rattle.presentation.specs.{declared.segments.Behind.Behind, Kept.{ArePacedBehind, rounding_at}, Printing.GoesOn}
 use Rattle.presentation.proofs.GoingOn.{paced_there}
-use Rattle.live_session.specs.New.{later_listed}
-use Rattle.live_session.specs.Paced.{IsDatable}
+use Rattle.live_session.specs.{New.later_listed, Paced.IsDatable}
 
 first_part : (window : Window) (x : Timing) → is_listed window x ≡ true → before (seconds 0) x.end ≡ true
 first_part window x is =

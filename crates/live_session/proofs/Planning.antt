@@ -1,41 +1,26 @@
 -- What is planned of an update, and why it is refused.
+use Rattle.live_judge.specs.declared.coming.Coming.TheVariants as comes
+use Rattle.live_judge.specs.declared.fault.RefreshFault.TheVariants as fault
 use Rattle.std.proofs.Common.{◌≡◌, false, true, ℕ, ◌+◌, ◌-◌, ◌<◌, ◌≤◌, ℤ, pos, List, [], ◌∷◌, ◌++◌, map, length, sum, Some, None, Result}
 use Rattle.std.proofs.Common.{Ok, Err, refl, sym, ◌∙◌, ap, subst, inl, inr, arith}
-use Rattle.std.specs.Prelude.{IfSome, MatchResult, unwrap_or}
-use Rattle.std.specs.List.{range_with_len}
+use Rattle.std.specs.{Prelude.{IfSome, MatchResult, unwrap_or}, List.range_with_len}
 use Rattle.bridge_io.specs.Firsts.{first_of}
-use Rattle.presentation.specs.Counting.{range_faults}
-use Rattle.presentation.specs.Presented.{Presented, is_finished, looked_at}
-use Rattle.presentation.proofs.Ending.{none_behind}
-use Rattle.presentation.proofs.Reached.{none_first}
-use Rattle.live_meaning.specs.Updates.{Update, is_reset, mpd_of, now_of}
-use Rattle.live_meaning.specs.Known.{ids_of, known_at, known_with}
-use Rattle.live_meaning.specs.Histories.{Common, common_with, published_by}
-use Rattle.live_meaning.specs.States.{State, new_count}
-use Rattle.live_meaning.specs.Refusals.{Ended, Presentation, appended_by, clock_told, counts_kept, ended_told, ids_in, joint_told}
-use Rattle.live_meaning.specs.Refusals.{long_told, makes_segments, mpd_told, urls_told, window_told}
-use Rattle.live_judge.specs.declared.coming.Coming.{Coming}
-use Rattle.live_judge.specs.declared.coming.Coming.TheVariants as comes
-use Rattle.live_judge.specs.declared.coming.Next.{Next}
-use Rattle.live_judge.specs.declared.fault.RefreshFault.{RefreshFault}
-use Rattle.live_judge.specs.declared.fault.RefreshFault.TheVariants as fault
-use Rattle.live_judge.specs.declared.standing.Standing.{Standing}
-use Rattle.live_judge.specs.declared.track.LiveTrack.{LiveTrack}
-use Rattle.live_judge.specs.Coming.{IsJoined, IsNext, timed_told, told_before, update_of}
-use Rattle.live_judge.specs.Faults.{Tells, told}
-use Rattle.live_judge.specs.Known.{StandsAt, known_shown}
-use Rattle.live_judge.specs.Shown.{common_shown, in_force, state_shown, track_shown}
+use Rattle.presentation.specs.{Counting.range_faults, Presented.{Presented, is_finished, looked_at}}
+use Rattle.presentation.proofs.{Ending.none_behind, Reached.none_first}
+use Rattle.live_meaning.specs.{Updates.{Update, is_reset, mpd_of, now_of}, Known.{ids_of, known_at, known_with}, Histories.Common}
+use Rattle.live_meaning.specs.{Histories.{common_with, published_by}, States.{State, new_count}, Refusals.{Ended, Presentation}}
+use Rattle.live_meaning.specs.Refusals.{appended_by, clock_told, counts_kept, ended_told, ids_in, joint_told, long_told, makes_segments}
+use Rattle.live_meaning.specs.Refusals.{mpd_told, urls_told, window_told}
+use Rattle.live_judge.specs.{declared.coming.Coming.Coming, declared.coming.Next.Next, declared.fault.RefreshFault.RefreshFault}
+use Rattle.live_judge.specs.{declared.standing.Standing.Standing, declared.track.LiveTrack.LiveTrack, Coming.{IsJoined, IsNext, timed_told}}
+use Rattle.live_judge.specs.{Coming.{told_before, update_of}, Faults.{Tells, told}, Known.{StandsAt, known_shown}, Shown.common_shown}
+use Rattle.live_judge.specs.Shown.{in_force, state_shown, track_shown}
 use Rattle.live_meaning.proofs.Allowed.{told_none}
 use Rattle.live_judge.proofs.Listing.{mpd_at}
-use Rattle.live_session.specs.declared.change.Plan.{Plan}
-use Rattle.live_session.specs.Changes.{AreUnmade, IsPlan, IsPresented, IsPlanOf, IsRefused, IsUnplanned, first_new, new_in_all, resets_with}
-use Rattle.live_session.specs.Changes.{tracks_grown}
-use Rattle.live_session.specs.Growth.{grown}
-use Rattle.live_session.specs.Making.{all_kept}
+use Rattle.live_session.specs.{declared.change.Plan.Plan, Changes.{AreUnmade, IsPlan, IsPresented, IsPlanOf, IsRefused, IsUnplanned}}
+use Rattle.live_session.specs.{Changes.{first_new, new_in_all, resets_with, tracks_grown}, Growth.grown, Making.all_kept}
 use Rattle.live_session.specs.Sessions.{CountsRefused}
-use Rattle.live_session.proofs.Counting.{resets_at}
-use Rattle.live_session.proofs.Knowing.{comes_same, known_are, seen as seen_all}
-use Rattle.live_session.proofs.NewTracks.{urls_make}
+use Rattle.live_session.proofs.{Counting.resets_at, Knowing.{comes_same, known_are, seen as seen_all}, NewTracks.urls_make}
 use Rattle.live_session.proofs.Refusing.{accepted_made, appended_new, refused_judged, refused_made, refused_wanting}
 
 none_mapped : {X Y : Type 0} (f : X → Y) (xs : List X) → map f xs ≡ [] → xs ≡ []

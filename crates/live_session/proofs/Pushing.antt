@@ -1,17 +1,13 @@
 -- A track with a segment more.
 use Rattle.std.proofs.Common.{◌≡◌, ℕ, zero, suc, ◌+◌, ◌-◌, ◌<◌, List, [], ◌∷◌, ◌++◌, length, drop, Option, None, Some, refl, sym, ◌∙◌, ap}
-use Rattle.std.proofs.Common.{inl, inr, arith, length-append, length-drop, append_assoc}
-use Rattle.std.specs.Prelude.{slice_get, option_map, ◌==◌, if◌then◌else◌, false}
-use Rattle.std.specs.Option.{option_map_or}
-use Rattle.std.proofs.lemmas.Bool.{cases_eq, eq-eqb, ne_eqb}
+use Rattle.std.proofs.{Common.{inl, inr, arith, length-append, length-drop, append_assoc}, lemmas.Bool.{cases_eq, eq-eqb, ne_eqb}}
 use Rattle.std.proofs.lemmas.List.{append-nil}
+use Rattle.std.specs.{Prelude.{slice_get, option_map, ◌==◌, if◌then◌else◌, false}, Option.option_map_or}
 use Rattle.exact_time.specs.Time.{Time}
 use Rattle.hls_writer.specs.declared.items.MediaItem.{MediaItem}
 use Rattle.followed.specs.Durations.{Last, duration_behind, last_behind, last_with, told_behind}
-use Rattle.live_meaning.specs.Segments.{Kept, Segment, place_behind}
-use Rattle.live_meaning.specs.States.{Track}
-use Rattle.live_judge.specs.declared.track.Fact.{Fact}
-use Rattle.live_judge.specs.Shown.{kept_of, kepts_of, last_from, last_kept, track_of}
+use Rattle.live_meaning.specs.{Segments.{Kept, Segment, place_behind}, States.Track}
+use Rattle.live_judge.specs.{declared.track.Fact.Fact, Shown.{kept_of, kepts_of, last_from, last_kept, track_of}}
 use Rattle.live_session.specs.Kept.{begun_at, with_all, with_kept, without_front}
 
 -- ---- two rings side by side

@@ -1,20 +1,14 @@
 -- Why an update is refused, by what the calls tell.
+use Rattle.live_judge.specs.declared.fault.RefreshFault.TheVariants as fault
 use Rattle.std.proofs.Common.{◌≡◌, ℕ, ◌+◌, List, [], ◌∷◌, ◌++◌, Option, Some, None, Ok, Err, refl, sym, ◌∙◌, ap, subst, arith, append_assoc}
 use Rattle.std.specs.Prelude.{◌<◌, is_some, slice_get, true, IfSome, IsSome}
 use Rattle.bridge_io.specs.Firsts.{first_of}
-use Rattle.presentation.specs.declared.fault.PresentationFault.{PresentationFault}
-use Rattle.presentation.specs.Presented.{Presented}
-use Rattle.live_meaning.specs.Updates.{Update, mpd_of, now_of}
-use Rattle.live_meaning.specs.Histories.{common_with, force_by}
-use Rattle.live_meaning.specs.States.{State, new_count, state_with}
+use Rattle.presentation.specs.{declared.fault.PresentationFault.PresentationFault, Presented.Presented}
+use Rattle.live_meaning.specs.{Updates.{Update, mpd_of, now_of}, Histories.{common_with, force_by}, States.{State, new_count, state_with}}
 use Rattle.live_meaning.specs.Refusals.{Presentation, Refusal, appended_by, clock_told, ended_told, makes_segments, next_of, refusal_of}
 use Rattle.live_meaning.specs.Refusals.{told_by, told_with, urls_told}
-use Rattle.live_judge.specs.declared.fault.RefreshFault.{RefreshFault}
-use Rattle.live_judge.specs.declared.fault.RefreshFault.TheVariants as fault
-use Rattle.live_judge.specs.Coming.{told_before}
-use Rattle.live_judge.specs.Faults.{Tells, told}
-use Rattle.live_session.specs.Changes.{IsRefused}
-use Rattle.live_session.specs.Sessions.{CountsRefused}
+use Rattle.live_judge.specs.{declared.fault.RefreshFault.RefreshFault, Coming.told_before, Faults.{Tells, told}}
+use Rattle.live_session.specs.{Changes.IsRefused, Sessions.CountsRefused}
 use Rattle.live_session.proofs.Beginning.{counts_same, some_as}
 
 -- ---- the first of lists

@@ -1,25 +1,18 @@
 -- The new segments of a track, section by section.
 use Rattle.std.proofs.Common.{◌≡◌, ℕ, zero, suc, ◌+◌, ◌<◌, ◌≤◌, ◌⊎◌, List, [], ◌∷◌, ◌++◌, map, filter, flat_map, length, Option, None, Some}
-use Rattle.std.proofs.Common.{refl, sym, ◌∙◌, ap, subst, inl, inr, arith}
-use Rattle.std.specs.Prelude.{true, false, IfSome}
-use Rattle.std.specs.List.{range_with_len}
-use Rattle.std.specs.Option.{option_map_or}
-use Rattle.std.proofs.lemmas.Bool.{cases_eq, eq-eqb, ne_eqb, le-ltb, lt-ltb}
+use Rattle.std.proofs.{Common.{refl, sym, ◌∙◌, ap, subst, inl, inr, arith}, lemmas.Bool.{cases_eq, eq-eqb, ne_eqb, le-ltb, lt-ltb}}
 use Rattle.std.proofs.lemmas.List.Elements.{filter_agree}
-use Rattle.exact_time.specs.Time.{Time, before}
-use Rattle.exact_time.specs.Tick.{time_of}
+use Rattle.std.specs.{Prelude.{true, false, IfSome}, List.range_with_len, Option.option_map_or}
+use Rattle.exact_time.specs.{Time.{Time, before}, Tick.time_of}
 use Rattle.timeline.specs.Expansions.{Timing}
-use Rattle.presentation.specs.declared.parts.Content.{Content}
-use Rattle.presentation.specs.Presented.{Presented, content_at, listed_at, start_of}
-use Rattle.presentation.specs.Printing.{FollowsNear, GoesOn, later_than}
+use Rattle.presentation.specs.{declared.parts.Content.Content, Presented.{Presented, content_at, listed_at, start_of}, Printing.FollowsNear}
+use Rattle.presentation.specs.Printing.{GoesOn, later_than}
 use Rattle.followed.specs.Durations.{Last, last_behind, last_with}
 use Rattle.followed.proofs.PrintedSections.{last_section}
-use Rattle.live_meaning.specs.Segments.{Numbering, Segment, is_later, segment_with}
-use Rattle.live_meaning.specs.States.{Track}
-use Rattle.live_judge.specs.declared.track.LastKept.{LastKept}
-use Rattle.live_judge.specs.Shown.{last_of}
-use Rattle.live_session.specs.Making.{IsBelow, StandsBefore, behind_in, end_in}
-use Rattle.live_session.specs.New.{IsBegun, faults_by, joins, later_listed, new_faults_in, new_in, new_timings, segments_in, track_at}
+use Rattle.live_meaning.specs.{Segments.{Numbering, Segment, is_later, segment_with}, States.Track}
+use Rattle.live_judge.specs.{declared.track.LastKept.LastKept, Shown.last_of}
+use Rattle.live_session.specs.{Making.{IsBelow, StandsBefore, behind_in, end_in}, New.{IsBegun, faults_by, joins, later_listed}}
+use Rattle.live_session.specs.New.{new_faults_in, new_in, new_timings, segments_in, track_at}
 
 -- ---- tests of all and of none
 

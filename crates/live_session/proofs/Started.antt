@@ -1,51 +1,30 @@
 -- The session that a first MPD begins.
 use Rattle.std.proofs.Common.{◌≡◌, ℕ, zero, suc, ◌+◌, ◌<◌, ℤ, pos, Bool, true, false, not, List, [], ◌∷◌, ◌++◌, map, length, All, Option}
-use Rattle.std.proofs.Common.{Some, None, Result, Ok, Err, refl, sym, ◌∙◌, ap, subst, arith}
-use Rattle.std.specs.Prelude.{IfSome, IsErrAnd, if◌then◌else◌, option_map, slice_get, sum, unwrap_or}
-use Rattle.std.specs.List.{range_with_len}
+use Rattle.std.proofs.{Common.{Some, None, Result, Ok, Err, refl, sym, ◌∙◌, ap, subst, arith}, lemmas.List.length-map}
+use Rattle.std.proofs.{lemmas.List.Elements.{All-nil, All-cons}, lemmas.List.FromFn.length-range_with_len, lemmas.List.Sums.sum-map}
+use Rattle.std.specs.{Prelude.{IfSome, IsErrAnd, if◌then◌else◌, option_map, slice_get, sum, unwrap_or}, List.range_with_len}
 use Rattle.std.specs.Option.{option_map_or}
-use Rattle.std.proofs.lemmas.List.{length-map}
-use Rattle.std.proofs.lemmas.List.Elements.{All-nil, All-cons}
-use Rattle.std.proofs.lemmas.List.FromFn.{length-range_with_len}
-use Rattle.std.proofs.lemmas.List.Sums.{sum-map}
 use Rattle.bridge_io.specs.Answer.{Gives}
 use Rattle.mpd_rules.specs.Laws.{are_once}
-use Rattle.presentation.specs.declared.fault.PresentationFault.{PresentationFault}
-use Rattle.presentation.specs.Counting.{count_faults, count_of_all, counted, tracks_of}
-use Rattle.presentation.specs.Presented.{Following, Presented, at_instant, looked_at}
-use Rattle.presentation.specs.PresentedLaws.{PresentedAreFew, PresentedAreFollowed}
-use Rattle.presentation.specs.Printing.{IsCounted}
-use Rattle.presentation.specs.Told.{following_of, presented_of}
+use Rattle.presentation.specs.{declared.fault.PresentationFault.PresentationFault, Counting.{count_faults, count_of_all, counted}}
+use Rattle.presentation.specs.{Counting.tracks_of, Presented.{Following, Presented, at_instant, looked_at}, PresentedLaws.PresentedAreFew}
+use Rattle.presentation.specs.{PresentedLaws.PresentedAreFollowed, Printing.IsCounted, Told.{following_of, presented_of}}
 use Rattle.presentation.specs.Verifying.{url_faults}
-use Rattle.presentation.proofs.Ending.{none_behind}
-use Rattle.presentation.proofs.Grids.{All-at}
-use Rattle.presentation.proofs.Reached.{none_first}
-use Rattle.live_meaning.specs.Updates.{Refresh, Terms, Values, unit_of}
-use Rattle.live_meaning.specs.Known.{Known, ids_of, periods_of}
-use Rattle.live_meaning.specs.Histories.{Common, availability_start_of, begun_common, begun_with}
-use Rattle.live_meaning.specs.States.{State, Track, shown}
-use Rattle.live_meaning.specs.Playlists.{FollowedPlaylist, item_of, playlist_with}
-use Rattle.live_meaning.specs.Refusals.{NotDynamic, Presentation, Refusal, begun_of, counts_listed, first_appended_by, ids_in, told_if}
-use Rattle.live_meaning.specs.Refusals.{window_told}
-use Rattle.live_meaning.specs.Laws.{HistoriesBegin, IsSmall, IsTyped, NeverEmpty, NumbersStaySmall, Shows}
+use Rattle.presentation.proofs.{Ending.none_behind, Grids.All-at, Reached.none_first}
+use Rattle.live_meaning.specs.{Updates.{Refresh, Terms, Values, unit_of}, Known.{Known, ids_of, periods_of}, Histories.Common}
+use Rattle.live_meaning.specs.{Histories.{availability_start_of, begun_common, begun_with}, States.{State, Track, shown}}
+use Rattle.live_meaning.specs.{Playlists.{FollowedPlaylist, item_of, playlist_with}, Refusals.{NotDynamic, Presentation, Refusal, begun_of}}
+use Rattle.live_meaning.specs.{Refusals.{counts_listed, first_appended_by, ids_in, told_if, window_told}, Laws.{HistoriesBegin, IsSmall}}
+use Rattle.live_meaning.specs.Laws.{IsTyped, NeverEmpty, NumbersStaySmall, Shows}
 use Rattle.live_meaning.proofs.Allowed.{negated, none_mapped, told_none}
-use Rattle.live_judge.specs.declared.fault.RefreshFault.{RefreshFault}
-use Rattle.live_judge.specs.declared.standing.Standing.{Standing}
-use Rattle.live_judge.specs.declared.track.LiveTrack.{LiveTrack}
-use Rattle.live_judge.specs.Faults.{told}
-use Rattle.live_judge.specs.FirstStates.{FirstPeriodsStand, FirstStatesAreSound}
-use Rattle.live_judge.specs.Known.{StandsAt}
-use Rattle.live_judge.specs.Shown.{common_shown, in_force, state_shown, track_shown}
-use Rattle.live_judge.specs.Sound.{IsLive, IsPaired}
-use Rattle.live_judge.proofs.FirstStates.{all_new}
-use Rattle.live_judge.proofs.Keeping.{length-kepts}
-use Rattle.live_session.specs.Begun.{AreFirst, IsFirstStanding, empty_tracks, first_judged, first_numbers}
-use Rattle.live_session.specs.Making.{IsNotMade}
-use Rattle.live_session.specs.New.{new_counted, new_faults}
-use Rattle.live_session.specs.Sessions.{Counts, CountsRefused, IsNumbered, IsSession}
-use Rattle.live_session.specs.Written.{IsWritten}
-use Rattle.live_session.proofs.Beginning.{appended, counted_by, gives_begun, many, reached}
-use Rattle.live_session.proofs.FirstTracks.{counted_are, tracks_are, url_faults_are}
+use Rattle.live_judge.specs.{declared.fault.RefreshFault.RefreshFault, declared.standing.Standing.Standing}
+use Rattle.live_judge.specs.{declared.track.LiveTrack.LiveTrack, Faults.told, FirstStates.{FirstPeriodsStand, FirstStatesAreSound}}
+use Rattle.live_judge.specs.{Known.StandsAt, Shown.{common_shown, in_force, state_shown, track_shown}, Sound.{IsLive, IsPaired}}
+use Rattle.live_judge.proofs.{FirstStates.all_new, Keeping.length-kepts}
+use Rattle.live_session.specs.{Begun.{AreFirst, IsFirstStanding, empty_tracks, first_judged, first_numbers}, Making.IsNotMade}
+use Rattle.live_session.specs.{New.{new_counted, new_faults}, Sessions.{Counts, CountsRefused, IsNumbered, IsSession}, Written.IsWritten}
+use Rattle.live_session.proofs.{Beginning.{appended, counted_by, gives_begun, many, reached}, FirstTracks.{counted_are, tracks_are}}
+use Rattle.live_session.proofs.FirstTracks.{url_faults_are}
 
 -- ---- lists
 

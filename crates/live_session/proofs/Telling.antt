@@ -2,18 +2,11 @@
 use Rattle.std.proofs.Common.{◌≡◌, ℕ, List, Some, None, Result, Ok, Err, ◌∙◌}
 use Rattle.std.specs.Prelude.{IfOk, MatchResult, OnErr}
 use Rattle.bridge_io.specs.Answer.{Gives}
-use Rattle.live_meaning.specs.Updates.{Terms, Update, mpd_of}
-use Rattle.live_meaning.specs.States.{State}
-use Rattle.live_meaning.specs.Refusals.{appended_by, next_of, refusal_of, update_refusal}
+use Rattle.live_meaning.specs.{Updates.{Terms, Update, mpd_of}, States.State, Refusals.{appended_by, next_of, refusal_of, update_refusal}}
 use Rattle.live_meaning.specs.Laws.{HistoriesGoOn, HistoriesRefuse, Shows}
-use Rattle.live_judge.specs.declared.fault.RefreshFault.{RefreshFault}
-use Rattle.live_judge.specs.declared.fault.RefreshFault.TheVariants.{Memory}
-use Rattle.live_judge.specs.Faults.{told}
-use Rattle.live_session.specs.declared.session.Appended.{Appended}
-use Rattle.live_session.specs.Changes.{IsLeft, IsTaken}
-use Rattle.live_session.specs.Sessions.{Counts, Goes}
-use Rattle.live_session.proofs.Beginning.{some_as}
-use Rattle.live_session.proofs.Refusing.{gives_refused}
+use Rattle.live_judge.specs.{declared.fault.RefreshFault.RefreshFault, declared.fault.RefreshFault.TheVariants.Memory, Faults.told}
+use Rattle.live_session.specs.{declared.session.Appended.Appended, Changes.{IsLeft, IsTaken}, Sessions.{Counts, Goes}}
+use Rattle.live_session.proofs.{Beginning.some_as, Refusing.gives_refused}
 
 module _ (s : State) (u : Update) (new : State) (before after : ℕ) where
   abbrev pub IsTold : Result Appended RefreshFault → Type 0

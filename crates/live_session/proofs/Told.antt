@@ -1,20 +1,14 @@
 -- What a rounder prints of new segments are the durations that are told of them.
 use Rattle.std.proofs.Common.{◌≡◌, ℕ, ◌+◌, ◌-◌, List, [], ◌∷◌, map, Option, None, Some, refl, sym, ◌∙◌, ap, inl, inr, arith}
-use Rattle.std.specs.Prelude.{option_map}
 use Rattle.std.proofs.lemmas.Bool.{cases_eq, eq-eqb, ne_eqb}
-use Rattle.exact_time.specs.Time.{Time, difference}
-use Rattle.exact_time.specs.Floor.{floor_in}
-use Rattle.exact_time.specs.Rounding.{rounding_behind, rounding_from}
-use Rattle.exact_time.specs.Tick.{time_of}
+use Rattle.std.specs.Prelude.{option_map}
+use Rattle.exact_time.specs.{Time.{Time, difference}, Floor.floor_in, Rounding.{rounding_behind, rounding_from}, Tick.time_of}
 use Rattle.exact_time.proofs.Floors.{floor_in-difference_self}
 use Rattle.timeline.specs.Expansions.{Timing}
-use Rattle.presentation.specs.declared.parts.Content.{Content}
-use Rattle.presentation.specs.Kept.{printed_left, rounding_at}
-use Rattle.presentation.specs.Printing.{PrintedTiming, begin_of}
+use Rattle.presentation.specs.{declared.parts.Content.Content, Kept.{printed_left, rounding_at}, Printing.{PrintedTiming, begin_of}}
 use Rattle.followed.specs.Durations.{Last, begun_by, told_behind}
 use Rattle.live_meaning.specs.Segments.{Kept, Numbering, Segment, segment_with}
-use Rattle.live_judge.specs.declared.track.LastKept.{LastKept}
-use Rattle.live_judge.specs.Shown.{last_of}
+use Rattle.live_judge.specs.{declared.track.LastKept.LastKept, Shown.last_of}
 use Rattle.live_session.specs.Making.{IsBelow, StandsBefore, behind_in}
 
 module _ (n : Numbering) (place start : ℕ) (content : Content) where

@@ -1,30 +1,19 @@
 -- The new segments of a track, section by section, and those of all tracks.
 use Rattle.std.proofs.Common.{◌≡◌, ℕ, zero, suc, ◌+◌, ◌-◌, ◌^◌, ◌<◌, ◌≤◌, List, [], ◌∷◌, ◌++◌, map, flat_map, length, drop, All, Option}
 use Rattle.std.proofs.Common.{Some, None, refl, sym, ◌∙◌, ap, subst, inl, inr, arith, append_assoc, length-append, zero-add}
-use Rattle.std.specs.Prelude.{option_map, slice_get, IfSome}
-use Rattle.std.specs.List.{range_with_len}
-use Rattle.std.proofs.lemmas.Bool.{cases_lt}
-use Rattle.std.proofs.lemmas.List.{append-nil, map-append}
-use Rattle.std.proofs.lemmas.List.Elements.{All-nil, All-push}
+use Rattle.std.proofs.{lemmas.Bool.cases_lt, lemmas.List.{append-nil, map-append}, lemmas.List.Elements.{All-nil, All-push}}
+use Rattle.std.specs.{Prelude.{option_map, slice_get, IfSome}, List.range_with_len}
 use Rattle.exact_time.specs.Time.{IsAtMost}
 use Rattle.iso_time.specs.Instant.{IsWritable}
-use Rattle.presentation.specs.declared.fault.PresentationFault.{PresentationFault}
-use Rattle.presentation.specs.Counting.{refusal}
-use Rattle.presentation.specs.Presented.{Presented}
+use Rattle.presentation.specs.{declared.fault.PresentationFault.PresentationFault, Counting.refusal, Presented.Presented}
 use Rattle.followed.specs.Durations.{Last, duration_behind, last_behind, last_with, told_behind}
-use Rattle.live_meaning.specs.Segments.{Kept, Numbering, Segment, segments_of}
-use Rattle.live_meaning.specs.States.{Track}
+use Rattle.live_meaning.specs.{Segments.{Kept, Numbering, Segment, segments_of}, States.Track}
 use Rattle.live_meaning.proofs.Tracks.{told-segments}
-use Rattle.live_judge.specs.declared.track.LastKept.{LastKept}
-use Rattle.live_judge.specs.declared.track.LiveTrack.{LiveTrack}
-use Rattle.live_session.specs.declared.made.MadeTrack.{MadeTrack}
-use Rattle.live_session.specs.declared.maker.Maker.{Maker}
-use Rattle.live_judge.specs.Shown.{last_of, track_shown}
-use Rattle.live_session.specs.Kept.{no_place}
-use Rattle.live_session.specs.Made.{all_made}
-use Rattle.live_session.specs.Making.{AreMade, IsMadeBehind, IsNotMade, IsSectionMakeable, all_kept, first_section, number_of}
-use Rattle.live_session.specs.New.{IsBegun, joins, new_all, new_among, new_counted, new_faults, new_faults_among, new_faults_in}
-use Rattle.live_session.specs.New.{new_faults_of, new_in, new_kept, numbers_of, shown_by, track_at}
+use Rattle.live_judge.specs.{declared.track.LastKept.LastKept, declared.track.LiveTrack.LiveTrack, Shown.{last_of, track_shown}}
+use Rattle.live_session.specs.{declared.made.MadeTrack.MadeTrack, declared.maker.Maker.Maker, Kept.no_place, Made.all_made, Making.AreMade}
+use Rattle.live_session.specs.{Making.{IsMadeBehind, IsNotMade, IsSectionMakeable, all_kept, first_section, number_of}, New.IsBegun}
+use Rattle.live_session.specs.New.{joins, new_all, new_among, new_counted, new_faults, new_faults_among, new_faults_in, new_faults_of}
+use Rattle.live_session.specs.New.{new_in, new_kept, numbers_of, shown_by, track_at}
 use Rattle.live_session.proofs.Sections.{Stood, joins_next, none_faults, none_new, skip, stands, stands_next}
 
 -- ---- segments with their durations

@@ -1,16 +1,13 @@
 -- Tracks that lose their front.
 use Rattle.std.proofs.Common.{◌≡◌, ℕ, ◌*◌, ◌^◌, ◌<◌, ◌≤◌, List, length, All, Option, Some, sym, ◌∙◌, subst, arith}
+use Rattle.std.proofs.{Math.Nat.{mul-le-mul_left, one-le-pow}, lemmas.List.length-map, lemmas.Option.get_or_from_slice_get}
+use Rattle.std.proofs.lemmas.Option.{slice_get_within}
 use Rattle.std.specs.Prelude.{option_map, slice_get}
-use Rattle.std.proofs.Math.Nat.{mul-le-mul_left, one-le-pow}
-use Rattle.std.proofs.lemmas.List.{length-map}
-use Rattle.std.proofs.lemmas.Option.{get_or_from_slice_get, slice_get_within}
 use Rattle.presentation.specs.Presented.{Following}
 use Rattle.followed.specs.Durations.{durations}
 use Rattle.followed.proofs.KeptPlaces.{next_is_first}
-use Rattle.live_meaning.specs.Removal.{is_available, removed_of}
-use Rattle.live_meaning.specs.Segments.{Kept, segments_of}
-use Rattle.live_judge.specs.declared.track.LiveTrack.{LiveTrack}
-use Rattle.live_judge.specs.Removal.{kept_in}
+use Rattle.live_meaning.specs.{Removal.{is_available, removed_of}, Segments.{Kept, segments_of}}
+use Rattle.live_judge.specs.{declared.track.LiveTrack.LiveTrack, Removal.kept_in}
 use Rattle.live_session.specs.Growth.{CanTrim}
 use Rattle.live_session.proofs.Pushing.{length-kepts}
 

@@ -1,20 +1,11 @@
 -- What a first MPD begins.
 use Rattle.std.specs.Prelude.{◌≡◌, ℕ, ◌+◌, ◌≤◌, ℤ, pos, not, All, List, [], ◌++◌, length, map, replicate, unwrap_or}
 use Rattle.iso_time.specs.Instant.{IsReadable}
-use Rattle.presentation.specs.Counting.{count_faults}
-use Rattle.presentation.specs.Presented.{Presented}
-use Rattle.live_meaning.specs.Updates.{Terms, Values}
-use Rattle.live_meaning.specs.Segments.{Numbering}
-use Rattle.live_meaning.specs.Histories.{begun_common}
-use Rattle.live_meaning.specs.States.{Track}
-use Rattle.live_meaning.specs.Refusals.{NotDynamic, Presentation, Refusal, counts_listed, told_if, window_told}
-use Rattle.live_judge.specs.declared.standing.Standing.{Standing}
-use Rattle.live_judge.specs.declared.track.LiveTrack.{LiveTrack}
-use Rattle.live_judge.specs.Shown.{common_shown, track_shown}
-use Rattle.live_session.specs.Growth.{grown}
-use Rattle.live_session.specs.Kept.{empty_track}
-use Rattle.live_session.specs.New.{new_counted, new_faults, new_kept}
-use Rattle.live_session.specs.Written.{IsWritten}
+use Rattle.presentation.specs.{Counting.count_faults, Presented.Presented}
+use Rattle.live_meaning.specs.{Updates.{Terms, Values}, Segments.Numbering, Histories.begun_common, States.Track, Refusals.NotDynamic}
+use Rattle.live_meaning.specs.Refusals.{Presentation, Refusal, counts_listed, told_if, window_told}
+use Rattle.live_judge.specs.{declared.standing.Standing.Standing, declared.track.LiveTrack.LiveTrack, Shown.{common_shown, track_shown}}
+use Rattle.live_session.specs.{Growth.grown, Kept.empty_track, New.{new_counted, new_faults, new_kept}, Written.IsWritten}
 
 -- why it is refused, but for the addresses of segments
 abbrev pub first_judged : Values → Presented → List Refusal

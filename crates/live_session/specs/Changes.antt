@@ -1,35 +1,20 @@
 -- What an update changes beside the tracks, and what it is planned to add to them.
 use Rattle.std.specs.Prelude.{◌≡◌, ℕ, ◌+◌, ◌-◌, ◌<◌, ◌≤◌, ◌^◌, ◌⊎◌, ℤ, pos, All, List, [], ◌∷◌, ◌++◌, length, map, sum, IfSome, Option}
-use Rattle.std.specs.Prelude.{None, Some, Ok, Err, unwrap_or, if◌then◌else◌}
-use Rattle.std.specs.List.{range_with_len}
+use Rattle.std.specs.{Prelude.{None, Some, Ok, Err, unwrap_or, if◌then◌else◌}, List.range_with_len}
 use Rattle.bridge_io.specs.Firsts.{first_of}
 use Rattle.iso_time.specs.Instant.{IsReadable, IsWritable}
-use Rattle.presentation.specs.declared.fault.PresentationFault.{PresentationFault}
-use Rattle.presentation.specs.Presented.{Presented, looked_at}
+use Rattle.presentation.specs.{declared.fault.PresentationFault.PresentationFault, Presented.{Presented, looked_at}}
 use Rattle.followed.specs.Durations.{last_behind}
-use Rattle.live_meaning.specs.Updates.{Update, is_reset, mpd_of}
-use Rattle.live_meaning.specs.Segments.{place_behind}
-use Rattle.live_meaning.specs.Known.{ids_of, known_at, known_with}
-use Rattle.live_meaning.specs.Histories.{Common, availability_start_of, common_with, force_by, published_by}
-use Rattle.live_meaning.specs.States.{State, Track, kept_and_new, new_count, new_of}
-use Rattle.live_meaning.specs.Refusals.{Presentation, Refusal, appended_by, ids_in, next_of, refusal_of, urls_told}
-use Rattle.live_judge.specs.declared.coming.Coming.{Coming}
-use Rattle.live_judge.specs.declared.coming.Next.{Next}
-use Rattle.live_judge.specs.declared.fault.RefreshFault.{RefreshFault}
-use Rattle.live_judge.specs.declared.fault.RefreshFault.TheVariants.{Memory}
-use Rattle.live_judge.specs.declared.standing.Standing.{Standing}
-use Rattle.live_judge.specs.declared.track.LiveTrack.{LiveTrack}
-use Rattle.live_judge.specs.Coming.{Comes, coming_of, p_of, update_of}
-use Rattle.live_judge.specs.Faults.{told}
-use Rattle.live_judge.specs.Known.{StandsAt, known_shown}
-use Rattle.live_judge.specs.Shown.{common_shown, in_force, state_shown, track_shown}
-use Rattle.live_session.specs.declared.change.Change.{Change}
-use Rattle.live_session.specs.declared.change.Plan.{Plan}
-use Rattle.live_session.specs.declared.made.MadeTrack.{MadeTrack}
-use Rattle.live_session.specs.declared.maker.Maker.{Maker}
-use Rattle.live_session.specs.Growth.{grown}
-use Rattle.live_session.specs.Making.{all_kept}
-use Rattle.live_session.specs.Sessions.{CountsRefused}
+use Rattle.live_meaning.specs.{Updates.{Update, is_reset, mpd_of}, Segments.place_behind, Known.{ids_of, known_at, known_with}}
+use Rattle.live_meaning.specs.{Histories.{Common, availability_start_of, common_with, force_by, published_by}, States.{State, Track}}
+use Rattle.live_meaning.specs.{States.{kept_and_new, new_count, new_of}, Refusals.{Presentation, Refusal, appended_by, ids_in, next_of}}
+use Rattle.live_meaning.specs.Refusals.{refusal_of, urls_told}
+use Rattle.live_judge.specs.{declared.coming.Coming.Coming, declared.coming.Next.Next, declared.fault.RefreshFault.RefreshFault}
+use Rattle.live_judge.specs.{declared.fault.RefreshFault.TheVariants.Memory, declared.standing.Standing.Standing}
+use Rattle.live_judge.specs.{declared.track.LiveTrack.LiveTrack, Coming.{Comes, coming_of, p_of, update_of}, Faults.told, Known.StandsAt}
+use Rattle.live_judge.specs.{Known.known_shown, Shown.{common_shown, in_force, state_shown, track_shown}}
+use Rattle.live_session.specs.{declared.change.Change.Change, declared.change.Plan.Plan, declared.made.MadeTrack.MadeTrack}
+use Rattle.live_session.specs.{declared.maker.Maker.Maker, Growth.grown, Making.all_kept, Sessions.CountsRefused}
 
 -- ---- beside the tracks
 

@@ -2,15 +2,10 @@
 use Rattle.std.specs.Prelude.{◌≡◌, ℕ, ◌+◌, ◌*◌, ◌^◌, ◌<◌, List, [], ◌∷◌, length, slice_get, Some}
 use Rattle.exact_time.specs.declared.tick.Tick.{Tick}
 use Rattle.hls_writer.specs.declared.items.MediaItem.{MediaItem}
-use Rattle.live_meaning.specs.Removal.{removed_of}
-use Rattle.live_meaning.specs.Segments.{Kept}
-use Rattle.live_meaning.specs.States.{Track}
-use Rattle.live_judge.specs.declared.standing.Standing.{Standing}
-use Rattle.live_judge.specs.declared.track.Fact.{Fact}
-use Rattle.live_judge.specs.declared.track.LiveTrack.{LiveTrack}
+use Rattle.live_meaning.specs.{Removal.removed_of, Segments.Kept, States.Track}
+use Rattle.live_judge.specs.{declared.standing.Standing.Standing, declared.track.Fact.Fact, declared.track.LiveTrack.LiveTrack}
 use Rattle.live_judge.specs.Shown.{in_force}
-use Rattle.live_session.specs.declared.made.MadeTrack.{MadeTrack}
-use Rattle.live_session.specs.Kept.{HasRoom, with_all, without_front}
+use Rattle.live_session.specs.{declared.made.MadeTrack.MadeTrack, Kept.{HasRoom, with_all, without_front}}
 
 -- what a track has, whatever room there is for more
 abbrev pub inside_of : LiveTrack → List MediaItem × List Fact × ℕ × Tick

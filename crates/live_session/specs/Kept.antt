@@ -1,15 +1,10 @@
 -- What is kept of a followed track.
 use Rattle.std.specs.Prelude.{◌≡◌, ℕ, ◌+◌, ◌≤◌, List, [], ◌∷◌, ◌++◌, length, drop, false, ◌==◌, if◌then◌else◌, Option, None, Some}
 use Rattle.std.specs.Option.{option_map_or}
-use Rattle.exact_time.specs.Time.{Time}
-use Rattle.exact_time.specs.Tick.{time_of}
-use Rattle.exact_time.specs.declared.tick.Tick.{Tick}
+use Rattle.exact_time.specs.{Time.Time, Tick.time_of, declared.tick.Tick.Tick}
 use Rattle.followed.specs.Durations.{Last, last_with}
-use Rattle.live_meaning.specs.Segments.{Kept}
-use Rattle.live_meaning.specs.States.{Track}
-use Rattle.live_judge.specs.declared.track.LastKept.{LastKept}
-use Rattle.live_judge.specs.declared.track.LiveTrack.{LiveTrack}
-use Rattle.live_judge.specs.Shown.{track_shown}
+use Rattle.live_meaning.specs.{Segments.Kept, States.Track}
+use Rattle.live_judge.specs.{declared.track.LastKept.LastKept, declared.track.LiveTrack.LiveTrack, Shown.track_shown}
 use Rattle.live_session.specs.declared.made.Made.{Made}
 
 abbrev pub no_place : Option LastKept → ℕ

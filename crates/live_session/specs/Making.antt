@@ -1,33 +1,20 @@
 -- What is so of segments as they are made one by one.
 use Rattle.std.specs.Prelude.{◌≡◌, ◌⊎◌, ℕ, ◌+◌, ◌-◌, ◌^◌, ◌<◌, ◌≤◌, pos, neg_ℤ, ◌==◌, All, List, [], ◌∷◌, ◌++◌, length, map, slice_get}
 use Rattle.std.specs.Prelude.{Option, Some, None, IfSome, Result, Ok, Err, MatchOption, MatchResult, IsSome, if◌then◌else◌}
-use Rattle.exact_time.specs.Time.{IsAtMost, IsTime, Time, seconds}
-use Rattle.exact_time.specs.declared.tick.Tick.{Tick}
+use Rattle.exact_time.specs.{Time.{IsAtMost, IsTime, Time, seconds}, declared.tick.Tick.Tick}
 use Rattle.iso_time.specs.Instant.{IsWritable}
 use Rattle.url_parts.specs.declared.address.Part.{Part}
-use Rattle.timeline.specs.declared.fault.ListFault.{ListFault}
-use Rattle.timeline.specs.Listed.{part_of_timing}
-use Rattle.timeline.specs.Names.{list_refusal}
-use Rattle.timeline.specs.Expansions.{Timing}
+use Rattle.timeline.specs.{declared.fault.ListFault.ListFault, Listed.part_of_timing, Names.list_refusal, Expansions.Timing}
 use Rattle.followed.specs.Durations.{Last, last_behind, told_behind}
-use Rattle.presentation.specs.declared.fault.PresentationFault.{PresentationFault}
-use Rattle.presentation.specs.declared.parts.Content.{Content}
-use Rattle.presentation.specs.declared.segments.Behind.{Behind}
-use Rattle.presentation.specs.Counting.{refusal}
-use Rattle.presentation.specs.Presented.{listed_at, start_of}
-use Rattle.presentation.specs.Printing.{GoesOn, IsAtEnd, PrintedRest}
+use Rattle.presentation.specs.{declared.fault.PresentationFault.PresentationFault, declared.parts.Content.Content}
+use Rattle.presentation.specs.{declared.segments.Behind.Behind, Counting.refusal, Presented.{listed_at, start_of}, Printing.GoesOn}
+use Rattle.presentation.specs.Printing.{IsAtEnd, PrintedRest}
 use Rattle.live_meaning.specs.Segments.{Kept, Segment, segments_of}
-use Rattle.live_judge.specs.declared.track.LastKept.{LastKept}
-use Rattle.live_judge.specs.declared.track.LiveTrack.{LiveTrack}
-use Rattle.live_session.specs.declared.made.Made.{Made}
-use Rattle.live_session.specs.declared.made.MadeTrack.{MadeTrack}
-use Rattle.live_session.specs.declared.maker.Maker.{Maker}
-use Rattle.live_session.specs.declared.maker.Section.{Section}
-use Rattle.live_judge.specs.Shown.{track_shown}
-use Rattle.live_session.specs.Kept.{AreSideBySide}
-use Rattle.live_session.specs.Made.{all_made, kept_as, made_kept}
-use Rattle.live_session.specs.New.{IsBegun, joins, later_listed, left_to_make, new_all, new_counted, new_faults, new_in, new_kept}
-use Rattle.live_session.specs.New.{numbers_of, shown_by, track_at}
+use Rattle.live_judge.specs.{declared.track.LastKept.LastKept, declared.track.LiveTrack.LiveTrack, Shown.track_shown}
+use Rattle.live_session.specs.{declared.made.Made.Made, declared.made.MadeTrack.MadeTrack, declared.maker.Maker.Maker}
+use Rattle.live_session.specs.{declared.maker.Section.Section, Kept.AreSideBySide, Made.{all_made, kept_as, made_kept}, New.IsBegun}
+use Rattle.live_session.specs.New.{joins, later_listed, left_to_make, new_all, new_counted, new_faults, new_in, new_kept, numbers_of}
+use Rattle.live_session.specs.New.{shown_by, track_at}
 
 -- ---- where a section begins
 

@@ -1,30 +1,18 @@
 -- Which segments an update lists behind those that were listed before: Period by Period, where the Periods have the places from
 -- a first one on.
 use Rattle.std.specs.Prelude.{◌≡◌, ℕ, ◌+◌, ◌-◌, ◌^◌, ◌<◌, ◌≤◌, true, List, [], ◌∷◌, ◌++◌, map, filter, flat_map, length, Option, Some, None}
-use Rattle.std.specs.Prelude.{option_map, false, IfSome}
-use Rattle.std.specs.Option.{option_map_or}
-use Rattle.exact_time.specs.Tick.{time_of}
-use Rattle.exact_time.specs.Time.{IsAtMost}
-use Rattle.exact_time.specs.declared.tick.Tick.{Tick}
-use Rattle.timeline.specs.Expansions.{SegmentTimeline, Timing}
-use Rattle.timeline.specs.Faults.{is_apart}
+use Rattle.std.specs.{Prelude.{option_map, false, IfSome}, Option.option_map_or}
+use Rattle.exact_time.specs.{Tick.time_of, Time.IsAtMost, declared.tick.Tick.Tick}
+use Rattle.timeline.specs.{Expansions.{SegmentTimeline, Timing}, Faults.is_apart}
 use Rattle.iso_time.specs.Instant.{IsReadable}
-use Rattle.presentation.specs.declared.fault.PresentationFault.{PresentationFault}
-use Rattle.presentation.specs.declared.parts.Content.{Content}
-use Rattle.presentation.specs.declared.segments.Behind.{Behind}
-use Rattle.presentation.specs.Counting.{sections_of}
-use Rattle.presentation.specs.Kept.{printed_rest, rounding_at}
-use Rattle.presentation.specs.Presented.{Presented, content_at, listed_at, looked_at, start_of}
-use Rattle.presentation.specs.Printing.{IsCounted, PrintedRest, later_than}
+use Rattle.presentation.specs.{declared.fault.PresentationFault.PresentationFault, declared.parts.Content.Content}
+use Rattle.presentation.specs.{declared.segments.Behind.Behind, Counting.sections_of, Kept.{printed_rest, rounding_at}, Presented.Presented}
+use Rattle.presentation.specs.{Presented.{content_at, listed_at, looked_at, start_of}, Printing.{IsCounted, PrintedRest, later_than}}
 use Rattle.presentation.specs.Verifying.{part_faults}
 use Rattle.followed.specs.Durations.{Last, told_behind}
-use Rattle.live_meaning.specs.Segments.{Kept, Numbering, Segment, is_later, segment_with}
-use Rattle.live_meaning.specs.Refusals.{extent_of}
-use Rattle.live_meaning.specs.States.{Track}
-use Rattle.live_judge.specs.declared.track.LastKept.{LastKept}
-use Rattle.live_session.specs.declared.maker.Maker.{Maker}
-use Rattle.live_judge.specs.Shown.{last_of}
-use Rattle.live_session.specs.Kept.{no_place}
+use Rattle.live_meaning.specs.{Segments.{Kept, Numbering, Segment, is_later, segment_with}, Refusals.extent_of, States.Track}
+use Rattle.live_judge.specs.{declared.track.LastKept.LastKept, Shown.last_of}
+use Rattle.live_session.specs.{declared.maker.Maker.Maker, Kept.no_place}
 
 -- ---- the new segments of a track
 

@@ -1,10 +1,7 @@
 -- Segments whose durations and dates can be printed in turn.
 use Rattle.std.specs.Prelude.{◌≡◌, All, true}
-use Rattle.exact_time.specs.Time.{before, seconds}
-use Rattle.exact_time.specs.Rounding.{Rounding}
-use Rattle.timeline.specs.Expansions.{Timing}
-use Rattle.timeline.specs.Listed.{Rest}
-use Rattle.timeline.specs.Steady.{IsWithinLimits}
+use Rattle.exact_time.specs.{Time.{before, seconds}, Rounding.Rounding}
+use Rattle.timeline.specs.{Expansions.Timing, Listed.Rest, Steady.IsWithinLimits}
 use Rattle.presentation.specs.Kept.{IsPaced}
 
 -- a segment within the limits that ends behind its Period's start

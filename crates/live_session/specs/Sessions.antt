@@ -1,21 +1,13 @@
 -- What a session keeps true, and what its calls say.
-use Rattle.std.specs.Prelude.{◌≡◌, ℕ, ◌+◌, ◌*◌, ◌≤◌, ℤ, All, List, [], ◌∷◌, ◌++◌, length, IfSome, MatchResult, None, Some, Option, Result}
-use Rattle.std.specs.Prelude.{Ok, Err}
-use Rattle.std.specs.Option.{option_map_or}
-use Rattle.iso_time.specs.Instant.{IsReadable}
-use Rattle.presentation.specs.declared.fault.PresentationFault.TheVariants.{Url}
-use Rattle.presentation.specs.Counting.{count_of_all, counted}
-use Rattle.live_meaning.specs.Updates.{Refresh, Terms, Tick, Update, Values}
-use Rattle.live_meaning.specs.States.{State}
-use Rattle.live_meaning.specs.Refusals.{update_refusal}
-use Rattle.live_meaning.specs.Playlists.{live_text, playlist_of}
-use Rattle.live_meaning.specs.Laws.{Shows}
-use Rattle.live_judge.specs.declared.fault.RefreshFault.{RefreshFault}
 use Rattle.live_judge.specs.declared.fault.RefreshFault.TheVariants as fault
-use Rattle.live_judge.specs.declared.standing.Standing.{Standing}
-use Rattle.live_judge.specs.declared.track.LiveTrack.{LiveTrack}
-use Rattle.live_judge.specs.Faults.{told}
-use Rattle.live_judge.specs.Sound.{IsLive}
+use Rattle.std.specs.Prelude.{◌≡◌, ℕ, ◌+◌, ◌*◌, ◌≤◌, ℤ, All, List, [], ◌∷◌, ◌++◌, length, IfSome, MatchResult, None, Some, Option, Result}
+use Rattle.std.specs.{Prelude.{Ok, Err}, Option.option_map_or}
+use Rattle.iso_time.specs.Instant.{IsReadable}
+use Rattle.presentation.specs.{declared.fault.PresentationFault.TheVariants.Url, Counting.{count_of_all, counted}}
+use Rattle.live_meaning.specs.{Updates.{Refresh, Terms, Tick, Update, Values}, States.State, Refusals.update_refusal, Playlists.live_text}
+use Rattle.live_meaning.specs.{Playlists.playlist_of, Laws.Shows}
+use Rattle.live_judge.specs.{declared.fault.RefreshFault.RefreshFault, declared.standing.Standing.Standing}
+use Rattle.live_judge.specs.{declared.track.LiveTrack.LiveTrack, Faults.told, Sound.IsLive}
 use Rattle.live_session.specs.Written.{IsWritten}
 
 -- each accepted update listed at most 20,000 segments of it

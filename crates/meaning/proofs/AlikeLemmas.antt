@@ -1,17 +1,13 @@
 -- What means the same differs from another at the same place.
-use Rattle.std.proofs.Common.{◌≡◌, ℕ, ◌+◌, ◌==◌, ◌&&◌, ◌||◌, Bool, true, false, List, [], ◌∷◌, length, Option, Some, None, bytes_eq, refl}
-use Rattle.std.proofs.Common.{sym, ◌∙◌, ap}
-use Rattle.std.specs.Bool.{Decides}
-use Rattle.std.specs.Option.{option_eq, option_or}
-use Rattle.std.proofs.lemmas.Bool.Decides.{Decides-int_eq}
-use Rattle.exact_time.specs.Time.{Time, IsTime, IsSame, cross, difference}
-use Rattle.exact_time.specs.TickOrder.{IsAtMost-trans, same_from_both, same_is_at_most, same_is_at_least}
-use Rattle.url_parts.specs.declared.address.Part.{Part}
-use Rattle.meaning.specs.declared.difference.Aspect.{Aspect}
 use Rattle.meaning.specs.declared.difference.Aspect.TheVariants as aspect
-use Rattle.meaning.specs.declared.difference.Difference.{Difference}
-use Rattle.meaning.specs.Meanings.{Segment, Entry, Track, Meaning}
-use Rattle.meaning.specs.Same.{Pairwise, SameSegment, SameEntries, SameTrack, Same, IsSameTime, begin_of, rounded_down}
+use Rattle.std.proofs.Common.{◌≡◌, ℕ, ◌+◌, ◌==◌, ◌&&◌, ◌||◌, Bool, true, false, List, [], ◌∷◌, length, Option, Some, None, bytes_eq, refl}
+use Rattle.std.proofs.{Common.{sym, ◌∙◌, ap}, lemmas.Bool.Decides.Decides-int_eq}
+use Rattle.std.specs.{Bool.Decides, Option.{option_eq, option_or}}
+use Rattle.exact_time.specs.{Time.{Time, IsTime, IsSame, cross, difference}, TickOrder.{IsAtMost-trans, same_from_both, same_is_at_most}}
+use Rattle.exact_time.specs.TickOrder.{same_is_at_least}
+use Rattle.url_parts.specs.declared.address.Part.{Part}
+use Rattle.meaning.specs.{declared.difference.Aspect.Aspect, declared.difference.Difference.Difference, Meanings.{Segment, Entry, Track}}
+use Rattle.meaning.specs.{Meanings.Meaning, Same.{Pairwise, SameSegment, SameEntries, SameTrack, Same, IsSameTime, begin_of, rounded_down}}
 use Rattle.meaning.specs.Differences.{is_same_kind, is_same_range, is_same_part, is_same_time, is_same_or_rounded, unless, in_all, in_track}
 use Rattle.meaning.specs.Differences.{in_entry, segment_difference, segments_difference, entry_difference, entries_difference}
 use Rattle.meaning.specs.Differences.{heads_difference, tracks_difference, first_difference}

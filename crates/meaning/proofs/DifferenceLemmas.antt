@@ -1,23 +1,17 @@
 -- No first difference is found exactly where two presentations agree.
 use Rattle.std.proofs.Common.{◌≡◌, ℕ, zero, suc, ◌+◌, Bool, true, false, List, [], ◌∷◌, length, Option, Some, None, bytes_eq, refl, sym}
-use Rattle.std.proofs.Common.{◌∙◌, ap, subst, arith}
-use Rattle.std.specs.Bool.{Decides}
-use Rattle.std.specs.Option.{option_eq, option_or}
-use Rattle.std.proofs.lemmas.Bool.Decides.{Decides-eqb, Decides-int_eq, Decides-and, Decides-or, Decides-like}
-use Rattle.std.proofs.lemmas.Slice.Eq.{bytes_eq-Decides}
+use Rattle.std.proofs.{Common.{◌∙◌, ap, subst, arith}, lemmas.Bool.Decides.{Decides-eqb, Decides-int_eq, Decides-and, Decides-or}}
+use Rattle.std.proofs.{lemmas.Bool.Decides.Decides-like, lemmas.Slice.Eq.bytes_eq-Decides}
+use Rattle.std.specs.{Bool.Decides, Option.{option_eq, option_or}}
 use Rattle.exact_time.specs.Time.{Time, cross, difference}
-use Rattle.bridge_io.specs.declared.media.Kind.{Kind}
-use Rattle.bridge_io.specs.declared.media.Kind.TheVariants.{Video, Audio, Text}
-use Rattle.url_parts.specs.declared.address.Part.{Part}
-use Rattle.url_parts.specs.declared.range.Range.{Range}
-use Rattle.meaning.specs.declared.difference.Aspect.{Aspect}
-use Rattle.meaning.specs.declared.difference.Difference.{Difference}
-use Rattle.meaning.specs.Meanings.{Segment, Entry, Track, Meaning}
-use Rattle.meaning.specs.Same.{Pairwise, SameSegment, SameEntries, SameTrack, IsSameOrRounded, Agrees, begin_of, rounded_down}
+use Rattle.bridge_io.specs.{declared.media.Kind.Kind, declared.media.Kind.TheVariants.{Video, Audio, Text}}
+use Rattle.url_parts.specs.{declared.address.Part.Part, declared.range.Range.Range}
+use Rattle.meaning.specs.{declared.difference.Aspect.Aspect, declared.difference.Difference.Difference, Meanings.{Segment, Entry, Track}}
+use Rattle.meaning.specs.{Meanings.Meaning, Same.{Pairwise, SameSegment, SameEntries, SameTrack, IsSameOrRounded, Agrees, begin_of}}
+use Rattle.meaning.specs.{Same.rounded_down, Differences.{rank_of, is_same_kind, is_same_range, is_same_part, is_same_or_rounded}}
+use Rattle.meaning.specs.Differences.{is_same_head, unless, segment_difference, segments_difference, entry_difference, entries_difference}
+use Rattle.meaning.specs.Differences.{heads_difference, tracks_difference, first_difference, in_entry}
 use Rattle.meaning.proofs.SameLemmas.{Pairwise-wider, Pairwise-length}
-use Rattle.meaning.specs.Differences.{rank_of, is_same_kind, is_same_range, is_same_part, is_same_or_rounded, is_same_head, unless}
-use Rattle.meaning.specs.Differences.{segment_difference, segments_difference, entry_difference, entries_difference, heads_difference}
-use Rattle.meaning.specs.Differences.{tracks_difference, first_difference, in_entry}
 
 -- nothing is found exactly where P holds
 abbrev Finds : Option Difference → Type 0 → Type 0

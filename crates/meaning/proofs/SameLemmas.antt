@@ -1,8 +1,7 @@
 -- What is related by a relation on times is related by each wider one.
 use Rattle.std.proofs.Common.{◌≡◌, suc, length, List, [], ◌∷◌, Option, Some, None, refl, ap}
 use Rattle.exact_time.specs.Time.{Time}
-use Rattle.meaning.specs.Meanings.{Entry, Meaning}
-use Rattle.meaning.specs.Same.{Pairwise, SameEntries, Same}
+use Rattle.meaning.specs.{Meanings.{Entry, Meaning}, Same.{Pairwise, SameEntries, Same}}
 
 pub Pairwise-wider : {A B : Type 0} (R S : A → B → Type 0) → ((a : A) (b : B) → R a b → S a b) → (xs : List A) (ys : List B)
     → Pairwise R xs ys → Pairwise S xs ys

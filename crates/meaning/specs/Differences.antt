@@ -1,17 +1,12 @@
 -- Where two manifests differ first.
-use Rattle.std.specs.Prelude.{ℕ, ◌+◌, ◌==◌, ◌&&◌, ◌||◌, Bool, List, [], ◌∷◌, length, bytes_eq, if◌then◌else◌, Option, Some, None}
-use Rattle.std.specs.Ordering.{int_eq}
-use Rattle.std.specs.Option.{option_eq, option_or}
-use Rattle.exact_time.specs.Time.{Time, cross, difference}
-use Rattle.bridge_io.specs.declared.media.Kind.{Kind}
-use Rattle.bridge_io.specs.declared.media.Kind.TheVariants.{Video, Audio, Text}
-use Rattle.url_parts.specs.declared.address.Part.{Part}
-use Rattle.url_parts.specs.declared.range.Range.{Range}
-use Rattle.meaning.specs.declared.difference.Aspect.{Aspect}
 use Rattle.meaning.specs.declared.difference.Aspect.TheVariants as aspect
-use Rattle.meaning.specs.declared.difference.Difference.{Difference}
-use Rattle.meaning.specs.Meanings.{Segment, Entry, Track, Meaning}
-use Rattle.meaning.specs.Same.{begin_of, rounded_down}
+use Rattle.std.specs.Prelude.{ℕ, ◌+◌, ◌==◌, ◌&&◌, ◌||◌, Bool, List, [], ◌∷◌, length, bytes_eq, if◌then◌else◌, Option, Some, None}
+use Rattle.std.specs.{Ordering.int_eq, Option.{option_eq, option_or}}
+use Rattle.exact_time.specs.Time.{Time, cross, difference}
+use Rattle.bridge_io.specs.{declared.media.Kind.Kind, declared.media.Kind.TheVariants.{Video, Audio, Text}}
+use Rattle.url_parts.specs.{declared.address.Part.Part, declared.range.Range.Range}
+use Rattle.meaning.specs.{declared.difference.Aspect.Aspect, declared.difference.Difference.Difference, Meanings.{Segment, Entry, Track}}
+use Rattle.meaning.specs.{Meanings.Meaning, Same.{begin_of, rounded_down}}
 
 -- ---- tests of what is compared
 

@@ -1,7 +1,6 @@
 -- When two manifests mean the same.
 use Rattle.std.specs.Prelude.{◌≡◌, ◌⊎◌, ℕ, List, [], ◌∷◌, Option, Some, None}
-use Rattle.exact_time.specs.Time.{Time, IsTime, IsSame, difference, in_units, seconds}
-use Rattle.exact_time.specs.Floor.{floor_in}
+use Rattle.exact_time.specs.{Time.{Time, IsTime, IsSame, difference, in_units, seconds}, Floor.floor_in}
 use Rattle.meaning.specs.Meanings.{Segment, Entry, Track, Meaning}
 
 -- lists of one length, whose members are related place by place

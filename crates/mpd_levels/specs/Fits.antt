@@ -4,8 +4,7 @@ use Rattle.std.specs.Prelude.{◌≡◌, ℕ, ◌^◌, List, All, codes, IfSome,
 use Rattle.mpd_values.specs.Numbers.{number_between, signed_64_of}
 use Rattle.mpd_text.specs.Trees.{Head, Element}
 use Rattle.mpd_profile.specs.Heads.{value_named}
-use Rattle.mpd_levels.specs.Readings.{number_named, signed_named, child_named, children_named}
-use Rattle.mpd_levels.specs.Levels.{template_name, list_name}
+use Rattle.mpd_levels.specs.{Readings.{number_named, signed_named, child_named, children_named}, Levels.{template_name, list_name}}
 
 abbrev pub number_within : (least bound : ℕ) → List ℕ → Head → Option ℕ
 number_within least bound name head = option_and_then (number_between least bound) (value_named name head)

@@ -1,13 +1,10 @@
 -- Files with an index inside: a SegmentBase, taken whole from the lowest level that has one (ISO/IEC 23009-1, 5.3.9.2).
+use Rattle.mpd_levels.specs.declared.level.Means.TheVariants as means
 use Rattle.std.specs.Prelude.{◌==◌, ◌&&◌, Bool, true, List, codes, is_none, Option, Some, None, option_map}
 use Rattle.url_parts.specs.declared.range.Range.{Range}
 use Rattle.mpd_text.specs.Trees.{Element}
-use Rattle.mpd_levels.specs.declared.level.Means.{Means}
-use Rattle.mpd_levels.specs.declared.level.Means.TheVariants as means
-use Rattle.mpd_levels.specs.declared.initialization.Initialization.{Initialization}
-use Rattle.mpd_levels.specs.declared.indexed.IndexRow.{IndexRow}
-use Rattle.mpd_levels.specs.Readings.{range_named, child_named}
-use Rattle.mpd_levels.specs.Levels.{first_some, base_name, used}
+use Rattle.mpd_levels.specs.{declared.level.Means.Means, declared.initialization.Initialization.Initialization}
+use Rattle.mpd_levels.specs.{declared.indexed.IndexRow.IndexRow, Readings.{range_named, child_named}, Levels.{first_some, base_name, used}}
 use Rattle.mpd_levels.specs.Segments.{initialization_in}
 
 abbrev pub index_in : Element → IndexRow

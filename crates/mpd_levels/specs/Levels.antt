@@ -1,11 +1,10 @@
 -- Which elements tell the segments of a Representation: ISO/IEC 23009-1, 5.3.9.1. Its levels, the Representation, its
 -- AdaptationSet and its Period, stand in a list from the lowest one on.
+use Rattle.mpd_levels.specs.declared.level.Means.TheVariants as means
 use Rattle.std.specs.Prelude.{ℕ, Bool, List, [], ◌∷◌, filter_map, codes, is_some, if◌then◌else◌, Option, Some, None}
 use Rattle.mpd_text.specs.Trees.{Element}
 use Rattle.mpd_profile.specs.Heads.{or_else}
-use Rattle.mpd_levels.specs.declared.level.Means.{Means}
-use Rattle.mpd_levels.specs.declared.level.Means.TheVariants as means
-use Rattle.mpd_levels.specs.Readings.{child_named}
+use Rattle.mpd_levels.specs.{declared.level.Means.Means, Readings.child_named}
 
 -- the value at the first member that has one
 abbrev pub first_some : {X Y : Type 0} → (X → Option Y) → List X → Option Y

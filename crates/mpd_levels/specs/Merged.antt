@@ -1,8 +1,7 @@
 -- Rows one above another.
 use Rattle.std.specs.Prelude.{None}
 use Rattle.mpd_profile.specs.Heads.{or_else}
-use Rattle.mpd_levels.specs.declared.values.Attributes.{Attributes}
-use Rattle.mpd_levels.specs.declared.values.ValueRow.{ValueRow}
+use Rattle.mpd_levels.specs.{declared.values.Attributes.Attributes, declared.values.ValueRow.ValueRow}
 
 -- what the lower one says, and where it says nothing what the higher one says
 abbrev pub attributes_over : (own higher : Attributes) → Attributes

@@ -1,21 +1,12 @@
 -- What rows say, their timelines and lists looked up in tables.
 use Rattle.std.specs.Prelude.{◌≡◌, ℕ, true, false, List, Option, Some, None, option_map, option_and_then, slice_get}
 use Rattle.mpd_text.specs.Trees.{Element}
-use Rattle.mpd_levels.specs.declared.addressing.Addressing.{Addressing}
-use Rattle.mpd_levels.specs.declared.addressing.SegmentRow.{SegmentRow}
-use Rattle.mpd_levels.specs.declared.indexed.InitView.{InitView}
-use Rattle.mpd_levels.specs.declared.initialization.Initialization.{Initialization}
-use Rattle.mpd_levels.specs.declared.level.Level.{Level}
-use Rattle.mpd_levels.specs.declared.tables.SView.{SView}
-use Rattle.mpd_levels.specs.declared.tables.SegmentUrl.{SegmentUrl}
-use Rattle.mpd_levels.specs.declared.tables.Tables.{Tables}
-use Rattle.mpd_levels.specs.declared.values.ValueRow.{ValueRow}
-use Rattle.mpd_levels.specs.declared.walks.SWalk.{SWalk}
-use Rattle.mpd_levels.specs.declared.walks.UrlView.{UrlView}
-use Rattle.mpd_levels.specs.declared.walks.UrlWalk.{UrlWalk}
-use Rattle.mpd_levels.specs.Levels.{used, elements_used, template_name, list_name}
-use Rattle.mpd_levels.specs.Segments.{Values, Segments, told, values_in}
-use Rattle.mpd_levels.specs.Indexed.{base_in}
+use Rattle.mpd_levels.specs.{declared.addressing.Addressing.Addressing, declared.addressing.SegmentRow.SegmentRow}
+use Rattle.mpd_levels.specs.{declared.indexed.InitView.InitView, declared.initialization.Initialization.Initialization}
+use Rattle.mpd_levels.specs.{declared.level.Level.Level, declared.tables.SView.SView, declared.tables.SegmentUrl.SegmentUrl}
+use Rattle.mpd_levels.specs.{declared.tables.Tables.Tables, declared.values.ValueRow.ValueRow, declared.walks.SWalk.SWalk}
+use Rattle.mpd_levels.specs.{declared.walks.UrlView.UrlView, declared.walks.UrlWalk.UrlWalk, Levels.{used, elements_used, template_name}}
+use Rattle.mpd_levels.specs.{Levels.list_name, Segments.{Values, Segments, told, values_in}, Indexed.base_in}
 
 -- ---- tables
 

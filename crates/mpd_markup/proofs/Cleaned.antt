@@ -1,13 +1,10 @@
 -- A printed tree is UTF-8 without a character that no text may have.
 use Rattle.std.proofs.Common.{◌≡◌, ℕ, suc, not, Bool, true, false, ◌==◌, ◌&&◌, List, [], ◌∷◌, ◌++◌, Option, Some, None, option_map}
-use Rattle.std.proofs.Common.{if◌then◌else◌, codes, IsUtf8, refl, sym, ap, subst, inl, inr, arith}
-use Rattle.std.specs.List.{flat_map}
-use Rattle.std.proofs.lemmas.Bool.{and_parts, cases_eq}
+use Rattle.std.proofs.{Common.{if◌then◌else◌, codes, IsUtf8, refl, sym, ap, subst, inl, inr, arith}, lemmas.Bool.{and_parts, cases_eq}}
 use Rattle.std.proofs.lemmas.Str.{IsUtf8-append, IsUtf8-nil, IsUtf8-encode, IsUtf8-from_is_utf8, IsCharBoundary-start}
+use Rattle.std.specs.{List.flat_map, Str.{is_utf8, chars}}
 use lib.Utf8.{scalar, scalars, encode, encodes}
-use Rattle.std.specs.Str.{is_utf8, chars}
-use Rattle.mpd_text.specs.Characters.{begins_with_noncharacter, begins_with_bad_character, first_bad_character}
-use Rattle.mpd_text.specs.Grammar.{IsClean}
+use Rattle.mpd_text.specs.{Characters.{begins_with_noncharacter, begins_with_bad_character, first_bad_character}, Grammar.IsClean}
 use Rattle.mpd_text.specs.Escapes.{escape_of, escape_all}
 use Rattle.mpd_text.proofs.EscapeLemmas.{escape-append, byte_stays, character_stays}
 use Rattle.mpd_markup.specs.Markup.{Tag, Markup, nothing, element, attribute_text, opening, enclosed, printed, declaration, document}

@@ -1,12 +1,9 @@
 -- A printed tree spells what is read of it.
 use Rattle.std.proofs.Common.{◌≡◌, ℕ, suc, max, List, [], ◌∷◌, ◌++◌, map, codes, refl, sym, ap, ap₂, subst, inl, inr}
-use Rattle.bridge_io.specs.declared.place.Place.{Place}
-use Rattle.mpd_text.specs.Characters.{is_white}
-use Rattle.mpd_text.specs.Trees.{depth}
-use Rattle.mpd_text.specs.Grammar.{IsAttribute, AreAttributes, OpensTag, IsElementRound, IsContent, IsMisc, IsProlog, IsDocument, AllDiffer}
-use Rattle.mpd_text.specs.Grammar.{names_of, past}
 use Rattle.std.proofs.lemmas.List.{append-nil}
-use Rattle.mpd_text.specs.Escapes.{escape_all}
+use Rattle.bridge_io.specs.declared.place.Place.{Place}
+use Rattle.mpd_text.specs.{Characters.is_white, Trees.depth, Grammar.{IsAttribute, AreAttributes, OpensTag, IsElementRound, IsContent}}
+use Rattle.mpd_text.specs.{Grammar.{IsMisc, IsProlog, IsDocument, AllDiffer, names_of, past}, Escapes.escape_all}
 use Rattle.mpd_text.proofs.ReadBack.{reads_back}
 use Rattle.mpd_markup.specs.Markup.{Tag, Markup, nothing, element, attribute_text, opening, enclosed, printed, declaration, document}
 use Rattle.mpd_markup.specs.Placed.{attributes_at, line_feeds, text_round, head_at, placed, root_place, root_read, levels, IsLegalAttribute}

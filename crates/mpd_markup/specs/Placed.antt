@@ -1,12 +1,9 @@
 -- What is read of elements that are printed.
-use Rattle.std.specs.Prelude.{◌≡◌, ◌≤◌, ℕ, suc, max, nat_le, IsTrue, ⊤, List, [], ◌∷◌, ◌++◌, map, codes, Ok}
-use Rattle.std.specs.List.{list_all}
-use Rattle.bridge_io.specs.declared.place.Place.{Place}
-use Rattle.mpd_text.specs.Characters.{is_name}
-use Rattle.mpd_text.specs.Trees.{Attribute, Head, Forest, Element}
 use Rattle.mpd_text.specs.Trees as tree
-use Rattle.mpd_text.specs.Grammar.{IsClean, AllDiffer, past, first_place, deepest}
-use Rattle.mpd_text.specs.Meaning.{reading_of}
+use Rattle.std.specs.{Prelude.{◌≡◌, ◌≤◌, ℕ, suc, max, nat_le, IsTrue, ⊤, List, [], ◌∷◌, ◌++◌, map, codes, Ok}, List.list_all}
+use Rattle.bridge_io.specs.declared.place.Place.{Place}
+use Rattle.mpd_text.specs.{Characters.is_name, Trees.{Attribute, Head, Forest, Element}, Grammar.{IsClean, AllDiffer, past, first_place}}
+use Rattle.mpd_text.specs.{Grammar.deepest, Meaning.reading_of}
 use Rattle.mpd_markup.specs.Markup.{Tag, Markup, nothing, element, attribute_text, opening, enclosed, printed, declaration, document}
 
 -- ---- what is read

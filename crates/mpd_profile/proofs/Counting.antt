@@ -1,17 +1,11 @@
 -- Numbers of few digits.
 use Rattle.std.proofs.Common.{◌≡◌, ℕ, ◌-◌, ◌<◌, ◌&&◌, zero, suc, Bool, true, false, List, [], ◌∷◌, length, refl, sym, arith}
-use Rattle.std.specs.Prelude.{get_or, is_some}
-use Rattle.std.specs.Str.{all_ascii_digits}
-use Rattle.std.specs.Str.Parse.{digits_value}
-use Rattle.std.specs.Char.{is_ascii_digit}
-use Rattle.std.specs.List.{list_all, suffix_len}
-use Rattle.std.proofs.lemmas.Bool.Decides.{nat_tests}
-use Rattle.std.proofs.lemmas.List.{take_all}
-use Rattle.std.proofs.lemmas.List.Sums.{prefix_len_is, suffix_len_is}
+use Rattle.std.proofs.{lemmas.Bool.Decides.nat_tests, lemmas.List.take_all, lemmas.List.Sums.{prefix_len_is, suffix_len_is}}
 use Rattle.std.proofs.lemmas.Str.Parse.{IsNumeralModel, digits_value_short, numerals_by_value, tells_all_ascii_digits}
-use Rattle.mpd_values.specs.declared.blank.Blank.TheVariants.{Space}
-use Rattle.mpd_values.specs.Blanks.{is_blank, trimmed}
-use Rattle.mpd_values.specs.Numbers.{is_between, kept_if, number_between, number_of, numeral_of}
+use Rattle.std.specs.{Prelude.{get_or, is_some}, Str.all_ascii_digits, Str.Parse.digits_value, Char.is_ascii_digit, List.list_all}
+use Rattle.std.specs.List.{suffix_len}
+use Rattle.mpd_values.specs.{declared.blank.Blank.TheVariants.Space, Blanks.{is_blank, trimmed}, Numbers.{is_between, kept_if}}
+use Rattle.mpd_values.specs.Numbers.{number_between, number_of, numeral_of}
 use Rattle.mpd_profile.specs.Values.{are_few_digits, has_room}
 
 model : IsNumeralModel (λ ds. all_ascii_digits ds ≡ true) (digits_value 10)

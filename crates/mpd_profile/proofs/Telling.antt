@@ -1,13 +1,9 @@
 -- The first of what is told of one element.
 use Rattle.std.proofs.Common.{◌≡◌, Bool, true, false, List, [], ◌∷◌, ◌++◌, Option, Some, None, Err, refl}
 use Rattle.std.specs.Prelude.{if◌then◌else◌}
-use Rattle.bridge_io.specs.Firsts.{first_fault}
-use Rattle.bridge_io.specs.declared.place.Place.{Place}
-use Rattle.mpd_profile.specs.declared.fault.RuleFault.{RuleFault}
-use Rattle.mpd_profile.specs.declared.fault.RuleFault.TheVariants.{Missing}
-use Rattle.mpd_profile.specs.declared.feature.Feature.{Feature}
-use Rattle.mpd_profile.specs.Features.{fault_at, told_at}
-use Rattle.mpd_profile.specs.Heads.{or_else}
+use Rattle.bridge_io.specs.{Firsts.first_fault, declared.place.Place.Place}
+use Rattle.mpd_profile.specs.{declared.fault.RuleFault.RuleFault, declared.fault.RuleFault.TheVariants.Missing}
+use Rattle.mpd_profile.specs.{declared.feature.Feature.Feature, Features.{fault_at, told_at}, Heads.or_else}
 
 module _ (place : Place) where
   pub some_feature : (a b : Option Feature) (rest : List RuleFault) (feature : Feature) → Some feature ≡ or_else a b

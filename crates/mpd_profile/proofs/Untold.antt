@@ -1,15 +1,12 @@
 -- Names that tell nothing.
+use Rattle.mpd_profile.specs.declared.listed.Listed.TheVariants as listed
 use Rattle.std.proofs.Common.{◌≡◌, ℕ, true, false, List, Option, Some, None, refl, sym, ap, ◌∙◌, bytes_eq, nat_lt, length, inl, inr, ◌⊎◌}
-use Rattle.std.proofs.Common.{◌||◌, Bool}
+use Rattle.std.proofs.{Common.{◌||◌, Bool}, lemmas.Bool.cases_Bool}
 use Rattle.std.specs.Prelude.{codes}
-use Rattle.std.proofs.lemmas.Bool.{cases_Bool}
 use Rattle.bridge_io.proofs.Texts.{same_bytes}
 use Rattle.mpd_text.specs.Trees.{Attribute}
-use Rattle.mpd_profile.specs.declared.listed.Listed.{Listed}
-use Rattle.mpd_profile.specs.declared.listed.Listed.TheVariants as listed
-use Rattle.mpd_profile.specs.Features.{attribute_feature, is_entry_value, is_essential_in, is_segment_element, parent_feature}
-use Rattle.mpd_profile.specs.Heads.{is_short}
-use Rattle.mpd_profile.specs.Visits.{Parent}
+use Rattle.mpd_profile.specs.{declared.listed.Listed.Listed, Features.{attribute_feature, is_entry_value, is_essential_in}}
+use Rattle.mpd_profile.specs.{Features.{is_segment_element, parent_feature}, Heads.is_short, Visits.Parent}
 
 -- ---- short names
 

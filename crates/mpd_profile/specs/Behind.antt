@@ -1,11 +1,8 @@
 -- What the elements before one in its parent say of it.
-use Rattle.std.specs.Prelude.{◌≡◌, ℕ, ◌&&◌, Bool, List, codes, map}
-use Rattle.std.specs.List.{list_any}
+use Rattle.std.specs.{Prelude.{◌≡◌, ℕ, ◌&&◌, Bool, List, codes, map}, List.list_any}
 use Rattle.bridge_io.specs.Texts.{is_among}
 use Rattle.mpd_text.specs.Trees.{Head}
-use Rattle.mpd_profile.specs.declared.siblings.Siblings.{Siblings}
-use Rattle.mpd_profile.specs.Features.{is_segment_element, names_of}
-use Rattle.mpd_profile.specs.Refusals.{has_id}
+use Rattle.mpd_profile.specs.{declared.siblings.Siblings.Siblings, Features.{is_segment_element, names_of}, Refusals.has_id}
 
 abbrev pub holds_id : Siblings → List ℕ → Bool
 holds_id siblings id = is_among id (map (λ key. key.now) siblings.ids.keys)

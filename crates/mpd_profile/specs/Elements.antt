@@ -1,12 +1,10 @@
 -- The elements and attributes of ISO/IEC 23009-1, 5.3 that are read. What is in none of these tables is passed over
 -- whole.
 use Rattle.std.specs.Prelude.{ℕ, ◌^◌, List, [], ◌∷◌, codes, bytes_eq, find, Option, option_map}
-use Rattle.mpd_profile.specs.declared.listed.Listed.{Listed}
-use Rattle.mpd_profile.specs.declared.listed.Listed.TheVariants.{Mpd, BaseUrl, Period, AdaptationSet, Representation, SegmentTemplate}
-use Rattle.mpd_profile.specs.declared.listed.Listed.TheVariants.{SegmentList, SegmentBase, Initialization, SegmentTimeline, S, SegmentUrl}
-use Rattle.mpd_profile.specs.declared.listed.Addressing.{Addressing}
-use Rattle.mpd_profile.specs.declared.listed.Addressing.TheVariants.{Segments, Index}
-use Rattle.mpd_profile.specs.declared.value.Value.{Value}
+use Rattle.mpd_profile.specs.{declared.listed.Listed.Listed, declared.listed.Listed.TheVariants.{Mpd, BaseUrl, Period, AdaptationSet}}
+use Rattle.mpd_profile.specs.declared.listed.Listed.TheVariants.{Representation, SegmentTemplate, SegmentList, SegmentBase, Initialization}
+use Rattle.mpd_profile.specs.{declared.listed.Listed.TheVariants.{SegmentTimeline, S, SegmentUrl}, declared.listed.Addressing.Addressing}
+use Rattle.mpd_profile.specs.{declared.listed.Addressing.TheVariants.{Segments, Index}, declared.value.Value.Value}
 use Rattle.mpd_profile.specs.declared.value.Value.TheVariants.{MpdType, Instant, Duration, AnyText, Number, Signed, FrameRate, Codes}
 use Rattle.mpd_profile.specs.declared.value.Value.TheVariants.{Language, Range}
 

@@ -1,24 +1,14 @@
 -- Features of ISO/IEC 23009-1 that are refused by name wherever they stand.
-use Rattle.std.specs.Prelude.{ℕ, ◌&&◌, ◌||◌, Bool, true, false, List, [], ◌∷◌, ◌++◌, codes, bytes_eq, map, flat_map, if◌then◌else◌, Option}
-use Rattle.std.specs.Prelude.{Some, None, option_and_then}
-use Rattle.std.specs.List.{list_any}
-use Rattle.bridge_io.specs.Texts.{is_among}
-use Rattle.bridge_io.specs.declared.place.Place.{Place}
-use Rattle.bridge_io.specs.declared.media.Kind.{Kind}
-use Rattle.mpd_text.specs.Trees.{Attribute, Head}
-use Rattle.mpd_values.specs.declared.blank.Blank.TheVariants.{Space}
-use Rattle.mpd_values.specs.Blanks.{trimmed}
-use Rattle.mpd_values.specs.Codecs.{has_foreign_code}
-use Rattle.mpd_values.specs.MediaTypes.{kind_of}
-use Rattle.mpd_profile.specs.declared.fault.RuleFault.{RuleFault}
 use Rattle.mpd_profile.specs.declared.fault.RuleFault.TheVariants as fault
-use Rattle.mpd_profile.specs.declared.feature.Feature.{Feature}
+use Rattle.std.specs.Prelude.{ℕ, ◌&&◌, ◌||◌, Bool, true, false, List, [], ◌∷◌, ◌++◌, codes, bytes_eq, map, flat_map, if◌then◌else◌, Option}
+use Rattle.std.specs.{Prelude.{Some, None, option_and_then}, List.list_any}
+use Rattle.bridge_io.specs.{Texts.is_among, declared.place.Place.Place, declared.media.Kind.Kind}
+use Rattle.mpd_text.specs.Trees.{Attribute, Head}
+use Rattle.mpd_values.specs.{declared.blank.Blank.TheVariants.Space, Blanks.trimmed, Codecs.has_foreign_code, MediaTypes.kind_of}
+use Rattle.mpd_profile.specs.{declared.fault.RuleFault.RuleFault, declared.feature.Feature.Feature}
 use Rattle.mpd_profile.specs.declared.feature.Feature.TheVariants.{Encryption, Events, LowLatency, Remote, Essential, Unsupported}
-use Rattle.mpd_profile.specs.declared.listed.Listed.{Listed}
-use Rattle.mpd_profile.specs.declared.listed.Listed.TheVariants.{Mpd, Period, Representation, S}
-use Rattle.mpd_profile.specs.Elements.{Named, named_in}
-use Rattle.mpd_profile.specs.Heads.{value_over}
-use Rattle.mpd_profile.specs.Visits.{Parent, Visit}
+use Rattle.mpd_profile.specs.{declared.listed.Listed.Listed, declared.listed.Listed.TheVariants.{Mpd, Period, Representation, S}}
+use Rattle.mpd_profile.specs.{Elements.{Named, named_in}, Heads.value_over, Visits.{Parent, Visit}}
 
 -- ---- elements
 

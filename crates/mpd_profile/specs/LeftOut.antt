@@ -1,12 +1,9 @@
 -- What is left out of a presentation: what this program can't play, and a client may pass over (ISO/IEC 23009-1, 5.3.3
 -- and 5.8.4.8 on EssentialProperty).
-use Rattle.std.specs.Prelude.{ℕ, ◌||◌, not, Bool, false, List, codes, is_none, Option, Some, None}
-use Rattle.std.specs.List.{list_all}
+use Rattle.std.specs.{Prelude.{ℕ, ◌||◌, not, Bool, false, List, codes, is_none, Option, Some, None}, List.list_all}
 use Rattle.mpd_values.specs.MediaTypes.{kind_of}
-use Rattle.mpd_text.specs.Trees.{Head, Element}
-use Rattle.mpd_text.specs.Views.{side_by_side}
-use Rattle.mpd_profile.specs.declared.listed.Listed.{Listed}
-use Rattle.mpd_profile.specs.declared.listed.Listed.TheVariants.{AdaptationSet, Representation}
+use Rattle.mpd_text.specs.{Trees.{Head, Element}, Views.side_by_side}
+use Rattle.mpd_profile.specs.{declared.listed.Listed.Listed, declared.listed.Listed.TheVariants.{AdaptationSet, Representation}}
 use Rattle.mpd_profile.specs.Heads.{has_child, is_named, or_else, value_named}
 
 -- a media type is there, and is none that is played

@@ -1,6 +1,5 @@
 -- Rows of the code's tables.
-use Rattle.std.specs.Prelude.{ℕ, List}
-use Rattle.std.specs.Borrow.{Bor}
+use Rattle.std.specs.{Prelude.{ℕ, List}, Borrow.Bor}
 use Rattle.mpd_profile.specs.Elements.{Named}
 
 -- a row without where its name lies in memory

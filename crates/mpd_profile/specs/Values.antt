@@ -1,19 +1,12 @@
 -- Values of attributes, as XML Schema part 2 and ISO/IEC 23009-1 write them.
 use Rattle.std.specs.Prelude.{ℕ, ◌^◌, ◌&&◌, ◌||◌, ◌==◌, nat_le, not, Bool, true, List, length, codes, bytes_eq, is_some, is_ok}
-use Rattle.std.specs.Char.{is_ascii_digit}
-use Rattle.std.specs.List.{list_all}
-use Rattle.iso_time.specs.Duration.{duration_of}
-use Rattle.iso_time.specs.Instant.{instant_of}
+use Rattle.std.specs.{Char.is_ascii_digit, List.list_all}
+use Rattle.iso_time.specs.{Duration.duration_of, Instant.instant_of}
 use Rattle.url_parts.specs.Ranges.{range_of}
-use Rattle.mpd_values.specs.declared.blank.Blank.TheVariants.{Space}
-use Rattle.mpd_values.specs.Blanks.{trimmed}
-use Rattle.mpd_values.specs.Numbers.{number_between, signed_64_of}
-use Rattle.mpd_values.specs.FrameRates.{frame_rate_between}
-use Rattle.mpd_values.specs.Codecs.{are_read_codes}
-use Rattle.mpd_values.specs.Languages.{is_language}
-use Rattle.mpd_profile.specs.declared.value.Value.{Value}
-use Rattle.mpd_profile.specs.declared.value.Value.TheVariants.{MpdType, Instant, Duration, AnyText, Number, Signed, FrameRate, Codes}
-use Rattle.mpd_profile.specs.declared.value.Value.TheVariants.{Language, Range}
+use Rattle.mpd_values.specs.{declared.blank.Blank.TheVariants.Space, Blanks.trimmed, Numbers.{number_between, signed_64_of}}
+use Rattle.mpd_values.specs.{FrameRates.frame_rate_between, Codecs.are_read_codes, Languages.is_language}
+use Rattle.mpd_profile.specs.{declared.value.Value.Value, declared.value.Value.TheVariants.{MpdType, Instant, Duration, AnyText, Number}}
+use Rattle.mpd_profile.specs.declared.value.Value.TheVariants.{Signed, FrameRate, Codes, Language, Range}
 
 -- numbers below 10^18 are all within bounds
 abbrev pub has_room : (least bound : ℕ) → Bool

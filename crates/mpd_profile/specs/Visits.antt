@@ -2,12 +2,8 @@
 -- directly in them. What is left out is passed over whole.
 use Rattle.std.specs.Prelude.{Bool, List, [], ◌∷◌, ◌++◌, if◌then◌else◌, Option, Some, None}
 use Rattle.mpd_text.specs.Trees.{Head, Forest, nothing, element, Element}
-use Rattle.mpd_profile.specs.declared.listed.Listed.{Listed}
-use Rattle.mpd_profile.specs.declared.listed.Listed.TheVariants.{Mpd}
-use Rattle.mpd_profile.specs.declared.listed.Addressing.{Addressing}
-use Rattle.mpd_profile.specs.Elements.{child_of}
-use Rattle.mpd_profile.specs.Heads.{is_dynamic}
-use Rattle.mpd_profile.specs.LeftOut.{is_left_out}
+use Rattle.mpd_profile.specs.{declared.listed.Listed.Listed, declared.listed.Listed.TheVariants.Mpd, declared.listed.Addressing.Addressing}
+use Rattle.mpd_profile.specs.{Elements.child_of, Heads.is_dynamic, LeftOut.is_left_out}
 
 -- what an element stands in: the parent, what it is read as, and whether the MPD is dynamic
 pub record Parent : Type 0 where

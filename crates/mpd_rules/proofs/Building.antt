@@ -1,10 +1,7 @@
 -- Values put together.
-use Rattle.std.proofs.Common.{◌≡◌, List, [], ◌∷◌, ◌++◌, map, ap, ◌∙◌, append_assoc, Result, Ok, Err, OnOk}
-use Rattle.std.proofs.lemmas.List.{map-append}
+use Rattle.std.proofs.{Common.{◌≡◌, List, [], ◌∷◌, ◌++◌, map, ap, ◌∙◌, append_assoc, Result, Ok, Err, OnOk}, lemmas.List.map-append}
 use Rattle.mpd_text.specs.Trees.{Element}
-use Rattle.mpd_levels.specs.declared.level.Level.{Level}
-use Rattle.mpd_levels.specs.declared.tables.Tables.{Tables}
-use Rattle.mpd_levels.specs.Shown.{Grows, Says}
+use Rattle.mpd_levels.specs.{declared.level.Level.Level, declared.tables.Tables.Tables, Shown.{Grows, Says}}
 use Rattle.mpd_levels.proofs.Showing.{Shows-grows}
 
 -- what a level says stays as tables grow

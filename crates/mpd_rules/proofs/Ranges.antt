@@ -1,23 +1,15 @@
 -- The ranges that an MPD's attributes tell.
+use Rattle.mpd_levels.specs.declared.level.Means.TheVariants as means
 use Rattle.std.proofs.Common.{◌≡◌, ℕ, ◌+◌, ◌-◌, ◌<◌, ◌≤◌, ◌^◌, ◌&&◌, Bool, true, false, List, length, Option, Some, None, IfSome, nat_le}
-use Rattle.std.proofs.Common.{nat_lt, refl, arith}
-use Rattle.std.specs.Prelude.{codes, drop, take, position, option_and_then, option_map, if◌then◌else◌, ◌==◌, ◌∷◌, []}
-use Rattle.std.specs.Char.{is_ascii_digit}
-use Rattle.std.specs.Str.Parse.{digits_value}
-use Rattle.std.specs.List.{list_all}
-use Rattle.std.proofs.lemmas.Bool.Decides.{nat_tests}
-use Rattle.url_parts.specs.declared.range.Range.{Range}
-use Rattle.url_parts.specs.Ranges.{place_of, range_at, range_between, range_of}
-use Rattle.mpd_values.specs.declared.blank.Blank.TheVariants.{Space}
-use Rattle.mpd_values.specs.Blanks.{trimmed}
+use Rattle.std.proofs.{Common.{nat_lt, refl, arith}, lemmas.Bool.Decides.nat_tests}
+use Rattle.std.specs.{Prelude.{codes, drop, take, position, option_and_then, option_map, if◌then◌else◌, ◌==◌, ◌∷◌, []}, Char.is_ascii_digit}
+use Rattle.std.specs.{Str.Parse.digits_value, List.list_all}
+use Rattle.url_parts.specs.{declared.range.Range.Range, Ranges.{place_of, range_at, range_between, range_of}}
+use Rattle.mpd_values.specs.{declared.blank.Blank.TheVariants.Space, Blanks.trimmed}
 use Rattle.mpd_text.specs.Trees.{Element}
 use Rattle.mpd_profile.specs.Heads.{or_else, value_named}
-use Rattle.mpd_levels.specs.declared.indexed.IndexRow.{IndexRow}
-use Rattle.mpd_levels.specs.declared.level.Means.{Means}
-use Rattle.mpd_levels.specs.declared.level.Means.TheVariants as means
-use Rattle.mpd_levels.specs.Indexed.{base_in, index_by, index_in, index_of}
-use Rattle.mpd_levels.specs.Levels.{base_name, used}
-use Rattle.mpd_levels.specs.Readings.{child_named, range_in}
+use Rattle.mpd_levels.specs.{declared.indexed.IndexRow.IndexRow, declared.level.Means.Means, Indexed.{base_in, index_by, index_in}}
+use Rattle.mpd_levels.specs.{Indexed.index_of, Levels.{base_name, used}, Readings.{child_named, range_in}}
 use Rattle.mpd_rules.specs.Ranges.{IsSomeBytes}
 
 third : (a b c : Bool) → (a && b && c) ≡ true → c ≡ true

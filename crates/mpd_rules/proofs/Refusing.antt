@@ -1,8 +1,7 @@
 -- The first of some refusals.
 use Rattle.std.proofs.Common.{◌≡◌, List, [], ◌∷◌, ◌++◌, Option, Some, None, Ok, Err, IfSome, refl}
 use Rattle.bridge_io.specs.Firsts.{first_fault}
-use Rattle.mpd_profile.specs.declared.fault.RuleFault.{RuleFault}
-use Rattle.mpd_profile.specs.Refusals.{refusal}
+use Rattle.mpd_profile.specs.{declared.fault.RuleFault.RuleFault, Refusals.refusal}
 use Rattle.mpd_profile.proofs.Passing.{is_told, told_before}
 use Rattle.mpd_rules.specs.Rules.{unless_refused}
 

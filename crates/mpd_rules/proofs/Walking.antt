@@ -1,9 +1,8 @@
 -- A loop over a slice of nodes, by what is left of it.
 use Rattle.std.proofs.Common.{◌≡◌, ℕ, ◌+◌, ◌<◌, List, ◌∷◌, map, length, drop, get_or, sym, ◌∙◌, ap, subst, take, ◌-◌, arith}
-use Rattle.std.specs.List.{All}
-use Rattle.std.proofs.Math.ListN.{get_or-map}
-use Rattle.std.proofs.lemmas.List.{at_drop_more, drop-map, length-drop, length-map, take_all}
+use Rattle.std.proofs.{Math.ListN.get_or-map, lemmas.List.{at_drop_more, drop-map, length-drop, length-map, take_all}}
 use Rattle.std.proofs.lemmas.List.Elements.{All-drop}
+use Rattle.std.specs.List.{All}
 
 module _ {X Y : Type 0} (show : X → Y) where
   pub one_left : (xs : List X) (k : ℕ) (x : X) → k < length xs → x ≡ get_or xs k x

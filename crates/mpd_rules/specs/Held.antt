@@ -2,9 +2,7 @@
 -- tables.
 use Rattle.std.specs.Prelude.{ℕ, List, map}
 use Rattle.mpd_levels.specs.declared.tables.Tables.{Tables}
-use Rattle.mpd_rules.specs.declared.facts.Facts.{Facts}
-use Rattle.mpd_rules.specs.declared.rows.PeriodRow.{PeriodRow}
-use Rattle.mpd_rules.specs.Typed.{TypedMpd, period_with}
+use Rattle.mpd_rules.specs.{declared.facts.Facts.Facts, declared.rows.PeriodRow.PeriodRow, Typed.{TypedMpd, period_with}}
 
 -- a row together with the tables that its keys are of
 pub record Keyed (X : Type 0) : Type 0 where

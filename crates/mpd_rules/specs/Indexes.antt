@@ -1,8 +1,7 @@
 -- The index of a Representation's file, where no rule of an MPD refuses it (ISO/IEC 23009-1, 5.3.9.2).
 use Rattle.std.specs.Prelude.{Option, None, option_map, unwrap_or}
 use Rattle.url_parts.specs.declared.range.Range.{Range}
-use Rattle.mpd_levels.specs.declared.indexed.IndexRow.{IndexRow}
-use Rattle.mpd_levels.specs.declared.initialization.Initialization.{Initialization}
+use Rattle.mpd_levels.specs.{declared.indexed.IndexRow.IndexRow, declared.initialization.Initialization.Initialization}
 use Rattle.mpd_rules.specs.Typed.{TypedMpd, mpd_with}
 
 -- the bytes of the index, and the Initialization, where there is one

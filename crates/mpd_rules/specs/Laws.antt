@@ -4,9 +4,7 @@ use Rattle.std.specs.List.{list_any}
 use Rattle.iso_time.specs.Instant.{IsReadable}
 use Rattle.mpd_text.specs.Trees.{Element}
 use Rattle.mpd_levels.specs.Segments.{Segments}
-use Rattle.mpd_rules.specs.declared.rows.PeriodRow.{PeriodRow}
-use Rattle.mpd_rules.specs.Rules.{typed_mpd_of}
-use Rattle.mpd_rules.specs.Typed.{TypedMpd}
+use Rattle.mpd_rules.specs.{declared.rows.PeriodRow.PeriodRow, Rules.typed_mpd_of, Typed.TypedMpd}
 
 -- ---- the ids of Periods (ISO/IEC 23009-1, 5.3.2.2)
 

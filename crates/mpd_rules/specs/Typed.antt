@@ -1,20 +1,13 @@
 -- What an MPD says: its values as they hold for each Representation, without any bound and without any refusal.
 use Rattle.std.specs.Prelude.{ℕ, List, [], ◌∷◌, ◌++◌, map, codes, Option, Some, None, unwrap_or}
-use Rattle.bridge_io.specs.declared.media.Kind.{Kind}
-use Rattle.bridge_io.specs.declared.media.Kind.TheVariants.{Video}
-use Rattle.bridge_io.specs.declared.media.Size.{Size}
+use Rattle.bridge_io.specs.{declared.media.Kind.Kind, declared.media.Kind.TheVariants.Video, declared.media.Size.Size}
 use Rattle.mpd_values.specs.MediaTypes.{kind_of}
 use Rattle.mpd_text.specs.Trees.{Head, Element}
 use Rattle.mpd_profile.specs.Heads.{is_dynamic, or_else, value_named}
 use Rattle.mpd_levels.specs.Readings.{number_named}
-use Rattle.mpd_rules.specs.declared.facts.Facts.{Facts}
-use Rattle.mpd_rules.specs.declared.common.Common.{Common}
-use Rattle.mpd_rules.specs.declared.rows.Description.{Description}
-use Rattle.mpd_rules.specs.declared.rows.TrackRow.{TrackRow}
-use Rattle.mpd_rules.specs.declared.rows.PeriodRow.{PeriodRow}
-use Rattle.mpd_rules.specs.Kept.{Path, left_out_in, paths_of}
-use Rattle.mpd_rules.specs.Periods.{Timed, timed_periods}
-use Rattle.mpd_rules.specs.Readings.{base_reference, duration_named, frame_rate_named, instant_named}
+use Rattle.mpd_rules.specs.{declared.facts.Facts.Facts, declared.common.Common.Common, declared.rows.Description.Description}
+use Rattle.mpd_rules.specs.{declared.rows.TrackRow.TrackRow, declared.rows.PeriodRow.PeriodRow, Kept.{Path, left_out_in, paths_of}}
+use Rattle.mpd_rules.specs.{Periods.{Timed, timed_periods}, Readings.{base_reference, duration_named, frame_rate_named, instant_named}}
 
 -- the values of an MPD; the segments of a Representation are told by an X
 pub record TypedMpd (X : Type 0) : Type 0 where

@@ -1,21 +1,11 @@
 -- What the rows of an MPD show.
 use Rattle.std.specs.Prelude.{ℕ, List, map, Option, Some}
-use Rattle.mpd_levels.specs.declared.addressing.Addressing.{Addressing}
-use Rattle.mpd_levels.specs.declared.addressing.SegmentRow.{SegmentRow}
-use Rattle.mpd_levels.specs.declared.indexed.IndexRow.{IndexRow}
-use Rattle.mpd_levels.specs.declared.tables.Tables.{Tables}
-use Rattle.mpd_levels.specs.Segments.{Segments}
-use Rattle.mpd_levels.specs.Shown.{segments_shown}
-use Rattle.mpd_rules.specs.declared.file_index.FileIndex.{FileIndex}
-use Rattle.mpd_rules.specs.declared.rows.TrackRow.{TrackRow}
-use Rattle.mpd_rules.specs.declared.rows.PeriodRow.{PeriodRow}
-use Rattle.mpd_rules.specs.declared.view.TypedPeriod.{TypedPeriod}
-use Rattle.mpd_rules.specs.declared.view.TrackView.{TrackView}
-use Rattle.mpd_rules.specs.declared.view.PeriodWalk.{PeriodWalk}
-use Rattle.mpd_rules.specs.declared.view.RepWalk.{RepWalk}
-use Rattle.mpd_rules.specs.declared.view.BaseWalk.{BaseWalk}
-use Rattle.mpd_rules.specs.Held.{Held, Keyed, keyed}
-use Rattle.mpd_rules.specs.Typed.{TypedMpd, mpd_with, period_with, track_with}
+use Rattle.mpd_levels.specs.{declared.addressing.Addressing.Addressing, declared.addressing.SegmentRow.SegmentRow}
+use Rattle.mpd_levels.specs.{declared.indexed.IndexRow.IndexRow, declared.tables.Tables.Tables, Segments.Segments, Shown.segments_shown}
+use Rattle.mpd_rules.specs.{declared.file_index.FileIndex.FileIndex, declared.rows.TrackRow.TrackRow, declared.rows.PeriodRow.PeriodRow}
+use Rattle.mpd_rules.specs.{declared.view.TypedPeriod.TypedPeriod, declared.view.TrackView.TrackView, declared.view.PeriodWalk.PeriodWalk}
+use Rattle.mpd_rules.specs.{declared.view.RepWalk.RepWalk, declared.view.BaseWalk.BaseWalk, Held.{Held, Keyed, keyed}, Typed.TypedMpd}
+use Rattle.mpd_rules.specs.Typed.{mpd_with, period_with, track_with}
 
 -- ---- views
 

@@ -1,29 +1,15 @@
 -- How the reader comes through character data, and through the attributes of a tag.
 use Rattle.std.proofs.Common.{◌≡◌, ◌≢◌, ℕ, ◌+◌, ◌≤◌, ◌<◌, Bool, true, false, List, [], ◌∷◌, length, drop, Some, refl, sym, ◌∙◌, ap, subst}
-use Rattle.std.proofs.Common.{arith, slice_get, inl, inr, ◌⊎◌, Result, Ok, Err, MatchResult}
-use Rattle.std.specs.List.{prefix_len}
-use Rattle.std.specs.String.{string_bytes}
-use Rattle.std.proofs.lemmas.Bool.{cases_lt}
-use Rattle.bridge_io.specs.declared.place.Place.{Place}
-use Rattle.bridge_io.specs.Places.{place_of}
-use Rattle.mpd_text.specs.declared.reader.Reader.{Reader}
-use Rattle.mpd_text.specs.declared.many_names.ManyNames.{ManyNames}
-use Rattle.mpd_text.specs.declared.fault.TextFault.TheVariants.{Cut, Syntax}
-use Rattle.mpd_text.specs.InTag.{IsInTag}
-use Rattle.mpd_text.specs.Characters.{is_white, goes_on_name, starts_name}
-use Rattle.mpd_text.specs.Grammar.{names_of}
-use Rattle.mpd_text.specs.Fronts.{Context, in_start_tag}
-use Rattle.mpd_text.specs.ManyNames.{IsPrepared, HasNames}
-use Rattle.mpd_text.specs.Positions.{IsAt, IsDataRead}
-use Rattle.mpd_text.specs.Reading.{IsAttributeRead, IsDataShown, IsTagRead, view_of}
-use Rattle.mpd_text.specs.Showing.{OpenShown, TagShown}
-use Rattle.mpd_text.specs.Steps.{Mode, Opened, Tag, at_tag, next_mode, context_of_mode, open_names, step_tag, step_tag_end, IsStuck}
-use Rattle.mpd_text.specs.Steps.{with_text}
-use Rattle.mpd_text.proofs.NameLemmas.{white_in_name, starts_goes_on, tests, true_is_not_false}
-use Rattle.mpd_text.proofs.Positions.{cut_at, stuck_at}
-use Rattle.mpd_text.proofs.Comments.{other_byte}
-use Rattle.mpd_text.proofs.TagPositions.{run_into}
-use Rattle.mpd_text.proofs.ReaderShows.{data_shows}
+use Rattle.std.proofs.{Common.{arith, slice_get, inl, inr, ◌⊎◌, Result, Ok, Err, MatchResult}, lemmas.Bool.cases_lt}
+use Rattle.std.specs.{List.prefix_len, String.string_bytes}
+use Rattle.bridge_io.specs.{declared.place.Place.Place, Places.place_of}
+use Rattle.mpd_text.specs.{declared.reader.Reader.Reader, declared.many_names.ManyNames.ManyNames, declared.fault.TextFault.TheVariants.Cut}
+use Rattle.mpd_text.specs.{declared.fault.TextFault.TheVariants.Syntax, InTag.IsInTag, Characters.{is_white, goes_on_name, starts_name}}
+use Rattle.mpd_text.specs.{Grammar.names_of, Fronts.{Context, in_start_tag}, ManyNames.{IsPrepared, HasNames}, Positions.{IsAt, IsDataRead}}
+use Rattle.mpd_text.specs.{Reading.{IsAttributeRead, IsDataShown, IsTagRead, view_of}, Showing.{OpenShown, TagShown}, Steps.{Mode, Opened}}
+use Rattle.mpd_text.specs.Steps.{Tag, at_tag, next_mode, context_of_mode, open_names, step_tag, step_tag_end, IsStuck, with_text}
+use Rattle.mpd_text.proofs.{NameLemmas.{white_in_name, starts_goes_on, tests, true_is_not_false}, Positions.{cut_at, stuck_at}}
+use Rattle.mpd_text.proofs.{Comments.other_byte, TagPositions.run_into, ReaderShows.data_shows}
 
 -- more of what was read follows
 pub read_then : {T E : Type 0} (r : Result T E) {P Q : T → Type 0} (F : E → Type 0) → MatchResult r P F → ((x : T) → P x → Q x)

@@ -1,12 +1,9 @@
 -- The first character that no text may have, by the places where one begins.
 use Rattle.std.specs.List.{position_from}
-use Rattle.std.proofs.lemmas.Iterator.Adapters.{position_from-zero}
-use Rattle.std.proofs.lemmas.List.{drop_all, get_or-drop, get_or-take, length-drop, length-take}
-use Rattle.std.proofs.Common.{if◌then◌else◌, subst, ◌≢◌, ◌==◌, ◌⊎◌, cond, ◌≡◌, ℕ, zero, suc, ◌+◌, ◌-◌, ◌<◌, ◌≤◌, Bool, true, false, List}
-use Rattle.std.proofs.Common.{[], ◌∷◌, length, get_or, drop, take, Option, Some, None, option_map, position, refl, sym, ◌∙◌, ap, arith, inl}
-use Rattle.std.proofs.Common.{inr, min, IfSome}
-use Rattle.std.proofs.lemmas.List.Quantifiers.{position-Some}
-use Rattle.std.proofs.lemmas.Bool.{cases_lt}
+use Rattle.std.proofs.{lemmas.Iterator.Adapters.position_from-zero, lemmas.List.{drop_all, get_or-drop, get_or-take, length-drop}}
+use Rattle.std.proofs.{lemmas.List.length-take, Common.{if◌then◌else◌, subst, ◌≢◌, ◌==◌, ◌⊎◌, cond, ◌≡◌, ℕ, zero, suc, ◌+◌, ◌-◌, ◌<◌, ◌≤◌}}
+use Rattle.std.proofs.Common.{Bool, true, false, List, [], ◌∷◌, length, get_or, drop, take, Option, Some, None, option_map, position, refl}
+use Rattle.std.proofs.{Common.{sym, ◌∙◌, ap, arith, inl, inr, min, IfSome}, lemmas.List.Quantifiers.position-Some, lemmas.Bool.cases_lt}
 use Rattle.byte_scan.specs.Class.{is_low_control}
 use Rattle.mpd_text.specs.Characters.{begins_with_noncharacter, begins_with_bad_character, first_bad_character, IsFirstNoncharacter}
 

@@ -1,19 +1,14 @@
 -- How the reader comes through comments and the declaration.
 use Rattle.std.proofs.Common.{◌≡◌, ◌≢◌, ℕ, zero, suc, ◌+◌, ◌-◌, ◌≤◌, ◌<◌, Bool, true, false, ◌==◌, List, [], ◌∷◌, length, codes, Option}
 use Rattle.std.proofs.Common.{Some, None, refl, sym, ◌∙◌, ap, subst, arith, slice_get, nat_eq, get_or, inl, inr, if◌then◌else◌}
-use Rattle.std.specs.Option.{option_eq}
 use Rattle.std.proofs.lemmas.Option.{slice_get_within, slice_get-get_or, get_or_from_slice_get}
-use Rattle.bridge_io.specs.declared.place.Place.{Place}
-use Rattle.bridge_io.specs.Places.{place_of}
-use Rattle.mpd_text.specs.declared.fault.TextFault.{TextFault}
-use Rattle.mpd_text.specs.declared.fault.TextFault.TheVariants.{Cut, Syntax, Doctype, Cdata}
-use Rattle.mpd_text.specs.Fronts.{in_comment, undecided}
-use Rattle.mpd_text.specs.Pairs.{IsPair, HasNoPair, IsFirstPair}
-use Rattle.mpd_text.specs.Steps.{Outside, inside, behind, Dashes, no_dash, one_dash, two_dashes, three_dashes, at_beginning, at_mark_end}
-use Rattle.mpd_text.specs.Steps.{at_content, at_less_than, at_bang, at_comment, next_mode, names_outside, IsStuck}
-use Rattle.mpd_text.specs.Positions.{IsAt, IsReady, MustEnd}
-use Rattle.mpd_text.proofs.NameLemmas.{tests, less_than_white}
-use Rattle.mpd_text.proofs.Positions.{one_more, many_more, stuck_at, cut_at}
+use Rattle.std.specs.Option.{option_eq}
+use Rattle.bridge_io.specs.{declared.place.Place.Place, Places.place_of}
+use Rattle.mpd_text.specs.{declared.fault.TextFault.TextFault, declared.fault.TextFault.TheVariants.{Cut, Syntax, Doctype, Cdata}}
+use Rattle.mpd_text.specs.{Fronts.{in_comment, undecided}, Pairs.{IsPair, HasNoPair, IsFirstPair}, Steps.{Outside, inside, behind, Dashes}}
+use Rattle.mpd_text.specs.Steps.{no_dash, one_dash, two_dashes, three_dashes, at_beginning, at_mark_end, at_content, at_less_than, at_bang}
+use Rattle.mpd_text.specs.{Steps.{at_comment, next_mode, names_outside, IsStuck}, Positions.{IsAt, IsReady, MustEnd}}
+use Rattle.mpd_text.proofs.{NameLemmas.{tests, less_than_white}, Positions.{one_more, many_more, stuck_at, cut_at}}
 
 same_byte : (bytes : List ℕ) (at a b : ℕ) → slice_get bytes at ≡ Some a → slice_get bytes at ≡ Some b → a ≡ b
 same_byte bytes at a b e f = cc

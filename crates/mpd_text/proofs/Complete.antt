@@ -1,28 +1,21 @@
 -- The steps read every text of the grammar to its end, and every open front up to its context.
 use Rattle.std.proofs.Common.{◌≡◌, ℕ, ◌≤◌, Bool, true, false, IsTrue, ◌==◌, ◌||◌, nat_eq, List, [], ◌∷◌, ◌++◌, length, codes, Some, refl}
-use Rattle.std.proofs.Common.{sym, ◌∙◌, ap, subst, arith, inl, inr, ◌⊎◌, append_assoc}
+use Rattle.std.proofs.{Common.{sym, ◌∙◌, ap, subst, arith, inl, inr, ◌⊎◌, append_assoc}, lemmas.List.append-nil}
 use Rattle.std.specs.List.{starts_with}
-use Rattle.std.proofs.lemmas.List.{append-nil}
 use Rattle.bridge_io.specs.declared.place.Place.{Place}
-use Rattle.mpd_text.specs.Characters.{is_name}
-use Rattle.mpd_text.specs.References.{is_front_of_reference}
-use Rattle.mpd_text.specs.Trees.{Element}
-use Rattle.mpd_text.specs.Grammar.{first_place, past, IsMark, IsProlog, OpensDeclaration, IsDocument}
-use Rattle.mpd_text.specs.Fronts.{Kind, Context, before_root, in_declaration, undecided, in_start_tag, in_attribute, in_value, in_reference}
-use Rattle.mpd_text.specs.Fronts.{in_end_tag, in_comment, in_content, after_root, IsWithin, IsBehindRoot, IsBetween, IsUndecidedFront}
-use Rattle.mpd_text.specs.Fronts.{IsContentFront, IsValueFront, IsEndTagFront, IsCommentFront, IsFrontThen, IsOpenAt, IsOpen}
-use Rattle.mpd_text.specs.Steps.{Mode, State, Opened, Outside, inside, behind, at_content, at_less_than, at_bang, at_question}
-use Rattle.mpd_text.specs.Steps.{at_declaration, at_comment, at_value_reference, at_data_reference, at_value, at_end_name, as_space}
-use Rattle.mpd_text.specs.Steps.{open_names, names_outside, run, start, context_of, context_of_mode, context_at, Finishes}
-use Rattle.mpd_text.proofs.RunLemmas.{Runs, runs_none, runs_then, runs_step, runs_one, runs_to, runs_over}
-use Rattle.mpd_text.proofs.NameLemmas.{starts_front}
-use Rattle.mpd_text.proofs.ReadsText.{reference_runs}
-use Rattle.mpd_text.proofs.ReadsPieces.{TakesMarkup, TakesFirst, dashes_of, ending, open_comment, two_dashes_run, open_declaration}
-use Rattle.mpd_text.proofs.ReadsPieces.{mark_is_read, prolog_is_read}
-use Rattle.mpd_text.proofs.ReadsAttributes.{quoted_at, value_steps}
-use Rattle.mpd_text.proofs.ReadsTags.{end_name_runs, end_white_runs}
-use Rattle.mpd_text.proofs.ReadsContent.{data_steps, inner_takes, document_is_read}
-use Rattle.mpd_text.proofs.ReadsWithin.{inside_is_read, between_is_read, behind_is_read}
+use Rattle.mpd_text.specs.{Characters.is_name, References.is_front_of_reference, Trees.Element, Grammar.{first_place, past, IsMark}}
+use Rattle.mpd_text.specs.{Grammar.{IsProlog, OpensDeclaration, IsDocument}, Fronts.{Kind, Context, before_root, in_declaration, undecided}}
+use Rattle.mpd_text.specs.Fronts.{in_start_tag, in_attribute, in_value, in_reference, in_end_tag, in_comment, in_content, after_root}
+use Rattle.mpd_text.specs.Fronts.{IsWithin, IsBehindRoot, IsBetween, IsUndecidedFront, IsContentFront, IsValueFront, IsEndTagFront}
+use Rattle.mpd_text.specs.{Fronts.{IsCommentFront, IsFrontThen, IsOpenAt, IsOpen}, Steps.{Mode, State, Opened, Outside, inside, behind}}
+use Rattle.mpd_text.specs.Steps.{at_content, at_less_than, at_bang, at_question, at_declaration, at_comment, at_value_reference}
+use Rattle.mpd_text.specs.Steps.{at_data_reference, at_value, at_end_name, as_space, open_names, names_outside, run, start, context_of}
+use Rattle.mpd_text.specs.Steps.{context_of_mode, context_at, Finishes}
+use Rattle.mpd_text.proofs.{RunLemmas.{Runs, runs_none, runs_then, runs_step, runs_one, runs_to, runs_over}, NameLemmas.starts_front}
+use Rattle.mpd_text.proofs.{ReadsText.reference_runs, ReadsPieces.{TakesMarkup, TakesFirst, dashes_of, ending, open_comment}}
+use Rattle.mpd_text.proofs.{ReadsPieces.{two_dashes_run, open_declaration, mark_is_read, prolog_is_read}, ReadsAttributes.quoted_at}
+use Rattle.mpd_text.proofs.{ReadsAttributes.value_steps, ReadsTags.{end_name_runs, end_white_runs}, ReadsContent.{data_steps, inner_takes}}
+use Rattle.mpd_text.proofs.{ReadsContent.document_is_read, ReadsWithin.{inside_is_read, between_is_read, behind_is_read}}
 use Rattle.mpd_text.proofs.ReadsFronts.{IsRead, same_context, place_is, start_tag_front, attribute_front, value_front, in_value_front}
 
 prolog_front : (names : List (List ℕ)) (at : ℕ) (bytes : List ℕ) → (names ≡ []) × IsProlog bytes × (at ≡ length bytes)

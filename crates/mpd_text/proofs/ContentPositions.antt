@@ -3,19 +3,11 @@ use Rattle.std.proofs.Common.{◌≡◌, ◌≢◌, ℕ, ◌+◌, ◌≤◌, ◌
 use Rattle.std.proofs.Common.{MatchResult, refl, sym, ◌∙◌, ap, subst, arith, slice_get, slice_index, get_or, inl}
 use Rattle.std.proofs.lemmas.Option.{slice_get-get_or, get_or_from_slice_get}
 use Rattle.bridge_io.specs.Places.{place_of}
-use Rattle.mpd_text.specs.declared.fault.TextFault.{TextFault}
-use Rattle.mpd_text.specs.declared.fault.TextFault.TheVariants.{Cut, Syntax}
-use Rattle.mpd_text.specs.Characters.{starts_name}
-use Rattle.mpd_text.specs.Faults.{refusal, fault_of_markup}
-use Rattle.mpd_text.specs.Fronts.{in_content, undecided}
-use Rattle.mpd_text.specs.Steps.{Outside, inside, Opened, at_content, at_less_than, open_names, IsStuck}
-use Rattle.mpd_text.specs.Positions.{IsAt}
-use Rattle.mpd_text.specs.declared.reader.Reader.{Reader}
-use Rattle.mpd_text.specs.Reading.{IsRead, view_of}
-use Rattle.mpd_text.specs.Showing.{Shows}
-use Rattle.mpd_text.proofs.ReaderShows.{told}
-use Rattle.mpd_text.proofs.Positions.{stuck_at, cut_at}
-use Rattle.mpd_text.proofs.Comments.{IsOpened, other_byte, ready_opens}
+use Rattle.mpd_text.specs.{declared.fault.TextFault.TextFault, declared.fault.TextFault.TheVariants.{Cut, Syntax}, Characters.starts_name}
+use Rattle.mpd_text.specs.{Faults.{refusal, fault_of_markup}, Fronts.{in_content, undecided}, Steps.{Outside, inside, Opened, at_content}}
+use Rattle.mpd_text.specs.{Steps.{at_less_than, open_names, IsStuck}, Positions.IsAt, declared.reader.Reader.Reader, Reading.IsRead}
+use Rattle.mpd_text.specs.{Reading.view_of, Showing.Shows}
+use Rattle.mpd_text.proofs.{ReaderShows.told, Positions.{stuck_at, cut_at}, Comments.{IsOpened, other_byte, ready_opens}}
 
 -- the byte that stands where the text goes on
 pub there_is : (bytes : List ℕ) (at : ℕ) → at ≤ length bytes → at ≢ length bytes

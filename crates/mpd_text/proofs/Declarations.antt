@@ -1,19 +1,12 @@
 -- How the reader comes through the byte order mark and the declaration.
 use Rattle.std.proofs.Common.{◌≡◌, ◌≢◌, ℕ, zero, suc, ◌+◌, ◌-◌, ◌≤◌, ◌<◌, Bool, true, false, ◌==◌, List, [], length, take, codes, Some}
-use Rattle.std.proofs.Common.{None, refl, sym, ◌∙◌, ap, subst, arith, slice_get, get_or, inl, inr}
-use Rattle.std.proofs.lemmas.Grind.{common_steps}
+use Rattle.std.proofs.{Common.{None, refl, sym, ◌∙◌, ap, subst, arith, slice_get, get_or, inl, inr}, lemmas.Grind.common_steps}
 use Rattle.std.proofs.lemmas.Option.{slice_get_within, slice_get-get_or, get_or_from_slice_get}
-use Rattle.bridge_io.specs.declared.place.Place.{Place}
-use Rattle.bridge_io.specs.Places.{place_of}
-use Rattle.mpd_text.specs.declared.fault.TextFault.TheVariants.{Cut, Instruction}
-use Rattle.mpd_text.specs.Characters.{is_white}
-use Rattle.mpd_text.specs.Fronts.{in_declaration, undecided}
-use Rattle.mpd_text.specs.Pairs.{IsPair, HasNoPair, IsFirstPair}
-use Rattle.mpd_text.specs.Steps.{inside, Mode, at_beginning, at_mark_end, at_content, at_less_than, at_question, at_declaration, next_mode}
-use Rattle.mpd_text.specs.Steps.{IsStuck}
-use Rattle.mpd_text.specs.Positions.{IsAt, IsFront}
-use Rattle.mpd_text.proofs.NameLemmas.{tests, less_than_white}
-use Rattle.mpd_text.proofs.Positions.{one_more, many_more, stuck_at, cut_at}
+use Rattle.bridge_io.specs.{declared.place.Place.Place, Places.place_of}
+use Rattle.mpd_text.specs.{declared.fault.TextFault.TheVariants.{Cut, Instruction}, Characters.is_white, Fronts.{in_declaration, undecided}}
+use Rattle.mpd_text.specs.{Pairs.{IsPair, HasNoPair, IsFirstPair}, Steps.{inside, Mode, at_beginning, at_mark_end, at_content}}
+use Rattle.mpd_text.specs.{Steps.{at_less_than, at_question, at_declaration, next_mode, IsStuck}, Positions.{IsAt, IsFront}}
+use Rattle.mpd_text.proofs.{NameLemmas.{tests, less_than_white}, Positions.{one_more, many_more, stuck_at, cut_at}}
 
 -- `<?` at the front
 pub question_opens : (bytes : List ℕ) (from : ℕ) → IsFront bytes from → IsPair 60 63 bytes from

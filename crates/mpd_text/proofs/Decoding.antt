@@ -1,26 +1,19 @@
 -- How character data and values are read, up to the bytes that need a look and over them.
 use Rattle.std.proofs.Common.{◌≡◌, ◌≢◌, ℕ, suc, zero, ◌+◌, ◌-◌, ◌≤◌, ◌<◌, Bool, true, false, ◌==◌, ◌&&◌, List, [], ◌∷◌, ◌++◌, length, take}
 use Rattle.std.proofs.Common.{drop, get_or, slice_get, slice_range, Option, Some, None, IfSome, Result, Ok, Err, IsErrAnd, MatchResult}
-use Rattle.std.proofs.Common.{refl, sym, ◌∙◌, ap, subst, arith, inl, inr, ◌⊎◌, encode_utf8}
-use Rattle.std.proofs.lemmas.List.{append_assoc, append-nil, take-take, take-append-drop, take_more, length-drop, get_or-drop}
-use Rattle.std.proofs.lemmas.Option.{slice_get_within, get_or_from_slice_get}
-use Rattle.std.proofs.lemmas.Str.{IsUtf8-append, IsUtf8-nil}
-use Rattle.bridge_io.specs.declared.place.Place.{Place}
-use Rattle.bridge_io.specs.Places.{place_of}
+use Rattle.std.proofs.{Common.{refl, sym, ◌∙◌, ap, subst, arith, inl, inr, ◌⊎◌, encode_utf8}, lemmas.List.{append_assoc, append-nil}}
+use Rattle.std.proofs.{lemmas.List.{take-take, take-append-drop, take_more, length-drop, get_or-drop}, lemmas.Option.slice_get_within}
+use Rattle.std.proofs.{lemmas.Option.get_or_from_slice_get, lemmas.Str.{IsUtf8-append, IsUtf8-nil}}
+use Rattle.bridge_io.specs.{declared.place.Place.Place, Places.place_of}
 use Rattle.byte_scan.specs.ByteSet.{is_member}
-use Rattle.mpd_text.specs.declared.fault.TextFault.{TextFault}
-use Rattle.mpd_text.specs.declared.fault.TextFault.TheVariants.{Cut, Memory, Syntax}
-use Rattle.mpd_text.specs.Bounds.{Appends}
-use Rattle.mpd_text.specs.Characters.{is_white}
-use Rattle.mpd_text.specs.References.{referred_to, is_front_of_reference}
-use Rattle.mpd_text.specs.Fronts.{Context, in_reference, in_value}
-use Rattle.mpd_text.specs.Faults.{refusal}
-use Rattle.mpd_text.specs.Steps.{Mode, at_content, at_value, at_value_reference, at_data_reference, at_quote, at_tag, inside, Opened, Tag}
-use Rattle.mpd_text.specs.Steps.{Named, Quoted, with_text, with_read, with_attribute, as_space, step_content, step_value, open_names}
-use Rattle.mpd_text.specs.Steps.{next_mode, step_reference, if_named, context_of_mode, context_at, IsStuck}
-use Rattle.mpd_text.specs.declared.decode.Value.TheVariants.{AsItStands, Read}
-use Rattle.mpd_text.specs.Positions.{IsAt, IsDataRead, IsValueRead, IsNoReference, Grows}
-use Rattle.mpd_text.specs.Decoded.{marked_in_content, marked_in_value, quoted, IsRestRead, IsLineEndRead, IsReferenceRead}
+use Rattle.mpd_text.specs.{declared.fault.TextFault.TextFault, declared.fault.TextFault.TheVariants.{Cut, Memory, Syntax}, Bounds.Appends}
+use Rattle.mpd_text.specs.{Characters.is_white, References.{referred_to, is_front_of_reference}, Fronts.{Context, in_reference, in_value}}
+use Rattle.mpd_text.specs.{Faults.refusal, Steps.{Mode, at_content, at_value, at_value_reference, at_data_reference, at_quote, at_tag}}
+use Rattle.mpd_text.specs.Steps.{inside, Opened, Tag, Named, Quoted, with_text, with_read, with_attribute, as_space, step_content}
+use Rattle.mpd_text.specs.Steps.{step_value, open_names, next_mode, step_reference, if_named, context_of_mode, context_at, IsStuck}
+use Rattle.mpd_text.specs.{declared.decode.Value.TheVariants.{AsItStands, Read}, Positions.{IsAt, IsDataRead, IsValueRead, IsNoReference}}
+use Rattle.mpd_text.specs.{Positions.Grows, Decoded.{marked_in_content, marked_in_value, quoted, IsRestRead, IsLineEndRead}}
+use Rattle.mpd_text.specs.Decoded.{IsReferenceRead}
 use Rattle.mpd_text.proofs.NameLemmas.{tests, true_is_not_false, reference_front, last_plain, referred_front, is_plain}
 use Rattle.mpd_text.proofs.Positions.{one_more, many_more, stuck_at, cut_at}
 

@@ -1,33 +1,17 @@
 -- How the reader comes through end tags.
 use Rattle.std.proofs.Common.{◌≡◌, ◌≢◌, ℕ, zero, suc, ◌+◌, ◌-◌, ◌≤◌, ◌<◌, Bool, true, false, List, [], ◌∷◌, ◌++◌, length, take, drop, Some}
-use Rattle.std.proofs.Common.{None, refl, sym, ◌∙◌, ap, subst, arith, slice_get, get_or, inl, inr}
-use Rattle.std.specs.List.{prefix_len, slice_range}
-use Rattle.std.specs.Option.{IfSome}
-use Rattle.std.specs.Str.{bytes_eq}
-use Rattle.std.specs.String.{string_bytes}
-use Rattle.std.proofs.lemmas.Option.{slice_get_within, slice_get-get_or, get_or_from_slice_get}
+use Rattle.std.proofs.{Common.{None, refl, sym, ◌∙◌, ap, subst, arith, slice_get, get_or, inl, inr}, lemmas.Option.slice_get_within}
+use Rattle.std.proofs.lemmas.Option.{slice_get-get_or, get_or_from_slice_get}
+use Rattle.std.specs.{List.{prefix_len, slice_range}, Option.IfSome, Str.bytes_eq, String.string_bytes}
 use Rattle.bridge_io.proofs.Texts.{same_bytes, equals_itself}
-use Rattle.bridge_io.specs.declared.place.Place.{Place}
-use Rattle.bridge_io.specs.Places.{place_of}
-use Rattle.mpd_text.specs.declared.fault.TextFault.{TextFault}
-use Rattle.mpd_text.specs.declared.fault.TextFault.TheVariants.{Cut, Syntax, TagMismatch}
-use Rattle.mpd_text.specs.declared.reader.Reader.{Reader}
-use Rattle.mpd_text.specs.Characters.{is_white, goes_on_name, starts_name}
-use Rattle.mpd_text.specs.Faults.{fault_of, refusal}
-use Rattle.mpd_text.specs.Fronts.{Context, in_end_tag}
-use Rattle.mpd_text.specs.Opening.{IsNameWithin}
-use Rattle.mpd_text.specs.Positions.{IsAt, IsReady}
-use Rattle.mpd_text.specs.Reading.{view_of}
-use Rattle.mpd_text.specs.Showing.{OpenShown}
-use Rattle.mpd_text.specs.Steps.{Mode, Opened, inside, behind_end, at_content, at_less_than, at_end_name, at_end_white, next_mode}
-use Rattle.mpd_text.specs.Steps.{context_of_mode, open_names, step_end_white, IsStuck}
-use Rattle.mpd_text.proofs.Comments.{ready_opens, other_byte}
-use Rattle.mpd_text.proofs.HoldingLemmas.{All-at}
-use Rattle.mpd_text.proofs.KeptLemmas.{range_left}
-use Rattle.mpd_text.proofs.NameLemmas.{white_in_name}
-use Rattle.mpd_text.proofs.Positions.{one_more, read_on, stuck_at, cut_at}
-use Rattle.mpd_text.proofs.ReaderLemmas.{run_stops}
-use Rattle.mpd_text.proofs.ReaderShows.{told}
+use Rattle.bridge_io.specs.{declared.place.Place.Place, Places.place_of}
+use Rattle.mpd_text.specs.{declared.fault.TextFault.TextFault, declared.fault.TextFault.TheVariants.{Cut, Syntax, TagMismatch}}
+use Rattle.mpd_text.specs.{declared.reader.Reader.Reader, Characters.{is_white, goes_on_name, starts_name}, Faults.{fault_of, refusal}}
+use Rattle.mpd_text.specs.{Fronts.{Context, in_end_tag}, Opening.IsNameWithin, Positions.{IsAt, IsReady}, Reading.view_of}
+use Rattle.mpd_text.specs.{Showing.OpenShown, Steps.{Mode, Opened, inside, behind_end, at_content, at_less_than, at_end_name, at_end_white}}
+use Rattle.mpd_text.specs.Steps.{next_mode, context_of_mode, open_names, step_end_white, IsStuck}
+use Rattle.mpd_text.proofs.{Comments.{ready_opens, other_byte}, HoldingLemmas.All-at, KeptLemmas.range_left, NameLemmas.white_in_name}
+use Rattle.mpd_text.proofs.{Positions.{one_more, read_on, stuck_at, cut_at}, ReaderLemmas.run_stops, ReaderShows.told}
 use Rattle.mpd_text.proofs.TagPositions.{run_into}
 
 -- a fault that is told of the same bytes

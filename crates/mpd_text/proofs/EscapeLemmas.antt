@@ -1,8 +1,6 @@
 -- How texts are escaped, character by character.
 use Rattle.std.proofs.Common.{◌≡◌, ◌≢◌, ℕ, suc, length, ◌<◌, ◌≤◌, true, false, nat_lt, ◌==◌, List, [], ◌∷◌, ◌++◌, refl, sym, ◌∙◌, ap, arith}
-use Rattle.std.proofs.Common.{inl, inr}
-use Rattle.std.proofs.lemmas.List.{append_assoc, append-nil}
-use Rattle.std.proofs.lemmas.Bool.{cases_lt}
+use Rattle.std.proofs.{Common.{inl, inr}, lemmas.List.{append_assoc, append-nil}, lemmas.Bool.cases_lt}
 use lib.Utf8.{encode}
 use Rattle.mpd_text.specs.Escapes.{escape_of, escape_all}
 

@@ -1,16 +1,11 @@
 -- The elements that rows show.
 use Rattle.std.proofs.Common.{◌≡◌, ℕ, suc, zero, ◌+◌, ◌-◌, ◌<◌, ◌≤◌, true, false, List, [], ◌∷◌, ◌++◌, map, length, nat_lt, get_or, ◌⊎◌}
-use Rattle.std.proofs.Common.{refl, sym, ap, ◌∙◌, subst, cond, inl, inr, arith, Option, Some, None}
+use Rattle.std.proofs.{Common.{refl, sym, ap, ◌∙◌, subst, cond, inl, inr, arith, Option, Some, None}, lemmas.Bool.cases_lt}
+use Rattle.std.proofs.{lemmas.List.{map-append, append-nil}, lemmas.List.FromFn.get_or-map-range_with_len, lemmas.Option.slice_get_within}
+use Rattle.std.proofs.{lemmas.Option.slice_get-get_or, lemmas.Bool.Decides.nat_tests}
 use Rattle.std.specs.List.{slice_get, slice_index_or, range_with_len}
-use Rattle.std.proofs.lemmas.Bool.{cases_lt}
-use Rattle.std.proofs.lemmas.List.{map-append, append-nil}
-use Rattle.std.proofs.lemmas.List.FromFn.{get_or-map-range_with_len}
-use Rattle.std.proofs.lemmas.Option.{slice_get_within, slice_get-get_or}
-use Rattle.std.proofs.lemmas.Bool.Decides.{nat_tests}
-use Rattle.mpd_text.specs.declared.tree.ElementRow.{ElementRow}
-use Rattle.mpd_text.specs.Trees.{Head, nothing, element, Element}
-use Rattle.mpd_text.specs.Views.{forest_of, first_of, in_order, elements_of, no_element}
-use Rattle.mpd_text.specs.Rows.{AreFollowed, AreNested, AreRooted}
+use Rattle.mpd_text.specs.{declared.tree.ElementRow.ElementRow, Trees.{Head, nothing, element, Element}, Views.{forest_of, first_of}}
+use Rattle.mpd_text.specs.{Views.{in_order, elements_of, no_element}, Rows.{AreFollowed, AreNested, AreRooted}}
 
 lt_true : (a b : ℕ) → a < b → nat_lt a b ≡ true
 lt_true a b h = grind (arith, nat_tests)

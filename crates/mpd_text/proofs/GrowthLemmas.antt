@@ -1,26 +1,17 @@
 -- What the rows show when elements begin, have attributes and text, and end.
 use Rattle.std.proofs.Common.{◌≡◌, ℕ, suc, zero, ◌+◌, ◌-◌, ◌<◌, ◌≤◌, List, [], ◌∷◌, ◌++◌, map, length, set, take, drop, inl, inr, refl, sym}
-use Rattle.std.proofs.Common.{ap, ◌∙◌, subst, arith, Some}
+use Rattle.std.proofs.{Common.{ap, ◌∙◌, subst, arith, Some}, lemmas.List.{append-nil, length-append, length-set, length_push}}
+use Rattle.std.proofs.lemmas.List.{length-take-le, length-drop, map-append, take_all, take-append-le, take-append-drop, drop-append-le}
+use Rattle.std.proofs.{lemmas.Bool.cases_lt, lemmas.Option.{slice_get_within, same_Some}}
 use Rattle.std.specs.List.{slice_get, slice_range}
-use Rattle.std.proofs.lemmas.List.{append-nil, length-append, length-set, length_push, length-take-le, length-drop, map-append, take_all}
-use Rattle.std.proofs.lemmas.List.{take-append-le, take-append-drop, drop-append-le}
-use Rattle.std.proofs.lemmas.Bool.{cases_lt}
-use Rattle.std.proofs.lemmas.Option.{slice_get_within, same_Some}
 use Rattle.bridge_io.specs.Places.{place_of}
-use Rattle.mpd_text.specs.declared.growing.OpenElement.{OpenElement}
-use Rattle.mpd_text.specs.declared.tree.KeptSpan.{KeptSpan}
-use Rattle.mpd_text.specs.declared.tree.ElementRow.{ElementRow}
-use Rattle.mpd_text.specs.declared.tree.AttributeRow.{AttributeRow}
-use Rattle.mpd_text.specs.Opening.{new_row, ended_row, with_attributes_end}
-use Rattle.mpd_text.specs.Rows.{AreFollowed, AreNested}
-use Rattle.mpd_text.specs.Showing.{View, head_in_view, attributes_in_view, OpenShown, RootShown, Shows, TagShown}
-use Rattle.mpd_text.specs.Steps.{Opened, Tag, Named, behind_end, followed_by, head_of_opened, with_attribute, with_text}
-use Rattle.mpd_text.specs.Trees.{nothing, element}
-use Rattle.mpd_text.specs.Views.{attribute_of, bytes_of, forest_of}
-use Rattle.mpd_text.proofs.ForestLemmas.{forest_none}
-use Rattle.mpd_text.proofs.OpeningLemmas.{got_set}
-use Rattle.mpd_text.proofs.ShowingLemmas.{AreSame, IsOrdered, IsPlaced, forest_alike, forest_longer, grown_same, here_from, same_head}
-use Rattle.mpd_text.proofs.ShowingLemmas.{shown_same}
+use Rattle.mpd_text.specs.{declared.growing.OpenElement.OpenElement, declared.tree.KeptSpan.KeptSpan, declared.tree.ElementRow.ElementRow}
+use Rattle.mpd_text.specs.{declared.tree.AttributeRow.AttributeRow, Opening.{new_row, ended_row, with_attributes_end}, Rows.AreFollowed}
+use Rattle.mpd_text.specs.{Rows.AreNested, Showing.{View, head_in_view, attributes_in_view, OpenShown, RootShown, Shows, TagShown}}
+use Rattle.mpd_text.specs.{Steps.{Opened, Tag, Named, behind_end, followed_by, head_of_opened, with_attribute, with_text}, Trees.nothing}
+use Rattle.mpd_text.specs.{Trees.element, Views.{attribute_of, bytes_of, forest_of}}
+use Rattle.mpd_text.proofs.{ForestLemmas.forest_none, OpeningLemmas.got_set, ShowingLemmas.{AreSame, IsOrdered, IsPlaced, forest_alike}}
+use Rattle.mpd_text.proofs.ShowingLemmas.{forest_longer, grown_same, here_from, same_head, shown_same}
 
 pub view_is : (v w : View) → v.source ≡ w.source → v.kept ≡ w.kept → v.loose ≡ w.loose → v.rows ≡ w.rows → v.attributes ≡ w.attributes
     → v.entries ≡ w.entries → v ≡ w

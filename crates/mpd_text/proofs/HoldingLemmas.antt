@@ -1,25 +1,16 @@
 -- What the reader holds stays in its places while rows grow.
 use Rattle.std.proofs.Common.{◌≡◌, ℕ, ◌+◌, ◌-◌, ◌<◌, ◌≤◌, List, ◌++◌, length, take, drop, get_or, inl, inr, refl, sym, ap, ◌∙◌, subst}
-use Rattle.std.proofs.Common.{arith, Option, Some, None, IfSome, Result, Ok, Err, IfOk, OnOk, OnErr}
-use Rattle.std.specs.List.{slice_get, All}
-use Rattle.std.specs.Str.{IsUtf8, IsCharBoundary}
-use Rattle.std.proofs.lemmas.Bool.{cases_lt}
+use Rattle.std.proofs.{Common.{arith, Option, Some, None, IfSome, Result, Ok, Err, IfOk, OnOk, OnErr}, lemmas.Bool.cases_lt}
 use Rattle.std.proofs.lemmas.List.{append_assoc, get_or-take, length-take-le, length-append, drop_at, take_all}
-use Rattle.std.proofs.lemmas.List.Elements.{All-push, All-set, All-take, All-weaker}
-use Rattle.std.proofs.lemmas.Option.{slice_get_within, slice_get-get_or, get_or_from_slice_get, same_Some}
-use Rattle.std.proofs.lemmas.Str.{IsCharBoundary-at_seam, IsCharBoundary-end, IsCharBoundary-start, IsUtf8-drop}
-use Rattle.mpd_text.specs.declared.growing.Growing.{Growing}
-use Rattle.mpd_text.specs.declared.growing.OpenElement.{OpenElement}
-use Rattle.mpd_text.specs.declared.tree.KeptSpan.{KeptSpan}
-use Rattle.mpd_text.specs.declared.tree.AttributeRow.{AttributeRow}
-use Rattle.mpd_text.specs.declared.tree.ElementRow.{ElementRow}
-use Rattle.mpd_text.specs.Bounds.{Appends}
-use Rattle.mpd_text.specs.Growth.{HasAdded, HasBegun, HasEnded, HasStayed}
-use Rattle.mpd_text.specs.Opening.{HaveData, HaveDataInOrder, IsNameWithin}
-use Rattle.mpd_text.specs.Views.{bytes_of}
+use Rattle.std.proofs.{lemmas.List.Elements.{All-push, All-set, All-take, All-weaker}, lemmas.Option.{slice_get_within, slice_get-get_or}}
+use Rattle.std.proofs.{lemmas.Option.{get_or_from_slice_get, same_Some}, lemmas.Str.{IsCharBoundary-at_seam, IsCharBoundary-end}}
+use Rattle.std.proofs.lemmas.Str.{IsCharBoundary-start, IsUtf8-drop}
+use Rattle.std.specs.{List.{slice_get, All}, Str.{IsUtf8, IsCharBoundary}}
+use Rattle.mpd_text.specs.{declared.growing.Growing.Growing, declared.growing.OpenElement.OpenElement, declared.tree.KeptSpan.KeptSpan}
+use Rattle.mpd_text.specs.{declared.tree.AttributeRow.AttributeRow, declared.tree.ElementRow.ElementRow, Bounds.Appends, Growth.HasAdded}
+use Rattle.mpd_text.specs.{Growth.{HasBegun, HasEnded, HasStayed}, Opening.{HaveData, HaveDataInOrder, IsNameWithin}, Views.bytes_of}
 use Rattle.mpd_text.specs.Rows.{IsKept, IsNameKept, IsElementKept, IsAttributeKept}
-use Rattle.mpd_text.proofs.KeptLemmas.{boundary_kept, kept_more, name_kept_more}
-use Rattle.mpd_text.proofs.OpeningLemmas.{got_pushed, got_taken}
+use Rattle.mpd_text.proofs.{KeptLemmas.{boundary_kept, kept_more, name_kept_more}, OpeningLemmas.{got_pushed, got_taken}}
 
 pub by_result : {T E Q : Type 0} (r : Result T E) (P S : Type 0) → OnOk r P → OnErr r S → (P → Q) → (S → Q) → Q
 by_result (Ok x) P S ok err whole same = whole ok

@@ -2,17 +2,15 @@
 use Rattle.std.proofs.Common.{◌≡◌, ◌≢◌, ℕ, suc, ◌-◌, ◌≤◌, Bool, true, false, IsTrue, not, List, [], ◌∷◌, ◌++◌, map, length, codes, nat_eq}
 use Rattle.std.proofs.Common.{Option, Some, None, option_map, if◌then◌else◌}
 use Rattle.std.specs.List.{starts_with}
-use Rattle.bridge_io.specs.Texts.{is_among}
-use Rattle.bridge_io.specs.declared.place.Place.{Place}
-use Rattle.mpd_text.specs.Characters.{all_white, is_white, is_name, has, has_byte}
-use Rattle.mpd_text.specs.References.{line_ends_after, replaced_within, is_front_of_reference}
-use Rattle.mpd_text.specs.Trees.{Attribute, Forest, Element, depth}
-use Rattle.mpd_text.specs.Grammar.{first_place, past, IsMark, IsMisc, IsProlog, IsContent, IsElement, IsStartTag, AreAttributes, AllDiffer}
-use Rattle.mpd_text.specs.Grammar.{IsEquals, names_of, deepest}
-use Rattle.mpd_text.specs.Steps.{Opened, Outside, inside, behind, Tag, Named, Quoted, Dashes, no_dash, one_dash, two_dashes, three_dashes}
-use Rattle.mpd_text.specs.Steps.{Mode, at_beginning, at_mark_1, at_mark_2, at_mark_end, at_content, at_less_than, at_bang, at_question}
-use Rattle.mpd_text.specs.Steps.{at_declaration, at_comment, at_tag_name, at_tag, at_slash, at_attribute_name, at_equals, at_quote}
-use Rattle.mpd_text.specs.Steps.{at_value, at_value_reference, at_data_reference, at_end_name, at_end_white, followed_by, as_space, State}
+use Rattle.bridge_io.specs.{Texts.is_among, declared.place.Place.Place}
+use Rattle.mpd_text.specs.{Characters.{all_white, is_white, is_name, has, has_byte}, References.{line_ends_after, replaced_within}}
+use Rattle.mpd_text.specs.{References.is_front_of_reference, Trees.{Attribute, Forest, Element, depth}, Grammar.{first_place, past, IsMark}}
+use Rattle.mpd_text.specs.Grammar.{IsMisc, IsProlog, IsContent, IsElement, IsStartTag, AreAttributes, AllDiffer, IsEquals, names_of}
+use Rattle.mpd_text.specs.{Grammar.deepest, Steps.{Opened, Outside, inside, behind, Tag, Named, Quoted, Dashes, no_dash, one_dash}}
+use Rattle.mpd_text.specs.Steps.{two_dashes, three_dashes, Mode, at_beginning, at_mark_1, at_mark_2, at_mark_end, at_content, at_less_than}
+use Rattle.mpd_text.specs.Steps.{at_bang, at_question, at_declaration, at_comment, at_tag_name, at_tag, at_slash, at_attribute_name}
+use Rattle.mpd_text.specs.Steps.{at_equals, at_quote, at_value, at_value_reference, at_data_reference, at_end_name, at_end_white}
+use Rattle.mpd_text.specs.Steps.{followed_by, as_space, State}
 
 -- what the bytes read as so far, whatever follows: `name` is there within a reference
 abbrev pub Reads : (ℕ → ℕ) → List ℕ → List ℕ → Option (List ℕ) → Bool → Type 0

@@ -1,13 +1,9 @@
 -- Texts that lie in the source or behind it.
 use Rattle.std.proofs.Common.{◌≡◌, ℕ, ◌+◌, ◌-◌, ◌<◌, ◌≤◌, List, ◌++◌, length, take, drop, get_or, inl, inr, subst, sym, ap, ◌∙◌, arith}
 use Rattle.std.proofs.lemmas.List.{get_or_append_left, get_or-append-add, length-append, drop-append-le, take-append-le, length-drop}
-use Rattle.std.proofs.lemmas.List.{drop_at, drop-drop}
-use Rattle.std.proofs.lemmas.Bool.{cases_lt}
-use Rattle.std.proofs.lemmas.Str.{IsCharBoundary-at_seam}
-use Rattle.std.specs.List.{slice_range}
-use Rattle.std.specs.Str.{IsUtf8, IsCharBoundary}
-use Rattle.mpd_text.specs.declared.tree.KeptSpan.{KeptSpan}
-use Rattle.mpd_text.specs.Rows.{IsKept, IsNameKept}
+use Rattle.std.proofs.{lemmas.List.{drop_at, drop-drop}, lemmas.Bool.cases_lt, lemmas.Str.IsCharBoundary-at_seam}
+use Rattle.std.specs.{List.slice_range, Str.{IsUtf8, IsCharBoundary}}
+use Rattle.mpd_text.specs.{declared.tree.KeptSpan.KeptSpan, Rows.{IsKept, IsNameKept}}
 
 -- a cut of a text is one of its front, or of what is behind that
 pub boundary_left : (source read : List ℕ) (i : ℕ) → i ≤ length source → IsCharBoundary (source ++ read) i → IsCharBoundary source i

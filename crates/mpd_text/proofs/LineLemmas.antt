@@ -1,12 +1,8 @@
 -- How many line feeds stand before a byte, by the blocks before it.
 use Rattle.std.proofs.Common.{◌≡◌, ℕ, ◌+◌, ◌-◌, ◌*◌, ◌≤◌, Bool, List, [], ◌∷◌, ◌++◌, length, take, drop, get_or, count_by, refl, sym, ap}
-use Rattle.std.proofs.Common.{◌∙◌, arith, inl, inr}
+use Rattle.std.proofs.{Common.{◌∙◌, arith, inl, inr}, Math.ListN.get_or-append, Math.Seq.{get_or-append_seam, take-add}}
+use Rattle.std.proofs.{lemmas.Bool.cases_lt, lemmas.List.length-append, lemmas.List.Sums.sum_by-append}
 use Rattle.std.specs.List.{slice_range}
-use Rattle.std.proofs.Math.ListN.{get_or-append}
-use Rattle.std.proofs.Math.Seq.{get_or-append_seam, take-add}
-use Rattle.std.proofs.lemmas.Bool.{cases_lt}
-use Rattle.std.proofs.lemmas.List.{length-append}
-use Rattle.std.proofs.lemmas.List.Sums.{sum_by-append}
 use Rattle.byte_scan.specs.Lines.{is_line_feed}
 use Rattle.mpd_text.specs.Lines.{AreCounted, block_size}
 

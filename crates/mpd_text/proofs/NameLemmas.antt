@@ -1,14 +1,10 @@
 -- Bytes by their classes, and what a reference goes on with.
 use Rattle.std.proofs.Common.{◌≡◌, ℕ, Bool, true, false, IsTrue, ◌==◌, ◌&&◌, not, nat_lt, nat_eq, List, [], ◌∷◌, ◌++◌, codes, Some, refl}
-use Rattle.std.proofs.Common.{sym, subst, arith, inl, inr, ◌⊎◌}
-use Rattle.std.specs.List.{list_all, list_any, starts_with}
-use Rattle.std.specs.Str.{bytes_eq}
-use Rattle.std.proofs.lemmas.List.Folds.{list_all-append}
-use Rattle.std.proofs.lemmas.Bool.{cases_eq}
+use Rattle.std.proofs.{Common.{sym, subst, arith, inl, inr, ◌⊎◌}, lemmas.List.Folds.list_all-append, lemmas.Bool.cases_eq}
+use Rattle.std.specs.{List.{list_all, list_any, starts_with}, Str.bytes_eq}
 use Rattle.bridge_io.proofs.Texts.{same_bytes}
-use Rattle.mpd_text.specs.Characters.{is_white, is_digit, starts_name, goes_on_name}
-use Rattle.mpd_text.specs.References.{is_hex_digit, named_by_number, named_by_digits, referred_to, is_front_of_digits}
-use Rattle.mpd_text.specs.References.{is_front_of_reference}
+use Rattle.mpd_text.specs.{Characters.{is_white, is_digit, starts_name, goes_on_name}, References.{is_hex_digit, named_by_number}}
+use Rattle.mpd_text.specs.References.{named_by_digits, referred_to, is_front_of_digits, is_front_of_reference}
 
 pub tests : (b : Bool) → (b ≡ true) ⊎ (b ≡ false)
 tests true = inl refl

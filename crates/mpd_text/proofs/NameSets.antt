@@ -1,12 +1,9 @@
 -- What a set of names has.
 use Rattle.std.proofs.Common.{◌≡◌, ℕ, Bool, true, false, not, List, [], ◌∷◌, ◌++◌, refl, sym, ◌∙◌, ap, subst, arith, ◌+◌, ◌<◌, ◌≤◌, length}
-use Rattle.std.proofs.Common.{take, drop, Option, Some, None, IfSome, get_or}
-use Rattle.std.proofs.lemmas.List.{take_more, map-append, length-append, length-map}
-use Rattle.mpd_text.specs.declared.tree.AttributeRow.{AttributeRow}
-use Rattle.mpd_text.specs.declared.tree.ElementRow.{ElementRow}
-use Rattle.mpd_text.specs.declared.many_names.ManyNames.{ManyNames}
-use Rattle.mpd_text.specs.ManyNames.{HasNames, IsPrepared}
-use Rattle.mpd_text.specs.Names.{name_in, names_in}
+use Rattle.std.proofs.{Common.{take, drop, Option, Some, None, IfSome, get_or}, lemmas.List.{take_more, map-append, length-append}}
+use Rattle.std.proofs.lemmas.List.{length-map}
+use Rattle.mpd_text.specs.{declared.tree.AttributeRow.AttributeRow, declared.tree.ElementRow.ElementRow}
+use Rattle.mpd_text.specs.{declared.many_names.ManyNames.ManyNames, ManyNames.{HasNames, IsPrepared}, Names.{name_in, names_in}}
 
 -- the names of one row more
 pub names_more : (bytes : List ℕ) (rows : List AttributeRow) (i : ℕ) (d : AttributeRow) (last : List ℕ) → i < length rows

@@ -1,12 +1,8 @@
 -- What the rows of a tree say of its nodes.
 use Rattle.std.proofs.Common.{◌≡◌, ℕ, suc, ◌+◌, ◌<◌, ◌≤◌, [], ◌∷◌, Some, ap, sym, subst, ◌∙◌, arith}
 use Rattle.std.specs.List.{slice_get}
-use Rattle.mpd_text.specs.declared.node.Node.{Node}
-use Rattle.mpd_text.specs.declared.tree.Tree.{Tree}
-use Rattle.mpd_text.specs.declared.tree.ElementRow.{ElementRow}
-use Rattle.mpd_text.specs.Nodes.{element_of, head_in, root_of}
-use Rattle.mpd_text.specs.Trees.{Element, element}
-use Rattle.mpd_text.specs.Views.{element_at, forest_of, side_by_side}
+use Rattle.mpd_text.specs.{declared.node.Node.Node, declared.tree.Tree.Tree, declared.tree.ElementRow.ElementRow, Nodes.element_of}
+use Rattle.mpd_text.specs.{Nodes.{head_in, root_of}, Trees.{Element, element}, Views.{element_at, forest_of, side_by_side}}
 use Rattle.mpd_text.proofs.ForestLemmas.{element_of_row, forest_here, forest_none}
 
 -- the element of a row, with what is inside of it

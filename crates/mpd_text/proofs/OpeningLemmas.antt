@@ -1,13 +1,9 @@
 -- Rows stay well nested while elements begin and end.
 use Rattle.std.proofs.Common.{◌≡◌, ℕ, suc, zero, ◌+◌, ◌<◌, ◌≤◌, ◌⊎◌, List, [], ◌∷◌, ◌++◌, length, set, take, inl, inr, refl, sym, ap, subst}
-use Rattle.std.proofs.Common.{arith, Some}
+use Rattle.std.proofs.{Common.{arith, Some}, lemmas.List.{length-append, length-set}, lemmas.Option.{slice_get_within, same_Some}}
 use Rattle.std.specs.List.{slice_get}
-use Rattle.std.proofs.lemmas.List.{length-append, length-set}
-use Rattle.std.proofs.lemmas.Option.{slice_get_within, same_Some}
-use Rattle.mpd_text.specs.declared.growing.OpenElement.{OpenElement}
-use Rattle.mpd_text.specs.declared.tree.ElementRow.{ElementRow}
-use Rattle.mpd_text.specs.Opening.{AreBegun, AreRising, BeginWithRoot}
-use Rattle.mpd_text.specs.Rows.{AreFollowed, AreNested}
+use Rattle.mpd_text.specs.{declared.growing.OpenElement.OpenElement, declared.tree.ElementRow.ElementRow, Opening.{AreBegun, AreRising}}
+use Rattle.mpd_text.specs.{Opening.BeginWithRoot, Rows.{AreFollowed, AreNested}}
 
 -- where a member of a list comes from
 pub got_pushed : {X : Type 0} (xs : List X) (x y : X) (k : ℕ) → slice_get (xs ++ x ∷ []) k ≡ Some y

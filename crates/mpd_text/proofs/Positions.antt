@@ -1,18 +1,12 @@
 -- How the reader comes from one position to another.
 use Rattle.std.proofs.Common.{◌≡◌, ◌≢◌, ℕ, zero, suc, ◌+◌, ◌≤◌, ◌<◌, Bool, true, List, [], ◌∷◌, ◌++◌, length, take, drop, Option, Some}
-use Rattle.std.proofs.Common.{None, refl, sym, ◌∙◌, ap, subst, arith, slice_get, get_or, inl, inr}
-use Rattle.std.specs.List.{prefix_len}
-use Rattle.std.proofs.lemmas.List.{take_all, length-take, length-drop, get_or-drop}
-use Rattle.std.proofs.lemmas.List.Sums.{prefix_len-le-length, prefix_len_passes}
+use Rattle.std.proofs.{Common.{None, refl, sym, ◌∙◌, ap, subst, arith, slice_get, get_or, inl, inr}, lemmas.List.{take_all, length-take}}
+use Rattle.std.proofs.{lemmas.List.{length-drop, get_or-drop}, lemmas.List.Sums.{prefix_len-le-length, prefix_len_passes}}
 use Rattle.std.proofs.lemmas.Option.{slice_get_within, slice_get-get_or, get_or_from_slice_get}
-use Rattle.bridge_io.specs.declared.place.Place.{Place}
-use Rattle.bridge_io.specs.Places.{place_of}
-use Rattle.mpd_text.specs.declared.fault.TextFault.TheVariants.{Cut}
-use Rattle.mpd_text.specs.Grammar.{first_place, past}
-use Rattle.mpd_text.specs.Fronts.{Context, after_root}
-use Rattle.mpd_text.specs.Faults.{fault_of}
-use Rattle.mpd_text.specs.Steps.{Mode, start, run, next_mode, state_at, context_of_mode, IsStuck}
-use Rattle.mpd_text.specs.Positions.{IsAt}
+use Rattle.std.specs.List.{prefix_len}
+use Rattle.bridge_io.specs.{declared.place.Place.Place, Places.place_of}
+use Rattle.mpd_text.specs.{declared.fault.TextFault.TheVariants.Cut, Grammar.{first_place, past}, Fronts.{Context, after_root}}
+use Rattle.mpd_text.specs.{Faults.fault_of, Steps.{Mode, start, run, next_mode, state_at, context_of_mode, IsStuck}, Positions.IsAt}
 use Rattle.mpd_text.proofs.RunLemmas.{run_one_more, past_more}
 
 none_is_some : {A : Type 0} (x : A) → ◌≡◌ {A = Option A} None (Some x) → ⊥

@@ -1,21 +1,14 @@
 -- How the reader comes through what stands before and behind the root.
 use Rattle.std.proofs.Common.{◌≡◌, ◌≢◌, ℕ, zero, suc, ◌+◌, ◌≤◌, Bool, true, false, ◌==◌, List, [], ◌∷◌, length, drop, codes, Some, None}
-use Rattle.std.proofs.Common.{refl, sym, ◌∙◌, ap, subst, arith, slice_get, inl, inr, if◌then◌else◌}
+use Rattle.std.proofs.{Common.{refl, sym, ◌∙◌, ap, subst, arith, slice_get, inl, inr, if◌then◌else◌}, lemmas.List.{take_all, length-drop}}
+use Rattle.std.proofs.{lemmas.List.get_or-drop, lemmas.List.Sums.prefix_len_stops, lemmas.Option.{slice_get_within, get_or_from_slice_get}}
 use Rattle.std.specs.List.{prefix_len}
-use Rattle.std.proofs.lemmas.List.{take_all, length-drop, get_or-drop}
-use Rattle.std.proofs.lemmas.List.Sums.{prefix_len_stops}
-use Rattle.std.proofs.lemmas.Option.{slice_get_within, get_or_from_slice_get}
-use Rattle.bridge_io.specs.declared.place.Place.{Place}
-use Rattle.bridge_io.specs.Places.{place_of}
-use Rattle.mpd_text.specs.declared.fault.TextFault.TheVariants.{Cut, Syntax, Instruction}
-use Rattle.mpd_text.specs.Characters.{is_white, starts_name}
-use Rattle.mpd_text.specs.Trees.{Element}
-use Rattle.mpd_text.specs.Fronts.{before_root, undecided, after_root}
-use Rattle.mpd_text.specs.Steps.{Outside, inside, behind, Mode, at_beginning, at_mark_end, at_content, at_less_than, at_question, start}
-use Rattle.mpd_text.specs.Steps.{run, next_mode, names_outside, IsStuck, Finishes}
-use Rattle.mpd_text.specs.Positions.{IsAt, IsFirst, IsReady, IsOuter, HasNoQuestion}
-use Rattle.mpd_text.proofs.NameLemmas.{tests, white_is_not}
-use Rattle.mpd_text.proofs.Positions.{many_more, class_within, class_holds, stuck_at, cut_at}
+use Rattle.bridge_io.specs.{declared.place.Place.Place, Places.place_of}
+use Rattle.mpd_text.specs.{declared.fault.TextFault.TheVariants.{Cut, Syntax, Instruction}, Characters.{is_white, starts_name}}
+use Rattle.mpd_text.specs.{Trees.Element, Fronts.{before_root, undecided, after_root}, Steps.{Outside, inside, behind, Mode, at_beginning}}
+use Rattle.mpd_text.specs.Steps.{at_mark_end, at_content, at_less_than, at_question, start, run, next_mode, names_outside, IsStuck}
+use Rattle.mpd_text.specs.{Steps.Finishes, Positions.{IsAt, IsFirst, IsReady, IsOuter, HasNoQuestion}}
+use Rattle.mpd_text.proofs.{NameLemmas.{tests, white_is_not}, Positions.{many_more, class_within, class_holds, stuck_at, cut_at}}
 use Rattle.mpd_text.proofs.Comments.{other_byte, IsOpened}
 
 after_white : Mode → Outside → ℕ → Mode

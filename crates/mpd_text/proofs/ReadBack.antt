@@ -1,12 +1,10 @@
 -- An escaped text reads back as a value in `"`.
 use Rattle.std.proofs.Common.{◌≡◌, ℕ, ◌≤◌, Bool, true, false, nat_le, ◌==◌, ◌&&◌, not, List, [], ◌∷◌, ◌++◌, map, Some, option_map}
-use Rattle.std.proofs.Common.{if◌then◌else◌, refl, sym, ◌∙◌, ap, subst, arith, inl, inr}
+use Rattle.std.proofs.{Common.{if◌then◌else◌, refl, sym, ◌∙◌, ap, subst, arith, inl, inr}, lemmas.Bool.cases_eq}
 use Rattle.std.specs.List.{list_all}
-use Rattle.mpd_text.specs.Characters.{is_white, has_byte}
-use Rattle.mpd_text.specs.References.{line_ends_after, replaced, value_text}
-use Rattle.std.proofs.lemmas.Bool.{cases_eq}
+use Rattle.mpd_text.specs.{Characters.{is_white, has_byte}, References.{line_ends_after, replaced, value_text}, Escapes.escape_of}
+use Rattle.mpd_text.specs.Escapes.{escape_all, IsReadBack}
 use lib.Utf8.{encode}
-use Rattle.mpd_text.specs.Escapes.{escape_of, escape_all, IsReadBack}
 use Rattle.mpd_text.proofs.EscapeLemmas.{byte_stays}
 
 -- every character is at or above U+0020

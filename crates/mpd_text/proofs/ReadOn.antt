@@ -1,24 +1,13 @@
 -- What is read on from a position is what its run leads to.
 use Rattle.std.proofs.Common.{◌≡◌, ◌≢◌, ◌≤◌, ℕ, zero, suc, false, ◌==◌, nat_eq, List, [], ◌∷◌, length, take, Option, Some, None, Result, Ok}
-use Rattle.std.proofs.Common.{Err, refl, sym, ◌∙◌, ap, subst, arith, inl, inr, slice_get}
-use Rattle.std.specs.List.{starts_with}
-use Rattle.std.specs.Option.{option_and_then, option_map_or}
-use Rattle.std.proofs.lemmas.List.{take_all}
-use Rattle.std.proofs.lemmas.Grind.{common_steps}
-use Rattle.bridge_io.specs.declared.place.Place.{Place}
-use Rattle.bridge_io.specs.Places.{place_of}
-use Rattle.mpd_text.specs.declared.fault.TextFault.{TextFault}
-use Rattle.mpd_text.specs.declared.fault.TextFault.TheVariants.{Cut, Syntax}
-use Rattle.mpd_text.specs.Trees.{Element}
-use Rattle.mpd_text.specs.Grammar.{first_place}
-use Rattle.mpd_text.specs.Fronts.{Context, after_root}
-use Rattle.mpd_text.specs.Faults.{fault_of}
-use Rattle.mpd_text.specs.Meaning.{ended, refused, read_on}
+use Rattle.std.proofs.{Common.{Err, refl, sym, ◌∙◌, ap, subst, arith, inl, inr, slice_get}, lemmas.List.take_all, lemmas.Grind.common_steps}
+use Rattle.std.specs.{List.starts_with, Option.{option_and_then, option_map_or}}
+use Rattle.bridge_io.specs.{declared.place.Place.Place, Places.place_of}
+use Rattle.mpd_text.specs.{declared.fault.TextFault.TextFault, declared.fault.TextFault.TheVariants.{Cut, Syntax}, Trees.Element}
+use Rattle.mpd_text.specs.{Grammar.first_place, Fronts.{Context, after_root}, Faults.fault_of, Meaning.{ended, refused, read_on}}
 use Rattle.mpd_text.specs.Steps.{inside, behind, Mode, at_mark_1, at_mark_2, at_content, State, start, run, step, context_of}
 use Rattle.mpd_text.specs.Steps.{context_of_mode, Reaches, IsStuckAt, IsUnfinished, IsStuck, Finishes}
-use Rattle.mpd_text.proofs.NameLemmas.{tests}
-use Rattle.mpd_text.proofs.Positions.{place_is}
-use Rattle.mpd_text.proofs.RunLemmas.{here_is}
+use Rattle.mpd_text.proofs.{NameLemmas.tests, Positions.place_is, RunLemmas.here_is}
 
 -- one byte more, or none
 goes_on : (whole : List ℕ) (s : State) (b : ℕ) (bs : List ℕ) (o : Option State) → step s b ≡ o

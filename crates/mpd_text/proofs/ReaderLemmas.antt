@@ -1,15 +1,9 @@
 -- Where the reader's names and pieces stand.
 use Rattle.std.proofs.Common.{◌≡◌, ℕ, ◌+◌, ◌-◌, ◌<◌, ◌≤◌, Bool, true, false, List, length, drop, get_or, sym, subst, arith, inl, inr}
-use Rattle.std.specs.List.{prefix_len}
-use Rattle.std.specs.Str.{IsUtf8, IsCharBoundary}
-use Rattle.std.proofs.lemmas.Bool.{cases_lt}
-use Rattle.std.proofs.lemmas.Bool.Decides.{nat_tests}
-use Rattle.std.proofs.lemmas.List.{get_or-drop, length-drop}
-use Rattle.std.proofs.lemmas.List.Sums.{prefix_len_stops, prefix_len_passes}
-use Rattle.std.proofs.lemmas.Str.{IsCharBoundary-before_ascii, IsCharBoundary-end}
-use Rattle.mpd_text.specs.declared.tree.KeptSpan.{KeptSpan}
-use Rattle.mpd_text.specs.Bounds.{IsBehindAscii}
-use Rattle.mpd_text.specs.Characters.{goes_on_name, starts_name, is_white}
+use Rattle.std.proofs.{lemmas.Bool.cases_lt, lemmas.Bool.Decides.nat_tests, lemmas.List.{get_or-drop, length-drop}}
+use Rattle.std.proofs.{lemmas.List.Sums.{prefix_len_stops, prefix_len_passes}, lemmas.Str.{IsCharBoundary-before_ascii, IsCharBoundary-end}}
+use Rattle.std.specs.{List.prefix_len, Str.{IsUtf8, IsCharBoundary}}
+use Rattle.mpd_text.specs.{declared.tree.KeptSpan.KeptSpan, Bounds.IsBehindAscii, Characters.{goes_on_name, starts_name, is_white}}
 use Rattle.mpd_text.specs.Rows.{IsNameKept}
 use Rattle.mpd_text.proofs.BoundLemmas.{boundary_behind}
 

@@ -1,40 +1,22 @@
 -- What the reader shows behind each of its steps.
 use Rattle.std.proofs.Common.{◌≡◌, ℕ, suc, ◌+◌, ◌-◌, List, [], ◌∷◌, ◌++◌, map, length, set, take, drop, refl, sym, ap, ◌∙◌, subst, arith}
 use Rattle.std.proofs.Common.{Bool, false, Option, Some, None, Result, Ok, Err, IsErr, IsErrAnd, MatchResult}
-use Rattle.std.specs.List.{All, slice_get, slice_range}
-use Rattle.std.proofs.lemmas.List.Elements.{All-drop}
-use Rattle.mpd_text.specs.Grammar.{names_of}
-use Rattle.mpd_text.specs.ManyNames.{IsPrepared}
-use Rattle.mpd_text.specs.declared.many_names.ManyNames.{ManyNames}
-use Rattle.mpd_text.specs.Names.{names_in}
-use Rattle.mpd_text.proofs.KeptLemmas.{range_left}
-use Rattle.std.specs.String.{string_bytes}
-use Rattle.std.proofs.lemmas.List.{append-nil, length-drop, map-append, take_all}
-use Rattle.std.proofs.lemmas.Option.{same_Some}
-use Rattle.mpd_text.specs.declared.reader.Reader.{Reader}
-use Rattle.mpd_text.specs.declared.tree.KeptSpan.{KeptSpan}
-use Rattle.mpd_text.specs.declared.tree.ElementRow.{ElementRow}
-use Rattle.mpd_text.specs.Bounds.{Appends}
-use Rattle.mpd_text.specs.Growth.{HasAdded, HasBegun, HasEnded}
-use Rattle.mpd_text.specs.Opening.{ended_row, new_row, with_attributes_end}
-use Rattle.std.specs.Option.{IfSome}
-use Rattle.bridge_io.specs.Places.{place_of}
-use Rattle.bridge_io.specs.Texts.{is_among}
-use Rattle.mpd_text.specs.declared.growing.OpenElement.{OpenElement}
-use Rattle.mpd_text.specs.declared.tree.AttributeRow.{AttributeRow}
-use Rattle.mpd_text.specs.declared.fault.TextFault.{TextFault}
-use Rattle.mpd_text.specs.declared.fault.TextFault.TheVariants.{NotUtf8, BadChar, Cut, Syntax, TagMismatch, DoubleAttribute, Entity}
-use Rattle.mpd_text.specs.declared.fault.TextFault.TheVariants.{Doctype, Cdata, Instruction, Depth, Memory}
-use Rattle.mpd_text.specs.Faults.{refusal}
-use Rattle.mpd_text.specs.Reading.{view_of}
-use Rattle.mpd_text.specs.Rows.{AreFollowed, AreNested, HasAttributesWithin, IsAttributeKept}
-use Rattle.mpd_text.specs.Showing.{View, OpenShown, Shows, TagShown, attributes_in_view}
-use Rattle.mpd_text.specs.Steps.{IsStuck, Opened, Tag, Named, behind_end, opened_by, with_attribute, with_text}
-use Rattle.mpd_text.specs.Views.{attribute_of, bytes_of}
-use Rattle.mpd_text.proofs.GrowthLemmas.{added_view, begun_view, data_view, data_shown, element_ended, ended_view, tag_begun, tag_added}
-use Rattle.mpd_text.proofs.GrowthLemmas.{view_is}
-use Rattle.mpd_text.proofs.HoldingLemmas.{All-at, kept_grown}
-use Rattle.mpd_text.proofs.ShowingLemmas.{AreSame, IsOrdered, IsPlaced, grown_same, shown_kept}
+use Rattle.std.proofs.{lemmas.List.Elements.All-drop, lemmas.List.{append-nil, length-drop, map-append, take_all}, lemmas.Option.same_Some}
+use Rattle.std.specs.{List.{All, slice_get, slice_range}, String.string_bytes, Option.IfSome}
+use Rattle.mpd_text.specs.{Grammar.names_of, ManyNames.IsPrepared, declared.many_names.ManyNames.ManyNames, Names.names_in}
+use Rattle.mpd_text.specs.{declared.reader.Reader.Reader, declared.tree.KeptSpan.KeptSpan, declared.tree.ElementRow.ElementRow}
+use Rattle.mpd_text.specs.{Bounds.Appends, Growth.{HasAdded, HasBegun, HasEnded}, Opening.{ended_row, new_row, with_attributes_end}}
+use Rattle.mpd_text.specs.{declared.growing.OpenElement.OpenElement, declared.tree.AttributeRow.AttributeRow}
+use Rattle.mpd_text.specs.{declared.fault.TextFault.TextFault, declared.fault.TextFault.TheVariants.{NotUtf8, BadChar, Cut, Syntax}}
+use Rattle.mpd_text.specs.declared.fault.TextFault.TheVariants.{TagMismatch, DoubleAttribute, Entity, Doctype, Cdata, Instruction, Depth}
+use Rattle.mpd_text.specs.{declared.fault.TextFault.TheVariants.Memory, Faults.refusal, Reading.view_of, Rows.{AreFollowed, AreNested}}
+use Rattle.mpd_text.specs.{Rows.{HasAttributesWithin, IsAttributeKept}, Showing.{View, OpenShown, Shows, TagShown, attributes_in_view}}
+use Rattle.mpd_text.specs.{Steps.{IsStuck, Opened, Tag, Named, behind_end, opened_by, with_attribute, with_text}, Views.attribute_of}
+use Rattle.mpd_text.specs.Views.{bytes_of}
+use Rattle.mpd_text.proofs.{KeptLemmas.range_left, GrowthLemmas.{added_view, begun_view, data_view, data_shown, element_ended, ended_view}}
+use Rattle.mpd_text.proofs.{GrowthLemmas.{tag_begun, tag_added, view_is}, HoldingLemmas.{All-at, kept_grown}, ShowingLemmas.AreSame}
+use Rattle.mpd_text.proofs.ShowingLemmas.{IsOrdered, IsPlaced, grown_same, shown_kept}
+use Rattle.bridge_io.specs.{Places.place_of, Texts.is_among}
 
 pub ordered_in : (r : Reader) → IsOrdered (view_of r)
 ordered_in r = record { followed = r.growing.followed; nested = r.growing.nested; begun = r.growing.begun }

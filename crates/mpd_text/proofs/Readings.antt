@@ -1,35 +1,21 @@
 -- Each text has one reading: the tree that it spells, or the fault at which its reading stops.
 use Rattle.std.proofs.Common.{◌≡◌, ◌≢◌, ℕ, zero, suc, ◌<◌, Bool, true, false, ◌==◌, nat_eq, List, [], ◌∷◌, ◌++◌, length, take, Option, Some}
 use Rattle.std.proofs.Common.{None, Result, Ok, Err, refl, sym, ◌∙◌, ap, subst, if◌then◌else◌, arith, inl, inr, ◌⊎◌, IsUtf8, slice_get}
-use Rattle.std.specs.List.{starts_with}
-use Rattle.std.specs.Option.{option_and_then}
-use Rattle.std.specs.Str.{is_utf8}
-use Rattle.std.proofs.lemmas.Str.{IsUtf8-from_is_utf8, is_utf8-from_IsUtf8}
-use Rattle.std.proofs.lemmas.Option.{slice_get_within}
-use Rattle.std.proofs.lemmas.List.{take_all}
-use Rattle.std.proofs.lemmas.Grind.{common_steps}
-use Rattle.std.proofs.lemmas.Bool.{cases_lt}
-use Rattle.bridge_io.specs.declared.place.Place.{Place}
-use Rattle.bridge_io.specs.Places.{place_of}
-use Rattle.mpd_text.specs.declared.fault.TextFault.{TextFault}
-use Rattle.mpd_text.specs.declared.fault.TextFault.TheVariants.{BadChar, Cdata, Depth, Doctype, DoubleAttribute, Entity, Instruction}
-use Rattle.mpd_text.specs.declared.fault.TextFault.TheVariants.{Memory, Syntax, TagMismatch}
-use Rattle.mpd_text.specs.Characters.{first_bad_character}
-use Rattle.mpd_text.specs.Trees.{Element}
-use Rattle.mpd_text.specs.Grammar.{IsClean, Spells, past}
-use Rattle.mpd_text.specs.Fronts.{Kind, Context, IsOpen, before_root, after_root, undecided, in_attribute, in_reference, in_end_tag}
-use Rattle.mpd_text.specs.Faults.{IsLongestOpen, IsDecided, IsCut, HasFault, ReadsAs, fault_of, refusal}
-use Rattle.mpd_text.specs.Meaning.{IsOneReading, read_on, read_unless_bad, reading_of}
-use Rattle.mpd_text.specs.Steps.{inside, behind, Mode, at_mark_1, at_mark_2, at_mark_end, at_content, State, start, run, step, next_mode}
-use Rattle.mpd_text.specs.Steps.{state_at, context_at, context_of, context_of_mode, Reaches, IsStuckAt, HasBrokenMark, IsUnfinished}
-use Rattle.mpd_text.specs.Steps.{IsStuck, Finishes}
-use Rattle.mpd_text.proofs.Holds.{Holds}
-use Rattle.mpd_text.proofs.NameLemmas.{tests, true_is_not_false}
-use Rattle.mpd_text.proofs.ReadOn.{finished_is_read, stuck_is_read}
-use Rattle.mpd_text.proofs.RunLemmas.{run_front}
-use Rattle.mpd_text.proofs.SoundSteps.{holds}
-use Rattle.mpd_text.proofs.SoundOpen.{read_is_open, finished_is_document}
-use Rattle.mpd_text.proofs.Complete.{open_is_read, spelled_is_read}
+use Rattle.std.proofs.{lemmas.Str.{IsUtf8-from_is_utf8, is_utf8-from_IsUtf8}, lemmas.Option.slice_get_within, lemmas.List.take_all}
+use Rattle.std.proofs.{lemmas.Grind.common_steps, lemmas.Bool.cases_lt}
+use Rattle.std.specs.{List.starts_with, Option.option_and_then, Str.is_utf8}
+use Rattle.bridge_io.specs.{declared.place.Place.Place, Places.place_of}
+use Rattle.mpd_text.specs.{declared.fault.TextFault.TextFault, declared.fault.TextFault.TheVariants.{BadChar, Cdata, Depth, Doctype}}
+use Rattle.mpd_text.specs.declared.fault.TextFault.TheVariants.{DoubleAttribute, Entity, Instruction, Memory, Syntax, TagMismatch}
+use Rattle.mpd_text.specs.{Characters.first_bad_character, Trees.Element, Grammar.{IsClean, Spells, past}, Fronts.{Kind, Context, IsOpen}}
+use Rattle.mpd_text.specs.{Fronts.{before_root, after_root, undecided, in_attribute, in_reference, in_end_tag}, Faults.IsLongestOpen}
+use Rattle.mpd_text.specs.{Faults.{IsDecided, IsCut, HasFault, ReadsAs, fault_of, refusal}, Meaning.{IsOneReading, read_on}}
+use Rattle.mpd_text.specs.{Meaning.{read_unless_bad, reading_of}, Steps.{inside, behind, Mode, at_mark_1, at_mark_2, at_mark_end}}
+use Rattle.mpd_text.specs.Steps.{at_content, State, start, run, step, next_mode, state_at, context_at, context_of, context_of_mode, Reaches}
+use Rattle.mpd_text.specs.Steps.{IsStuckAt, HasBrokenMark, IsUnfinished, IsStuck, Finishes}
+use Rattle.mpd_text.proofs.{Holds.Holds, NameLemmas.{tests, true_is_not_false}, ReadOn.{finished_is_read, stuck_is_read}}
+use Rattle.mpd_text.proofs.{RunLemmas.run_front, SoundSteps.holds, SoundOpen.{read_is_open, finished_is_document}, Complete.open_is_read}
+use Rattle.mpd_text.proofs.Complete.{spelled_is_read}
 
 none_is_some : {A : Type 0} (x : A) → ◌≡◌ {A = Option A} None (Some x) → ⊥
 none_is_some x e = cc

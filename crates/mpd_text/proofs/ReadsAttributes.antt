@@ -1,22 +1,16 @@
 -- How white space, attributes and their values are read in tags.
 use Rattle.std.proofs.Common.{◌≡◌, ℕ, ◌+◌, ◌≤◌, Bool, true, false, IsTrue, ◌==◌, ◌&&◌, ◌||◌, nat_lt, if◌then◌else◌, List, [], ◌∷◌, ◌++◌}
-use Rattle.std.proofs.Common.{length, Some, refl, sym, ◌∙◌, ap, subst, arith, inl, inr, ◌⊎◌}
-use Rattle.std.specs.List.{list_all, list_any}
-use Rattle.std.specs.Str.{bytes_eq}
-use Rattle.std.proofs.lemmas.List.{length-append}
+use Rattle.std.proofs.{Common.{length, Some, refl, sym, ◌∙◌, ap, subst, arith, inl, inr, ◌⊎◌}, lemmas.List.length-append}
+use Rattle.std.specs.{List.{list_all, list_any}, Str.bytes_eq}
 use Rattle.bridge_io.proofs.Texts.{among_more, bytes_eq_sym}
-use Rattle.bridge_io.specs.Texts.{is_among}
-use Rattle.bridge_io.specs.declared.place.Place.{Place}
-use Rattle.mpd_text.specs.Characters.{is_white, all_white, is_name, has_byte, starts_name, goes_on_name}
-use Rattle.mpd_text.specs.Trees.{Attribute}
-use Rattle.mpd_text.specs.Grammar.{past, IsEquals, IsQuoted, IsAttribute, names_of}
-use Rattle.mpd_text.specs.Fronts.{in_start_tag, in_attribute}
-use Rattle.mpd_text.specs.Steps.{Mode, Opened, Tag, Named, Quoted, next_mode, at_tag_name, at_tag, at_attribute_name, at_equals, at_quote}
-use Rattle.mpd_text.specs.Steps.{at_value, at_value_reference, as_space, with_attribute, step_tag_end, context_of_mode, context_at}
-use Rattle.mpd_text.specs.Steps.{open_names}
+use Rattle.bridge_io.specs.{Texts.is_among, declared.place.Place.Place}
+use Rattle.mpd_text.specs.{Characters.{is_white, all_white, is_name, has_byte, starts_name, goes_on_name}, Trees.Attribute, Grammar.past}
+use Rattle.mpd_text.specs.{Grammar.{IsEquals, IsQuoted, IsAttribute, names_of}, Fronts.{in_start_tag, in_attribute}, Steps.{Mode, Opened}}
+use Rattle.mpd_text.specs.Steps.{Tag, Named, Quoted, next_mode, at_tag_name, at_tag, at_attribute_name, at_equals, at_quote, at_value}
+use Rattle.mpd_text.specs.Steps.{at_value_reference, as_space, with_attribute, step_tag_end, context_of_mode, context_at, open_names}
 use Rattle.mpd_text.proofs.RunLemmas.{Runs, runs_none, runs_then, runs_four, runs_step, runs_one, runs_to, runs_over, runs_along, runs_kept}
-use Rattle.mpd_text.proofs.NameLemmas.{tests, not_true, true_is_not_false, by_white, white_in_name, starts_goes_on}
-use Rattle.mpd_text.proofs.ReadsText.{TextSteps, text_runs}
+use Rattle.mpd_text.proofs.{NameLemmas.{tests, not_true, true_is_not_false, by_white, white_in_name, starts_goes_on}, ReadsText.TextSteps}
+use Rattle.mpd_text.proofs.ReadsText.{text_runs}
 
 -- behind a start tag's name or one of its attributes
 pub record InTag (os : List Opened) (tag : Tag) (m : Mode) : Type 0 where

@@ -2,18 +2,15 @@
 use Rattle.std.proofs.Common.{◌≡◌, ℕ, suc, ◌+◌, ◌≤◌, Bool, true, false, ◌==◌, nat_lt, max, List, [], ◌∷◌, ◌++◌, length, map, Some, None}
 use Rattle.std.proofs.Common.{refl, sym, ◌∙◌, ap, arith, append_assoc, inl, inr}
 use Rattle.bridge_io.specs.declared.place.Place.{Place}
-use Rattle.mpd_text.specs.Characters.{has_byte}
-use Rattle.mpd_text.specs.References.{with_line_ends, replaced_within}
-use Rattle.mpd_text.specs.Trees.{Head, Forest, nothing, element, Element, depth}
-use Rattle.mpd_text.specs.Grammar.{first_place, past, AreRunsRound, IsDataRun, IsData, IsContent, IsPair, IsEmptyElement, IsElementRound}
-use Rattle.mpd_text.specs.Grammar.{IsElement, IsDocument, deepest}
-use Rattle.mpd_text.specs.Steps.{Mode, State, Opened, inside, behind, at_beginning, at_content, at_data_reference, followed_by, behind_end}
-use Rattle.mpd_text.specs.Steps.{opened_by, with_text, data_read, may_nest}
-use Rattle.mpd_text.proofs.RunLemmas.{Runs, standing, runs_then, runs_three, runs_to, runs_over}
-use Rattle.mpd_text.proofs.NameLemmas.{not_true}
-use Rattle.mpd_text.proofs.ReadsText.{TextSteps, text_runs}
-use Rattle.mpd_text.proofs.ReadsPieces.{TakesMarkup, comment_is_read, prolog_is_read, misc_is_read, outer_takes, behind_it, content_rests}
-use Rattle.mpd_text.proofs.ReadsTags.{tag_of, start_tag_is_read, empty_tag_is_read, end_tag_is_read}
+use Rattle.mpd_text.specs.{Characters.has_byte, References.{with_line_ends, replaced_within}, Trees.{Head, Forest, nothing, element}}
+use Rattle.mpd_text.specs.{Trees.{Element, depth}, Grammar.{first_place, past, AreRunsRound, IsDataRun, IsData, IsContent, IsPair}}
+use Rattle.mpd_text.specs.{Grammar.{IsEmptyElement, IsElementRound, IsElement, IsDocument, deepest}, Steps.{Mode, State, Opened, inside}}
+use Rattle.mpd_text.specs.Steps.{behind, at_beginning, at_content, at_data_reference, followed_by, behind_end, opened_by, with_text}
+use Rattle.mpd_text.specs.Steps.{data_read, may_nest}
+use Rattle.mpd_text.proofs.{RunLemmas.{Runs, standing, runs_then, runs_three, runs_to, runs_over}, NameLemmas.not_true, ReadsText.TextSteps}
+use Rattle.mpd_text.proofs.{ReadsText.text_runs, ReadsPieces.{TakesMarkup, comment_is_read, prolog_is_read, misc_is_read, outer_takes}}
+use Rattle.mpd_text.proofs.{ReadsPieces.{behind_it, content_rests}, ReadsTags.{tag_of, start_tag_is_read, empty_tag_is_read}}
+use Rattle.mpd_text.proofs.ReadsTags.{end_tag_is_read}
 
 map_none : (bytes : List ℕ) → map (λ b. b) bytes ≡ bytes
 map_none [] = refl

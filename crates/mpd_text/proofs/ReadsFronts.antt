@@ -1,20 +1,14 @@
 -- How the fronts of tags, attributes and values are read.
 use Rattle.std.proofs.Common.{◌≡◌, ◌≢◌, ℕ, ◌+◌, Bool, true, false, List, [], ◌∷◌, ◌++◌, length, codes, refl, sym, ◌∙◌, ap, subst, arith}
-use Rattle.std.proofs.Common.{inl, inr, ◌⊎◌, append_assoc}
-use Rattle.std.proofs.lemmas.List.{length-append}
-use Rattle.bridge_io.specs.Texts.{is_among}
-use Rattle.bridge_io.specs.declared.place.Place.{Place}
-use Rattle.mpd_text.specs.Grammar.{first_place, past, names_of}
-use Rattle.mpd_text.specs.Fronts.{Kind, in_start_tag, in_attribute, in_value, HasRoom, IsStartTagFront, IsTagBefore, IsBehindName}
-use Rattle.mpd_text.specs.Fronts.{IsAttributeFront, IsValueFront, IsFrontThen}
-use Rattle.mpd_text.specs.Steps.{Mode, Opened, Tag, Named, at_beginning, at_tag, at_slash, at_attribute_name, at_quote, at_value}
-use Rattle.mpd_text.specs.Steps.{open_names, context_of_mode, context_at}
-use Rattle.mpd_text.proofs.RunLemmas.{Runs, runs_none, runs_then, runs_three, runs_four, runs_over, runs_one}
-use Rattle.mpd_text.proofs.NameLemmas.{not_true}
+use Rattle.std.proofs.{Common.{inl, inr, ◌⊎◌, append_assoc}, lemmas.List.length-append}
+use Rattle.bridge_io.specs.{Texts.is_among, declared.place.Place.Place}
+use Rattle.mpd_text.specs.{Grammar.{first_place, past, names_of}, Fronts.{Kind, in_start_tag, in_attribute, in_value, HasRoom}}
+use Rattle.mpd_text.specs.{Fronts.{IsStartTagFront, IsTagBefore, IsBehindName, IsAttributeFront, IsValueFront, IsFrontThen}, Steps.Mode}
+use Rattle.mpd_text.specs.Steps.{Opened, Tag, Named, at_beginning, at_tag, at_slash, at_attribute_name, at_quote, at_value, open_names}
+use Rattle.mpd_text.specs.Steps.{context_of_mode, context_at}
+use Rattle.mpd_text.proofs.{RunLemmas.{Runs, runs_none, runs_then, runs_three, runs_four, runs_over, runs_one}, NameLemmas.not_true}
 use Rattle.mpd_text.proofs.ReadsAttributes.{InTag, some_white, tag_rest, attribute_name_runs, before_runs, quote_runs, equals_runs}
-use Rattle.mpd_text.proofs.ReadsAttributes.{quoted_at, value_is_read}
-use Rattle.mpd_text.proofs.ReadsTags.{tag_of, tag_opens, slash_is_read}
-use Rattle.mpd_text.proofs.Moved.{moved_tag}
+use Rattle.mpd_text.proofs.{ReadsAttributes.{quoted_at, value_is_read}, ReadsTags.{tag_of, tag_opens, slash_is_read}, Moved.moved_tag}
 use Rattle.mpd_text.proofs.ReadsWithin.{room_is_read}
 
 -- the bytes are read up to a position of that context

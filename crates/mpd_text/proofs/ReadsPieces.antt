@@ -1,20 +1,14 @@
 -- How white space, comments and declarations are read between the other pieces.
 use Rattle.std.proofs.Common.{◌≡◌, ℕ, Bool, true, false, IsTrue, ◌==◌, List, [], ◌∷◌, ◌++◌, codes, Some, refl, sym, ◌∙◌, ap, subst, arith}
-use Rattle.std.proofs.Common.{inl, inr, ◌⊎◌}
-use Rattle.std.proofs.lemmas.List.{append-nil}
-use Rattle.std.proofs.lemmas.Bool.{cases_eq}
+use Rattle.std.proofs.{Common.{inl, inr, ◌⊎◌}, lemmas.List.append-nil, lemmas.Bool.cases_eq}
 use Rattle.bridge_io.specs.declared.place.Place.{Place}
-use Rattle.mpd_text.specs.Characters.{is_white, all_white, has}
-use Rattle.mpd_text.specs.Trees.{Element}
-use Rattle.mpd_text.specs.Grammar.{past, OpensComment, IsComment, OpensDeclaration, IsDeclaration, AreRunsRound, IsWhiteRun, IsMisc, IsMark}
-use Rattle.mpd_text.specs.Grammar.{IsBeginning, IsProlog}
-use Rattle.mpd_text.specs.Steps.{Mode, Outside, inside, behind, Dashes, no_dash, one_dash, two_dashes, three_dashes, next_mode}
-use Rattle.mpd_text.specs.Steps.{at_beginning, at_mark_1, at_mark_2, at_mark_end, at_content, at_less_than, at_bang, at_question}
-use Rattle.mpd_text.specs.Steps.{at_declaration, at_comment, context_of_mode, context_at}
-use Rattle.mpd_text.specs.Fronts.{before_root}
+use Rattle.mpd_text.specs.{Characters.{is_white, all_white, has}, Trees.Element, Grammar.{past, OpensComment, IsComment, OpensDeclaration}}
+use Rattle.mpd_text.specs.{Grammar.{IsDeclaration, AreRunsRound, IsWhiteRun, IsMisc, IsMark, IsBeginning, IsProlog}, Steps.{Mode, Outside}}
+use Rattle.mpd_text.specs.Steps.{inside, behind, Dashes, no_dash, one_dash, two_dashes, three_dashes, next_mode, at_beginning, at_mark_1}
+use Rattle.mpd_text.specs.Steps.{at_mark_2, at_mark_end, at_content, at_less_than, at_bang, at_question, at_declaration, at_comment}
+use Rattle.mpd_text.specs.{Steps.{context_of_mode, context_at}, Fronts.before_root}
 use Rattle.mpd_text.proofs.RunLemmas.{Runs, runs_none, runs_then, runs_three, runs_step, runs_one, runs_over, runs_along}
-use Rattle.mpd_text.proofs.BadLemmas.{differs}
-use Rattle.mpd_text.proofs.NameLemmas.{not_true, white_is_not, less_than_white}
+use Rattle.mpd_text.proofs.{BadLemmas.differs, NameLemmas.{not_true, white_is_not, less_than_white}}
 
 -- a position between two pieces: a `<` begins the next one
 abbrev pub TakesMarkup : Outside → Mode → Type 0

@@ -1,21 +1,15 @@
 -- How tags are read.
 use Rattle.std.proofs.Common.{◌≡◌, ℕ, Bool, true, false, IsTrue, List, [], ◌∷◌, ◌++◌, map, codes, Some, refl, sym, ◌∙◌, ap, subst, arith}
-use Rattle.std.proofs.Common.{append_assoc}
-use Rattle.std.specs.List.{list_all}
-use Rattle.std.specs.Str.{bytes_eq}
-use Rattle.std.proofs.lemmas.List.{append-nil}
+use Rattle.std.proofs.{Common.append_assoc, lemmas.List.append-nil}
+use Rattle.std.specs.{List.list_all, Str.bytes_eq}
 use Rattle.bridge_io.proofs.Texts.{equals_itself}
-use Rattle.bridge_io.specs.Texts.{is_among}
-use Rattle.bridge_io.specs.declared.place.Place.{Place}
-use Rattle.mpd_text.specs.Characters.{is_white, all_white, is_name, starts_name, goes_on_name}
-use Rattle.mpd_text.specs.Trees.{Attribute}
-use Rattle.mpd_text.specs.Grammar.{past, AllDiffer, AreAttributes, names_of, OpensTag, IsStartTag, IsEmptyTag, IsEndTag}
-use Rattle.mpd_text.specs.Steps.{Mode, Opened, inside, Tag, next_mode, at_content, at_less_than, at_tag_name, at_tag, at_slash, at_end_name}
-use Rattle.mpd_text.specs.Steps.{at_end_white, opened_by, behind_end, may_nest, context_of_mode, context_at, open_names}
-use Rattle.mpd_text.specs.Fronts.{in_end_tag}
+use Rattle.bridge_io.specs.{Texts.is_among, declared.place.Place.Place}
+use Rattle.mpd_text.specs.{Characters.{is_white, all_white, is_name, starts_name, goes_on_name}, Trees.Attribute, Grammar.{past, AllDiffer}}
+use Rattle.mpd_text.specs.{Grammar.{AreAttributes, names_of, OpensTag, IsStartTag, IsEmptyTag, IsEndTag}, Steps.{Mode, Opened, inside, Tag}}
+use Rattle.mpd_text.specs.Steps.{next_mode, at_content, at_less_than, at_tag_name, at_tag, at_slash, at_end_name, at_end_white, opened_by}
+use Rattle.mpd_text.specs.{Steps.{behind_end, may_nest, context_of_mode, context_at, open_names}, Fronts.in_end_tag}
 use Rattle.mpd_text.proofs.RunLemmas.{Runs, runs_none, runs_then, runs_three, runs_step, runs_one, runs_over, runs_along, runs_kept}
-use Rattle.mpd_text.proofs.NameLemmas.{not_true, true_is_not_false, white_in_name, starts_is_not}
-use Rattle.mpd_text.proofs.ReadsPieces.{TakesMarkup}
+use Rattle.mpd_text.proofs.{NameLemmas.{not_true, true_is_not_false, white_in_name, starts_is_not}, ReadsPieces.TakesMarkup}
 use Rattle.mpd_text.proofs.ReadsAttributes.{InTag, in_tag, in_tag_name, tag_rest, AreNew, new_after, new_to_none, with_one}
 use Rattle.mpd_text.proofs.ReadsAttributes.{attribute_is_read}
 

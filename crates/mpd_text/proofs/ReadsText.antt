@@ -1,18 +1,12 @@
 -- How character data and values are read: line ends, and references.
 use Rattle.std.proofs.Common.{◌≡◌, ℕ, ◌≤◌, Bool, true, false, ◌==◌, ◌&&◌, nat_lt, List, [], ◌∷◌, ◌++◌, map, Option, Some, None, option_map}
-use Rattle.std.proofs.Common.{refl, sym, ◌∙◌, ap, subst, arith, append_assoc, inl, inr}
-use Rattle.std.specs.Option.{option_and_then}
-use Rattle.std.specs.List.{list_any}
-use Rattle.std.specs.Char.{encode_utf8}
-use Rattle.std.proofs.lemmas.List.{append-nil}
-use Rattle.std.proofs.lemmas.Bool.{cases_eq}
+use Rattle.std.proofs.{Common.{refl, sym, ◌∙◌, ap, subst, arith, append_assoc, inl, inr}, lemmas.List.append-nil, lemmas.Bool.cases_eq}
+use Rattle.std.specs.{Option.option_and_then, List.list_any, Char.encode_utf8}
 use Rattle.bridge_io.specs.declared.place.Place.{Place}
-use Rattle.mpd_text.specs.References.{line_ends_after, replaced_within, referred_to, is_front_of_reference}
-use Rattle.mpd_text.specs.Grammar.{past}
-use Rattle.mpd_text.specs.Steps.{Mode, next_mode, data_read, step_reference, if_named}
-use Rattle.mpd_text.proofs.RunLemmas.{Runs, runs_none, runs_step, runs_to}
-use Rattle.mpd_text.proofs.BadLemmas.{differs}
-use Rattle.mpd_text.proofs.NameLemmas.{tests, reference_front, referred_front, last_plain, is_plain}
+use Rattle.mpd_text.specs.{References.{line_ends_after, replaced_within, referred_to, is_front_of_reference}, Grammar.past, Steps.Mode}
+use Rattle.mpd_text.specs.Steps.{next_mode, data_read, step_reference, if_named}
+use Rattle.mpd_text.proofs.{RunLemmas.{Runs, runs_none, runs_step, runs_to}, BadLemmas.differs, NameLemmas.{tests, reference_front}}
+use Rattle.mpd_text.proofs.NameLemmas.{referred_front, last_plain, is_plain}
 
 -- a map that leaves what stands above the space as it is, and makes nothing of that
 pub record LeavesHigh (m : ℕ → ℕ) : Type 0 where

@@ -1,19 +1,14 @@
 -- How the fronts of a text between its pieces are read.
 use Rattle.std.proofs.Common.{◌≡◌, ℕ, suc, ◌+◌, ◌-◌, ◌<◌, ◌≤◌, Bool, true, false, IsTrue, nat_lt, List, [], ◌∷◌, length, refl, sym, ◌∙◌, ap}
-use Rattle.std.proofs.Common.{subst, arith, inl, inr}
-use Rattle.std.proofs.lemmas.List.{length-map}
+use Rattle.std.proofs.{Common.{subst, arith, inl, inr}, lemmas.List.length-map}
 use Rattle.bridge_io.specs.declared.place.Place.{Place}
-use Rattle.mpd_text.specs.Characters.{is_name}
-use Rattle.mpd_text.specs.Trees.{Element, depth}
-use Rattle.mpd_text.specs.Grammar.{first_place, past, IsProlog, deepest}
-use Rattle.mpd_text.specs.Fronts.{IsOpened, IsWithin, IsBehindRoot, IsBetween, HasRoom}
-use Rattle.mpd_text.specs.Steps.{Mode, Opened, Outside, inside, behind, at_beginning, at_content, opened_by, may_nest, open_names}
-use Rattle.mpd_text.specs.Steps.{names_outside}
-use Rattle.mpd_text.proofs.RunLemmas.{Runs, runs_three, runs_to, runs_over}
-use Rattle.mpd_text.proofs.ReadsPieces.{TakesMarkup, prolog_is_read, misc_is_read, outer_takes, behind_it, content_rests}
-use Rattle.mpd_text.proofs.ReadsTags.{tag_of, start_tag_is_read}
-use Rattle.mpd_text.proofs.ReadsContent.{inner_takes, with_content, content_is_read, root_is_read}
-use Rattle.mpd_text.proofs.Moved.{moved_start_tag, moved_content, moved_element}
+use Rattle.mpd_text.specs.{Characters.is_name, Trees.{Element, depth}, Grammar.{first_place, past, IsProlog, deepest}, Fronts.IsOpened}
+use Rattle.mpd_text.specs.{Fronts.{IsWithin, IsBehindRoot, IsBetween, HasRoom}, Steps.{Mode, Opened, Outside, inside, behind, at_beginning}}
+use Rattle.mpd_text.specs.Steps.{at_content, opened_by, may_nest, open_names, names_outside}
+use Rattle.mpd_text.proofs.{RunLemmas.{Runs, runs_three, runs_to, runs_over}, ReadsPieces.{TakesMarkup, prolog_is_read, misc_is_read}}
+use Rattle.mpd_text.proofs.{ReadsPieces.{outer_takes, behind_it, content_rests}, ReadsTags.{tag_of, start_tag_is_read}}
+use Rattle.mpd_text.proofs.{ReadsContent.{inner_takes, with_content, content_is_read, root_is_read}, Moved.{moved_start_tag, moved_content}}
+use Rattle.mpd_text.proofs.Moved.{moved_element}
 
 -- in the content of the innermost of some elements
 pub record Inside (names : List (List ℕ)) (bytes : List ℕ) : Type 0 where

@@ -1,27 +1,19 @@
 -- What references are found to be.
 use Rattle.std.proofs.Common.{◌≡◌, ◌≢◌, ℕ, suc, ◌+◌, ◌-◌, ◌*◌, ◌≤◌, ◌<◌, Bool, true, false, nat_le, nat_eq, min, if◌then◌else◌, ◌==◌, ◌&&◌}
 use Rattle.std.proofs.Common.{List, [], ◌∷◌, ◌++◌, length, take, drop, get_or, codes, slice_get, Option, Some, None, refl, sym, ◌∙◌, ap}
-use Rattle.std.proofs.Common.{subst, arith, inl, inr}
-use Rattle.std.specs.Char.{IsScalar}
-use Rattle.std.proofs.lemmas.Bool.Decides.{nat_tests}
-use Rattle.std.proofs.lemmas.List.{length-drop, length-take, length-append, take_all, take_at, get_or_at, append-nil, take_more}
-use Rattle.std.proofs.lemmas.List.{get_or-drop, drop_more, append_assoc, take-append-drop}
-use Rattle.std.proofs.lemmas.List.Folds.{length-prefix_len}
-use Rattle.std.proofs.lemmas.Option.{slice_get_within, slice_get-get_or, get_or_from_slice_get}
-use Rattle.bridge_io.specs.Places.{place_of}
-use Rattle.mpd_text.specs.declared.fault.TextFault.{TextFault}
-use Rattle.mpd_text.specs.declared.fault.TextFault.TheVariants.{Cut, Entity}
-use Rattle.mpd_text.specs.Bounds.{IsBehindAscii}
-use Rattle.mpd_text.specs.Positions.{IsReference, IsNoReference}
-use Rattle.std.proofs.lemmas.List.Sums.{fold-append, prefix_len_stops}
+use Rattle.std.proofs.{Common.{subst, arith, inl, inr}, lemmas.Bool.Decides.nat_tests, lemmas.List.{length-drop, length-take}}
+use Rattle.std.proofs.lemmas.List.{length-append, take_all, take_at, get_or_at, append-nil, take_more, get_or-drop, drop_more, append_assoc}
+use Rattle.std.proofs.{lemmas.List.take-append-drop, lemmas.List.Folds.length-prefix_len, lemmas.Option.slice_get_within}
+use Rattle.std.proofs.{lemmas.Option.{slice_get-get_or, get_or_from_slice_get}, lemmas.List.Sums.{fold-append, prefix_len_stops}}
 use Rattle.std.proofs.Math.Nat.{mul_comm}
-use Rattle.std.specs.List.{prefix_len, list_all, starts_with}
-use Rattle.std.specs.Str.{bytes_eq}
+use Rattle.std.specs.{Char.IsScalar, List.{prefix_len, list_all, starts_with}, Str.bytes_eq}
+use Rattle.bridge_io.specs.Places.{place_of}
+use Rattle.mpd_text.specs.{declared.fault.TextFault.TextFault, declared.fault.TextFault.TheVariants.{Cut, Entity}, Bounds.IsBehindAscii}
+use Rattle.mpd_text.specs.{Positions.{IsReference, IsNoReference}, Characters.is_digit, References.{is_hex_digit, value_of_digit}}
+use Rattle.mpd_text.specs.References.{number_of, is_allowed_character, named_by_number, named_by_digits, referred_to, is_front_of_digits}
+use Rattle.mpd_text.specs.{References.is_front_of_reference, Decoded.{AreDigitsAt, base_of, is_digit_of, capped, begins_with_name}}
+use Rattle.mpd_text.specs.Decoded.{begins_name, IsNamed}
 use Rattle.bridge_io.proofs.Texts.{same_bytes}
-use Rattle.mpd_text.specs.Characters.{is_digit}
-use Rattle.mpd_text.specs.References.{is_hex_digit, value_of_digit, number_of, is_allowed_character, named_by_number, named_by_digits}
-use Rattle.mpd_text.specs.References.{referred_to, is_front_of_digits, is_front_of_reference}
-use Rattle.mpd_text.specs.Decoded.{AreDigitsAt, base_of, is_digit_of, capped, begins_with_name, begins_name, IsNamed}
 use Rattle.mpd_text.proofs.NameLemmas.{tests, true_is_not_false}
 
 -- a character that is named is one

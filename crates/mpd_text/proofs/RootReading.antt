@@ -1,13 +1,8 @@
 -- How the reader goes on up to the root's end.
 use Rattle.std.proofs.Common.{◌≡◌, ℕ, ◌<◌, true, false, List, [], ◌∷◌, Option, Some, None, MatchOption, arith, vec_len}
 use Rattle.std.specs.Option.{is_some}
-use Rattle.mpd_text.specs.declared.reader.Reader.{Reader}
-use Rattle.mpd_text.specs.Trees.{Element}
-use Rattle.mpd_text.specs.Rows.{AreRooted}
-use Rattle.mpd_text.specs.Steps.{Outside, inside, behind, Opened, at_content}
-use Rattle.mpd_text.specs.Positions.{IsAt}
-use Rattle.mpd_text.specs.Reading.{IsRead, view_of}
-use Rattle.mpd_text.specs.Showing.{OpenShown, RootShown, Shows}
+use Rattle.mpd_text.specs.{declared.reader.Reader.Reader, Trees.Element, Rows.AreRooted, Steps.{Outside, inside, behind, Opened}}
+use Rattle.mpd_text.specs.{Steps.at_content, Positions.IsAt, Reading.{IsRead, view_of}, Showing.{OpenShown, RootShown, Shows}}
 
 pub some_are_open : {X : Type 0} (o : Option X) (n : ℕ) (Q : X → Type 0) → MatchOption o (n ≡ 0) (λ x. (0 < n) × Q x) → is_some o ≡ true
     → 0 < n

@@ -1,13 +1,9 @@
 -- How bytes are read one after another.
 use Rattle.std.proofs.Common.{◌≡◌, ℕ, Bool, true, IsTrue, ◌==◌, cond, List, [], ◌∷◌, ◌++◌, Option, Some, None, refl, sym, ◌∙◌, ap, subst}
-use Rattle.std.proofs.Common.{arith, append_assoc}
-use Rattle.std.specs.Option.{option_and_then}
-use Rattle.std.specs.List.{list_all}
-use Rattle.std.proofs.lemmas.List.{length-append, append-nil}
-use Rattle.std.proofs.lemmas.List.Sums.{sum_by-append}
+use Rattle.std.proofs.{Common.{arith, append_assoc}, lemmas.List.{length-append, append-nil}, lemmas.List.Sums.sum_by-append}
+use Rattle.std.specs.{Option.option_and_then, List.list_all}
 use Rattle.bridge_io.specs.declared.place.Place.{Place}
-use Rattle.mpd_text.specs.Grammar.{past}
-use Rattle.mpd_text.specs.Steps.{Mode, State, state_at, next_mode, step, run}
+use Rattle.mpd_text.specs.{Grammar.past, Steps.{Mode, State, state_at, next_mode, step, run}}
 
 -- the position at a place
 abbrev pub standing : Place → Mode → State

@@ -1,12 +1,9 @@
 -- Members of sets of ASCII bytes.
 use Rattle.std.proofs.Common.{◌≡◌, ℕ, ◌+◌, ◌-◌, ◌<◌, ◌≤◌, Bool, true, false, IsTrue, nat_lt, not, cond, List, [], ◌∷◌, length, get_or, take}
-use Rattle.std.proofs.Common.{drop, position, slice_get, Some, None, sym, ◌∙◌, ap, subst, arith}
-use Rattle.std.specs.List.{prefix_len}
-use Rattle.std.proofs.lemmas.List.Sums.{prefix_len_passes}
-use Rattle.std.proofs.lemmas.Option.{get_or_from_slice_get}
-use Rattle.std.proofs.lemmas.Bool.Decides.{nat_tests}
-use Rattle.std.proofs.lemmas.List.Quantifiers.{position-Some}
+use Rattle.std.proofs.{Common.{drop, position, slice_get, Some, None, sym, ◌∙◌, ap, subst, arith}, lemmas.List.Sums.prefix_len_passes}
+use Rattle.std.proofs.{lemmas.Option.get_or_from_slice_get, lemmas.Bool.Decides.nat_tests, lemmas.List.Quantifiers.position-Some}
 use Rattle.std.proofs.lemmas.List.{get_or-drop, length-drop, take_all, take_rest}
+use Rattle.std.specs.List.{prefix_len}
 use Rattle.byte_scan.specs.ByteSet.{is_member, all_ascii}
 
 -- a member is ASCII

@@ -1,25 +1,15 @@
 -- What the rows show stays while they grow.
 use Rattle.std.proofs.Common.{◌≡◌, ℕ, suc, zero, ◌+◌, ◌-◌, ◌<◌, ◌≤◌, List, [], ◌∷◌, ◌++◌, map, length, drop, get_or, inl, inr, refl, sym}
-use Rattle.std.proofs.Common.{ap, ◌∙◌, subst, arith, Option, Some, None}
+use Rattle.std.proofs.{Common.{ap, ◌∙◌, subst, arith, Option, Some, None}, lemmas.List.append-nil, lemmas.List.Elements.All-drop}
+use Rattle.std.proofs.{lemmas.List.Elements.{All-take, All-weaker}, lemmas.Bool.cases_lt, lemmas.Option.slice_get-get_or}
 use Rattle.std.specs.List.{All, slice_get, slice_range}
-use Rattle.std.proofs.lemmas.List.{append-nil}
-use Rattle.std.proofs.lemmas.List.Elements.{All-drop, All-take, All-weaker}
-use Rattle.std.proofs.lemmas.Bool.{cases_lt}
-use Rattle.std.proofs.lemmas.Option.{slice_get-get_or}
 use Rattle.bridge_io.specs.Places.{place_of}
-use Rattle.mpd_text.specs.declared.growing.OpenElement.{OpenElement}
-use Rattle.mpd_text.specs.declared.tree.ElementRow.{ElementRow}
-use Rattle.mpd_text.specs.declared.tree.AttributeRow.{AttributeRow}
-use Rattle.mpd_text.specs.Opening.{AreBegun}
-use Rattle.mpd_text.specs.Rows.{AreFollowed, AreNested, HasAttributesWithin, IsAttributeKept, IsElementKept, IsKept}
-use Rattle.mpd_text.specs.declared.tree.KeptSpan.{KeptSpan}
-use Rattle.mpd_text.specs.Showing.{View, head_in_view, attributes_in_view, AreShown, OpenShown}
-use Rattle.mpd_text.specs.Steps.{Opened, followed_by}
-use Rattle.mpd_text.specs.Trees.{Head, nothing, element}
+use Rattle.mpd_text.specs.{declared.growing.OpenElement.OpenElement, declared.tree.ElementRow.ElementRow}
+use Rattle.mpd_text.specs.{declared.tree.AttributeRow.AttributeRow, Opening.AreBegun, Rows.{AreFollowed, AreNested, HasAttributesWithin}}
+use Rattle.mpd_text.specs.{Rows.{IsAttributeKept, IsElementKept, IsKept}, declared.tree.KeptSpan.KeptSpan, Showing.{View, head_in_view}}
+use Rattle.mpd_text.specs.{Showing.{attributes_in_view, AreShown, OpenShown}, Steps.{Opened, followed_by}, Trees.{Head, nothing, element}}
 use Rattle.mpd_text.specs.Views.{attribute_of, bytes_of, forest_of}
-use Rattle.mpd_text.proofs.HoldingLemmas.{All-at}
-use Rattle.mpd_text.proofs.KeptLemmas.{range_left}
-use Rattle.mpd_text.proofs.ForestLemmas.{forest_here, forest_none}
+use Rattle.mpd_text.proofs.{HoldingLemmas.All-at, KeptLemmas.range_left, ForestLemmas.{forest_here, forest_none}}
 
 -- the rows from one place to another end there
 abbrev pub IsClosed : List ElementRow → ℕ → ℕ → Type 0

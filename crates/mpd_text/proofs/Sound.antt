@@ -1,21 +1,17 @@
 -- What is known of read bytes goes on with each byte that can follow.
 use Rattle.std.proofs.Common.{◌≡◌, ◌≢◌, ℕ, Bool, true, false, IsTrue, ◌==◌, ◌&&◌, not, nat_eq, List, [], ◌∷◌, ◌++◌, codes, Option, Some}
-use Rattle.std.proofs.Common.{None, refl, sym, ◌∙◌, ap, subst, arith, if◌then◌else◌, bytes_eq, encode_utf8}
+use Rattle.std.proofs.{Common.{None, refl, sym, ◌∙◌, ap, subst, arith, if◌then◌else◌, bytes_eq, encode_utf8}, lemmas.List.append_assoc}
+use Rattle.std.proofs.{lemmas.List.{append-nil, map-id, length-append}, lemmas.Grind.common_steps}
 use Rattle.std.specs.List.{starts_with}
-use Rattle.std.proofs.lemmas.List.{append_assoc, append-nil, map-id, length-append}
-use Rattle.std.proofs.lemmas.Grind.{common_steps}
 use Rattle.bridge_io.proofs.Texts.{same_bytes}
 use Rattle.bridge_io.specs.declared.place.Place.{Place}
-use Rattle.mpd_text.specs.Characters.{is_white, is_name, starts_name, has}
-use Rattle.mpd_text.specs.References.{referred_to}
-use Rattle.mpd_text.specs.Grammar.{first_place, past, IsMark, IsMisc, IsProlog}
-use Rattle.mpd_text.specs.Steps.{Opened, Outside, inside, behind, no_dash, Mode, at_less_than, at_bang, at_question, at_data_reference}
-use Rattle.mpd_text.specs.Steps.{between, may_nest, with_text, data_read, step_beginning, step_misc, step_content, step_element}
-use Rattle.mpd_text.specs.Steps.{step_less_than, step_bang, step_question}
+use Rattle.mpd_text.specs.{Characters.{is_white, is_name, starts_name, has}, References.referred_to, Grammar.{first_place, past, IsMark}}
+use Rattle.mpd_text.specs.{Grammar.{IsMisc, IsProlog}, Steps.{Opened, Outside, inside, behind, no_dash, Mode, at_less_than, at_bang}}
+use Rattle.mpd_text.specs.Steps.{at_question, at_data_reference, between, may_nest, with_text, data_read, step_beginning, step_misc}
+use Rattle.mpd_text.specs.Steps.{step_content, step_element, step_less_than, step_bang, step_question}
 use Rattle.mpd_text.proofs.Holds.{Reads, as_is, IsNested, IsBetweenAt, IsPieceIn, IsFree, IsCommentSo, IsDeclarationSo, IsQuestionSo}
-use Rattle.mpd_text.proofs.Holds.{HasRoomFor, IsEndNameSo, Holds}
-use Rattle.mpd_text.proofs.SoundText.{reads_plain, reads_amp, reads_end}
-use Rattle.mpd_text.proofs.SoundContent.{leads_white, begins_mark, inside_next, nested_next}
+use Rattle.mpd_text.proofs.{Holds.{HasRoomFor, IsEndNameSo, Holds}, SoundText.{reads_plain, reads_amp, reads_end}, SoundContent.leads_white}
+use Rattle.mpd_text.proofs.SoundContent.{begins_mark, inside_next, nested_next}
 
 abbrev pub HoldsSome : Option Mode → List ℕ → Type 0
 HoldsSome None bytes = Unit {0}

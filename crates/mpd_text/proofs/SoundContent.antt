@@ -1,16 +1,13 @@
 -- How what is known of read bytes goes on through white space, comments, character data and ends of elements.
 use Rattle.std.proofs.Common.{◌≡◌, ℕ, suc, ◌-◌, ◌≤◌, max, Bool, true, false, IsTrue, ◌==◌, not, List, [], ◌∷◌, ◌++◌, length, Option, None}
-use Rattle.std.proofs.Common.{refl, sym, ◌∙◌, ap, subst, arith, inl, inr}
-use Rattle.std.proofs.lemmas.List.{append_assoc, append-nil}
+use Rattle.std.proofs.{Common.{refl, sym, ◌∙◌, ap, subst, arith, inl, inr}, lemmas.List.{append_assoc, append-nil}}
 use Rattle.std.proofs.lemmas.List.Folds.{list_any-append}
 use Rattle.bridge_io.specs.declared.place.Place.{Place}
-use Rattle.mpd_text.specs.Characters.{is_white, has_byte}
-use Rattle.mpd_text.specs.Trees.{Head, Forest, nothing, element, depth}
-use Rattle.mpd_text.specs.Grammar.{first_place, past, IsMark, IsBeginning, IsDeclaration, IsComment, IsMisc, IsWhiteRun, IsDataRun}
-use Rattle.mpd_text.specs.Grammar.{AreRunsRound, IsProlog, IsContent, IsElement, IsElementRound, deepest}
-use Rattle.mpd_text.specs.Steps.{Opened, Outside, inside, behind, followed_by, head_of_opened, behind_end}
-use Rattle.mpd_text.proofs.Holds.{Reads, as_is, IsPrologFront, IsInside, IsNested, IsBetweenAt}
-use Rattle.mpd_text.proofs.RunLemmas.{past_more}
+use Rattle.mpd_text.specs.{Characters.{is_white, has_byte}, Trees.{Head, Forest, nothing, element, depth}, Grammar.{first_place, past}}
+use Rattle.mpd_text.specs.Grammar.{IsMark, IsBeginning, IsDeclaration, IsComment, IsMisc, IsWhiteRun, IsDataRun, AreRunsRound, IsProlog}
+use Rattle.mpd_text.specs.{Grammar.{IsContent, IsElement, IsElementRound, deepest}, Steps.{Opened, Outside, inside, behind, followed_by}}
+use Rattle.mpd_text.specs.Steps.{head_of_opened, behind_end}
+use Rattle.mpd_text.proofs.{Holds.{Reads, as_is, IsPrologFront, IsInside, IsNested, IsBetweenAt}, RunLemmas.past_more}
 use Rattle.mpd_text.proofs.SoundText.{reads_nothing, reads_content}
 
 -- where misc may follow, what it makes

@@ -1,26 +1,20 @@
 -- What was read is open, and a document where it ends behind the root.
 use Rattle.std.proofs.Common.{◌≡◌, ◌≢◌, ℕ, suc, ◌+◌, Bool, true, false, IsTrue, not, List, [], ◌∷◌, ◌++◌, length, codes, Option, Some, None}
-use Rattle.std.proofs.Common.{refl, sym, ◌∙◌, ap, subst, arith, inl, inr, ◌⊎◌}
-use Rattle.std.proofs.lemmas.List.{append_assoc, append-nil, length-append}
+use Rattle.std.proofs.{Common.{refl, sym, ◌∙◌, ap, subst, arith, inl, inr, ◌⊎◌}, lemmas.List.{append_assoc, append-nil, length-append}}
 use Rattle.bridge_io.specs.declared.place.Place.{Place}
-use Rattle.mpd_text.specs.Characters.{all_white, has}
-use Rattle.mpd_text.specs.Trees.{Element}
-use Rattle.mpd_text.specs.Grammar.{first_place, past, IsMisc, IsProlog, IsDocument, OpensDeclaration, names_of}
-use Rattle.mpd_text.specs.Fronts.{Kind, Context, IsOpen, IsOpenAt, IsWithin, IsBetween, IsBehindRoot, HasRoom, IsUndecided, IsFrontThen}
-use Rattle.mpd_text.specs.Fronts.{IsStartTagFront, IsTagBefore, IsBehindName, IsValueFront, IsEndTagFront, IsCommentFront, IsContentFront}
-use Rattle.mpd_text.specs.Steps.{Opened, Outside, inside, behind, Tag, Named, Quoted, Dashes, no_dash, one_dash, two_dashes, three_dashes}
-use Rattle.mpd_text.specs.Steps.{Mode, at_beginning, at_mark_1, at_mark_2, at_mark_end, at_content, at_less_than, at_bang, at_question}
-use Rattle.mpd_text.specs.Steps.{at_declaration, at_comment, at_tag_name, at_tag, at_slash, at_attribute_name, at_equals, at_quote}
-use Rattle.mpd_text.specs.Steps.{at_value, at_value_reference, at_data_reference, at_end_name, at_end_white, State, start, run, open_names}
-use Rattle.mpd_text.specs.Steps.{names_outside, context_of, context_of_mode, Finishes}
+use Rattle.mpd_text.specs.{Characters.{all_white, has}, Trees.Element, Grammar.{first_place, past, IsMisc, IsProlog, IsDocument}}
+use Rattle.mpd_text.specs.{Grammar.{OpensDeclaration, names_of}, Fronts.{Kind, Context, IsOpen, IsOpenAt, IsWithin, IsBetween}}
+use Rattle.mpd_text.specs.Fronts.{IsBehindRoot, HasRoom, IsUndecided, IsFrontThen, IsStartTagFront, IsTagBefore, IsBehindName, IsValueFront}
+use Rattle.mpd_text.specs.{Fronts.{IsEndTagFront, IsCommentFront, IsContentFront}, Steps.{Opened, Outside, inside, behind, Tag, Named}}
+use Rattle.mpd_text.specs.Steps.{Quoted, Dashes, no_dash, one_dash, two_dashes, three_dashes, Mode, at_beginning, at_mark_1, at_mark_2}
+use Rattle.mpd_text.specs.Steps.{at_mark_end, at_content, at_less_than, at_bang, at_question, at_declaration, at_comment, at_tag_name}
+use Rattle.mpd_text.specs.Steps.{at_tag, at_slash, at_attribute_name, at_equals, at_quote, at_value, at_value_reference, at_data_reference}
+use Rattle.mpd_text.specs.Steps.{at_end_name, at_end_white, State, start, run, open_names, names_outside, context_of, context_of_mode}
+use Rattle.mpd_text.specs.Steps.{Finishes}
 use Rattle.mpd_text.proofs.Holds.{IsNested, IsBehind, IsBetweenAt, IsCommentSo, IsDeclarationSo, IsNamedThen, IsNew, IsBehindEquals}
-use Rattle.mpd_text.proofs.Holds.{IsQuotedSo, HasRoomFor, IsTagIn, IsEndNameSo, Holds, question_of}
-use Rattle.mpd_text.proofs.RunLemmas.{past_more}
-use Rattle.mpd_text.proofs.SoundText.{reads_value}
-use Rattle.mpd_text.proofs.SoundContent.{leads_to, begins_mark, content_of}
-use Rattle.mpd_text.proofs.SoundTags.{tag_named, opens_of}
-use Rattle.mpd_text.proofs.Sound.{free_is, has_front}
-use Rattle.mpd_text.proofs.SoundSteps.{holds}
+use Rattle.mpd_text.proofs.{Holds.{IsQuotedSo, HasRoomFor, IsTagIn, IsEndNameSo, Holds, question_of}, RunLemmas.past_more}
+use Rattle.mpd_text.proofs.{SoundText.reads_value, SoundContent.{leads_to, begins_mark, content_of}, SoundTags.{tag_named, opens_of}}
+use Rattle.mpd_text.proofs.{Sound.{free_is, has_front}, SoundSteps.holds}
 
 at_is : (place : Place) (front : List ℕ) → place ≡ past first_place front → place.at ≡ length front
 at_is place front is = let here : place.at ≡ 0 + length front = ap (λ p. p.at) is in omega arith

@@ -1,14 +1,11 @@
 -- The same for declarations, comments and tags, and for all positions.
 use Rattle.std.proofs.Common.{◌≡◌, ◌≢◌, ℕ, Bool, true, false, IsTrue, ◌==◌, ◌&&◌, not, List, [], ◌∷◌, ◌++◌, codes, Option, Some, None, refl}
-use Rattle.std.proofs.Common.{sym, ◌∙◌, ap, subst, arith, inl, inr, ◌⊎◌, bytes_eq, encode_utf8}
-use Rattle.std.proofs.lemmas.List.{append_assoc, append-nil}
+use Rattle.std.proofs.{Common.{sym, ◌∙◌, ap, subst, arith, inl, inr, ◌⊎◌, bytes_eq, encode_utf8}, lemmas.List.{append_assoc, append-nil}}
 use Rattle.std.specs.Option.{option_and_then}
 use Rattle.bridge_io.proofs.Texts.{same_bytes}
-use Rattle.bridge_io.specs.Texts.{is_among}
-use Rattle.bridge_io.specs.declared.place.Place.{Place}
-use Rattle.mpd_text.specs.Characters.{all_white, is_white, is_name, starts_name, goes_on_name, has, has_byte}
-use Rattle.mpd_text.specs.References.{referred_to, is_front_of_reference}
-use Rattle.mpd_text.specs.Grammar.{first_place, past, IsMark, IsComment, IsDeclaration, names_of}
+use Rattle.bridge_io.specs.{Texts.is_among, declared.place.Place.Place}
+use Rattle.mpd_text.specs.{Characters.{all_white, is_white, is_name, starts_name, goes_on_name, has, has_byte}, References.referred_to}
+use Rattle.mpd_text.specs.{References.is_front_of_reference, Grammar.{first_place, past, IsMark, IsComment, IsDeclaration, names_of}}
 use Rattle.mpd_text.specs.Steps.{Opened, Outside, inside, Tag, Named, Quoted, Dashes, no_dash, one_dash, two_dashes, three_dashes, Mode}
 use Rattle.mpd_text.specs.Steps.{at_beginning, at_mark_1, at_mark_2, at_mark_end, at_content, at_less_than, at_bang, at_question}
 use Rattle.mpd_text.specs.Steps.{at_declaration, at_comment, at_tag_name, at_tag, at_slash, at_attribute_name, at_equals, at_quote}
@@ -19,14 +16,12 @@ use Rattle.mpd_text.specs.Steps.{step_attribute_name, step_quote, step_value, if
 use Rattle.mpd_text.specs.Steps.{next_mode}
 use Rattle.mpd_text.proofs.Holds.{Reads, IsNested, IsBetweenAt, IsFree, IsCommentSo, IsDeclarationSo, IsTagThen, IsNamedThen, IsNew}
 use Rattle.mpd_text.proofs.Holds.{IsBehindEquals, IsQuotedSo, HasRoomFor, IsTagIn, IsValueIn, IsEndNameSo, IsEndWhiteSo, Holds, HoldsAt}
-use Rattle.mpd_text.proofs.Holds.{dashes_of, question_of}
-use Rattle.mpd_text.proofs.NameLemmas.{tests, last_plain, is_plain}
-use Rattle.mpd_text.proofs.RunLemmas.{past_none, past_more}
-use Rattle.mpd_text.proofs.SoundText.{reads_nothing, reads_plain, reads_amp, reads_name, reads_end}
-use Rattle.mpd_text.proofs.SoundContent.{begins_declared, between_comment, lacks_more}
-use Rattle.mpd_text.proofs.SoundTags.{whites_more, name_more, some_more, tag_named, start_ends, empty_ends, end_ends, attribute_ends}
-use Rattle.mpd_text.proofs.Sound.{HoldsSome, either, is_byte, at_byte, piece_more, beginning_step, content_step, less_than_step, bang_step}
-use Rattle.mpd_text.proofs.Sound.{question_step, quiet_step, named_step, no_pair, no_second, free_more, free_is, has_front}
+use Rattle.mpd_text.proofs.{Holds.{dashes_of, question_of}, NameLemmas.{tests, last_plain, is_plain}, RunLemmas.{past_none, past_more}}
+use Rattle.mpd_text.proofs.{SoundText.{reads_nothing, reads_plain, reads_amp, reads_name, reads_end}, SoundContent.begins_declared}
+use Rattle.mpd_text.proofs.{SoundContent.{between_comment, lacks_more}, SoundTags.{whites_more, name_more, some_more, tag_named}}
+use Rattle.mpd_text.proofs.{SoundTags.{start_ends, empty_ends, end_ends, attribute_ends}, Sound.{HoldsSome, either, is_byte, at_byte}}
+use Rattle.mpd_text.proofs.Sound.{piece_more, beginning_step, content_step, less_than_step, bang_step, question_step, quiet_step}
+use Rattle.mpd_text.proofs.Sound.{named_step, no_pair, no_second, free_more, free_is, has_front}
 
 lacks_question : (words lead : List ℕ) → ((more : List ℕ) → has (codes "?>") ((words ++ lead) ++ more) ≡ has (codes "?>") (lead ++ more))
     → has (codes "?>") (lead ++ []) ≡ false →

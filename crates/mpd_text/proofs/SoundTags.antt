@@ -1,19 +1,14 @@
 -- How what is known of read bytes goes on through tags.
 use Rattle.std.proofs.Common.{◌≡◌, ◌≢◌, ℕ, suc, ◌≤◌, Bool, true, false, IsTrue, not, List, [], ◌∷◌, ◌++◌, length, codes, None, refl, sym}
-use Rattle.std.proofs.Common.{◌∙◌, ap, subst, arith, inl, inr}
-use Rattle.std.proofs.lemmas.List.{append_assoc, append-nil, map-append}
+use Rattle.std.proofs.{Common.{◌∙◌, ap, subst, arith, inl, inr}, lemmas.List.{append_assoc, append-nil, map-append}}
 use Rattle.std.proofs.lemmas.List.Folds.{list_all-append}
 use Rattle.bridge_io.proofs.Texts.{bytes_eq_sym, among_more}
-use Rattle.bridge_io.specs.Texts.{is_among}
-use Rattle.bridge_io.specs.declared.place.Place.{Place}
-use Rattle.mpd_text.specs.Characters.{all_white, is_white, is_name, goes_on_name}
-use Rattle.mpd_text.specs.Trees.{Attribute}
-use Rattle.mpd_text.specs.Grammar.{first_place, past, AllDiffer, names_of, AreAttributes, IsContent, OpensTag, deepest}
-use Rattle.mpd_text.specs.Steps.{Opened, Tag, Named, Quoted, opened_by, behind_end, with_attribute}
-use Rattle.mpd_text.proofs.Holds.{as_is, IsNested, IsBetweenAt, IsTagSo, IsNew, IsQuotedSo}
-use Rattle.mpd_text.proofs.RunLemmas.{past_none, past_more}
-use Rattle.mpd_text.proofs.SoundText.{reads_nothing, reads_value}
-use Rattle.mpd_text.proofs.SoundContent.{content_of, element_ends}
+use Rattle.bridge_io.specs.{Texts.is_among, declared.place.Place.Place}
+use Rattle.mpd_text.specs.{Characters.{all_white, is_white, is_name, goes_on_name}, Trees.Attribute, Grammar.{first_place, past, AllDiffer}}
+use Rattle.mpd_text.specs.{Grammar.{names_of, AreAttributes, IsContent, OpensTag, deepest}, Steps.{Opened, Tag, Named, Quoted, opened_by}}
+use Rattle.mpd_text.specs.Steps.{behind_end, with_attribute}
+use Rattle.mpd_text.proofs.{Holds.{as_is, IsNested, IsBetweenAt, IsTagSo, IsNew, IsQuotedSo}, RunLemmas.{past_none, past_more}}
+use Rattle.mpd_text.proofs.{SoundText.{reads_nothing, reads_value}, SoundContent.{content_of, element_ends}}
 
 pub whites_more : (white : List ℕ) (b : ℕ) → is_white b ≡ true → IsTrue (all_white white) → IsTrue (all_white (white ++ b ∷ []))
 whites_more white b is all = list_all-append is_white white (b ∷ []) ∙ rw all (rw is refl)

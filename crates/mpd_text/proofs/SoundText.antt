@@ -1,11 +1,10 @@
 -- What characters read as so far, byte by byte.
 use Rattle.std.proofs.Common.{◌≡◌, ℕ, Bool, true, false, ◌==◌, ◌&&◌, List, [], ◌∷◌, ◌++◌, map, Option, Some, None, option_map}
-use Rattle.std.proofs.Common.{if◌then◌else◌, refl, sym, ◌∙◌, ap, subst, arith, encode_utf8}
-use Rattle.std.proofs.lemmas.List.{append_assoc, append-nil, map-id}
+use Rattle.std.proofs.{Common.{if◌then◌else◌, refl, sym, ◌∙◌, ap, subst, arith, encode_utf8}, lemmas.List.{append_assoc, append-nil}}
+use Rattle.std.proofs.lemmas.List.{map-id}
 use Rattle.mpd_text.specs.References.{line_ends_after, replaced_within, replaced, with_line_ends, referred_to, content_text, value_text}
 use Rattle.mpd_text.specs.Steps.{as_space, data_read}
-use Rattle.mpd_text.proofs.Holds.{Reads, as_is}
-use Rattle.mpd_text.proofs.NameLemmas.{is_plain}
+use Rattle.mpd_text.proofs.{Holds.{Reads, as_is}, NameLemmas.is_plain}
 
 map_nothing : (x : Option (List ℕ)) → x ≡ option_map (λ t. [] ++ t) x
 map_nothing None = refl

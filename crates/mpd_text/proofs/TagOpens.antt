@@ -1,22 +1,13 @@
 -- How tags begin and end, by positions.
 use Rattle.std.proofs.Common.{◌≡◌, ◌≢◌, ℕ, ◌+◌, ◌≤◌, ◌<◌, Bool, true, false, ◌==◌, List, [], ◌∷◌, length, take, drop, Some, None, refl, sym}
-use Rattle.std.proofs.Common.{◌∙◌, subst, arith, slice_get, inl, inr, ◌⊎◌}
+use Rattle.std.proofs.{Common.{◌∙◌, subst, arith, slice_get, inl, inr, ◌⊎◌}, lemmas.Bool.Decides.nat_tests, lemmas.List.length-map}
 use Rattle.std.specs.List.{prefix_len}
-use Rattle.std.proofs.lemmas.Bool.Decides.{nat_tests}
-use Rattle.std.proofs.lemmas.List.{length-map}
-use Rattle.bridge_io.specs.declared.place.Place.{Place}
-use Rattle.bridge_io.specs.Places.{place_of}
-use Rattle.mpd_text.specs.declared.fault.TextFault.TheVariants.{Cut, Syntax, Depth}
-use Rattle.mpd_text.specs.InTag.{IsInTag}
-use Rattle.mpd_text.specs.Characters.{goes_on_name, is_white, starts_name}
-use Rattle.mpd_text.specs.Grammar.{names_of}
-use Rattle.mpd_text.specs.Fronts.{Context, in_start_tag, undecided}
-use Rattle.mpd_text.specs.Positions.{IsAt, IsReady}
+use Rattle.bridge_io.specs.{declared.place.Place.Place, Places.place_of}
+use Rattle.mpd_text.specs.{declared.fault.TextFault.TheVariants.{Cut, Syntax, Depth}, InTag.IsInTag, Characters.{goes_on_name, is_white}}
+use Rattle.mpd_text.specs.{Characters.starts_name, Grammar.names_of, Fronts.{Context, in_start_tag, undecided}, Positions.{IsAt, IsReady}}
 use Rattle.mpd_text.specs.Steps.{Mode, Opened, Tag, at_content, at_less_than, at_slash, at_tag_name, behind_end, inside, next_mode}
 use Rattle.mpd_text.specs.Steps.{may_nest, open_names, opened_by, step_element, step_tag_end, IsStuck}
-use Rattle.mpd_text.proofs.Comments.{other_byte, ready_opens}
-use Rattle.mpd_text.proofs.NameLemmas.{starts_is_not}
-use Rattle.mpd_text.proofs.Positions.{one_more, read_on, stuck_at, cut_at}
+use Rattle.mpd_text.proofs.{Comments.{other_byte, ready_opens}, NameLemmas.starts_is_not, Positions.{one_more, read_on, stuck_at, cut_at}}
 use Rattle.mpd_text.proofs.ReadsAttributes.{InTag, in_tag, in_tag_name}
 
 nests : (os : List Opened) → length os < 32 → may_nest os ≡ true

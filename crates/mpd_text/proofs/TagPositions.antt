@@ -1,24 +1,16 @@
 -- How the reader comes on in tags.
 use Rattle.std.proofs.Common.{◌≡◌, ◌≢◌, ℕ, zero, suc, ◌+◌, ◌-◌, ◌≤◌, ◌<◌, Bool, true, false, List, [], ◌∷◌, length, take, drop, Some, None}
-use Rattle.std.proofs.Common.{refl, sym, ◌∙◌, ap, subst, arith, slice_get, get_or, inl, inr, ◌⊎◌}
-use Rattle.std.specs.List.{prefix_len, slice_range}
-use Rattle.std.proofs.lemmas.Option.{slice_get_within, slice_get-get_or, get_or_from_slice_get}
-use Rattle.bridge_io.specs.declared.place.Place.{Place}
-use Rattle.bridge_io.specs.Places.{place_of}
-use Rattle.bridge_io.specs.Texts.{is_among}
-use Rattle.mpd_text.specs.declared.fault.TextFault.TheVariants.{Cut, Syntax, DoubleAttribute}
-use Rattle.mpd_text.specs.Characters.{is_white, goes_on_name, starts_name}
-use Rattle.mpd_text.specs.Grammar.{names_of}
-use Rattle.mpd_text.specs.Fronts.{Context, in_attribute}
-use Rattle.mpd_text.specs.Steps.{Mode, Opened, Tag, Named, at_attribute_name, at_equals, at_quote, at_tag, next_mode, context_of_mode}
-use Rattle.mpd_text.specs.Steps.{open_names, IsStuck, step_equals}
-use Rattle.mpd_text.specs.Positions.{IsAt}
-use Rattle.mpd_text.proofs.NameLemmas.{white_in_name}
-use Rattle.mpd_text.proofs.Positions.{one_more, many_more, read_on, run_on, stuck_at, cut_at}
-use Rattle.mpd_text.proofs.Comments.{other_byte}
-use Rattle.std.proofs.lemmas.List.{drop_more, get_or-drop, length-drop}
+use Rattle.std.proofs.{Common.{refl, sym, ◌∙◌, ap, subst, arith, slice_get, get_or, inl, inr, ◌⊎◌}, lemmas.Option.slice_get_within}
+use Rattle.std.proofs.{lemmas.Option.{slice_get-get_or, get_or_from_slice_get}, lemmas.List.{drop_more, get_or-drop, length-drop}}
 use Rattle.std.proofs.lemmas.List.Sums.{prefix_len-le-length, prefix_len_passes}
-use Rattle.mpd_text.proofs.ReaderLemmas.{run_stops}
+use Rattle.std.specs.List.{prefix_len, slice_range}
+use Rattle.bridge_io.specs.{declared.place.Place.Place, Places.place_of, Texts.is_among}
+use Rattle.mpd_text.specs.{declared.fault.TextFault.TheVariants.{Cut, Syntax, DoubleAttribute}, Characters.{is_white, goes_on_name}}
+use Rattle.mpd_text.specs.{Characters.starts_name, Grammar.names_of, Fronts.{Context, in_attribute}, Steps.{Mode, Opened, Tag, Named}}
+use Rattle.mpd_text.specs.Steps.{at_attribute_name, at_equals, at_quote, at_tag, next_mode, context_of_mode, open_names, IsStuck}
+use Rattle.mpd_text.specs.{Steps.step_equals, Positions.IsAt}
+use Rattle.mpd_text.proofs.{NameLemmas.white_in_name, Positions.{one_more, many_more, read_on, run_on, stuck_at, cut_at}}
+use Rattle.mpd_text.proofs.{Comments.other_byte, ReaderLemmas.run_stops}
 
 class_within : (bytes : List ℕ) (at : ℕ) (class : ℕ → Bool) → at ≤ length bytes → at + prefix_len class (drop at bytes) ≤ length bytes
 class_within bytes at class within = omega (arith, prefix_len-le-length class (drop at bytes), length-drop at bytes)

@@ -1,24 +1,13 @@
 -- What has been read of a start tag.
 use Rattle.std.proofs.Common.{◌≡◌, ◌≢◌, ℕ, ◌+◌, ◌-◌, ◌≤◌, ◌<◌, Bool, true, false, ◌==◌, List, [], ◌∷◌, ◌++◌, length, take, drop, Some, refl}
-use Rattle.std.proofs.Common.{sym, ◌∙◌, ap, subst, arith, slice_get, get_or, ◌⊎◌, inl, inr}
-use Rattle.std.specs.List.{prefix_len, slice_range}
-use Rattle.std.specs.String.{string_bytes}
-use Rattle.std.proofs.lemmas.Bool.Decides.{nat_tests}
+use Rattle.std.proofs.{Common.{sym, ◌∙◌, ap, subst, arith, slice_get, get_or, ◌⊎◌, inl, inr}, lemmas.Bool.Decides.nat_tests}
 use Rattle.std.proofs.lemmas.Option.{slice_get_within, get_or_from_slice_get}
+use Rattle.std.specs.{List.{prefix_len, slice_range}, String.string_bytes}
 use Rattle.bridge_io.specs.Places.{place_of}
-use Rattle.mpd_text.specs.declared.reader.Reader.{Reader}
-use Rattle.mpd_text.specs.declared.tree.KeptSpan.{KeptSpan}
-use Rattle.mpd_text.specs.Characters.{goes_on_name, starts_name}
-use Rattle.mpd_text.specs.Growth.{HasBegun}
-use Rattle.mpd_text.specs.Positions.{IsAt, IsReady}
-use Rattle.mpd_text.specs.Reading.{view_of}
-use Rattle.mpd_text.specs.Showing.{OpenShown, TagShown}
-use Rattle.mpd_text.specs.Steps.{Opened, Tag, at_tag_name, inside}
-use Rattle.mpd_text.specs.Views.{bytes_of}
-use Rattle.mpd_text.proofs.KeptLemmas.{range_left}
-use Rattle.mpd_text.proofs.ReaderLemmas.{run_stops}
-use Rattle.mpd_text.proofs.ReaderShows.{begin_shows}
-use Rattle.mpd_text.proofs.TagOpens.{tag_name_read}
+use Rattle.mpd_text.specs.{declared.reader.Reader.Reader, declared.tree.KeptSpan.KeptSpan, Characters.{goes_on_name, starts_name}}
+use Rattle.mpd_text.specs.{Growth.HasBegun, Positions.{IsAt, IsReady}, Reading.view_of, Showing.{OpenShown, TagShown}, Steps.{Opened, Tag}}
+use Rattle.mpd_text.specs.{Steps.{at_tag_name, inside}, Views.bytes_of}
+use Rattle.mpd_text.proofs.{KeptLemmas.range_left, ReaderLemmas.run_stops, ReaderShows.begin_shows, TagOpens.tag_name_read}
 use Rattle.mpd_text.proofs.TagPositions.{name_bytes}
 
 pub full_is : (n m : ℕ) (b : Bool) → n ≡ m → b ≡ (n == 32) → b ≡ true → m ≡ 32

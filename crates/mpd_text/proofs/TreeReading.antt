@@ -1,23 +1,12 @@
 -- From positions to trees and faults.
 use Rattle.std.proofs.Common.{◌≡◌, true, List, ℕ, None, Result, Ok, Err, IfOk, IfErr, IfSome, ◌⊎◌, inl, inr, refl, sym, ap, ◌∙◌, subst}
-use Rattle.std.specs.Result.{IsErrAnd}
-use Rattle.std.specs.Str.{is_utf8}
 use Rattle.std.proofs.lemmas.Str.{is_utf8-from_IsUtf8}
+use Rattle.std.specs.{Result.IsErrAnd, Str.is_utf8}
 use Rattle.bridge_io.specs.Answer.{Gives}
-use Rattle.mpd_text.specs.declared.fault.TextFault.{TextFault}
-use Rattle.mpd_text.specs.declared.fault.TextFault.TheVariants.{Memory}
-use Rattle.mpd_text.specs.declared.tree.Tree.{Tree}
-use Rattle.mpd_text.specs.Characters.{first_bad_character}
-use Rattle.mpd_text.specs.Faults.{HasBadCharacter, HasFault, IsNotUtf8, ReadsAs, refusal}
-use Rattle.mpd_text.specs.Grammar.{IsClean, Spells}
-use Rattle.mpd_text.specs.Meaning.{read_on, reading_of}
-use Rattle.mpd_text.specs.Nodes.{root_of}
-use Rattle.mpd_text.specs.Steps.{IsStuck, Finishes, start}
-use Rattle.mpd_text.specs.Trees.{Element}
-use Rattle.mpd_text.proofs.Decoding.{told as mapped}
-use Rattle.mpd_text.proofs.ReadOn.{finished_is_read, stuck_is_read}
-use Rattle.mpd_text.proofs.ReaderShows.{told_as}
-use Rattle.mpd_text.proofs.Readings.{one_reading}
+use Rattle.mpd_text.specs.{declared.fault.TextFault.TextFault, declared.fault.TextFault.TheVariants.Memory, declared.tree.Tree.Tree}
+use Rattle.mpd_text.specs.{Characters.first_bad_character, Faults.{HasBadCharacter, HasFault, IsNotUtf8, ReadsAs, refusal}, Grammar.IsClean}
+use Rattle.mpd_text.specs.{Grammar.Spells, Meaning.{read_on, reading_of}, Nodes.root_of, Steps.{IsStuck, Finishes, start}, Trees.Element}
+use Rattle.mpd_text.proofs.{Decoding.told as mapped, ReadOn.{finished_is_read, stuck_is_read}, ReaderShows.told_as, Readings.one_reading}
 
 -- what is read of a text without bad characters
 clean_is_read : (text : List ℕ) → IsClean text → reading_of text ≡ read_on text start text

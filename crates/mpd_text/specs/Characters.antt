@@ -1,8 +1,7 @@
 -- The bytes of an XML text by their parts in the grammar. All bytes from 128 on stand alike in it, so a character
 -- outside of ASCII is taken as its bytes.
 use Rattle.std.specs.Prelude.{◌≡◌, ◌<◌, length, drop, ℕ, Bool, true, false, ◌==◌, ◌&&◌, ◌||◌, nat_le, List, [], ◌∷◌, if◌then◌else◌, Option}
-use Rattle.std.specs.Prelude.{Some, None, option_map, suc, nat_eq}
-use Rattle.std.specs.List.{list_all, list_any, starts_with}
+use Rattle.std.specs.{Prelude.{Some, None, option_map, suc, nat_eq}, List.{list_all, list_any, starts_with}}
 use Rattle.byte_scan.specs.Class.{is_low_control}
 
 -- space, tab, LF, CR

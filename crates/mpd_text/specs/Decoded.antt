@@ -1,12 +1,9 @@
 -- What the parts of a reference, of character data and of a value are found to be.
 use Rattle.std.specs.Prelude.{◌≡◌, ◌≢◌, ℕ, ◌+◌, Bool, true, false, ◌⊎◌, nat_le, nat_eq, List, [], ◌∷◌, ◌++◌, length, codes, if◌then◌else◌}
-use Rattle.std.specs.Prelude.{slice_get, Some, encode_utf8}
-use Rattle.std.specs.List.{list_any, starts_with}
+use Rattle.std.specs.{Prelude.{slice_get, Some, encode_utf8}, List.{list_any, starts_with}}
 use Rattle.bridge_io.specs.declared.place.Place.{Place}
-use Rattle.mpd_text.specs.Characters.{is_digit}
-use Rattle.mpd_text.specs.References.{is_hex_digit, referred_to}
-use Rattle.mpd_text.specs.Steps.{Opened, Tag, Named, Quoted, at_tag, with_attribute}
-use Rattle.mpd_text.specs.Positions.{IsAt, IsReference, Grows}
+use Rattle.mpd_text.specs.{Characters.is_digit, References.{is_hex_digit, referred_to}, Steps.{Opened, Tag, Named, Quoted, at_tag}}
+use Rattle.mpd_text.specs.{Steps.with_attribute, Positions.{IsAt, IsReference, Grows}}
 
 abbrev pub base_of : Bool → ℕ
 base_of true = 16

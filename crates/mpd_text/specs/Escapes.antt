@@ -1,6 +1,5 @@
 -- Texts as they are written into values and content.
-use Rattle.std.specs.Prelude.{ℕ, ◌==◌, IsTrue, nat_le, List, [], ◌∷◌, codes, if◌then◌else◌, flat_map}
-use Rattle.std.specs.List.{list_all}
+use Rattle.std.specs.{Prelude.{ℕ, ◌==◌, IsTrue, nat_le, List, [], ◌∷◌, codes, if◌then◌else◌, flat_map}, List.list_all}
 use Rattle.mpd_text.specs.Grammar.{IsQuoted}
 
 abbrev pub escape_of : ℕ → List ℕ

@@ -1,19 +1,13 @@
 -- The faults of a text: what it is, and where.
 use Rattle.std.specs.Prelude.{◌≡◌, ◌<◌, ◌≤◌, ℕ, ◌==◌, ◌&&◌, Bool, false, not, ◌⊎◌, List, [], ◌∷◌, take, length, codes, slice_get, nat_eq}
-use Rattle.std.specs.Prelude.{if◌then◌else◌, Option, Some, None, Result, Ok, Err, IsUtf8, bytes_eq}
-use Rattle.std.specs.List.{starts_with}
+use Rattle.std.specs.{Prelude.{if◌then◌else◌, Option, Some, None, Result, Ok, Err, IsUtf8, bytes_eq}, List.starts_with}
 use Rattle.std.specs.Str.Lossy.{utf8_valid_len}
-use Rattle.bridge_io.specs.declared.place.Place.{Place}
-use Rattle.bridge_io.specs.Places.{place_of}
-use Rattle.bridge_io.specs.Texts.{is_among}
-use Rattle.mpd_text.specs.declared.fault.TextFault.{TextFault}
-use Rattle.mpd_text.specs.declared.fault.TextFault.TheVariants.{NotUtf8, BadChar, Cut, Syntax, TagMismatch, DoubleAttribute, Entity}
-use Rattle.mpd_text.specs.declared.fault.TextFault.TheVariants.{Doctype, Cdata, Instruction, Depth, Memory}
-use Rattle.mpd_text.specs.Characters.{starts_name, first_bad_character}
-use Rattle.mpd_text.specs.Trees.{Element}
-use Rattle.mpd_text.specs.Grammar.{Spells, IsClean, deepest}
-use Rattle.mpd_text.specs.Fronts.{Kind, Context, IsOpen, before_root, in_declaration, undecided, in_start_tag, in_attribute, in_value}
-use Rattle.mpd_text.specs.Fronts.{in_reference, in_end_tag, in_comment, in_content, after_root}
+use Rattle.bridge_io.specs.{declared.place.Place.Place, Places.place_of, Texts.is_among}
+use Rattle.mpd_text.specs.{declared.fault.TextFault.TextFault, declared.fault.TextFault.TheVariants.{NotUtf8, BadChar, Cut, Syntax}}
+use Rattle.mpd_text.specs.declared.fault.TextFault.TheVariants.{TagMismatch, DoubleAttribute, Entity, Doctype, Cdata, Instruction, Depth}
+use Rattle.mpd_text.specs.{declared.fault.TextFault.TheVariants.Memory, Characters.{starts_name, first_bad_character}, Trees.Element}
+use Rattle.mpd_text.specs.{Grammar.{Spells, IsClean, deepest}, Fronts.{Kind, Context, IsOpen, before_root, in_declaration, undecided}}
+use Rattle.mpd_text.specs.Fronts.{in_start_tag, in_attribute, in_value, in_reference, in_end_tag, in_comment, in_content, after_root}
 
 -- how many bytes of the file are open at most, and in which context they end: no longer front is open in any
 pub record IsLongestOpen (bytes : List ℕ) (count : ℕ) (context : Context) : Type 0 where

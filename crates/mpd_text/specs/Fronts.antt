@@ -1,11 +1,8 @@
 -- Fronts of texts: what the grammar's pieces begin with. A front is open where it holds no fault.
 use Rattle.std.specs.Prelude.{◌≡◌, ◌≢◌, ◌<◌, ◌≤◌, ℕ, suc, ◌+◌, ◌-◌, IsTrue, not, ◌⊎◌, List, [], ◌∷◌, ◌++◌, length, codes, nat_eq}
 use Rattle.std.specs.List.{starts_with}
-use Rattle.bridge_io.specs.Texts.{is_among}
-use Rattle.bridge_io.specs.declared.place.Place.{Place}
-use Rattle.mpd_text.specs.Characters.{all_white, is_name}
-use Rattle.mpd_text.specs.References.{is_front_of_reference}
-use Rattle.mpd_text.specs.Trees.{Attribute, Forest, Element, depth}
+use Rattle.bridge_io.specs.{Texts.is_among, declared.place.Place.Place}
+use Rattle.mpd_text.specs.{Characters.{all_white, is_name}, References.is_front_of_reference, Trees.{Attribute, Forest, Element, depth}}
 use Rattle.mpd_text.specs.Grammar.{IsMark, IsProlog, IsMisc, IsContent, IsElement, IsStartTag, OpensTag, OpensComment, OpensDeclaration}
 use Rattle.mpd_text.specs.Grammar.{IsEquals, IsQuoted, names_of, deepest}
 

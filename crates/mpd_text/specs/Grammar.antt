@@ -6,11 +6,9 @@
 -- declared there changes nothing.
 use Rattle.std.specs.Prelude.{◌≡◌, ◌≤◌, ℕ, suc, ◌+◌, ◌==◌, IsTrue, not, ◌⊎◌, List, [], ◌∷◌, ◌++◌, map, length, count_by, codes, Some, None}
 use Rattle.std.specs.Prelude.{IsUtf8, ⊤}
-use Rattle.bridge_io.specs.Texts.{is_among}
-use Rattle.bridge_io.specs.declared.place.Place.{Place}
-use Rattle.mpd_text.specs.Characters.{all_white, is_white, is_name, has, has_byte, first_bad_character}
-use Rattle.mpd_text.specs.References.{content_text, value_text}
-use Rattle.mpd_text.specs.Trees.{Attribute, Head, Forest, nothing, element, Element, depth}
+use Rattle.bridge_io.specs.{Texts.is_among, declared.place.Place.Place}
+use Rattle.mpd_text.specs.{Characters.{all_white, is_white, is_name, has, has_byte, first_bad_character}, References.content_text}
+use Rattle.mpd_text.specs.{References.value_text, Trees.{Attribute, Head, Forest, nothing, element, Element, depth}}
 
 -- the file's first byte
 abbrev pub first_place : Place

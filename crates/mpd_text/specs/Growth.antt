@@ -1,10 +1,7 @@
 -- How the rows of a tree grow.
 use Rattle.std.specs.Prelude.{◌≡◌, ℕ, ◌+◌, ◌-◌, [], ◌∷◌, ◌++◌, Some, set, take, slice_get, vec_len}
-use Rattle.mpd_text.specs.declared.growing.Growing.{Growing}
-use Rattle.mpd_text.specs.declared.growing.OpenElement.{OpenElement}
-use Rattle.mpd_text.specs.declared.tree.KeptSpan.{KeptSpan}
-use Rattle.mpd_text.specs.declared.tree.ElementRow.{ElementRow}
-use Rattle.mpd_text.specs.Opening.{new_row, ended_row, with_attributes_end}
+use Rattle.mpd_text.specs.{declared.growing.Growing.Growing, declared.growing.OpenElement.OpenElement, declared.tree.KeptSpan.KeptSpan}
+use Rattle.mpd_text.specs.{declared.tree.ElementRow.ElementRow, Opening.{new_row, ended_row, with_attributes_end}}
 
 pub record HasStayed (old new : Growing) : Type 0 where
   pub elements : new.elements.items ≡ old.elements.items

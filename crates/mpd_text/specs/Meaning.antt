@@ -1,17 +1,9 @@
 -- What bytes read as, as one function: the tree that they spell, or their fault.
-use Rattle.std.specs.Prelude.{◌≡◌, ℕ, List, [], ◌∷◌, if◌then◌else◌, Option, Some, None, Result, Ok, Err}
-use Rattle.std.specs.Option.{option_map_or}
-use Rattle.std.specs.Str.{is_utf8}
-use Rattle.std.specs.Str.Lossy.{utf8_valid_len}
-use Rattle.bridge_io.specs.declared.place.Place.{Place}
-use Rattle.bridge_io.specs.Places.{place_of}
-use Rattle.mpd_text.specs.declared.fault.TextFault.{TextFault}
-use Rattle.mpd_text.specs.declared.fault.TextFault.TheVariants.{NotUtf8, BadChar, Cut, Syntax}
-use Rattle.mpd_text.specs.Characters.{first_bad_character}
-use Rattle.mpd_text.specs.Trees.{Element}
-use Rattle.mpd_text.specs.Grammar.{first_place}
-use Rattle.mpd_text.specs.Fronts.{Context}
-use Rattle.mpd_text.specs.Faults.{ReadsAs, fault_of}
+use Rattle.std.specs.{Prelude.{◌≡◌, ℕ, List, [], ◌∷◌, if◌then◌else◌, Option, Some, None, Result, Ok, Err}, Option.option_map_or}
+use Rattle.std.specs.{Str.is_utf8, Str.Lossy.utf8_valid_len}
+use Rattle.bridge_io.specs.{declared.place.Place.Place, Places.place_of}
+use Rattle.mpd_text.specs.{declared.fault.TextFault.TextFault, declared.fault.TextFault.TheVariants.{NotUtf8, BadChar, Cut, Syntax}}
+use Rattle.mpd_text.specs.{Characters.first_bad_character, Trees.Element, Grammar.first_place, Fronts.Context, Faults.{ReadsAs, fault_of}}
 use Rattle.mpd_text.specs.Steps.{Mode, at_mark_1, at_mark_2, at_content, behind, State, start, step, context_of}
 
 -- the text ends: behind the root, or too early

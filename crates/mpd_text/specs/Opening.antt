@@ -1,9 +1,6 @@
 -- Rows of elements of which some have not come to an end.
-use Rattle.std.specs.Prelude.{◌≡◌, ℕ, ◌+◌, ◌<◌, ◌≤◌, List, length, Some, slice_get}
-use Rattle.std.specs.Str.{IsCharBoundary}
-use Rattle.mpd_text.specs.declared.growing.OpenElement.{OpenElement}
-use Rattle.mpd_text.specs.declared.tree.KeptSpan.{KeptSpan}
-use Rattle.mpd_text.specs.declared.tree.ElementRow.{ElementRow}
+use Rattle.std.specs.{Prelude.{◌≡◌, ℕ, ◌+◌, ◌<◌, ◌≤◌, List, length, Some, slice_get}, Str.IsCharBoundary}
+use Rattle.mpd_text.specs.{declared.growing.OpenElement.OpenElement, declared.tree.KeptSpan.KeptSpan, declared.tree.ElementRow.ElementRow}
 
 -- open elements have rows, and what ends before one of them begins is none of it
 abbrev pub AreBegun : List ElementRow → List OpenElement → Type 0

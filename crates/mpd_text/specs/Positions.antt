@@ -1,16 +1,12 @@
 -- Where the reader stands in a text, and how its parts bring it on.
 use Rattle.std.specs.Prelude.{◌≡◌, ◌≢◌, ◌≤◌, ℕ, ◌+◌, Bool, false, IsTrue, ◌⊎◌, ⊤, List, [], ◌∷◌, ◌++◌, length, take, drop, slice_get}
-use Rattle.std.specs.Prelude.{slice_range, nat_eq, Some, None}
-use Rattle.std.specs.List.{starts_with}
+use Rattle.std.specs.{Prelude.{slice_range, nat_eq, Some, None}, List.starts_with}
 use Rattle.bridge_io.specs.Places.{place_of}
-use Rattle.mpd_text.specs.declared.fault.TextFault.{TextFault}
-use Rattle.mpd_text.specs.declared.fault.TextFault.TheVariants.{Cut, Entity}
-use Rattle.mpd_text.specs.declared.decode.Value.{Value}
-use Rattle.mpd_text.specs.declared.decode.Value.TheVariants.{AsItStands, Read}
-use Rattle.mpd_text.specs.Characters.{is_white}
-use Rattle.mpd_text.specs.References.{referred_to, is_front_of_reference}
-use Rattle.mpd_text.specs.Steps.{Dashes, no_dash, one_dash, two_dashes, three_dashes, Outside, inside, behind, Opened, Tag, Named, Mode}
-use Rattle.mpd_text.specs.Steps.{at_beginning, at_mark_end, at_content, at_tag, Reaches, with_text, with_attribute}
+use Rattle.mpd_text.specs.{declared.fault.TextFault.TextFault, declared.fault.TextFault.TheVariants.{Cut, Entity}}
+use Rattle.mpd_text.specs.{declared.decode.Value.Value, declared.decode.Value.TheVariants.{AsItStands, Read}, Characters.is_white}
+use Rattle.mpd_text.specs.{References.{referred_to, is_front_of_reference}, Steps.{Dashes, no_dash, one_dash, two_dashes, three_dashes}}
+use Rattle.mpd_text.specs.Steps.{Outside, inside, behind, Opened, Tag, Named, Mode, at_beginning, at_mark_end, at_content, at_tag, Reaches}
+use Rattle.mpd_text.specs.Steps.{with_text, with_attribute}
 
 -- the bytes before are read, up to that position
 pub record IsAt (bytes : List ℕ) (at : ℕ) (mode : Mode) : Type 0 where

@@ -1,16 +1,8 @@
 -- What the reader's parts do to it.
-use Rattle.std.specs.Prelude.{◌≡◌, ℕ, Bool, List, ◌∷◌, ◌++◌, Some, false, slice_get, vec_len}
-use Rattle.std.specs.String.{string_bytes}
-use Rattle.mpd_text.specs.declared.reader.Reader.{Reader}
-use Rattle.mpd_text.specs.declared.many_names.ManyNames.{ManyNames}
-use Rattle.mpd_text.specs.Grammar.{names_of}
-use Rattle.mpd_text.specs.ManyNames.{IsPrepared}
-use Rattle.mpd_text.specs.Rows.{AreRooted}
-use Rattle.mpd_text.specs.Showing.{View, OpenShown, Shows, TagShown}
-use Rattle.mpd_text.specs.InTag.{IsInTag}
-use Rattle.mpd_text.specs.Characters.{goes_on_name}
-use Rattle.mpd_text.specs.Steps.{Mode, Opened, Outside, Tag, at_content, at_tag, inside}
-use Rattle.mpd_text.specs.Positions.{IsAt}
+use Rattle.std.specs.{Prelude.{◌≡◌, ℕ, Bool, List, ◌∷◌, ◌++◌, Some, false, slice_get, vec_len}, String.string_bytes}
+use Rattle.mpd_text.specs.{declared.reader.Reader.Reader, declared.many_names.ManyNames.ManyNames, Grammar.names_of, ManyNames.IsPrepared}
+use Rattle.mpd_text.specs.{Rows.AreRooted, Showing.{View, OpenShown, Shows, TagShown}, InTag.IsInTag, Characters.goes_on_name, Steps.Mode}
+use Rattle.mpd_text.specs.{Steps.{Opened, Outside, Tag, at_content, at_tag, inside}, Positions.IsAt}
 
 abbrev pub view_of : Reader → View
 view_of r = record {

@@ -1,12 +1,9 @@
 -- What the reader has kept of the elements so far.
 use Rattle.std.specs.Prelude.{◌≡◌, ℕ, suc, ◌-◌, ◌<◌, ◌≤◌, List, [], ◌∷◌, map, length, Some, slice_get, slice_range}
 use Rattle.bridge_io.specs.Places.{place_of}
-use Rattle.mpd_text.specs.declared.growing.OpenElement.{OpenElement}
-use Rattle.mpd_text.specs.declared.tree.ElementRow.{ElementRow}
-use Rattle.mpd_text.specs.declared.tree.AttributeRow.{AttributeRow}
-use Rattle.mpd_text.specs.Trees.{Attribute, Head, nothing, element, Element}
-use Rattle.mpd_text.specs.Views.{attribute_of, bytes_of, forest_of, head_of}
-use Rattle.mpd_text.specs.Steps.{Opened, Outside, inside, behind, Tag, opened_by}
+use Rattle.mpd_text.specs.{declared.growing.OpenElement.OpenElement, declared.tree.ElementRow.ElementRow}
+use Rattle.mpd_text.specs.{declared.tree.AttributeRow.AttributeRow, Trees.{Attribute, Head, nothing, element, Element}, Views.attribute_of}
+use Rattle.mpd_text.specs.{Views.{bytes_of, forest_of, head_of}, Steps.{Opened, Outside, inside, behind, Tag, opened_by}}
 
 -- the texts and the rows: `kept` is the source and what was read, `loose` the character data of the open elements
 pub record View : Type 0 where

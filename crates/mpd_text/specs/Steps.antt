@@ -3,18 +3,12 @@
 use Rattle.std.specs.Prelude.{◌≡◌, ◌≢◌, ◌≤◌, ℕ, ◌==◌, ◌&&◌, Bool, true, false, ◌⊎◌, List, [], ◌∷◌, ◌++◌, map, length, take, codes}
 use Rattle.std.specs.Prelude.{slice_get, nat_eq, nat_lt, if◌then◌else◌, Option, Some, None, option_and_then, bytes_eq, encode_utf8}
 use Rattle.std.specs.List.{starts_with}
-use Rattle.bridge_io.specs.declared.place.Place.{Place}
-use Rattle.bridge_io.specs.Places.{place_of}
-use Rattle.bridge_io.specs.Texts.{is_among}
-use Rattle.mpd_text.specs.declared.fault.TextFault.{TextFault}
-use Rattle.mpd_text.specs.declared.fault.TextFault.TheVariants.{Cut, Syntax}
-use Rattle.mpd_text.specs.Characters.{is_white, starts_name, goes_on_name}
-use Rattle.mpd_text.specs.References.{referred_to, is_front_of_reference}
-use Rattle.mpd_text.specs.Trees.{Attribute, Head, Forest, nothing, element, Element}
-use Rattle.mpd_text.specs.Grammar.{first_place, past, names_of, deepest}
-use Rattle.mpd_text.specs.Fronts.{Kind, Context, before_root, in_declaration, undecided, in_start_tag, in_attribute, in_value, in_reference}
-use Rattle.mpd_text.specs.Fronts.{in_end_tag, in_comment, in_content, after_root}
-use Rattle.mpd_text.specs.Faults.{fault_of}
+use Rattle.bridge_io.specs.{declared.place.Place.Place, Places.place_of, Texts.is_among}
+use Rattle.mpd_text.specs.{declared.fault.TextFault.TextFault, declared.fault.TextFault.TheVariants.{Cut, Syntax}, Characters.is_white}
+use Rattle.mpd_text.specs.{Characters.{starts_name, goes_on_name}, References.{referred_to, is_front_of_reference}, Trees.{Attribute, Head}}
+use Rattle.mpd_text.specs.{Trees.{Forest, nothing, element, Element}, Grammar.{first_place, past, names_of, deepest}, Fronts.Kind}
+use Rattle.mpd_text.specs.Fronts.{Context, before_root, in_declaration, undecided, in_start_tag, in_attribute, in_value, in_reference}
+use Rattle.mpd_text.specs.{Fronts.{in_end_tag, in_comment, in_content, after_root}, Faults.fault_of}
 
 -- an element whose end tag has not come yet, with what has been read of its content
 pub record Opened : Type 0 where

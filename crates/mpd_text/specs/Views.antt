@@ -1,13 +1,9 @@
 -- The tree that rows show.
 use Rattle.std.specs.Prelude.{ℕ, ◌+◌, ◌-◌, nat_lt, List, [], ◌∷◌, ◌++◌, map, length, slice_range, slice_index_or, if◌then◌else◌, Option}
-use Rattle.std.specs.Prelude.{bytes_eq, find}
-use Rattle.std.specs.String.{string_bytes}
+use Rattle.std.specs.{Prelude.{bytes_eq, find}, String.string_bytes}
 use Rattle.bridge_io.specs.Places.{place_of}
-use Rattle.mpd_text.specs.declared.tree.KeptSpan.{KeptSpan}
-use Rattle.mpd_text.specs.declared.tree.ElementRow.{ElementRow}
-use Rattle.mpd_text.specs.declared.tree.AttributeRow.{AttributeRow}
-use Rattle.mpd_text.specs.declared.attr.Attr.{Attr}
-use Rattle.mpd_text.specs.Trees.{Attribute, Head, Forest, nothing, element, Element}
+use Rattle.mpd_text.specs.{declared.tree.KeptSpan.KeptSpan, declared.tree.ElementRow.ElementRow, declared.tree.AttributeRow.AttributeRow}
+use Rattle.mpd_text.specs.{declared.attr.Attr.Attr, Trees.{Attribute, Head, Forest, nothing, element, Element}}
 
 -- what is kept: the source, and behind it what was read otherwise than it stands there
 abbrev pub bytes_of : List ℕ → KeptSpan → List ℕ

@@ -1,13 +1,10 @@
 -- Blanks are ASCII, so a text may be cut beside them.
 use Rattle.std.proofs.Common.{◌≡◌, ℕ, ◌+◌, ◌-◌, ◌<◌, true, List, length, get_or, reverse, arith, IsUtf8, IsCharBoundary}
+use Rattle.std.proofs.{lemmas.Bool.Decides.nat_tests, lemmas.List.get_or-reverse, lemmas.List.Sums.prefix_len_passes}
+use Rattle.std.proofs.{lemmas.List.Sums.{prefix_len-le-length, suffix_len-le-length}, lemmas.Str.IsCharBoundary-after_ascii}
+use Rattle.std.proofs.lemmas.Str.{IsCharBoundary-before_ascii}
 use Rattle.std.specs.List.{prefix_len, suffix_len}
-use Rattle.std.proofs.lemmas.Bool.Decides.{nat_tests}
-use Rattle.std.proofs.lemmas.List.{get_or-reverse}
-use Rattle.std.proofs.lemmas.List.Sums.{prefix_len_passes, prefix_len-le-length, suffix_len-le-length}
-use Rattle.std.proofs.lemmas.Str.{IsCharBoundary-after_ascii, IsCharBoundary-before_ascii}
-use Rattle.mpd_values.specs.declared.blank.Blank.{Blank}
-use Rattle.mpd_values.specs.declared.blank.Blank.TheVariants.{Space, SpaceOrLineEnd}
-use Rattle.mpd_values.specs.Blanks.{is_blank}
+use Rattle.mpd_values.specs.{declared.blank.Blank.Blank, declared.blank.Blank.TheVariants.{Space, SpaceOrLineEnd}, Blanks.is_blank}
 
 is_blank-ascii : (blank : Blank) (b : ℕ) → is_blank blank b ≡ true → b < 128
 is_blank-ascii Space b h = grind (arith, nat_tests)

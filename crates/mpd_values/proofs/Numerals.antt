@@ -1,12 +1,8 @@
 -- Digits as `parse` reads them.
 use Rattle.std.proofs.Common.{◌≡◌, ℕ, ◌^◌, true, List, Result, Ok, Err, Option, Some, None, ◌≤◌, refl, arith}
-use Rattle.std.specs.List.{list_all}
-use Rattle.std.specs.Char.{is_ascii_digit}
-use Rattle.std.specs.Result.{result_ok}
-use Rattle.std.specs.Str.{all_ascii_digits}
-use Rattle.std.specs.Str.Parse.{ParsesUnsigned, digits_value}
-use Rattle.std.proofs.lemmas.Bool.Decides.{nat_tests}
-use Rattle.std.proofs.lemmas.Str.Parse.{IsNumeralModel, parse_digits, numerals_by_value, tells_all_ascii_digits}
+use Rattle.std.proofs.{lemmas.Bool.Decides.nat_tests, lemmas.Str.Parse.{IsNumeralModel, parse_digits, numerals_by_value}}
+use Rattle.std.proofs.lemmas.Str.Parse.{tells_all_ascii_digits}
+use Rattle.std.specs.{List.list_all, Char.is_ascii_digit, Result.result_ok, Str.all_ascii_digits, Str.Parse.{ParsesUnsigned, digits_value}}
 use Rattle.mpd_values.specs.Numbers.{numeral_of, kept_if, is_between}
 
 model : IsNumeralModel (λ ds. all_ascii_digits ds ≡ true) (digits_value 10)

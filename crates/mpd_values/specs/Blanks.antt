@@ -1,8 +1,6 @@
 -- What is dropped around a value.
-use Rattle.std.specs.Prelude.{ℕ, ◌-◌, ◌==◌, ◌||◌, Bool, List, length, take, drop}
-use Rattle.std.specs.List.{prefix_len, suffix_len}
-use Rattle.mpd_values.specs.declared.blank.Blank.{Blank}
-use Rattle.mpd_values.specs.declared.blank.Blank.TheVariants.{Space, SpaceOrLineEnd}
+use Rattle.std.specs.{Prelude.{ℕ, ◌-◌, ◌==◌, ◌||◌, Bool, List, length, take, drop}, List.{prefix_len, suffix_len}}
+use Rattle.mpd_values.specs.{declared.blank.Blank.Blank, declared.blank.Blank.TheVariants.{Space, SpaceOrLineEnd}}
 
 abbrev pub is_blank : Blank → ℕ → Bool
 is_blank Space b = b == 32

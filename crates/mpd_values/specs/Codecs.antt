@@ -1,13 +1,10 @@
 -- Lists of codes: RFC 6381, as ISO/IEC 23009-1, 5.3.7.2 has them in `codecs`.
-use Rattle.std.specs.Prelude.{ℕ, ◌==◌, ◌&&◌, nat_lt, nat_le, not, Bool, true, false, List, map, length}
-use Rattle.std.specs.List.{list_all, list_any, slice_split}
-use Rattle.bridge_io.specs.declared.media.Kind.{Kind}
-use Rattle.bridge_io.specs.declared.media.Kind.TheVariants.{Video, Audio, Text}
-use Rattle.url_parts.specs.declared.code.CodeClass.{CodeClass}
 use Rattle.url_parts.specs.declared.code.CodeClass.TheVariants as class
-use Rattle.url_parts.specs.Codes.{class_of}
-use Rattle.mpd_values.specs.declared.blank.Blank.TheVariants.{Space}
-use Rattle.mpd_values.specs.Blanks.{trimmed}
+use Rattle.std.specs.{Prelude.{ℕ, ◌==◌, ◌&&◌, nat_lt, nat_le, not, Bool, true, false, List, map, length}, List.{list_all, list_any}}
+use Rattle.std.specs.List.{slice_split}
+use Rattle.bridge_io.specs.{declared.media.Kind.Kind, declared.media.Kind.TheVariants.{Video, Audio, Text}}
+use Rattle.url_parts.specs.{declared.code.CodeClass.CodeClass, Codes.class_of}
+use Rattle.mpd_values.specs.{declared.blank.Blank.TheVariants.Space, Blanks.trimmed}
 
 -- a printed ASCII character or a space, but no `"`
 abbrev pub is_code_char : ℕ → Bool

@@ -1,6 +1,5 @@
 -- Languages: ISO/IEC 23009-1, 5.3.3.2, of the characters that a playlist can carry.
-use Rattle.std.specs.Prelude.{ℕ, ◌==◌, ◌&&◌, nat_lt, nat_le, not, Bool, List, length}
-use Rattle.std.specs.List.{list_all}
+use Rattle.std.specs.{Prelude.{ℕ, ◌==◌, ◌&&◌, nat_lt, nat_le, not, Bool, List, length}, List.list_all}
 
 -- a printed ASCII character but no `"`
 abbrev pub is_language_char : ℕ → Bool

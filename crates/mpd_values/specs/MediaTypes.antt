@@ -1,8 +1,6 @@
 -- Media types: RFC 4337 for mp4, compared without regard to ASCII case.
-use Rattle.std.specs.Prelude.{ℕ, Bool, List, map, bytes_eq, codes, if◌then◌else◌, Option, Some, None}
-use Rattle.std.specs.Char.{to_ascii_lowercase}
-use Rattle.bridge_io.specs.declared.media.Kind.{Kind}
-use Rattle.bridge_io.specs.declared.media.Kind.TheVariants.{Video, Audio, Text}
+use Rattle.std.specs.{Prelude.{ℕ, Bool, List, map, bytes_eq, codes, if◌then◌else◌, Option, Some, None}, Char.to_ascii_lowercase}
+use Rattle.bridge_io.specs.{declared.media.Kind.Kind, declared.media.Kind.TheVariants.{Video, Audio, Text}}
 
 -- equal but for the case of ASCII letters
 abbrev pub is_alike : (text other : List ℕ) → Bool

@@ -1,11 +1,7 @@
 -- Numbers as an MPD writes them: xs:unsignedInt, xs:unsignedLong and xs:integer of XML Schema part 2.
 use Rattle.std.specs.Prelude.{ℕ, ℤ, pos, ◌-ℤ◌, ◌+◌, ◌^◌, ◌&&◌, ◌==◌, nat_lt, nat_le, Bool, true, List, length, drop, slice_index}
-use Rattle.std.specs.Prelude.{if◌then◌else◌, Option, Some, None, option_map}
-use Rattle.std.specs.List.{list_all}
-use Rattle.std.specs.Char.{is_ascii_digit}
-use Rattle.std.specs.Str.Parse.{digits_value}
-use Rattle.mpd_values.specs.declared.blank.Blank.TheVariants.{Space}
-use Rattle.mpd_values.specs.Blanks.{trimmed}
+use Rattle.std.specs.{Prelude.{if◌then◌else◌, Option, Some, None, option_map}, List.list_all, Char.is_ascii_digit, Str.Parse.digits_value}
+use Rattle.mpd_values.specs.{declared.blank.Blank.TheVariants.Space, Blanks.trimmed}
 
 -- one ASCII digit or more
 abbrev pub is_numeral : List ℕ → Bool

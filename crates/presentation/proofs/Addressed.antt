@@ -1,18 +1,13 @@
 -- Segments of a verified presentation have addresses.
-use Rattle.std.proofs.Common.{◌≡◌, ℕ, ◌+◌, ◌<◌, List, [], ◌∷◌, length, All, Option, None, Some, Result, Ok, Err, IfSome, refl, subst}
-use Rattle.std.specs.Option.{option_map_or}
-use Rattle.std.proofs.lemmas.List.Elements.{All-nil, All-cons, All-head, All-tail}
-use Rattle.presentation.specs.Printing.{PrintedTiming}
-use Rattle.url_parts.specs.declared.address.Part.{Part}
-use Rattle.timeline.specs.declared.fault.ListFault.{ListFault}
 use Rattle.timeline.specs.declared.fault.ListFault.TheVariants as list_fault
-use Rattle.timeline.specs.Expansions.{SegmentTimeline, Timing}
-use Rattle.timeline.specs.Listed.{part_of_timing}
-use Rattle.presentation.specs.declared.parts.Content.{Content}
-use Rattle.presentation.specs.Presented.{Presented, content_at, listed_at}
-use Rattle.presentation.specs.Printing.{durations_of, printed_timings, with_durations}
-use Rattle.presentation.specs.Verifying.{part_fault, part_faults, url_faults, url_faults_at, url_faults_of}
-use Rattle.presentation.specs.Laws.{HasAddress}
+use Rattle.std.proofs.Common.{◌≡◌, ℕ, ◌+◌, ◌<◌, List, [], ◌∷◌, length, All, Option, None, Some, Result, Ok, Err, IfSome, refl, subst}
+use Rattle.std.proofs.lemmas.List.Elements.{All-nil, All-cons, All-head, All-tail}
+use Rattle.std.specs.Option.{option_map_or}
+use Rattle.presentation.specs.{Printing.{PrintedTiming, durations_of, printed_timings, with_durations}, declared.parts.Content.Content}
+use Rattle.presentation.specs.{Presented.{Presented, content_at, listed_at}, Verifying.{part_fault, part_faults, url_faults, url_faults_at}}
+use Rattle.presentation.specs.{Verifying.url_faults_of, Laws.HasAddress}
+use Rattle.url_parts.specs.declared.address.Part.{Part}
+use Rattle.timeline.specs.{declared.fault.ListFault.ListFault, Expansions.{SegmentTimeline, Timing}, Listed.part_of_timing}
 use Rattle.presentation.proofs.Reached.{none_first, none_later, none_within}
 
 module _ (timeline : SegmentTimeline) where

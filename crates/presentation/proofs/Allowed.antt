@@ -2,14 +2,11 @@
 use Rattle.std.proofs.Common.{◌≡◌, ℕ, zero, suc, ◌+◌, ◌<◌, ◌++◌, [], List, length, map, slice_get, sym, ◌∙◌, ap, Some, Ok, arith, zero-add}
 use Rattle.std.proofs.Common.{add-zero}
 use Rattle.std.specs.List.{range_with_len}
-use Rattle.presentation.specs.Presented.{Presented}
-use Rattle.presentation.specs.Counting.{count_faults, count_of_all, range_faults, tracks_of}
-use Rattle.presentation.specs.Verifying.{verified, url_faults, longest_of}
-use Rattle.presentation.proofs.Firsts.{none_before, value_of}
-use Rattle.presentation.proofs.Addressed.{addressed}
-use Rattle.presentation.proofs.Reached.{all_reached, ends_reached, none_first, none_later}
-use Rattle.presentation.proofs.Verified.{counted_is, verified_is}
-use Rattle.presentation.specs.Laws.{CountedAreListed, EachHasLongest, EndsAreCounted, VerifiedAreCounted, VerifiedHaveAddresses}
+use Rattle.presentation.specs.{Presented.Presented, Counting.{count_faults, count_of_all, range_faults, tracks_of}, Verifying.verified}
+use Rattle.presentation.specs.{Verifying.{url_faults, longest_of}, Laws.{CountedAreListed, EachHasLongest, EndsAreCounted}}
+use Rattle.presentation.specs.Laws.{VerifiedAreCounted, VerifiedHaveAddresses}
+use Rattle.presentation.proofs.{Firsts.{none_before, value_of}, Addressed.addressed, Reached.{all_reached, ends_reached, none_first}}
+use Rattle.presentation.proofs.{Reached.none_later, Verified.{counted_is, verified_is}}
 
 pub counted_are_listed : CountedAreListed
 counted_are_listed p n s t is in_sections in_tracks =

@@ -1,11 +1,8 @@
 -- Faults and counts over places in order.
 use Rattle.std.proofs.Common.{◌≡◌, ℕ, suc, ◌+◌, ◌-◌, ◌^◌, ◌<◌, min, List, [], ◌∷◌, ◌++◌, flat_map, sum_by, Bool, true, false, ◌||◌, nat_lt}
-use Rattle.std.proofs.Common.{Ok, refl, ap, ◌∙◌, sym, arith}
+use Rattle.std.proofs.{Common.{Ok, refl, ap, ◌∙◌, sym, arith}, lemmas.List.Sums.sum_by-cons, lemmas.Bool.Decides.nat_tests}
 use Rattle.std.specs.List.{range_with_len, list_any}
-use Rattle.std.proofs.lemmas.List.Sums.{sum_by-cons}
-use Rattle.std.proofs.lemmas.Bool.Decides.{nat_tests}
-use Rattle.presentation.specs.declared.fault.PresentationFault.{PresentationFault}
-use Rattle.presentation.specs.Counting.{capped, unless_over}
+use Rattle.presentation.specs.{declared.fault.PresentationFault.PresentationFault, Counting.{capped, unless_over}}
 
 -- the places from one on, below a number
 abbrev pub from_on : (i n : ℕ) → List ℕ

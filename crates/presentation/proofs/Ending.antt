@@ -1,39 +1,25 @@
 -- What is told of an MPD fills the sections, and ends where it isn't followed.
 use Rattle.std.proofs.Common.{◌≡◌, ℕ, suc, ◌*◌, Bool, true, false, ◌&&◌, List, [], ◌∷◌, ◌++◌, map, flat_map, length, get_or, All, Option}
-use Rattle.std.proofs.Common.{Some, None, Result, Ok, Err, ℤ, refl, sym, ◌∙◌, ap, subst, arith}
+use Rattle.std.proofs.{Common.{Some, None, Result, Ok, Err, ℤ, refl, sym, ◌∙◌, ap, subst, arith}, lemmas.List.Elements.{All-map, All-nil}}
+use Rattle.std.proofs.lemmas.List.Elements.{All-cons}
 use Rattle.std.specs.Prelude.{if◌then◌else◌, is_some, IfSome}
-use Rattle.mpd_rules.specs.Typed.{TypedMpd}
-use Rattle.presentation.specs.Counting.{refusal, unless_any}
-use Rattle.presentation.proofs.Printing.{if_some}
-use Rattle.std.proofs.lemmas.List.Elements.{All-map, All-nil, All-cons}
+use Rattle.mpd_rules.specs.{Typed.{TypedMpd, period_with, track_with}, declared.rows.Description.Description}
+use Rattle.mpd_rules.specs.{declared.rows.PeriodRow.PeriodRow, declared.rows.TrackRow.TrackRow, Held.{Keyed, keyed}}
+use Rattle.presentation.specs.{Counting.{refusal, unless_any}, declared.fault.PresentationFault.PresentationFault}
+use Rattle.presentation.specs.{declared.parts.Content.Content, declared.shared.Shared.Shared, declared.told.PeriodContent.PeriodContent}
+use Rattle.presentation.specs.{Presented.IsEnded, Rows.{Row, Period, are_alike, in_order, is_alike, first_rows}, Scales.scale_of}
+use Rattle.presentation.specs.{Shared.{AreOf, AreOfAll, IsShared}, Told.{all_told, content_of, differ_told, differs_told, end_of}}
+use Rattle.presentation.specs.Told.{entries_of, gathered, one_told, over_told, period_told, presented_if_told, presented_of, needs_now}
+use Rattle.presentation.specs.Told.{segments_in, timeline_by, told_before, told_in_order, told_of, base_of, init_of, initialization_of}
+use Rattle.presentation.specs.Told.{media_of, runs_of}
+use Rattle.presentation.proofs.{Printing.if_some, Filling.{all_gathered, all_in_order, length_gathered, length_in_order, ok_under}}
 use Rattle.bridge_io.proofs.AndThen.{steps_of}
 use Rattle.bridge_io.specs.Answer.{and_then}
 use Rattle.url_parts.specs.declared.address.Part.{Part}
-use Rattle.timeline.specs.declared.entry.End.{End}
-use Rattle.timeline.specs.declared.names.Names.{Names}
-use Rattle.timeline.specs.Expansions.{SegmentTimeline, is_open}
-use Rattle.timeline.specs.OpenEnds.{TimelinesEnd, DurationsEnd}
-use Rattle.mpd_levels.specs.declared.addressing.SegmentRow.{SegmentRow}
-use Rattle.mpd_levels.specs.declared.tables.SView.{SView}
-use Rattle.mpd_levels.specs.declared.tables.Tables.{Tables}
+use Rattle.timeline.specs.{declared.entry.End.End, declared.names.Names.Names, Expansions.{SegmentTimeline, is_open}, OpenEnds.TimelinesEnd}
+use Rattle.timeline.specs.OpenEnds.{DurationsEnd}
+use Rattle.mpd_levels.specs.{declared.addressing.SegmentRow.SegmentRow, declared.tables.SView.SView, declared.tables.Tables.Tables}
 use Rattle.mpd_levels.specs.Segments.{Segments}
-use Rattle.mpd_rules.specs.declared.rows.Description.{Description}
-use Rattle.mpd_rules.specs.declared.rows.PeriodRow.{PeriodRow}
-use Rattle.mpd_rules.specs.declared.rows.TrackRow.{TrackRow}
-use Rattle.mpd_rules.specs.Held.{Keyed, keyed}
-use Rattle.mpd_rules.specs.Typed.{period_with, track_with}
-use Rattle.presentation.specs.declared.fault.PresentationFault.{PresentationFault}
-use Rattle.presentation.specs.declared.parts.Content.{Content}
-use Rattle.presentation.specs.declared.shared.Shared.{Shared}
-use Rattle.presentation.specs.declared.told.PeriodContent.{PeriodContent}
-use Rattle.presentation.specs.Presented.{IsEnded}
-use Rattle.presentation.specs.Rows.{Row, Period, are_alike, in_order, is_alike, first_rows}
-use Rattle.presentation.specs.Scales.{scale_of}
-use Rattle.presentation.specs.Shared.{AreOf, AreOfAll, IsShared}
-use Rattle.presentation.specs.Told.{all_told, content_of, differ_told, differs_told, end_of, entries_of, gathered, one_told, over_told}
-use Rattle.presentation.specs.Told.{period_told, presented_if_told, presented_of, needs_now, segments_in, timeline_by, told_before}
-use Rattle.presentation.specs.Told.{told_in_order, told_of, base_of, init_of, initialization_of, media_of, runs_of}
-use Rattle.presentation.proofs.Filling.{all_gathered, all_in_order, length_gathered, length_in_order, ok_under}
 
 -- ---- keys
 

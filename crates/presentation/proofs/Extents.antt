@@ -1,13 +1,10 @@
 -- How long the listed segments last.
 use Rattle.std.proofs.Common.{◌≡◌, ℕ, List, length, take, Some, Ok, IfSome, refl, sym, ◌∙◌, ap, subst, []}
 use Rattle.std.specs.Option.{option_map_or}
-use Rattle.timeline.specs.declared.window.Window.{Window}
-use Rattle.timeline.specs.Expansions.{Timing}
-use Rattle.timeline.specs.Listed.{IsReached, answered_count, listed, listed_from, expansion}
-use Rattle.presentation.specs.declared.parts.Content.{Content}
-use Rattle.presentation.specs.Presented.{Presented, window_of, content_at, listed_at, listed_in}
-use Rattle.presentation.specs.Counting.{count_at}
-use Rattle.presentation.specs.Printing.{IsCounted}
+use Rattle.timeline.specs.{declared.window.Window.Window, Expansions.Timing, Listed.{IsReached, answered_count, listed, listed_from}}
+use Rattle.timeline.specs.Listed.{expansion}
+use Rattle.presentation.specs.{declared.parts.Content.Content, Presented.{Presented, window_of, content_at, listed_at, listed_in}}
+use Rattle.presentation.specs.{Counting.count_at, Printing.IsCounted}
 use Rattle.presentation.proofs.Printing.{all_listed}
 
 module _ (p : Presented) (s t : ℕ) (content : Content) (is : content_at p s t ≡ Some content) where

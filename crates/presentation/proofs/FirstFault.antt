@@ -1,10 +1,8 @@
 -- The first fault of places in order.
 use Rattle.std.proofs.Common.{◌≡◌, ℕ, ◌+◌, ◌<◌, List, flat_map, Ok, Err, sym, ◌∙◌, ap}
 use Rattle.std.specs.List.{range_with_len}
-use Rattle.presentation.specs.declared.fault.PresentationFault.{PresentationFault}
-use Rattle.presentation.specs.Counting.{unless_any}
-use Rattle.presentation.proofs.Counts.{faults_here, from_on, from_on-end, from_on-start, no_fault_here}
-use Rattle.presentation.proofs.Firsts.{first_stays, none_before}
+use Rattle.presentation.specs.{declared.fault.PresentationFault.PresentationFault, Counting.unless_any}
+use Rattle.presentation.proofs.{Counts.{faults_here, from_on, from_on-end, from_on-start, no_fault_here}, Firsts.{first_stays, none_before}}
 
 module _ (faults : ℕ → List PresentationFault) (n : ℕ) where
   abbrev pub all_faults : List PresentationFault

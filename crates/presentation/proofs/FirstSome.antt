@@ -1,7 +1,6 @@
 -- The first that is there of what some places have, one place after another.
 use Rattle.std.proofs.Common.{◌≡◌, ℕ, ◌+◌, ◌<◌, map, Option, None, Some, sym, ◌∙◌, ap}
-use Rattle.std.specs.List.{range_with_len}
-use Rattle.std.specs.Option.{option_or}
+use Rattle.std.specs.{List.range_with_len, Option.option_or}
 use Rattle.bridge_io.specs.Firsts.{first_some}
 use Rattle.presentation.proofs.Counts.{from_on, from_on-end, from_on-first, from_on-start}
 

@@ -2,8 +2,7 @@
 use Rattle.std.proofs.Common.{◌≡◌, List, [], ◌∷◌, ◌++◌, Result, Ok, Err, IfSome, refl, ap}
 use Rattle.presentation.specs.declared.fault.PresentationFault.{PresentationFault}
 use Rattle.presentation.specs.declared.fault.PresentationFault.TheVariants.{PeriodsDiffer, Limit, NoSegments, Url, Template, Timeline}
-use Rattle.presentation.specs.declared.fault.PresentationFault.TheVariants.{NeedsNow, Memory}
-use Rattle.presentation.specs.Counting.{unless_any, refusal}
+use Rattle.presentation.specs.{declared.fault.PresentationFault.TheVariants.{NeedsNow, Memory}, Counting.{unless_any, refusal}}
 
 pub none_before : {X : Type 0} (faults : List PresentationFault) (x y : X) → unless_any faults x ≡ Ok y → faults ≡ []
 none_before [] x y is = refl

@@ -1,24 +1,16 @@
 -- What each presentation of an MPD has.
 use Rattle.std.proofs.Common.{◌≡◌, ℕ, ◌≤◌, ◌||◌, nat_lt, ℤ, Bool, true, false, List, [], ◌∷◌, length, Option, Ok, refl, sym, ap, subst}
-use Rattle.std.proofs.Common.{arith}
+use Rattle.std.proofs.{Common.arith, lemmas.Bool.Decides.nat_tests, lemmas.List.length-map}
 use Rattle.std.specs.Prelude.{if◌then◌else◌, is_some}
-use Rattle.std.proofs.lemmas.Bool.Decides.{nat_tests}
-use Rattle.std.proofs.lemmas.List.{length-map}
 use Rattle.bridge_io.proofs.AndThen.{steps_of}
 use Rattle.mpd_levels.specs.Segments.{Segments}
 use Rattle.mpd_rules.specs.Typed.{TypedMpd}
-use Rattle.presentation.specs.declared.fault.PresentationFault.{PresentationFault}
-use Rattle.presentation.specs.declared.told.PeriodContent.{PeriodContent}
-use Rattle.presentation.specs.Counting.{unless_any}
-use Rattle.presentation.specs.Presented.{Presented}
-use Rattle.presentation.specs.PresentedLaws.{PresentedAreFew, PresentedAreFollowed, SectionsArePeriods}
-use Rattle.presentation.specs.Rows.{Period, first_rows, in_order, section_of, track_of}
-use Rattle.presentation.specs.Told.{all_told, differ_told, is_over, needs_now, over_told, presented_if_told, presented_of, presented_with}
+use Rattle.presentation.specs.{declared.fault.PresentationFault.PresentationFault, declared.told.PeriodContent.PeriodContent}
+use Rattle.presentation.specs.{Counting.unless_any, Presented.Presented, PresentedLaws.{PresentedAreFew, PresentedAreFollowed}}
+use Rattle.presentation.specs.{PresentedLaws.SectionsArePeriods, Rows.{Period, first_rows, in_order, section_of, track_of}, Told.all_told}
+use Rattle.presentation.specs.Told.{differ_told, is_over, needs_now, over_told, presented_if_told, presented_of, presented_with}
 use Rattle.presentation.specs.Told.{told_before}
-use Rattle.presentation.proofs.Ending.{none_behind}
-use Rattle.presentation.proofs.Filling.{length_in_order}
-use Rattle.presentation.proofs.Firsts.{none_before}
-use Rattle.presentation.proofs.Reached.{none_first}
+use Rattle.presentation.proofs.{Ending.none_behind, Filling.length_in_order, Firsts.none_before, Reached.none_first}
 
 -- what was told of the Representations, where nothing was refused before
 pub record IsTold (mpd : TypedMpd (Option Segments)) (url : List ℕ) (now : Option ℤ) (p : Presented) : Type 0 where

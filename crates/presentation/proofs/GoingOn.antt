@@ -1,26 +1,16 @@
 -- The segments that are listed behind a time.
 use Rattle.std.proofs.Common.{◌≡◌, ℕ, ◌*◌, ℤ, pos, negsuc, ◌≤ℤ◌, arith, true, false, not, List, [], ◌∷◌, ◌++◌, take, drop, map, All, refl}
-use Rattle.std.proofs.Common.{sym, ◌∙◌, ap, inl, inr}
-use Rattle.std.specs.Prelude.{IfSome, Option, None, Some, unsigned_abs}
-use Rattle.std.proofs.lemmas.Int.{ints}
-use Rattle.std.proofs.lemmas.Bool.{cases_Bool}
-use Rattle.std.proofs.lemmas.List.{take-append-drop}
+use Rattle.std.proofs.{Common.{sym, ◌∙◌, ap, inl, inr}, lemmas.Int.ints, lemmas.Bool.cases_Bool, lemmas.List.take-append-drop}
 use Rattle.std.proofs.lemmas.List.Elements.{All-filter, All-head, All-rest, filter-append, filter_passes}
-use Rattle.exact_time.specs.Time.{Time, IsAtMost, IsTime, at_most, before, difference, seconds}
-use Rattle.exact_time.specs.Tick.{time_of}
-use Rattle.exact_time.specs.Floor.{floor_in}
+use Rattle.std.specs.Prelude.{IfSome, Option, None, Some, unsigned_abs}
+use Rattle.exact_time.specs.{Time.{Time, IsAtMost, IsTime, at_most, before, difference, seconds}, Tick.time_of, Floor.floor_in}
 use Rattle.exact_time.specs.Rounding.{Rounding, differences, rounding_behind, rounding_from}
-use Rattle.exact_time.proofs.Floors.{floor_in-difference_self}
-use Rattle.exact_time.proofs.TimeOrder.{before-false, before-is, before-true, IsAtMost-from_before, IsAtMost-trans}
-use Rattle.exact_time.proofs.Times.{IsTime-difference, le_units-add}
-use Rattle.timeline.specs.declared.window.Window.{Window}
-use Rattle.timeline.specs.Expansions.{Timing}
-use Rattle.timeline.specs.Listed.{IsPlaceAfter, is_listed, listed}
-use Rattle.timeline.specs.Steady.{ArePaced, IsWithinLimits}
-use Rattle.timeline.specs.Faults.{is_apart}
-use Rattle.presentation.specs.declared.segments.Behind.{Behind}
-use Rattle.presentation.specs.Kept.{ArePacedBehind, printed_left, rounding_at}
-use Rattle.presentation.specs.Printing.{FollowsNear, GoesOn, begin_of, extent_of, later_than, listed_behind, printed_behind, with_durations}
+use Rattle.exact_time.proofs.{Floors.floor_in-difference_self, TimeOrder.{before-false, before-is, before-true, IsAtMost-from_before}}
+use Rattle.exact_time.proofs.{TimeOrder.IsAtMost-trans, Times.{IsTime-difference, le_units-add}}
+use Rattle.timeline.specs.{declared.window.Window.Window, Expansions.Timing, Listed.{IsPlaceAfter, is_listed, listed}, Steady.ArePaced}
+use Rattle.timeline.specs.{Steady.IsWithinLimits, Faults.is_apart}
+use Rattle.presentation.specs.{declared.segments.Behind.Behind, Kept.{ArePacedBehind, printed_left, rounding_at}, Printing.FollowsNear}
+use Rattle.presentation.specs.Printing.{GoesOn, begin_of, extent_of, later_than, listed_behind, printed_behind, with_durations}
 use Rattle.presentation.proofs.Printing.{floors_of}
 
 abs-le : (z : ℤ) → z ≤ℤ pos (2 * unsigned_abs z)

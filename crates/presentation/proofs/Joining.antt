@@ -1,7 +1,6 @@
 -- Codes that are joined.
 use Rattle.std.proofs.Common.{◌≡◌, ℕ, Bool, true, false, List, [], ◌∷◌, ◌++◌, map, flat_map, if◌then◌else◌, refl, ap, ◌∙◌, sym}
-use Rattle.std.proofs.Common.{append_assoc}
-use Rattle.std.proofs.lemmas.List.{append-nil, map-append}
+use Rattle.std.proofs.{Common.append_assoc, lemmas.List.{append-nil, map-append}}
 use Rattle.presentation.specs.Rows.{with_commas}
 
 abbrev pub is_nil : {X : Type 0} → List X → Bool

@@ -1,22 +1,15 @@
 -- The segments of presentations can be gone over, whichever manifest they come from.
 use Rattle.std.proofs.Common.{◌≡◌, ℕ, ◌+◌, ◌*◌, List, [], length, All, Option, None, Some, Ok, IfSome, option_map, refl, sym, ap, subst}
-use Rattle.std.specs.Option.{option_map_or}
-use Rattle.std.specs.Prelude.{is_some}
 use Rattle.std.proofs.lemmas.List.Elements.{All-weaker}
+use Rattle.std.specs.{Option.option_map_or, Prelude.is_some}
 use Rattle.bridge_io.proofs.AndThen.{steps_of}
 use Rattle.timeline.specs.OpenEnds.{DurationsEnd, TimelinesEnd}
-use Rattle.presentation.specs.declared.parts.Content.{Content}
-use Rattle.presentation.specs.Laws.{HasAddress}
-use Rattle.presentation.specs.Origins.{IsAddressed}
-use Rattle.presentation.specs.Presented.{IsEnded, Presented, content_at, listed_at, listed_in, window_of}
-use Rattle.presentation.specs.Counting.{unless_any}
-use Rattle.presentation.specs.Told.{all_told, presented_if_told, presented_of, presented_with, told_before}
-use Rattle.presentation.specs.Verifying.{url_faults}
-use Rattle.presentation.proofs.Addressed.{all_addressed}
-use Rattle.presentation.proofs.Allowed.{none_unaddressed}
-use Rattle.presentation.proofs.Ending.{all_ended}
+use Rattle.presentation.specs.{declared.parts.Content.Content, Laws.HasAddress, Origins.IsAddressed, Presented.{IsEnded, Presented}}
+use Rattle.presentation.specs.{Presented.{content_at, listed_at, listed_in, window_of}, Counting.unless_any, Told.all_told}
+use Rattle.presentation.specs.{Told.{presented_if_told, presented_of, presented_with, told_before}, Verifying.url_faults}
 use Rattle.presentation.specs.Listable.{PlaylistsAreListable, VerifiedAreListable}
-use Rattle.presentation.proofs.OwnListed.{addressed_at, have_addresses}
+use Rattle.presentation.proofs.{Addressed.all_addressed, Allowed.none_unaddressed, Ending.all_ended, OwnListed.addressed_at}
+use Rattle.presentation.proofs.OwnListed.{have_addresses}
 
 own_addressed : (p : Presented) (s t : ℕ) (o : Option Content) → content_at p s t ≡ o
     → All (λ (content : Content). IsAddressed content.runs) p.contents

@@ -1,41 +1,28 @@
 -- What is made of names and of an MPD's values is what they mean.
+use Rattle.template_ids.specs.Templates as templates
+use Rattle.timeline.specs.declared.names.Names.TheVariants as names
+use Rattle.timeline.specs.Names as told_names
+use Rattle.presentation.specs.Told as told
 use Rattle.std.proofs.Common.{◌≡◌, ℕ, Bool, true, false, List, [], ◌∷◌, slice_get, Option, None, Some, Result, Ok, Err, unwrap_or, refl}
 use Rattle.std.proofs.Common.{sym, ◌∙◌, ap}
-use Rattle.std.specs.Prelude.{if◌then◌else◌, length, nat_lt, not}
-use Rattle.std.specs.List.{list_all}
-use Rattle.url_parts.specs.declared.fault.UrlFault.TheVariants.{Refused, Scheme, TooLong}
-use Rattle.url.specs.Parser.{Parsed, parse_url}
-use Rattle.url.specs.Parts.{Parts}
+use Rattle.std.specs.{Prelude.{if◌then◌else◌, length, nat_lt, not}, List.list_all}
+use Rattle.url_parts.specs.{declared.fault.UrlFault.TheVariants.{Refused, Scheme, TooLong}, Addresses.{absolute, accepted, accepted_url}}
+use Rattle.url_parts.specs.Addresses.{chain, is_absolute, is_address_byte, is_web, resolve, resolve_more, text_of, url_of}
+use Rattle.url_parts.specs.{declared.address.Part.Part, declared.fault.UrlFault.UrlFault, declared.range.Range.Range}
+use Rattle.url.specs.{Parser.{Parsed, parse_url}, Parts.Parts}
 use Rattle.bridge_io.proofs.AndThen.{steps_of}
 use Rattle.bridge_io.specs.Answer.{and_then}
-use Rattle.template_ids.specs.declared.fault.TemplateFault.{TemplateFault}
-use Rattle.template_ids.specs.Templates.{template_of, template_fault, named, uses_number, uses_time}
-use Rattle.template_ids.specs.Templates as templates
-use Rattle.url_parts.specs.Addresses.{absolute, accepted, accepted_url, chain, is_absolute, is_address_byte, is_web, resolve, resolve_more}
-use Rattle.url_parts.specs.Addresses.{text_of, url_of}
-use Rattle.url_parts.specs.declared.address.Part.{Part}
-use Rattle.url_parts.specs.declared.fault.UrlFault.{UrlFault}
-use Rattle.url_parts.specs.declared.range.Range.{Range}
-use Rattle.timeline.specs.declared.entry.End.{End}
-use Rattle.timeline.specs.declared.fault.TimeFault.{TimeFault}
-use Rattle.timeline.specs.declared.names.Names.{Names}
-use Rattle.timeline.specs.declared.names.Names.TheVariants as names
-use Rattle.timeline.specs.declared.names.RefPart.{RefPart}
-use Rattle.timeline.specs.Expansions.{SegmentTimeline}
-use Rattle.timeline.specs.Names.{part_at, part_of, referred}
-use Rattle.timeline.specs.Names as told_names
+use Rattle.template_ids.specs.{declared.fault.TemplateFault.TemplateFault, Templates.{template_of, template_fault, named, uses_number}}
+use Rattle.template_ids.specs.Templates.{uses_time}
+use Rattle.timeline.specs.{declared.entry.End.End, declared.fault.TimeFault.TimeFault, declared.names.Names.Names}
+use Rattle.timeline.specs.{declared.names.RefPart.RefPart, Expansions.SegmentTimeline, Names.{part_at, part_of, referred}}
 use Rattle.timeline.specs.SegmentTimelines.{unless_fault}
-use Rattle.mpd_levels.specs.declared.tables.SView.{SView}
-use Rattle.mpd_levels.specs.Segments.{Segments}
+use Rattle.mpd_levels.specs.{declared.tables.SView.SView, Segments.Segments}
 use Rattle.mpd_rules.specs.declared.rows.Description.{Description}
-use Rattle.presentation.specs.declared.fault.PresentationFault.{PresentationFault}
-use Rattle.presentation.specs.declared.parts.Content.{Content}
-use Rattle.presentation.specs.Told.{base_of, content_of, init_of, init_reference, init_template_of, initialization_of, media_of, names_of}
-use Rattle.presentation.specs.Told.{part_with, runs_of, some_init, unless_segments}
-use Rattle.presentation.specs.Told as told
-use Rattle.presentation.specs.Meanings.{address_by, address_of, content_meant, deepest, listed_part, own_part, part_by, part_meant}
-use Rattle.presentation.specs.Meanings.{timeline_by, written}
-use Rattle.presentation.specs.MeaningLaws.{MadeAreMeant}
+use Rattle.presentation.specs.{declared.fault.PresentationFault.PresentationFault, declared.parts.Content.Content, Told.base_of}
+use Rattle.presentation.specs.Told.{content_of, init_of, init_reference, init_template_of, initialization_of, media_of, names_of, part_with}
+use Rattle.presentation.specs.{Told.{runs_of, some_init, unless_segments}, Meanings.{address_by, address_of, content_meant, deepest}}
+use Rattle.presentation.specs.{Meanings.{listed_part, own_part, part_by, part_meant, timeline_by, written}, MeaningLaws.MadeAreMeant}
 use Rattle.presentation.proofs.Filling.{ok_under}
 
 -- ---- addresses

@@ -1,15 +1,9 @@
 -- The listed segments of a verified presentation are made as they are meant.
 use Rattle.std.proofs.Common.{◌≡◌, List, All, Option, None, Some, Ok, IfSome, ◌∙◌, ap}
-use Rattle.timeline.specs.Expansions.{SegmentTimeline, Timing}
-use Rattle.timeline.specs.Listed.{part_of_timing}
-use Rattle.presentation.specs.declared.parts.Content.{Content}
-use Rattle.presentation.specs.Presented.{content_at, listed_at}
-use Rattle.presentation.specs.Laws.{HasAddress}
-use Rattle.presentation.specs.Meanings.{part_meant}
+use Rattle.timeline.specs.{Expansions.{SegmentTimeline, Timing}, Listed.part_of_timing}
+use Rattle.presentation.specs.{declared.parts.Content.Content, Presented.{content_at, listed_at}, Laws.HasAddress, Meanings.part_meant}
 use Rattle.presentation.specs.MeaningLaws.{VerifiedAreMeant}
-use Rattle.presentation.proofs.Addressed.{all_addressed}
-use Rattle.presentation.proofs.Allowed.{none_unaddressed}
-use Rattle.presentation.proofs.Meant.{made_are_meant}
+use Rattle.presentation.proofs.{Addressed.all_addressed, Allowed.none_unaddressed, Meant.made_are_meant}
 
 abbrev IsMeant : SegmentTimeline → Timing → Type 0
 IsMeant timeline x = part_of_timing timeline x ≡ Ok (part_meant timeline x)

@@ -1,17 +1,10 @@
 -- Segments that are equally long, passed at once.
 use Rattle.std.proofs.Common.{◌≡◌, ℕ, zero, suc, ◌+◌, ◌-◌, ◌*◌, List, [], ◌∷◌, ◌++◌, map, pos, ◌+ℤ◌, refl, ◌∙◌, ap, subst, arith}
-use Rattle.std.proofs.lemmas.Int.{ints}
-use Rattle.std.proofs.lemmas.List.{map-append}
-use Rattle.exact_time.specs.Time.{Time, difference}
-use Rattle.exact_time.specs.Tick.{time_of}
-use Rattle.exact_time.specs.Floor.{floor_in}
-use Rattle.exact_time.specs.Equal.{ends_after, equal_durations, ticks_after}
+use Rattle.std.proofs.{lemmas.Int.ints, lemmas.List.map-append}
+use Rattle.exact_time.specs.{Time.{Time, difference}, Tick.time_of, Floor.floor_in, Equal.{ends_after, equal_durations, ticks_after}}
 use Rattle.exact_time.specs.Rounding.{AreNear, IsRising, Rounding, differences, total}
-use Rattle.timeline.specs.Expansions.{Timing}
-use Rattle.timeline.specs.SpanRuns.{IsNextRun, timings_of}
-use Rattle.timeline.specs.declared.span.SpanRun.{SpanRun}
-use Rattle.presentation.specs.Kept.{ArePacedBehind, durations_behind, printed_left}
-use Rattle.presentation.specs.Printing.{ends_of, with_durations}
+use Rattle.timeline.specs.{Expansions.Timing, SpanRuns.{IsNextRun, timings_of}, declared.span.SpanRun.SpanRun}
+use Rattle.presentation.specs.{Kept.{ArePacedBehind, durations_behind, printed_left}, Printing.{ends_of, with_durations}}
 use Rattle.presentation.specs.Verifying.{last_end}
 use Rattle.presentation.proofs.Printing.{floors_of}
 

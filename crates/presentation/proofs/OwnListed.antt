@@ -1,19 +1,12 @@
 -- What a presentation from playlists lists: each segment is counted, and has an address of its own.
 use Rattle.std.proofs.Common.{◌≡◌, ℕ, zero, suc, ◌+◌, ◌-◌, ◌<◌, ◌≤◌, false, List, [], ◌∷◌, length, get_or, All, Option, Some, option_map}
-use Rattle.std.proofs.Common.{refl, ap, ◌∙◌, arith}
-use Rattle.std.specs.Prelude.{slice_get}
-use Rattle.std.specs.List.{list_any}
-use Rattle.std.specs.Result.{result_unwrap_or}
-use Rattle.std.proofs.lemmas.List.Elements.{All-cons, All-filter, All-head, All-nil, All-tail}
+use Rattle.std.proofs.{Common.{refl, ap, ◌∙◌, arith}, lemmas.List.Elements.{All-cons, All-filter, All-head, All-nil, All-tail}}
+use Rattle.std.specs.{Prelude.slice_get, List.list_any, Result.result_unwrap_or}
 use Rattle.exact_time.specs.Time.{Time}
-use Rattle.timeline.specs.declared.window.Window.{Window}
-use Rattle.timeline.specs.Expansions.{Closed, Endless, Extent, Member, SegmentTimeline, Short, Timing, extents, is_open, numbered}
-use Rattle.timeline.specs.Listed.{IsReached, IsWindowOf, answered_count, instant_of, is_listed, media_time, reaches_fault}
-use Rattle.timeline.specs.Names.{own_part, part_of}
-use Rattle.presentation.specs.declared.parts.Content.{Content}
-use Rattle.presentation.specs.Laws.{HasAddress}
-use Rattle.presentation.specs.Origins.{IsAddressed}
-use Rattle.presentation.specs.Presented.{listed_in}
+use Rattle.timeline.specs.{declared.window.Window.Window, Expansions.{Closed, Endless, Extent, Member, SegmentTimeline, Short, Timing}}
+use Rattle.timeline.specs.{Expansions.{extents, is_open, numbered}, Listed.{IsReached, IsWindowOf, answered_count, instant_of, is_listed}}
+use Rattle.timeline.specs.{Listed.{media_time, reaches_fault}, Names.{own_part, part_of}}
+use Rattle.presentation.specs.{declared.parts.Content.Content, Laws.HasAddress, Origins.IsAddressed, Presented.listed_in}
 
 pub some_at : {X : Type 0} (xs : List X) (place : ℕ) → place < length xs → (x : X) × (slice_get xs place ≡ Some x)
 some_at [] place within = absurd (omega (arith, within))

@@ -1,49 +1,28 @@
 -- The listed segments of an MPD's presentation begin at a time, from which on the ends don't fall and lie near one another.
 use Rattle.std.proofs.Common.{◌≡◌, ℕ, zero, suc, ◌+◌, ◌*◌, ◌<◌, ◌==◌, ◌&&◌, Bool, true, false, not, List, [], ◌∷◌, drop, length, All}
 use Rattle.std.proofs.Common.{Option, None, Some, IfSome, unwrap_or, ℤ, Ok, refl, sym, ◌∙◌, ap, subst, inl, inr, arith}
-use Rattle.std.specs.Option.{option_map_or}
-use Rattle.std.specs.List.{AllByRecursion, list_any}
-use Rattle.std.proofs.lemmas.Bool.{cases_Bool}
-use Rattle.std.proofs.lemmas.Bool.Decides.{nat_tests}
-use Rattle.std.proofs.lemmas.List.{take_all}
-use Rattle.exact_time.specs.Time.{Time, IsAtMost, IsTime, before, nanoseconds, seconds}
-use Rattle.exact_time.specs.Rounding.{AreNear, IsRising}
+use Rattle.std.proofs.{lemmas.Bool.cases_Bool, lemmas.Bool.Decides.nat_tests, lemmas.List.take_all}
+use Rattle.std.specs.{Option.option_map_or, List.{AllByRecursion, list_any}}
+use Rattle.exact_time.specs.{Time.{Time, IsAtMost, IsTime, before, nanoseconds, seconds}, Rounding.{AreNear, IsRising}}
 use Rattle.exact_time.proofs.TimeOrder.{at_most-false, before-from, before-true, before_then_at_most, not_at_most-from}
-use Rattle.mpd_levels.specs.declared.tables.SView.{SView}
-use Rattle.mpd_levels.specs.Segments.{Segments}
+use Rattle.mpd_levels.specs.{declared.tables.SView.SView, Segments.Segments}
 use Rattle.mpd_rules.specs.Typed.{TypedMpd}
-use Rattle.timeline.specs.declared.entry.End.{End}
-use Rattle.timeline.specs.declared.entry.Scale.{Scale}
-use Rattle.timeline.specs.declared.entry.SEntry.{SEntry}
+use Rattle.timeline.specs.{declared.entry.End.End, declared.entry.Scale.Scale, declared.entry.SEntry.SEntry}
 use Rattle.timeline.specs.declared.fault.TimeFault.TheVariants.{ListLength, NoEnd, Range, TimeWithoutTimeline, ZeroDuration}
-use Rattle.timeline.specs.declared.names.Names.{Names}
-use Rattle.timeline.specs.declared.window.Window.{Window}
-use Rattle.timeline.specs.Expansions.{Closed, Endless, Extent, Member, SegmentTimeline, Short, Timing, ended_by, extents, numbered}
-use Rattle.timeline.specs.Expansions.{repeat_of, repeated}
+use Rattle.timeline.specs.{declared.names.Names.Names, declared.window.Window.Window, Expansions.{Closed, Endless, Extent, Member}}
+use Rattle.timeline.specs.Expansions.{SegmentTimeline, Short, Timing, ended_by, extents, numbered, repeat_of, repeated}
 use Rattle.timeline.specs.Faults.{duration_fault, ends_open, extents_break, fault_if, is_unbounded, lacks_end, members_by, segment_fault}
-use Rattle.timeline.specs.Faults.{timeline_fault}
-use Rattle.timeline.specs.Limits.{breaks_limits, too_long}
-use Rattle.timeline.specs.Listed.{IsReached, expansion, instant_of, is_after, is_listed, is_until, listed}
-use Rattle.timeline.specs.Names.{asks_for_time, count_of}
-use Rattle.timeline.specs.SegmentTimelines.{timeline_from, timeline_of_duration, timeline_of_entries}
-use Rattle.timeline.specs.Steady.{AreLasting, ArePaced, IsSteady, Lasts, LastsTicks}
-use Rattle.timeline.specs.Timelines.{expansion_of_timeline}
-use Rattle.timeline.proofs.ExpansionsRise.{durations_row, entries_last, row_lasting, row_steady}
-use Rattle.timeline.proofs.Judged.{not_long}
-use Rattle.timeline.proofs.KeptLemmas.{all_append}
-use Rattle.timeline.proofs.NumberedLemmas.{drop-numbered}
-use Rattle.timeline.proofs.OpenEnds.{no_fault, no_faults, unless}
-use Rattle.timeline.proofs.Paced.{listed_paced}
+use Rattle.timeline.specs.{Faults.timeline_fault, Limits.{breaks_limits, too_long}, Listed.{IsReached, expansion, instant_of, is_after}}
+use Rattle.timeline.specs.{Listed.{is_listed, is_until, listed}, Names.{asks_for_time, count_of}, SegmentTimelines.timeline_from}
+use Rattle.timeline.specs.{SegmentTimelines.{timeline_of_duration, timeline_of_entries}, Steady.{AreLasting, ArePaced, IsSteady, Lasts}}
+use Rattle.timeline.specs.{Steady.LastsTicks, Timelines.expansion_of_timeline}
+use Rattle.timeline.proofs.{ExpansionsRise.{durations_row, entries_last, row_lasting, row_steady}, Judged.not_long, KeptLemmas.all_append}
+use Rattle.timeline.proofs.{NumberedLemmas.drop-numbered, OpenEnds.{no_fault, no_faults, unless}, Paced.listed_paced}
 use Rattle.timeline.proofs.Rises.{LastsTicks-repeat, Lasts-from_ticks, steady_from}
-use Rattle.presentation.specs.declared.parts.Content.{Content}
-use Rattle.presentation.specs.Presented.{Presented, content_at, listed_at, listed_in, looked_at, window_of}
-use Rattle.presentation.specs.Printing.{IsCounted, ends_of}
-use Rattle.presentation.specs.PresentedLaws.{AreAlwaysInPace, IsInPace, PresentedAreInPace}
-use Rattle.presentation.specs.Scales.{scale_of}
-use Rattle.presentation.specs.Told.{entries_of, presented_of, timeline_by}
-use Rattle.presentation.proofs.Ending.{all_have}
-use Rattle.presentation.proofs.FromMpd.{is_told}
-use Rattle.presentation.proofs.Grids.{All-at}
+use Rattle.presentation.specs.{declared.parts.Content.Content, Presented.{Presented, content_at, listed_at, listed_in, looked_at}}
+use Rattle.presentation.specs.{Presented.window_of, Printing.{IsCounted, ends_of}, PresentedLaws.{AreAlwaysInPace, IsInPace}}
+use Rattle.presentation.specs.{PresentedLaws.PresentedAreInPace, Scales.scale_of, Told.{entries_of, presented_of, timeline_by}}
+use Rattle.presentation.proofs.{Ending.all_have, FromMpd.is_told, Grids.All-at}
 
 -- ---- what is listed of segments in pace
 

@@ -1,23 +1,14 @@
 -- Segments that are made one by one, with their printed durations.
 use Rattle.std.proofs.Common.{◌≡◌, ℕ, ◌+◌, ◌-◌, List, [], ◌∷◌, slice_get, map, Option, None, Some, IsSome, IfSome, refl, sym, ◌∙◌, ap}
-use Rattle.std.proofs.Common.{subst, take, drop, ◌++◌, arith}
-use Rattle.std.proofs.lemmas.List.{take-append-drop}
-use Rattle.std.proofs.lemmas.List.Elements.{filter-append}
-use Rattle.timeline.specs.declared.window.Window.{Window}
-use Rattle.exact_time.specs.Time.{Time, difference}
-use Rattle.exact_time.specs.Floor.{floor_in}
-use Rattle.exact_time.specs.Rounding.{Rounding, total, differences}
-use Rattle.timeline.specs.declared.fault.ListFault.{ListFault}
-use Rattle.timeline.specs.Names.{list_refusal}
-use Rattle.exact_time.specs.Rounding.{rounding_from}
+use Rattle.std.proofs.{Common.{subst, take, drop, ◌++◌, arith}, lemmas.List.take-append-drop, lemmas.List.Elements.filter-append}
+use Rattle.timeline.specs.{declared.window.Window.Window, declared.fault.ListFault.ListFault, Names.list_refusal}
+use Rattle.timeline.specs.{Expansions.{SegmentTimeline, Timing}, Listed.{listed, is_listed, Rest, Made, IsDone, IsMade}}
+use Rattle.timeline.specs.Listed.{IsHeld as IsHeldBefore, IsPassed as IsPassedBefore}
+use Rattle.exact_time.specs.{Time.{Time, difference}, Floor.floor_in, Rounding.{Rounding, total, differences, rounding_from}}
 use Rattle.exact_time.proofs.Floors.{floor_in-difference_self}
-use Rattle.timeline.specs.Expansions.{SegmentTimeline, Timing}
-use Rattle.timeline.specs.Listed.{listed, is_listed, Rest, Made, IsDone, IsMade, IsHeld as IsHeldBefore, IsPassed as IsPassedBefore}
-use Rattle.presentation.specs.declared.parts.Content.{Content}
-use Rattle.presentation.specs.Presented.{Presented, content_at, window_of, listed_in}
+use Rattle.presentation.specs.{declared.parts.Content.Content, Presented.{Presented, content_at, window_of, listed_in}}
 use Rattle.presentation.specs.Printing.{PrintedRest, IsPrintedOf, with_durations, ends_of, begin_of, rest_of, IsAtEnd, IsNext, IsHeld}
-use Rattle.presentation.specs.Printing.{IsPassed}
-use Rattle.presentation.specs.Kept.{durations_behind, printed_rest, IsPaced}
+use Rattle.presentation.specs.{Printing.IsPassed, Kept.{durations_behind, printed_rest, IsPaced}}
 
 pub at_end : (old new : Rest) (r : Rounding) → IsDone old new → IsAtEnd (printed_rest old r) (printed_rest new r)
 at_end old new r done = record { none = rw done.none refl; same = ap (λ rest. printed_rest rest r) done.same }

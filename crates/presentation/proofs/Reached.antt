@@ -1,13 +1,10 @@
 -- A presentation whose segments are counted reaches each window.
 use Rattle.std.proofs.Common.{◌≡◌, ℕ, suc, zero, ◌+◌, ◌<◌, Bool, true, false, List, [], ◌∷◌, ◌++◌, length, flat_map, Option, None, Some, Ok}
 use Rattle.std.proofs.Common.{Err, IfSome, if◌then◌else◌, refl, subst, arith}
-use Rattle.std.specs.List.{range_with_len}
-use Rattle.std.specs.Option.{option_map_or}
+use Rattle.std.specs.{List.range_with_len, Option.option_map_or}
 use Rattle.bridge_io.specs.declared.place.Place.{Place}
-use Rattle.timeline.specs.declared.fault.TimeFault.TheVariants.{Range}
-use Rattle.timeline.specs.Listed.{IsReached, answered_count}
-use Rattle.presentation.specs.declared.parts.Content.{Content}
-use Rattle.presentation.specs.Presented.{Presented, is_finished, content_at, window_of}
+use Rattle.timeline.specs.{declared.fault.TimeFault.TheVariants.Range, Listed.{IsReached, answered_count}}
+use Rattle.presentation.specs.{declared.parts.Content.Content, Presented.{Presented, is_finished, content_at, window_of}}
 use Rattle.presentation.specs.Counting.{faults_of_count, section_faults, track_faults, count_faults, limit_faults, range_at, range_by}
 use Rattle.presentation.specs.Counting.{range_faults, range_faults_of, whole_track_faults, is_over, sections_of, tracks_of, place_at}
 use Rattle.presentation.specs.Verifying.{IsTrackCounted}

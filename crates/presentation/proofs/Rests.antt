@@ -1,8 +1,7 @@
 -- What a loop has before it.
 use Rattle.std.proofs.Common.{◌≡◌, ℕ, ◌+◌, ◌<◌, List, [], ◌∷◌, ◌++◌, map, length, drop, sym, ◌∙◌, ap, append_assoc}
+use Rattle.std.proofs.{lemmas.List.at_drop_more, lemmas.Option.unwrap_or-slice_get}
 use Rattle.std.specs.Prelude.{slice_get, unwrap_or}
-use Rattle.std.proofs.lemmas.List.{at_drop_more}
-use Rattle.std.proofs.lemmas.Option.{unwrap_or-slice_get}
 
 -- one more is shown, by its key
 pub one_kept : {X Y : Type 0} (show : X → Y) (xs : List X) (k : ℕ) (d : X) (x : Y) (old new : List Y) (all : List Y) → k < length xs

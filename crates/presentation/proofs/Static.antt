@@ -1,8 +1,7 @@
 -- What came from a static MPD is finished.
 use Rattle.std.proofs.Common.{◌≡◌, Bool, true, false, Some, None, refl, sym, ◌∙◌, ap}
 use Rattle.std.specs.Prelude.{if◌then◌else◌, is_none}
-use Rattle.presentation.specs.Origins.{StaticAreFinished}
-use Rattle.presentation.specs.Presented.{Following, is_finished}
+use Rattle.presentation.specs.{Origins.StaticAreFinished, Presented.{Following, is_finished}}
 use Rattle.presentation.proofs.FromMpd.{is_told}
 
 not_followed : (live : Bool) (f : Following) → live ≡ false → is_none (if live then Some f else None) ≡ true

@@ -1,34 +1,23 @@
 -- The presentation of an MPD means what the MPD means.
 use Rattle.std.proofs.Common.{◌≡◌, ℕ, ◌+◌, ◌*◌, ◌<◌, ℤ, Bool, List, [], ◌∷◌, ◌++◌, flat_map, length, map, slice_get, get_or, All, Option}
-use Rattle.std.proofs.Common.{Some, option_map, Result, Ok, refl, sym, ◌∙◌, ap, subst, zero-add}
-use Rattle.std.specs.Prelude.{is_some, option_and_then}
-use Rattle.std.specs.Option.{option_map_or}
-use Rattle.std.specs.Result.{result_ok}
-use Rattle.std.proofs.lemmas.List.{length-map}
-use Rattle.std.proofs.lemmas.List.Concat.{flat_map_single, flat_map-cons}
-use Rattle.std.proofs.lemmas.List.FromFn.{length-map-range_with_len}
+use Rattle.std.proofs.{Common.{Some, option_map, Result, Ok, refl, sym, ◌∙◌, ap, subst, zero-add}, lemmas.List.length-map}
+use Rattle.std.proofs.{lemmas.List.Concat.{flat_map_single, flat_map-cons}, lemmas.List.FromFn.length-map-range_with_len}
 use Rattle.std.proofs.lemmas.Option.{slice_get-map}
+use Rattle.std.specs.{Prelude.{is_some, option_and_then}, Option.option_map_or, Result.result_ok}
 use Rattle.bridge_io.proofs.AndThen.{steps_of}
 use Rattle.meaning.specs.Meanings.{Entry}
 use Rattle.timeline.specs.declared.entry.End.{End}
 use Rattle.mpd_levels.specs.Segments.{Segments}
 use Rattle.mpd_profile.specs.declared.fault.RuleFault.{RuleFault}
-use Rattle.mpd_rules.specs.Rules.{all_refusals, dash_values, typed_mpd_of, unless_refused}
-use Rattle.mpd_rules.specs.Typed.{TypedMpd}
-use Rattle.presentation.specs.declared.told.PeriodContent.{PeriodContent}
-use Rattle.presentation.specs.Presented.{Presented, content_at, start_of, window_at, window_of, whole_window}
-use Rattle.presentation.specs.Rows.{Row, Period, first_rows, in_order, section_of, track_of}
-use Rattle.presentation.specs.Told.{all_told, content_of, differ_told, end_of, following_of, gathered, needs_now, one_told, over_told}
-use Rattle.presentation.specs.Told.{period_told, presented_with, segments_in, told_in_order, told_of}
-use Rattle.presentation.specs.Meanings.{content_of_row, entry_at, entry_of, head_of, head_of_row, meaning_of, meaning_with, dash_meaning}
-use Rattle.presentation.specs.Meanings.{mpd_meaning, row_at, row_meant, rows_of, window_in}
-use Rattle.presentation.specs.MeaningLaws.{PresentedAreMeant, TextsAreMeant}
-use Rattle.presentation.proofs.Allowed.{each_at}
-use Rattle.presentation.proofs.Ending.{all_as_long, none_behind}
-use Rattle.presentation.proofs.Filling.{length_in_order}
-use Rattle.presentation.proofs.FromMpd.{is_told}
-use Rattle.presentation.proofs.Grids.{All-at, by_kind_made, found, in_row, same_members}
-use Rattle.presentation.proofs.Meant.{content_is}
+use Rattle.mpd_rules.specs.{Rules.{all_refusals, dash_values, typed_mpd_of, unless_refused}, Typed.TypedMpd}
+use Rattle.presentation.specs.{declared.told.PeriodContent.PeriodContent, Presented.{Presented, content_at, start_of, window_at, window_of}}
+use Rattle.presentation.specs.{Presented.whole_window, Rows.{Row, Period, first_rows, in_order, section_of, track_of}, Told.all_told}
+use Rattle.presentation.specs.Told.{content_of, differ_told, end_of, following_of, gathered, needs_now, one_told, over_told, period_told}
+use Rattle.presentation.specs.{Told.{presented_with, segments_in, told_in_order, told_of}, Meanings.{content_of_row, entry_at, entry_of}}
+use Rattle.presentation.specs.Meanings.{head_of, head_of_row, meaning_of, meaning_with, dash_meaning, mpd_meaning, row_at, row_meant}
+use Rattle.presentation.specs.{Meanings.{rows_of, window_in}, MeaningLaws.{PresentedAreMeant, TextsAreMeant}}
+use Rattle.presentation.proofs.{Allowed.each_at, Ending.{all_as_long, none_behind}, Filling.length_in_order, FromMpd.is_told, Grids.All-at}
+use Rattle.presentation.proofs.{Grids.{by_kind_made, found, in_row, same_members}, Meant.content_is}
 
 -- ---- what is told, Representation by Representation
 

@@ -1,18 +1,12 @@
 -- Whether the segments of tracks have addresses, section by section.
 use Rattle.std.proofs.Common.{◌≡◌, ℕ, ◌+◌, ◌<◌, max, List, ◌++◌, length, map, sum_by, Option, None, Some, Ok, Err, IfSome, refl, ◌∙◌, ap}
-use Rattle.std.specs.Option.{option_map_or}
 use Rattle.std.proofs.lemmas.List.Sums.{sum_by-cons}
+use Rattle.std.specs.Option.{option_map_or}
 use Rattle.timeline.specs.Listed.{answered_count}
-use Rattle.presentation.specs.declared.fault.PresentationFault.{PresentationFault}
-use Rattle.presentation.specs.declared.parts.Content.{Content}
-use Rattle.presentation.specs.Presented.{Presented, window_of, content_at, listed_at}
-use Rattle.presentation.specs.Counting.{refusal, unless_any, number_in, listed_count}
-use Rattle.presentation.specs.Printing.{IsCounted}
-use Rattle.presentation.specs.Verifying.{greatest}
-use Rattle.presentation.proofs.Firsts.{first_stays}
-use Rattle.presentation.proofs.Counts.{from_on, from_on-first}
-use Rattle.presentation.proofs.Printing.{if_some}
-use Rattle.presentation.proofs.Extents.{count_of}
+use Rattle.presentation.specs.{declared.fault.PresentationFault.PresentationFault, declared.parts.Content.Content, Presented.Presented}
+use Rattle.presentation.specs.{Presented.{window_of, content_at, listed_at}, Counting.{refusal, unless_any, number_in, listed_count}}
+use Rattle.presentation.specs.{Printing.IsCounted, Verifying.greatest}
+use Rattle.presentation.proofs.{Firsts.first_stays, Counts.{from_on, from_on-first}, Printing.if_some, Extents.count_of}
 
 pub refused_stays : {X Y : Type 0} (fault : PresentationFault) (faults more : List PresentationFault) (x : X) (y : Y)
     → IfSome (refusal fault) (λ f. unless_any faults x ≡ Err f) → IfSome (refusal fault) (λ f. unless_any (faults ++ more) y ≡ Err f)

@@ -1,21 +1,16 @@
 -- Whether segments that are made one by one have addresses.
-use Rattle.std.proofs.Common.{◌≡◌, ℕ, suc, List, [], ◌∷◌, ◌++◌, length, map, slice_get, Some, Err, IsSome, IfSome, refl, sym, ◌∙◌, ap}
-use Rattle.std.proofs.Common.{subst, arith}
-use Rattle.std.specs.Option.{option_map_or}
-use Rattle.std.proofs.lemmas.List.{length-map}
-use Rattle.exact_time.specs.Rounding.{differences}
-use Rattle.timeline.specs.declared.fault.ListFault.{ListFault}
 use Rattle.timeline.specs.declared.fault.ListFault.TheVariants as list_fault
-use Rattle.timeline.specs.Names.{list_refusal}
-use Rattle.timeline.specs.Expansions.{SegmentTimeline, Timing}
+use Rattle.std.proofs.Common.{◌≡◌, ℕ, suc, List, [], ◌∷◌, ◌++◌, length, map, slice_get, Some, Err, IsSome, IfSome, refl, sym, ◌∙◌, ap}
+use Rattle.std.proofs.{Common.{subst, arith}, lemmas.List.length-map}
+use Rattle.std.specs.Option.{option_map_or}
+use Rattle.exact_time.specs.Rounding.{differences}
+use Rattle.timeline.specs.{declared.fault.ListFault.ListFault, Names.list_refusal, Expansions.{SegmentTimeline, Timing}}
 use Rattle.timeline.specs.Listed.{part_of_timing}
-use Rattle.presentation.specs.declared.parts.Content.{Content}
-use Rattle.presentation.specs.Presented.{Presented, content_at, listed_at}
-use Rattle.presentation.specs.Counting.{refusal, unless_any, counted, count_faults, count_of_all, tracks_of}
-use Rattle.presentation.specs.Printing.{PrintedTiming, PrintedRest, with_durations, durations_of, ends_of, printed_timings, rest_of}
-use Rattle.presentation.specs.Printing.{IsPrintedOf}
-use Rattle.presentation.specs.Verifying.{fault_at, part_faults, times_of, longest_left, greatest, verified_rest, verified_at, longest_at}
-use Rattle.presentation.specs.Verifying.{verified, url_faults, longest_of}
+use Rattle.presentation.specs.{declared.parts.Content.Content, Presented.{Presented, content_at, listed_at}, Counting.{refusal, unless_any}}
+use Rattle.presentation.specs.{Counting.{counted, count_faults, count_of_all, tracks_of}, Printing.{PrintedTiming, PrintedRest}}
+use Rattle.presentation.specs.{Printing.{with_durations, durations_of, ends_of, printed_timings, rest_of, IsPrintedOf}, Verifying.fault_at}
+use Rattle.presentation.specs.Verifying.{part_faults, times_of, longest_left, greatest, verified_rest, verified_at, longest_at, verified}
+use Rattle.presentation.specs.Verifying.{url_faults, longest_of}
 
 -- ---- the definitions of whole answers, opened
 

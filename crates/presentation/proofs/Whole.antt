@@ -1,25 +1,17 @@
 -- A finished presentation of which the segments are counted has something of each track in each section.
 use Rattle.std.proofs.Common.{◌≡◌, ℕ, zero, suc, ◌+◌, ◌<◌, true, List, [], ◌∷◌, length, map, flat_map, All, Option, None, Some, Result, Ok}
-use Rattle.std.proofs.Common.{Err, refl, sym, ◌∙◌, ap, subst, arith, zero-add}
-use Rattle.std.specs.Prelude.{is_some, option_and_then}
-use Rattle.std.specs.List.{range_with_len}
-use Rattle.std.specs.Option.{option_map_or}
-use Rattle.std.proofs.lemmas.List.Elements.{All-cons, All-nil}
+use Rattle.std.proofs.{Common.{Err, refl, sym, ◌∙◌, ap, subst, arith, zero-add}, lemmas.List.Elements.{All-cons, All-nil}}
+use Rattle.std.specs.{Prelude.{is_some, option_and_then}, List.range_with_len, Option.option_map_or}
 use Rattle.meaning.specs.Meanings.{Entry}
 use Rattle.bridge_io.specs.declared.place.Place.{Place}
 use Rattle.url_parts.specs.declared.address.Part.{Part}
-use Rattle.timeline.specs.declared.fault.TimeFault.{TimeFault}
-use Rattle.timeline.specs.Expansions.{SegmentTimeline, Timing}
-use Rattle.presentation.specs.declared.parts.Content.{Content}
-use Rattle.presentation.specs.Presented.{Presented, is_finished, content_at, listed_at, listed_in, window_of}
-use Rattle.presentation.specs.Counting.{count_at, count_faults, count_of_all, faults_of_count, is_over, limit_faults, number_in, place_at}
-use Rattle.presentation.specs.Counting.{section_faults, sections_of, track_faults, tracks_of, whole_track_faults}
+use Rattle.timeline.specs.{declared.fault.TimeFault.TimeFault, Expansions.{SegmentTimeline, Timing}}
+use Rattle.presentation.specs.{declared.parts.Content.Content, Presented.{Presented, is_finished, content_at, listed_at, listed_in}}
+use Rattle.presentation.specs.{Presented.window_of, Counting.{count_at, count_faults, count_of_all, faults_of_count, is_over, limit_faults}}
+use Rattle.presentation.specs.Counting.{number_in, place_at, section_faults, sections_of, track_faults, tracks_of, whole_track_faults}
 use Rattle.presentation.specs.Meanings.{entry_at, entry_of, entry_with, head_of, is_kept, meaning_of, meaning_over, row_at, rows_of}
 use Rattle.presentation.specs.MeaningLaws.{FinishedAreWhole}
-use Rattle.presentation.proofs.Firsts.{none_before}
-use Rattle.presentation.proofs.Grids.{all_kept}
-use Rattle.presentation.proofs.Reached.{all_reached, none_first, none_within}
-use Rattle.presentation.proofs.Tracks.{all_counted}
+use Rattle.presentation.proofs.{Firsts.none_before, Grids.all_kept, Reached.{all_reached, none_first, none_within}, Tracks.all_counted}
 use Rattle.presentation.proofs.Verified.{counted_is}
 
 something : {n : ℕ} → n ≡ 0 → (t s : ℕ) (place : Place) → faults_of_count true t s place (Ok n) ≡ [] → ⊥

@@ -1,17 +1,13 @@
 -- A window without bounds lists every segment, and parts that are told one by one are what they mean.
 use Rattle.std.proofs.Common.{◌≡◌, ℕ, zero, suc, ◌-◌, ◌<◌, pos, ◌*ℤ◌, false, true, List, [], ◌∷◌, map, slice_get, Some, refl, ◌∙◌, ap}
-use Rattle.std.proofs.Common.{arith}
+use Rattle.std.proofs.{Common.arith, lemmas.Bool.Decides.nat_tests, lemmas.Int.ints}
 use Rattle.std.specs.Prelude.{int_le, int_lt}
-use Rattle.std.proofs.lemmas.Bool.Decides.{nat_tests}
-use Rattle.std.proofs.lemmas.Int.{ints}
 use Rattle.exact_time.specs.Time.{in_units}
-use Rattle.timeline.specs.declared.names.Names.TheVariants.{Addresses}
-use Rattle.timeline.specs.Expansions.{Closed, Extent, SegmentTimeline, Timing, extents}
+use Rattle.timeline.specs.{declared.names.Names.TheVariants.Addresses, Expansions.{Closed, Extent, SegmentTimeline, Timing, extents}}
 use Rattle.timeline.specs.Listed.{instant_of, listed, media_time}
 use Rattle.timeline.proofs.Ratios.{int_le-false}
 use Rattle.url_parts.specs.declared.address.Part.{Part}
-use Rattle.presentation.specs.Meanings.{own_part, part_by, part_meant}
-use Rattle.presentation.specs.Presented.{whole_window}
+use Rattle.presentation.specs.{Meanings.{own_part, part_by, part_meant}, Presented.whole_window}
 
 ends_later : (t start end : ℕ) → int_le (pos end *ℤ pos t) (pos start *ℤ pos t) ≡ false → 0 < end
 ends_later t start zero is = (let less = int_le-false (pos 0 *ℤ pos t) (pos start *ℤ pos t) is in omega (arith, ints, less))

@@ -1,15 +1,11 @@
 -- A section's window fits the segments that a track has there.
 use Rattle.std.proofs.Common.{◌≡◌, ℕ, ℤ, ◌<◌, Option, None, Some, false, length, get_or, option_map, refl}
-use Rattle.std.specs.Option.{option_map_or}
 use Rattle.std.proofs.lemmas.List.Elements.{All-get_or}
-use Rattle.timeline.specs.Expansions.{SegmentTimeline, is_open}
-use Rattle.timeline.specs.Listed.{IsWindowOf}
-use Rattle.presentation.specs.declared.parts.Content.{Content}
-use Rattle.presentation.specs.declared.presentation.Following.{Following as Kept}
-use Rattle.presentation.specs.declared.presentation.Presentation.TheInside.{Inside}
-use Rattle.presentation.specs.Presented.{at_instant, following_of, looked_at, window_at, window_from, whole_window, window_of, start_of}
-use Rattle.presentation.specs.Presented.{IsEnded}
-use Rattle.presentation.specs.Kept.{presented, IsKept}
+use Rattle.std.specs.Option.{option_map_or}
+use Rattle.timeline.specs.{Expansions.{SegmentTimeline, is_open}, Listed.IsWindowOf}
+use Rattle.presentation.specs.{declared.parts.Content.Content, declared.presentation.Following.Following as Kept}
+use Rattle.presentation.specs.{declared.presentation.Presentation.TheInside.Inside, Presented.{at_instant, following_of, looked_at}}
+use Rattle.presentation.specs.{Presented.{window_at, window_from, whole_window, window_of, start_of, IsEnded}, Kept.{presented, IsKept}}
 
 fits : (following : Option Kept) (start : ℕ) (timeline : SegmentTimeline) → (following ≡ None → is_open timeline.members ≡ false)
     → IsWindowOf timeline (option_map_or (λ f. window_at f start) (option_map following_of following) whole_window)

@@ -1,14 +1,12 @@
 -- How many segments are listed, and why they are refused where they are counted.
 use Rattle.std.specs.Prelude.{ℕ, ◌+◌, ◌*◌, ◌==◌, ◌&&◌, ◌||◌, not, nat_lt, min, ◌-◌, ◌^◌, Bool, List, [], ◌∷◌, ◌++◌, length, slice_get}
-use Rattle.std.specs.Prelude.{sum_by, flat_map, if◌then◌else◌, Option, Some, None, Result, Ok, Err, unwrap_or}
-use Rattle.std.specs.List.{range_with_len, list_any}
-use Rattle.std.specs.Option.{option_map_or}
+use Rattle.std.specs.{Prelude.{sum_by, flat_map, if◌then◌else◌, Option, Some, None, Result, Ok, Err, unwrap_or}, List.range_with_len}
+use Rattle.std.specs.{List.list_any, Option.option_map_or}
 use Rattle.bridge_io.specs.declared.place.Place.{Place}
-use Rattle.timeline.specs.declared.fault.TimeFault.{TimeFault}
-use Rattle.timeline.specs.Listed.{answered_count}
-use Rattle.presentation.specs.declared.fault.PresentationFault.{PresentationFault}
-use Rattle.presentation.specs.declared.fault.PresentationFault.TheVariants.{Limit, NoSegments, Timeline, Memory}
-use Rattle.presentation.specs.Presented.{Presented, is_finished, window_of, content_at}
+use Rattle.timeline.specs.{declared.fault.TimeFault.TimeFault, Listed.answered_count}
+use Rattle.presentation.specs.{declared.fault.PresentationFault.PresentationFault, declared.fault.PresentationFault.TheVariants.Limit}
+use Rattle.presentation.specs.{declared.fault.PresentationFault.TheVariants.{NoSegments, Timeline, Memory}, Presented.Presented}
+use Rattle.presentation.specs.Presented.{is_finished, window_of, content_at}
 
 -- want of memory tells nothing of a presentation
 abbrev pub refusal : PresentationFault → Option PresentationFault

@@ -1,13 +1,8 @@
 -- Audio groups (RFC 8216 4.3.4.1.1): which audio tracks a player may take beside a variant.
 use Rattle.std.specs.Prelude.{ℕ, ◌+◌, ◌==◌, ◌&&◌, Bool, true, false, List, [], ◌∷◌, ◌++◌, map, take, position, count_by, bytes_eq}
-use Rattle.std.specs.Prelude.{if◌then◌else◌, Option, Some, None, unwrap_or}
-use Rattle.std.specs.Option.{option_eq}
-use Rattle.std.specs.List.{list_any}
-use Rattle.bridge_io.specs.declared.media.Kind.{Kind}
-use Rattle.bridge_io.specs.declared.media.Kind.TheVariants.{Video, Audio, Text}
-use Rattle.presentation.specs.declared.track.Track.{Track}
-use Rattle.presentation.specs.declared.groups.Rendition.{Rendition}
-use Rattle.presentation.specs.declared.groups.Sameness.{Sameness}
+use Rattle.std.specs.{Prelude.{if◌then◌else◌, Option, Some, None, unwrap_or}, Option.option_eq, List.list_any}
+use Rattle.bridge_io.specs.{declared.media.Kind.Kind, declared.media.Kind.TheVariants.{Video, Audio, Text}}
+use Rattle.presentation.specs.{declared.track.Track.Track, declared.groups.Rendition.Rendition, declared.groups.Sameness.Sameness}
 use Rattle.presentation.specs.declared.groups.Sameness.TheVariants.{Key, Set}
 
 abbrev pub is_audio : Kind → Bool

@@ -1,16 +1,11 @@
 -- What a `Presentation` stands for, and what it keeps true.
 use Rattle.std.specs.Prelude.{◌≡◌, ℕ, map, List, length, All, Option, None, Some, option_map}
-use Rattle.presentation.specs.declared.presentation.Presentation.TheInside.{Inside}
-use Rattle.presentation.specs.Groups.{groups_of}
-use Rattle.presentation.specs.Presented.{Presented, following_of, IsEnded, AreFilled}
-use Rattle.presentation.specs.declared.segments.Behind.{Behind}
-use Rattle.presentation.specs.Printing.{PrintedRest, PrintedTiming, begin_of, with_durations, ends_of}
-use Rattle.exact_time.specs.Tick.{time_of}
-use Rattle.exact_time.specs.Time.{difference}
-use Rattle.exact_time.specs.Floor.{floor_in}
-use Rattle.exact_time.specs.Rounding.{Rounding, rounding_behind, rounding_from, total, differences, IsRising, AreNear}
-use Rattle.timeline.specs.Expansions.{Timing}
-use Rattle.timeline.specs.Listed.{Rest}
+use Rattle.presentation.specs.{declared.presentation.Presentation.TheInside.Inside, Groups.groups_of, Presented.{Presented, following_of}}
+use Rattle.presentation.specs.{Presented.{IsEnded, AreFilled}, declared.segments.Behind.Behind, Printing.{PrintedRest, PrintedTiming}}
+use Rattle.presentation.specs.Printing.{begin_of, with_durations, ends_of}
+use Rattle.exact_time.specs.{Tick.time_of, Time.difference, Floor.floor_in, Rounding.{Rounding, rounding_behind, rounding_from, total}}
+use Rattle.exact_time.specs.Rounding.{differences, IsRising, AreNear}
+use Rattle.timeline.specs.{Expansions.Timing, Listed.Rest}
 
 abbrev pub presented : Inside → Presented
 presented p = record {

@@ -1,12 +1,9 @@
 -- What answers of `count` and `verify` say of later calls.
 use Rattle.std.specs.Prelude.{◌≡◌, ℕ, ◌<◌, List, length, All, IfSome, slice_get, Some, Ok}
 use Rattle.url_parts.specs.declared.address.Part.{Part}
-use Rattle.timeline.specs.Expansions.{SegmentTimeline, Timing}
-use Rattle.timeline.specs.Listed.{part_of_timing}
-use Rattle.presentation.specs.Presented.{Presented, content_at, listed_at}
-use Rattle.presentation.specs.Counting.{counted, range_faults, unless_any}
-use Rattle.presentation.specs.Printing.{IsCounted, printed_timings}
-use Rattle.presentation.specs.Verifying.{longest_of, verified}
+use Rattle.timeline.specs.{Expansions.{SegmentTimeline, Timing}, Listed.part_of_timing}
+use Rattle.presentation.specs.{Presented.{Presented, content_at, listed_at}, Counting.{counted, range_faults, unless_any}}
+use Rattle.presentation.specs.{Printing.{IsCounted, printed_timings}, Verifying.{longest_of, verified}}
 
 -- where segments are counted, each track's segments may be listed in each section
 abbrev pub CountedAreListed : Type 0

@@ -1,9 +1,7 @@
 -- Presentations whose segments can be gone over, whichever manifest they come from.
 use Rattle.std.specs.Prelude.{◌≡◌, ℕ, ◌<◌, List, length, All, IfSome, Ok}
-use Rattle.presentation.specs.Laws.{HasAddress}
-use Rattle.presentation.specs.Origins.{CameFromPlaylists, CameFromStaticMpd}
-use Rattle.presentation.specs.Presented.{Presented, IsEnded, content_at, listed_at}
-use Rattle.presentation.specs.Verifying.{verified}
+use Rattle.presentation.specs.{Laws.HasAddress, Origins.{CameFromPlaylists, CameFromStaticMpd}, Presented.{Presented, IsEnded, content_at}}
+use Rattle.presentation.specs.{Presented.listed_at, Verifying.verified}
 
 -- what each track has in each section goes on to an end, and each listed segment has an address
 pub record AreListable (p : Presented) : Type 0 where

@@ -1,18 +1,13 @@
 -- What presentations say of meanings.
 use Rattle.std.specs.Prelude.{◌≡◌, ℕ, ◌<◌, ℤ, true, List, length, map, All, Option, Some, Ok, IfSome}
 use Rattle.url_parts.specs.declared.address.Part.{Part}
-use Rattle.timeline.specs.Expansions.{SegmentTimeline, Timing}
-use Rattle.timeline.specs.Listed.{part_of_timing}
+use Rattle.timeline.specs.{Expansions.{SegmentTimeline, Timing}, Listed.part_of_timing}
 use Rattle.mpd_levels.specs.Segments.{Segments}
-use Rattle.mpd_rules.specs.Rules.{typed_mpd_of}
-use Rattle.mpd_rules.specs.Typed.{TypedMpd}
-use Rattle.mpd_text.specs.Trees.{Element}
-use Rattle.mpd_text.specs.Meaning.{reading_of}
-use Rattle.presentation.specs.Presented.{Presented, content_at, listed_at, is_finished}
-use Rattle.presentation.specs.Counting.{counted}
-use Rattle.presentation.specs.Verifying.{verified}
-use Rattle.presentation.specs.Told.{presented_of}
-use Rattle.presentation.specs.Meanings.{part_meant, head_of, rows_of, meaning_over, meaning_of, mpd_meaning, dash_meaning}
+use Rattle.mpd_rules.specs.{Rules.typed_mpd_of, Typed.TypedMpd}
+use Rattle.mpd_text.specs.{Trees.Element, Meaning.reading_of}
+use Rattle.presentation.specs.{Presented.{Presented, content_at, listed_at, is_finished}, Counting.counted, Verifying.verified}
+use Rattle.presentation.specs.{Told.presented_of, Meanings.{part_meant, head_of, rows_of, meaning_over, meaning_of, mpd_meaning}}
+use Rattle.presentation.specs.Meanings.{dash_meaning}
 
 -- a segment that is made is the part that is meant
 abbrev pub MadeAreMeant : Type 0

@@ -1,44 +1,24 @@
 -- What a presentation means (ISO/IEC 23009-1, 5.3), and what an MPD means at its URL and an instant, without any limit,
 -- and without bounds on numbers and on the length of addresses.
-use Rattle.std.specs.Prelude.{ℕ, ℤ, ◌+◌, ◌-◌, max, Bool, List, [], ◌∷◌, map, filter, length, slice_get, is_some, Option, Some, None}
-use Rattle.std.specs.Prelude.{option_and_then, option_map, unwrap_or, Ok, Err, if◌then◌else◌}
-use Rattle.std.specs.List.{list_any}
-use Rattle.std.specs.Result.{result_ok}
-use Rattle.std.specs.Option.{option_map_or}
-use Rattle.url.specs.Parser.{Parsed, parse_url}
-use Rattle.url.specs.Parts.{Parts}
-use Rattle.bridge_io.specs.declared.media.Kind.{Kind}
-use Rattle.bridge_io.specs.declared.media.Kind.TheVariants.{Video, Audio, Text}
-use Rattle.url_parts.specs.Addresses.{is_absolute, text_of, url_of}
-use Rattle.url_parts.specs.declared.address.Part.{Part}
-use Rattle.template_ids.specs.Templates.{named}
-use Rattle.timeline.specs.declared.entry.End.{End}
-use Rattle.timeline.specs.declared.names.Names.{Names}
 use Rattle.timeline.specs.declared.names.Names.TheVariants as names
-use Rattle.timeline.specs.declared.names.RefPart.{RefPart}
-use Rattle.timeline.specs.declared.window.Window.{Window}
-use Rattle.timeline.specs.Expansions.{SegmentTimeline, Timing}
-use Rattle.timeline.specs.Faults.{members_by}
-use Rattle.timeline.specs.Listed.{media_time}
-use Rattle.timeline.specs.Names.{count_of}
-use Rattle.timeline.specs.SegmentTimelines.{timeline_from}
-use Rattle.timeline.specs.Timelines.{expansion_of_timeline}
-use Rattle.meaning.specs.Meanings.{Segment, Entry, Meaning}
-use Rattle.meaning.specs.Meanings.{Track as MeantTrack}
-use Rattle.mpd_levels.specs.declared.tables.SView.{SView}
-use Rattle.mpd_levels.specs.Segments.{Segments}
-use Rattle.mpd_rules.specs.declared.facts.Facts.{Facts}
-use Rattle.mpd_rules.specs.declared.rows.Description.{Description}
-use Rattle.mpd_rules.specs.Rules.{dash_values}
-use Rattle.mpd_rules.specs.Typed.{TypedMpd}
+use Rattle.std.specs.Prelude.{ℕ, ℤ, ◌+◌, ◌-◌, max, Bool, List, [], ◌∷◌, map, filter, length, slice_get, is_some, Option, Some, None}
+use Rattle.std.specs.{Prelude.{option_and_then, option_map, unwrap_or, Ok, Err, if◌then◌else◌}, List.list_any, Result.result_ok}
+use Rattle.std.specs.Option.{option_map_or}
+use Rattle.url.specs.{Parser.{Parsed, parse_url}, Parts.Parts}
+use Rattle.bridge_io.specs.{declared.media.Kind.Kind, declared.media.Kind.TheVariants.{Video, Audio, Text}}
+use Rattle.url_parts.specs.{Addresses.{is_absolute, text_of, url_of}, declared.address.Part.Part}
+use Rattle.template_ids.specs.Templates.{named}
+use Rattle.timeline.specs.{declared.entry.End.End, declared.names.Names.Names, declared.names.RefPart.RefPart}
+use Rattle.timeline.specs.{declared.window.Window.Window, Expansions.{SegmentTimeline, Timing}, Faults.members_by, Listed.media_time}
+use Rattle.timeline.specs.{Names.count_of, SegmentTimelines.timeline_from, Timelines.expansion_of_timeline}
+use Rattle.meaning.specs.Meanings.{Segment, Entry, Meaning, Track as MeantTrack}
+use Rattle.mpd_levels.specs.{declared.tables.SView.SView, Segments.Segments}
+use Rattle.mpd_rules.specs.{declared.facts.Facts.Facts, declared.rows.Description.Description, Rules.dash_values, Typed.TypedMpd}
 use Rattle.mpd_text.specs.Meaning.{reading_of}
-use Rattle.presentation.specs.declared.parts.Content.{Content}
-use Rattle.presentation.specs.declared.track.Track.{Track}
-use Rattle.presentation.specs.Counting.{sections_of, tracks_of}
-use Rattle.presentation.specs.Presented.{Presented, content_at, listed_in, window_at, window_of, whole_window}
-use Rattle.presentation.specs.Rows.{Row, Period, first_rows, in_order}
-use Rattle.presentation.specs.Scales.{scale_of}
-use Rattle.presentation.specs.Told.{end_of, entries_of, following_of, init_reference, names_of, part_with, segments_in}
+use Rattle.presentation.specs.{declared.parts.Content.Content, declared.track.Track.Track, Counting.{sections_of, tracks_of}}
+use Rattle.presentation.specs.{Presented.{Presented, content_at, listed_in, window_at, window_of, whole_window}, Rows.{Row, Period}}
+use Rattle.presentation.specs.{Rows.{first_rows, in_order}, Scales.scale_of, Told.{end_of, entries_of, following_of, init_reference}}
+use Rattle.presentation.specs.Told.{names_of, part_with, segments_in}
 
 -- ---- addresses of any length
 

@@ -2,15 +2,11 @@
 use Rattle.std.specs.Prelude.{◌≡◌, ℕ, ℤ, true, false, List, length, All, Option, None, Ok}
 use Rattle.bridge_io.specs.declared.media.Kind.TheVariants.{Video}
 use Rattle.url_parts.specs.declared.address.Part.{Part}
-use Rattle.timeline.specs.declared.names.Names.TheVariants.{Addresses}
-use Rattle.timeline.specs.Expansions.{SegmentTimeline, is_open}
+use Rattle.timeline.specs.{declared.names.Names.TheVariants.Addresses, Expansions.{SegmentTimeline, is_open}}
 use Rattle.mpd_levels.specs.Segments.{Segments}
-use Rattle.mpd_rules.specs.Rules.{typed_mpd_of}
-use Rattle.mpd_rules.specs.Typed.{TypedMpd}
+use Rattle.mpd_rules.specs.{Rules.typed_mpd_of, Typed.TypedMpd}
 use Rattle.mpd_text.specs.Trees.{Element}
-use Rattle.presentation.specs.declared.parts.Content.{Content}
-use Rattle.presentation.specs.declared.track.Track.{Track}
-use Rattle.presentation.specs.Presented.{Presented, AreFilled, is_finished}
+use Rattle.presentation.specs.{declared.parts.Content.Content, declared.track.Track.Track, Presented.{Presented, AreFilled, is_finished}}
 use Rattle.presentation.specs.Told.{presented_of}
 
 -- from a static MPD, of which no rule refuses anything

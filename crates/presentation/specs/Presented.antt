@@ -1,16 +1,10 @@
 -- What a presentation is.
 use Rattle.std.specs.Prelude.{◌≡◌, ℕ, ◌+◌, ◌*◌, ℤ, pos, ◌-ℤ◌, Bool, false, List, [], length, slice_get, Option, Some, None, option_map}
-use Rattle.std.specs.Prelude.{is_none}
-use Rattle.std.specs.Option.{option_map_or}
+use Rattle.std.specs.{Prelude.is_none, Option.option_map_or}
 use Rattle.bridge_io.specs.declared.place.Place.{Place}
-use Rattle.timeline.specs.declared.window.Window.{Window}
-use Rattle.timeline.specs.Expansions.{SegmentTimeline, Timing, is_open}
-use Rattle.timeline.specs.Listed.{listed, expansion}
-use Rattle.presentation.specs.declared.presentation.Following.{Following as Kept}
-use Rattle.presentation.specs.declared.track.Track.{Track}
-use Rattle.presentation.specs.declared.track.Section.{Section}
-use Rattle.presentation.specs.declared.parts.Content.{Content}
-use Rattle.presentation.specs.declared.parts.Parts.{Parts}
+use Rattle.timeline.specs.{declared.window.Window.Window, Expansions.{SegmentTimeline, Timing, is_open}, Listed.{listed, expansion}}
+use Rattle.presentation.specs.{declared.presentation.Following.Following as Kept, declared.track.Track.Track}
+use Rattle.presentation.specs.{declared.track.Section.Section, declared.parts.Content.Content, declared.parts.Parts.Parts}
 
 -- When a followed presentation is looked at: the instant, availabilityStartTime and timeShiftBufferDepth, in
 -- nanoseconds (ISO/IEC 23009-1, 5.3.1.2).

@@ -1,13 +1,10 @@
 -- What is so of each presentation of an MPD, static or dynamic.
 use Rattle.std.specs.Prelude.{◌≡◌, ℕ, ◌≤◌, ℤ, List, length, map, Option, Ok}
 use Rattle.exact_time.specs.Time.{IsTime}
-use Rattle.timeline.specs.Expansions.{Timing}
-use Rattle.timeline.specs.Steady.{ArePaced}
+use Rattle.timeline.specs.{Expansions.Timing, Steady.ArePaced}
 use Rattle.mpd_levels.specs.Segments.{Segments}
 use Rattle.mpd_rules.specs.Typed.{TypedMpd}
-use Rattle.presentation.specs.Presented.{Presented, listed_at, looked_at}
-use Rattle.presentation.specs.Printing.{IsCounted, begin_of}
-use Rattle.presentation.specs.Rows.{section_of}
+use Rattle.presentation.specs.{Presented.{Presented, listed_at, looked_at}, Printing.{IsCounted, begin_of}, Rows.section_of}
 use Rattle.presentation.specs.Told.{following_of, presented_of}
 
 -- at most 1,000 sections, and 200 tracks

@@ -1,21 +1,13 @@
 -- Segments with the durations that are printed of them.
 use Rattle.std.specs.Prelude.{◌≡◌, ℕ, ◌<◌, ◌^◌, List, [], ◌∷◌, map, filter, drop, ◌++◌, All, false, ◌+◌, ◌≤◌, Option, Some, None, Result}
 use Rattle.std.specs.Prelude.{Ok, Err, IsSome, IfSome, slice_get}
-use Rattle.exact_time.specs.Time.{Time, IsAtMost, before, seconds}
-use Rattle.exact_time.specs.Tick.{time_of}
-use Rattle.exact_time.specs.Rounding.{printed}
-use Rattle.exact_time.specs.Equal.{summed_up}
-use Rattle.timeline.specs.SpanRuns.{timings_of}
-use Rattle.timeline.specs.declared.fault.ListFault.{ListFault}
-use Rattle.timeline.specs.Names.{list_refusal}
-use Rattle.timeline.specs.Expansions.{Extent, SegmentTimeline, Timing}
-use Rattle.timeline.specs.Faults.{is_apart}
-use Rattle.timeline.specs.Listed.{CanBeNamed, Made, part_of_timing, timing_of, IsReached}
-use Rattle.timeline.specs.declared.span.Span.{Span}
+use Rattle.exact_time.specs.{Time.{Time, IsAtMost, before, seconds}, Tick.time_of, Rounding.printed, Equal.summed_up}
+use Rattle.timeline.specs.{SpanRuns.timings_of, declared.fault.ListFault.ListFault, Names.list_refusal, Expansions.Extent}
+use Rattle.timeline.specs.{Expansions.{SegmentTimeline, Timing}, Faults.is_apart, Listed.{CanBeNamed, Made, part_of_timing, timing_of}}
+use Rattle.timeline.specs.{Listed.IsReached, declared.span.Span.Span}
 use Rattle.url_parts.specs.declared.address.Part.{Part}
-use Rattle.presentation.specs.declared.segments.Behind.{Behind}
-use Rattle.presentation.specs.declared.segments.PrintedRun.{PrintedRun}
-use Rattle.presentation.specs.Presented.{Presented, content_at, window_of, listed_at}
+use Rattle.presentation.specs.{declared.segments.Behind.Behind, declared.segments.PrintedRun.PrintedRun, Presented.{Presented, content_at}}
+use Rattle.presentation.specs.Presented.{window_of, listed_at}
 
 -- a segment's times and number, and its duration in units
 pub record PrintedTiming : Type 0 where

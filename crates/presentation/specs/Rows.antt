@@ -1,24 +1,14 @@
 -- The Representations of a Period as they are presented: ISO/IEC 23009-1, 5.3.2 and 5.3.5.
 use Rattle.std.specs.Prelude.{ℕ, ◌-◌, ◌&&◌, Bool, true, false, List, [], ◌∷◌, ◌++◌, map, filter, flat_map, bytes_eq, Option, option_map}
-use Rattle.std.specs.Prelude.{unwrap_or}
-use Rattle.std.specs.Option.{option_eq}
-use Rattle.bridge_io.specs.declared.media.Kind.{Kind}
-use Rattle.bridge_io.specs.declared.media.Kind.TheVariants.{Video, Audio, Text}
+use Rattle.std.specs.{Prelude.unwrap_or, Option.option_eq}
+use Rattle.bridge_io.specs.{declared.media.Kind.Kind, declared.media.Kind.TheVariants.{Video, Audio, Text}}
 use Rattle.mpd_values.specs.Codecs.{codes_of}
-use Rattle.mpd_levels.specs.declared.addressing.SegmentRow.{SegmentRow}
-use Rattle.mpd_levels.specs.Segments.{Segments}
-use Rattle.mpd_rules.specs.declared.rows.TrackRow.{TrackRow}
-use Rattle.mpd_rules.specs.declared.rows.PeriodRow.{PeriodRow}
-use Rattle.mpd_rules.specs.declared.view.TypedPeriod.{TypedPeriod}
-use Rattle.mpd_rules.specs.declared.view.TrackView.{TrackView}
-use Rattle.mpd_rules.specs.declared.view.PeriodWalk.{PeriodWalk}
-use Rattle.mpd_rules.specs.declared.view.RepWalk.{RepWalk}
-use Rattle.mpd_rules.specs.Held.{Keyed}
-use Rattle.mpd_rules.specs.Typed.{period_with, track_with}
-use Rattle.mpd_rules.specs.Views.{period_in, track_in, periods_left, tracks_left, segments_told}
-use Rattle.presentation.specs.declared.track.Track.{Track}
-use Rattle.presentation.specs.declared.track.Section.{Section}
-use Rattle.presentation.specs.Scales.{rate_of}
+use Rattle.mpd_levels.specs.{declared.addressing.SegmentRow.SegmentRow, Segments.Segments}
+use Rattle.mpd_rules.specs.{declared.rows.TrackRow.TrackRow, declared.rows.PeriodRow.PeriodRow, declared.view.TypedPeriod.TypedPeriod}
+use Rattle.mpd_rules.specs.{declared.view.TrackView.TrackView, declared.view.PeriodWalk.PeriodWalk, declared.view.RepWalk.RepWalk}
+use Rattle.mpd_rules.specs.{Held.Keyed, Typed.{period_with, track_with}, Views.{period_in, track_in, periods_left, tracks_left}}
+use Rattle.mpd_rules.specs.Views.{segments_told}
+use Rattle.presentation.specs.{declared.track.Track.Track, declared.track.Section.Section, Scales.rate_of}
 
 -- a Representation and a Period, with how segments are told
 abbrev pub Row : Type 0

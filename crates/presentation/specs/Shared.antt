@@ -1,13 +1,8 @@
 -- What is laid out once, by the tables of an MPD.
 use Rattle.std.specs.Prelude.{◌≡◌, List, All, map}
-use Rattle.mpd_levels.specs.declared.addressing.SegmentRow.{SegmentRow}
-use Rattle.mpd_rules.specs.declared.rows.TrackRow.{TrackRow}
-use Rattle.mpd_rules.specs.declared.rows.PeriodRow.{PeriodRow}
-use Rattle.mpd_rules.specs.Held.{Keyed}
-use Rattle.mpd_levels.specs.declared.tables.Tables.{Tables}
-use Rattle.mpd_levels.specs.Shown.{timelines_in, lists_in}
-use Rattle.presentation.specs.declared.shared.Shared.{Shared}
-use Rattle.presentation.specs.Told.{entries_of, names_in}
+use Rattle.mpd_levels.specs.{declared.addressing.SegmentRow.SegmentRow, declared.tables.Tables.Tables, Shown.{timelines_in, lists_in}}
+use Rattle.mpd_rules.specs.{declared.rows.TrackRow.TrackRow, declared.rows.PeriodRow.PeriodRow, Held.Keyed}
+use Rattle.presentation.specs.{declared.shared.Shared.Shared, Told.{entries_of, names_in}}
 
 pub record IsShared (tables : Tables) (shared : Shared) : Type 0 where
   pub timelines : shared.timelines.items ≡ map entries_of (timelines_in tables)

@@ -1,42 +1,23 @@
 -- What a presentation an MPD gives, or the first refusal: ISO/IEC 23009-1, 5.3.
-use Rattle.std.specs.Prelude.{ℕ, ℤ, pos, ◌-◌, ◌&&◌, ◌||◌, nat_lt, not, is_some, Bool, false, List, [], ◌∷◌, ◌++◌, length, map, flat_map}
-use Rattle.std.specs.Prelude.{if◌then◌else◌, Option, Some, None, option_map, unwrap_or, Result, Ok, Err}
-use Rattle.bridge_io.specs.Answer.{and_then}
-use Rattle.bridge_io.specs.declared.place.Place.{Place}
-use Rattle.template_ids.specs.declared.fault.TemplateFault.{TemplateFault}
-use Rattle.template_ids.specs.declared.fault.TemplateFault.TheVariants.{Unknown}
 use Rattle.template_ids.specs.declared.fault.TemplateFault.TheVariants as template
 use Rattle.url_parts.specs.declared.fault.UrlFault.TheVariants as url
 use Rattle.timeline.specs.declared.fault.TimeFault.TheVariants as times
-use Rattle.template_ids.specs.Templates.{template_of, named, uses_number, uses_time}
-use Rattle.url_parts.specs.Addresses.{chain}
-use Rattle.url_parts.specs.declared.address.Part.{Part}
-use Rattle.url_parts.specs.declared.range.Range.{Range}
-use Rattle.url_parts.specs.declared.fault.UrlFault.{UrlFault}
-use Rattle.timeline.specs.declared.entry.SEntry.{SEntry}
-use Rattle.timeline.specs.declared.entry.End.{End}
-use Rattle.timeline.specs.declared.entry.End.TheVariants.{At, Unbounded}
-use Rattle.timeline.specs.declared.fault.TimeFault.{TimeFault}
-use Rattle.timeline.specs.declared.names.RefPart.{RefPart}
-use Rattle.timeline.specs.declared.names.Names.{Names}
 use Rattle.timeline.specs.declared.names.Names.TheVariants as names
-use Rattle.timeline.specs.Expansions.{SegmentTimeline}
-use Rattle.timeline.specs.Names.{referred}
-use Rattle.timeline.specs.SegmentTimelines.{timeline_of_entries, timeline_of_duration}
-use Rattle.mpd_levels.specs.declared.tables.SView.{SView}
-use Rattle.mpd_levels.specs.declared.tables.SegmentUrl.{SegmentUrl}
-use Rattle.mpd_levels.specs.Segments.{Segments}
-use Rattle.mpd_rules.specs.declared.facts.Facts.{Facts}
-use Rattle.mpd_rules.specs.declared.rows.Description.{Description}
-use Rattle.mpd_rules.specs.Typed.{TypedMpd}
-use Rattle.presentation.specs.declared.fault.Spot.TheVariants.{At as Standing}
-use Rattle.presentation.specs.declared.fault.PresentationFault.{PresentationFault}
+use Rattle.std.specs.Prelude.{ℕ, ℤ, pos, ◌-◌, ◌&&◌, ◌||◌, nat_lt, not, is_some, Bool, false, List, [], ◌∷◌, ◌++◌, length, map, flat_map}
+use Rattle.std.specs.Prelude.{if◌then◌else◌, Option, Some, None, option_map, unwrap_or, Result, Ok, Err}
+use Rattle.bridge_io.specs.{Answer.and_then, declared.place.Place.Place}
+use Rattle.template_ids.specs.{declared.fault.TemplateFault.TemplateFault, declared.fault.TemplateFault.TheVariants.Unknown}
+use Rattle.template_ids.specs.Templates.{template_of, named, uses_number, uses_time}
+use Rattle.url_parts.specs.{Addresses.chain, declared.address.Part.Part, declared.range.Range.Range, declared.fault.UrlFault.UrlFault}
+use Rattle.timeline.specs.{declared.entry.SEntry.SEntry, declared.entry.End.End, declared.entry.End.TheVariants.{At, Unbounded}}
+use Rattle.timeline.specs.{declared.fault.TimeFault.TimeFault, declared.names.RefPart.RefPart, declared.names.Names.Names}
+use Rattle.timeline.specs.{Expansions.SegmentTimeline, Names.referred, SegmentTimelines.{timeline_of_entries, timeline_of_duration}}
+use Rattle.mpd_levels.specs.{declared.tables.SView.SView, declared.tables.SegmentUrl.SegmentUrl, Segments.Segments}
+use Rattle.mpd_rules.specs.{declared.facts.Facts.Facts, declared.rows.Description.Description, Typed.TypedMpd}
+use Rattle.presentation.specs.{declared.fault.Spot.TheVariants.At as Standing, declared.fault.PresentationFault.PresentationFault}
 use Rattle.presentation.specs.declared.fault.PresentationFault.TheVariants.{PeriodsDiffer, Limit, Url, Template, Timeline, NeedsNow, Memory}
-use Rattle.presentation.specs.declared.parts.Content.{Content}
-use Rattle.presentation.specs.declared.told.PeriodContent.{PeriodContent}
-use Rattle.presentation.specs.Presented.{Presented, Following}
-use Rattle.presentation.specs.Counting.{unless_any}
-use Rattle.presentation.specs.Rows.{Row, Period, by_kind, in_order, are_alike, track_of, section_of, first_rows}
+use Rattle.presentation.specs.{declared.parts.Content.Content, declared.told.PeriodContent.PeriodContent, Presented.{Presented, Following}}
+use Rattle.presentation.specs.{Counting.unless_any, Rows.{Row, Period, by_kind, in_order, are_alike, track_of, section_of, first_rows}}
 use Rattle.presentation.specs.Scales.{scale_of}
 
 -- a refusal told in other words

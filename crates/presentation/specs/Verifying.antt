@@ -1,19 +1,14 @@
 -- That every listed segment has an address, and the longest printed duration of each track.
-use Rattle.std.specs.Prelude.{ℕ, ◌+◌, ◌<◌, List, [], ◌∷◌, ◌++◌, length, map, flat_map, max, Result, Ok, Err}
-use Rattle.std.specs.Option.{option_map_or}
-use Rattle.exact_time.specs.Time.{Time, difference}
-use Rattle.exact_time.specs.Floor.{floor_in}
-use Rattle.url_parts.specs.declared.address.Part.{Part}
-use Rattle.timeline.specs.declared.fault.ListFault.{ListFault}
 use Rattle.timeline.specs.declared.fault.ListFault.TheVariants as list_fault
-use Rattle.timeline.specs.Expansions.{SegmentTimeline, Timing}
-use Rattle.timeline.specs.Listed.{part_of_timing}
 use Rattle.presentation.specs.declared.fault.Spot.TheVariants as spot
-use Rattle.presentation.specs.declared.fault.PresentationFault.{PresentationFault}
-use Rattle.presentation.specs.declared.fault.PresentationFault.TheVariants.{Url, Memory}
-use Rattle.presentation.specs.Presented.{Presented, content_at, listed_at}
-use Rattle.presentation.specs.Counting.{unless_any, sections_of, tracks_of, count_faults}
-use Rattle.presentation.specs.Printing.{PrintedTiming, PrintedRest, durations_of, IsCounted}
+use Rattle.std.specs.{Prelude.{ℕ, ◌+◌, ◌<◌, List, [], ◌∷◌, ◌++◌, length, map, flat_map, max, Result, Ok, Err}, Option.option_map_or}
+use Rattle.exact_time.specs.{Time.{Time, difference}, Floor.floor_in}
+use Rattle.url_parts.specs.declared.address.Part.{Part}
+use Rattle.timeline.specs.{declared.fault.ListFault.ListFault, Expansions.{SegmentTimeline, Timing}, Listed.part_of_timing}
+use Rattle.presentation.specs.{declared.fault.PresentationFault.PresentationFault, declared.fault.PresentationFault.TheVariants.Url}
+use Rattle.presentation.specs.{declared.fault.PresentationFault.TheVariants.Memory, Presented.{Presented, content_at, listed_at}}
+use Rattle.presentation.specs.{Counting.{unless_any, sections_of, tracks_of, count_faults}, Printing.{PrintedTiming, PrintedRest}}
+use Rattle.presentation.specs.Printing.{durations_of, IsCounted}
 
 -- what is told of a segment that isn't made
 abbrev pub fault_at : (s t k : ℕ) → ListFault → PresentationFault

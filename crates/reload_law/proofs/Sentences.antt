@@ -1,22 +1,17 @@
 -- The rules of reloads in sentences.
 use Rattle.std.proofs.Common.{◌≡◌, ℕ, zero, suc, ◌+◌, ◌-◌, ◌*◌, ◌^◌, ◌≤◌, Bool, true, false, ◌&&◌, ◌||◌, not, List, [], ◌∷◌, drop}
 use Rattle.std.proofs.Common.{slice_get, option_map, leb, Option, Some, None, Ok, refl, sym, ◌∙◌, ap, subst, inl, inr, arith, zero-add, eqb}
-use Rattle.std.proofs.Common.{ltb}
-use Rattle.std.specs.Option.{option_eq}
-use Rattle.std.proofs.lemmas.Bool.{cases_Bool, leb-true, le-leb, eq-eqb, eqb-true, ltb-true, lt-ltb}
+use Rattle.std.proofs.{Common.ltb, lemmas.Bool.{cases_Bool, leb-true, le-leb, eq-eqb, eqb-true, ltb-true, lt-ltb}}
 use Rattle.std.proofs.lemmas.Bool.Decides.{nat_tests}
-use Rattle.hls_media.specs.declared.media.Media.{Media}
-use Rattle.hls_media.specs.declared.media.MediaSegment.{MediaSegment}
-use Rattle.reload_law.specs.declared.unlawful.Unlawful.{Unlawful}
-use Rattle.url_parts.specs.declared.address.Part.{Part}
-use Rattle.url_parts.specs.declared.range.Range.{Range}
-use Rattle.bridge_io.proofs.Texts.{equals_itself}
-use Rattle.reload_law.specs.declared.unlawful.Unlawful.TheVariants.{Target, Sequence, Segment, Discontinuity, Shrunk, AfterEnd}
-use Rattle.reload_law.specs.declared.unlawful.Unlawful.TheVariants.{ThreeTargets}
-use Rattle.reload_law.specs.Rules.{broken_if, discontinuity_rule, end_of, end_rule, ended_rule, first_broken, first_other, lawful}
-use Rattle.reload_law.specs.Rules.{length_rule, nanos_of, same_part, same_range, same_section, same_segment, segment_rule, sequence_rule}
-use Rattle.reload_law.specs.Rules.{target_rule}
+use Rattle.std.specs.Option.{option_eq}
+use Rattle.hls_media.specs.{declared.media.Media.Media, declared.media.MediaSegment.MediaSegment}
+use Rattle.reload_law.specs.{declared.unlawful.Unlawful.Unlawful, declared.unlawful.Unlawful.TheVariants.{Target, Sequence, Segment}}
+use Rattle.reload_law.specs.{declared.unlawful.Unlawful.TheVariants.{Discontinuity, Shrunk, AfterEnd, ThreeTargets}, Rules.broken_if}
+use Rattle.reload_law.specs.Rules.{discontinuity_rule, end_of, end_rule, ended_rule, first_broken, first_other, lawful, length_rule}
+use Rattle.reload_law.specs.Rules.{nanos_of, same_part, same_range, same_section, same_segment, segment_rule, sequence_rule, target_rule}
 use Rattle.reload_law.specs.Laws.{IsInBoth, IsLawful, ReloadsItself, segment_at}
+use Rattle.url_parts.specs.{declared.address.Part.Part, declared.range.Range.Range}
+use Rattle.bridge_io.proofs.Texts.{equals_itself}
 
 first_is_none : (r : Option Unlawful) (rs : List (Option Unlawful)) → first_broken (r ∷ rs) ≡ Ok tt → (r ≡ None) × (first_broken rs ≡ Ok tt)
 first_is_none None rs e = (refl, e)

@@ -1,10 +1,9 @@
 -- What the rules say in sentences over segments by their numbers.
 use Rattle.std.specs.Prelude.{◌≡◌, ℕ, ◌-◌, ◌*◌, ◌^◌, ◌<◌, ◌≤◌, ◌↔◌, nat_le, true, false, List, slice_get, if◌then◌else◌, Option, Some, None}
 use Rattle.std.specs.Prelude.{Ok, Err}
-use Rattle.hls_media.specs.declared.media.Media.{Media}
-use Rattle.hls_media.specs.declared.media.MediaSegment.{MediaSegment}
-use Rattle.reload_law.specs.declared.unlawful.Unlawful.TheVariants.{Segment, Discontinuity}
-use Rattle.reload_law.specs.Rules.{end_of, lawful, nanos_of, same_section, same_segment}
+use Rattle.hls_media.specs.{declared.media.Media.Media, declared.media.MediaSegment.MediaSegment}
+use Rattle.reload_law.specs.{declared.unlawful.Unlawful.TheVariants.{Segment, Discontinuity}, Rules.{end_of, lawful, nanos_of}}
+use Rattle.reload_law.specs.Rules.{same_section, same_segment}
 
 -- the segment of a playlist that has a number
 abbrev pub segment_at : ℕ → Media → Option MediaSegment

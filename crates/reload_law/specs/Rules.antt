@@ -1,14 +1,10 @@
 -- When a media playlist may take the place of an older one: seven rules after RFC 8216 6.2.
 use Rattle.std.specs.Prelude.{ℕ, ◌+◌, ◌-◌, ◌*◌, ◌^◌, ◌==◌, ◌&&◌, ◌||◌, not, nat_lt, nat_eq, Bool, true, false, List, [], ◌∷◌, length, drop}
-use Rattle.std.specs.Prelude.{sum_by, bytes_eq, if◌then◌else◌, Option, Some, None, option_map, Result, Ok, Err}
-use Rattle.std.specs.Option.{option_eq}
-use Rattle.url_parts.specs.declared.address.Part.{Part}
-use Rattle.url_parts.specs.declared.range.Range.{Range}
-use Rattle.hls_media.specs.declared.media.Media.{Media}
-use Rattle.hls_media.specs.declared.media.MediaSegment.{MediaSegment}
-use Rattle.reload_law.specs.declared.unlawful.Unlawful.{Unlawful}
-use Rattle.reload_law.specs.declared.unlawful.Unlawful.TheVariants.{Target, Sequence, Segment, Discontinuity, Shrunk, AfterEnd}
-use Rattle.reload_law.specs.declared.unlawful.Unlawful.TheVariants.{ThreeTargets}
+use Rattle.std.specs.{Prelude.{sum_by, bytes_eq, if◌then◌else◌, Option, Some, None, option_map, Result, Ok, Err}, Option.option_eq}
+use Rattle.url_parts.specs.{declared.address.Part.Part, declared.range.Range.Range}
+use Rattle.hls_media.specs.{declared.media.Media.Media, declared.media.MediaSegment.MediaSegment}
+use Rattle.reload_law.specs.{declared.unlawful.Unlawful.Unlawful, declared.unlawful.Unlawful.TheVariants.{Target, Sequence, Segment}}
+use Rattle.reload_law.specs.declared.unlawful.Unlawful.TheVariants.{Discontinuity, Shrunk, AfterEnd, ThreeTargets}
 
 -- ---- segments
 

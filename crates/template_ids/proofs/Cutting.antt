@@ -1,29 +1,19 @@
 -- A text cut step by step: the pieces so far, and the rest of the text, which begins with a literal.
 use Rattle.std.proofs.Common.{◌≡◌, ℕ, ◌+◌, ◌-◌, ◌%◌, ◌<◌, ◌≤◌, ◌||◌, Bool, true, false, lit<, List, [], ◌∷◌, ◌++◌, length, drop, get_or}
 use Rattle.std.proofs.Common.{Option, Some, Ok, Err, count_by, flat_map, All, arith, IsUtf8, IsCharBoundary, IfSome, refl, sym, ◌∙◌, ap}
-use Rattle.std.proofs.Common.{append_assoc, length-append}
-use Rattle.std.specs.List.{list_any, position_or_len, before_first, after_first}
-use Rattle.std.proofs.lemmas.List.{append-nil, take-append-drop, drop_more, get_or_at, take_at, drop_at}
-use Rattle.std.proofs.lemmas.List.Splits.{slice_split_first, slice_split_none, length-slice_split}
-use Rattle.std.proofs.lemmas.List.Concat.{flat_map-append}
-use Rattle.std.proofs.lemmas.List.Elements.{All-push}
-use Rattle.std.proofs.lemmas.List.Folds.{list_any-append}
-use Rattle.std.proofs.lemmas.List.Sums.{passes_at_first, fails_before_first}
-use Rattle.std.proofs.lemmas.Bool.Decides.{nat_tests}
-use Rattle.std.proofs.lemmas.Grind.{common_steps}
+use Rattle.std.proofs.{Common.{append_assoc, length-append}, lemmas.List.{append-nil, take-append-drop, drop_more, get_or_at, take_at}}
+use Rattle.std.proofs.{lemmas.List.drop_at, lemmas.List.Splits.{slice_split_first, slice_split_none, length-slice_split}}
+use Rattle.std.proofs.{lemmas.List.Concat.flat_map-append, lemmas.List.Elements.All-push, lemmas.List.Folds.list_any-append}
+use Rattle.std.proofs.{lemmas.List.Sums.{passes_at_first, fails_before_first}, lemmas.Bool.Decides.nat_tests, lemmas.Grind.common_steps}
 use Rattle.std.proofs.lemmas.Str.{IsCharBoundary-from_drop, IsCharBoundary-from_rest, IsUtf8-drop, IsCharBoundary-before_ascii}
 use Rattle.std.proofs.lemmas.Str.{IsCharBoundary-after_ascii, IsCharBoundary-end}
-use Rattle.template_ids.specs.declared.identifier.Identifier.{Identifier}
-use Rattle.template_ids.specs.declared.identifier.Quantity.{Quantity}
-use Rattle.template_ids.specs.declared.piece.Piece.{Piece}
-use Rattle.template_ids.specs.declared.piece.Piece.TheVariants.{Literal, Value}
-use Rattle.template_ids.specs.declared.fault.TemplateFault.{TemplateFault}
+use Rattle.std.specs.List.{list_any, position_or_len, before_first, after_first}
+use Rattle.template_ids.specs.{declared.identifier.Identifier.Identifier, declared.identifier.Quantity.Quantity, declared.piece.Piece.Piece}
+use Rattle.template_ids.specs.{declared.piece.Piece.TheVariants.{Literal, Value}, declared.fault.TemplateFault.TemplateFault}
 use Rattle.template_ids.specs.declared.fault.TemplateFault.TheVariants.{LoneDollar, Unknown, Width, Both, SubNumber, Memory}
-use Rattle.template_ids.specs.declared.ids.Ids.{Ids}
-use Rattle.template_ids.specs.Identifiers.{identifier_of, HasWidth}
-use Rattle.template_ids.specs.Templates.{is_dollar, is_padded, parts_of, odd_parts, replaced, named, uses, identifiers_of, identifier_fault}
-use Rattle.template_ids.specs.Templates.{refusal}
-use Rattle.template_ids.specs.Pieces.{piece_text, is_quantity, IsPieceOf, PiecesOf, IsFirstFault}
+use Rattle.template_ids.specs.{declared.ids.Ids.Ids, Identifiers.{identifier_of, HasWidth}, Templates.{is_dollar, is_padded, parts_of}}
+use Rattle.template_ids.specs.{Templates.{odd_parts, replaced, named, uses, identifiers_of, identifier_fault, refusal}, Pieces.piece_text}
+use Rattle.template_ids.specs.Pieces.{is_quantity, IsPieceOf, PiecesOf, IsFirstFault}
 
 pub record Reads (text : List ℕ) (pieces : List Piece) (rest : List ℕ) : Type 0 where
   pub place : (front : List ℕ) × (text ≡ front ++ rest)

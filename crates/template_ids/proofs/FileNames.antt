@@ -1,27 +1,17 @@
 -- Where the greatest number and time give the name of a file, each number and each time do.
 use Rattle.std.proofs.Common.{◌≡◌, ◌⊎◌, ℕ, zero, suc, ◌-◌, ◌<◌, ◌≤◌, ◌^◌, ◌==◌, Bool, true, false, List, [], ◌∷◌, ◌++◌, length, replicate}
 use Rattle.std.proofs.Common.{Result, Ok, Err, arith, sym, refl, ap, ◌∙◌, subst, inl, inr, ⊎_elim, append_assoc, append-nil, length-append}
-use Rattle.std.proofs.Common.{lit<}
-use Rattle.std.specs.Prelude.{codes, decimal, nat_le}
-use Rattle.std.specs.List.{list_all}
-use Rattle.std.specs.Char.{is_ascii_digit}
-use Rattle.std.specs.Fmt.{digits}
-use Rattle.std.specs.Str.{all_ascii_digits}
-use Rattle.std.proofs.lemmas.Bool.{and_parts, and_from, and_left, and_right, cases_Bool, true≢false}
-use Rattle.std.proofs.lemmas.Bool.Decides.{nat_tests}
-use Rattle.std.proofs.lemmas.List.{length-replicate}
-use Rattle.std.proofs.lemmas.List.Folds.{list_all-append}
-use Rattle.std.proofs.lemmas.Str.Parse.{numerals_by_value, tells_all_ascii_digits}
-use Rattle.std.proofs.lemmas.Fmt.{length-decimal-le, decimal_nonempty, digits_decimal}
+use Rattle.std.proofs.{Common.lit<, lemmas.Bool.{and_parts, and_from, and_left, and_right, cases_Bool, true≢false}}
+use Rattle.std.proofs.{lemmas.Bool.Decides.nat_tests, lemmas.List.length-replicate, lemmas.List.Folds.list_all-append}
+use Rattle.std.proofs.{lemmas.Str.Parse.{numerals_by_value, tells_all_ascii_digits}, lemmas.Fmt.{length-decimal-le, decimal_nonempty}}
+use Rattle.std.proofs.lemmas.Fmt.{digits_decimal}
+use Rattle.std.specs.{Prelude.{codes, decimal, nat_le}, List.list_all, Char.is_ascii_digit, Fmt.digits, Str.all_ascii_digits}
 use Rattle.bridge_io.specs.Names.{is_name_byte, is_proper_part, parts_after, is_name}
-use Rattle.template_ids.specs.declared.fault.TemplateFault.{TemplateFault}
-use Rattle.template_ids.specs.declared.identifier.Identifier.{Identifier}
+use Rattle.template_ids.specs.{declared.fault.TemplateFault.TemplateFault, declared.identifier.Identifier.Identifier}
 use Rattle.template_ids.specs.declared.identifier.Identifier.TheVariants.{Dollar, RepresentationId, Padded}
-use Rattle.template_ids.specs.declared.identifier.Quantity.TheVariants.{Number, Time, Bandwidth}
-use Rattle.template_ids.specs.declared.ids.Ids.{Ids}
-use Rattle.template_ids.specs.Identifiers.{identifier_of}
-use Rattle.template_ids.specs.Templates.{parts_of, padded, value_if_ok, replaced}
-use Rattle.template_ids.specs.FileNames.{with_greatest, FilesAreNamed}
+use Rattle.template_ids.specs.{declared.identifier.Quantity.TheVariants.{Number, Time, Bandwidth}, declared.ids.Ids.Ids}
+use Rattle.template_ids.specs.{Identifiers.identifier_of, Templates.{parts_of, padded, value_if_ok, replaced}, FileNames.with_greatest}
+use Rattle.template_ids.specs.FileNames.{FilesAreNamed}
 
 abbrev is_dot : ℕ → Bool
 is_dot b = b == 46

@@ -1,8 +1,7 @@
 -- Which templates name files, whatever the number and the time.
 use Rattle.std.specs.Prelude.{◌≡◌, ℕ, ◌-◌, ◌<◌, ◌^◌, Bool, true, List}
 use Rattle.bridge_io.specs.Names.{is_name}
-use Rattle.template_ids.specs.declared.ids.Ids.{Ids}
-use Rattle.template_ids.specs.Templates.{named}
+use Rattle.template_ids.specs.{declared.ids.Ids.Ids, Templates.named}
 
 -- the same with the greatest number and time
 abbrev pub with_greatest : Ids → Ids

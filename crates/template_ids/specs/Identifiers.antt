@@ -1,14 +1,11 @@
 -- What the identifiers of a segment template are: ISO/IEC 23009-1, 5.3.9.4.4.
 use Rattle.std.specs.Prelude.{⊤, ℕ, ◌≤◌, ◌+◌, ◌-◌, ◌==◌, ◌&&◌, nat_le, Bool, List, [], ◌++◌, length, take, drop, position, codes, bytes_eq}
-use Rattle.std.specs.Prelude.{if◌then◌else◌, Result, Ok, Err, Option, Some, None}
-use Rattle.std.specs.Str.{all_ascii_digits}
-use Rattle.std.specs.Str.Parse.{digits_value}
-use Rattle.template_ids.specs.declared.identifier.Identifier.{Identifier}
-use Rattle.template_ids.specs.declared.identifier.Identifier.TheVariants.{Dollar, RepresentationId, Padded}
-use Rattle.template_ids.specs.declared.identifier.Quantity.{Quantity}
+use Rattle.std.specs.{Prelude.{if◌then◌else◌, Result, Ok, Err, Option, Some, None}, Str.all_ascii_digits, Str.Parse.digits_value}
+use Rattle.template_ids.specs.{declared.identifier.Identifier.Identifier, declared.identifier.Identifier.TheVariants.Dollar}
+use Rattle.template_ids.specs.{declared.identifier.Identifier.TheVariants.{RepresentationId, Padded}, declared.identifier.Quantity.Quantity}
 use Rattle.template_ids.specs.declared.identifier.Quantity.TheVariants.{Number, Time, Bandwidth}
-use Rattle.template_ids.specs.declared.fault.TemplateFault.{TemplateFault}
-use Rattle.template_ids.specs.declared.fault.TemplateFault.TheVariants.{Unknown, Width, SubNumber}
+use Rattle.template_ids.specs.{declared.fault.TemplateFault.TemplateFault, declared.fault.TemplateFault.TheVariants.{Unknown, Width}}
+use Rattle.template_ids.specs.declared.fault.TemplateFault.TheVariants.{SubNumber}
 
 abbrev pub is_percent : ℕ → Bool
 is_percent b = b == 37

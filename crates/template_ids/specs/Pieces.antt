@@ -1,13 +1,10 @@
 -- The pieces that a template's text is cut into once.
 use Rattle.std.specs.Prelude.{◌≡◌, ℕ, ◌≤◌, Bool, false, List, slice_range, flat_map, All, IsCharBoundary, IfSome, Option, Some, Ok}
 use Rattle.std.specs.List.{list_any}
-use Rattle.template_ids.specs.declared.identifier.Quantity.{Quantity}
-use Rattle.template_ids.specs.declared.piece.Piece.{Piece}
-use Rattle.template_ids.specs.declared.piece.Piece.TheVariants.{Literal, Value}
-use Rattle.template_ids.specs.declared.fault.TemplateFault.{TemplateFault}
-use Rattle.template_ids.specs.declared.ids.Ids.{Ids}
-use Rattle.template_ids.specs.Identifiers.{HasWidth}
-use Rattle.template_ids.specs.Templates.{is_padded, value_of, named, uses, identifiers_of, identifier_fault, refusal}
+use Rattle.template_ids.specs.{declared.identifier.Quantity.Quantity, declared.piece.Piece.Piece, declared.piece.Piece.TheVariants.Literal}
+use Rattle.template_ids.specs.{declared.piece.Piece.TheVariants.Value, declared.fault.TemplateFault.TemplateFault, declared.ids.Ids.Ids}
+use Rattle.template_ids.specs.{Identifiers.HasWidth, Templates.{is_padded, value_of, named, uses, identifiers_of, identifier_fault}}
+use Rattle.template_ids.specs.Templates.{refusal}
 
 -- what a piece of a text stands for
 abbrev pub piece_text : List ℕ → Ids → Piece → List ℕ

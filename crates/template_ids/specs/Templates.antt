@@ -1,15 +1,11 @@
 -- Which texts are segment templates, and what each names: ISO/IEC 23009-1, 5.3.9.4.4.
 use Rattle.std.specs.Prelude.{ℕ, ◌-◌, ◌%◌, ◌==◌, ◌&&◌, Bool, true, false, List, [], ◌∷◌, ◌++◌, length, replicate, count_by, codes, decimal}
-use Rattle.std.specs.Prelude.{if◌then◌else◌, Result, Ok, Err, Option, Some, None}
-use Rattle.std.specs.List.{list_any, slice_split}
-use Rattle.template_ids.specs.declared.identifier.Identifier.{Identifier}
-use Rattle.template_ids.specs.declared.identifier.Identifier.TheVariants.{Dollar, RepresentationId, Padded}
-use Rattle.template_ids.specs.declared.identifier.Quantity.{Quantity}
+use Rattle.std.specs.{Prelude.{if◌then◌else◌, Result, Ok, Err, Option, Some, None}, List.{list_any, slice_split}}
+use Rattle.template_ids.specs.{declared.identifier.Identifier.Identifier, declared.identifier.Identifier.TheVariants.Dollar}
+use Rattle.template_ids.specs.{declared.identifier.Identifier.TheVariants.{RepresentationId, Padded}, declared.identifier.Quantity.Quantity}
 use Rattle.template_ids.specs.declared.identifier.Quantity.TheVariants.{Number, Time, Bandwidth}
-use Rattle.template_ids.specs.declared.fault.TemplateFault.{TemplateFault}
-use Rattle.template_ids.specs.declared.fault.TemplateFault.TheVariants.{LoneDollar, Both, Memory}
-use Rattle.template_ids.specs.declared.ids.Ids.{Ids}
-use Rattle.template_ids.specs.declared.ids.BorrowedIds.{BorrowedIds}
+use Rattle.template_ids.specs.{declared.fault.TemplateFault.TemplateFault, declared.fault.TemplateFault.TheVariants.{LoneDollar, Both}}
+use Rattle.template_ids.specs.{declared.fault.TemplateFault.TheVariants.Memory, declared.ids.Ids.Ids, declared.ids.BorrowedIds.BorrowedIds}
 use Rattle.template_ids.specs.Identifiers.{identifier_of}
 
 abbrev pub is_dollar : ℕ → Bool

@@ -1,24 +1,18 @@
 -- Texts that get numbers, and marks of them.
 use Rattle.std.proofs.Common.{◌≡◌, ℕ, ◌+◌, ◌<◌, Bool, true, false, cond, ◌||◌, List, [], ◌∷◌, ◌++◌, map, length, drop, get_or, slice_get}
 use Rattle.std.proofs.Common.{Option, Some, None, is_some, option_map, unwrap_or, All, Bor, bytes_eq, refl, sym, ◌∙◌, ap, subst, inl, inr}
-use Rattle.std.proofs.Common.{arith, length-append, append_assoc, set}
-use Rattle.std.specs.Option.{option_map_or}
-use Rattle.std.specs.Ordering.{nat_cmp}
-use Rattle.std.specs.Cmp.Lexicographic.{slice_cmp}
-use Rattle.std.specs.BTreeMap.{BTreeMap, UpdatesBy}
-use Rattle.std.proofs.lemmas.Bool.{true≢false, or_left, or_right, cond-true, cond-false, cases_Bool, cases_lt, cases_eq, false_from_ne_true}
-use Rattle.std.proofs.lemmas.List.{append-nil, drop_more, map-append, length-map, get_or-map, get_or_append_left, get_or-set_same}
-use Rattle.std.proofs.lemmas.List.{get_or-set_other, length-set}
+use Rattle.std.proofs.{Common.{arith, length-append, append_assoc, set}, lemmas.Bool.{true≢false, or_left, or_right, cond-true, cond-false}}
+use Rattle.std.proofs.{lemmas.Bool.{cases_Bool, cases_lt, cases_eq, false_from_ne_true}, lemmas.List.{append-nil, drop_more, map-append}}
+use Rattle.std.proofs.lemmas.List.{length-map, get_or-map, get_or_append_left, get_or-set_same, get_or-set_other, length-set}
 use Rattle.std.proofs.lemmas.List.Elements.{All-weaker, All-head, All-tail, All-push, All-nil, All-get_or}
-use Rattle.std.proofs.lemmas.List.Folds.{list_any-append}
-use Rattle.std.proofs.lemmas.Map.Text.{btree_map_updates_str}
-use Rattle.std.proofs.lemmas.Option.{slice_get-map, get_or_from_slice_get, same_Some, slice_get_within, slice_get-get_or}
-use Rattle.std.proofs.lemmas.Slice.Eq.{bytes_eq-Decides}
-use Rattle.std.proofs.Math.Seq.{get_or-append_seam}
+use Rattle.std.proofs.{lemmas.List.Folds.list_any-append, lemmas.Map.Text.btree_map_updates_str, lemmas.Option.slice_get-map}
+use Rattle.std.proofs.lemmas.Option.{get_or_from_slice_get, same_Some, slice_get_within, slice_get-get_or}
+use Rattle.std.proofs.{lemmas.Slice.Eq.bytes_eq-Decides, Math.Seq.get_or-append_seam}
+use Rattle.std.specs.{Option.option_map_or, Ordering.nat_cmp, Cmp.Lexicographic.slice_cmp, BTreeMap.{BTreeMap, UpdatesBy}}
 use Rattle.bridge_io.proofs.Texts.{bytes_eq_sym}
 use Rattle.bridge_io.specs.Texts.{is_among}
-use Rattle.text_lists.specs.Lists.{list_at, merged_from, with_texts, texts_of, with_text}
-use Rattle.text_lists.specs.Numbers.{numbers_at, number_in, IsNumbered, IsOnce, IsMarked, Grows, AreBelow, text_by, texts_by}
+use Rattle.text_lists.specs.{Lists.{list_at, merged_from, with_texts, texts_of, with_text}, Numbers.{numbers_at, number_in, IsNumbered}}
+use Rattle.text_lists.specs.Numbers.{IsOnce, IsMarked, Grows, AreBelow, text_by, texts_by}
 
 pub grows_none : (texts : List (List ℕ)) → Grows texts texts
 grows_none texts = record { more = []; is = sym (append-nil texts) }

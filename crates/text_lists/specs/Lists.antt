@@ -1,8 +1,6 @@
 -- Lists of texts, and what stands in some of them, each text once.
-use Rattle.std.specs.Prelude.{ℕ, ◌==◌, List, [], ◌∷◌, ◌++◌, map, slice_get, if◌then◌else◌, Option, unwrap_or}
-use Rattle.std.specs.List.{slice_split}
-use Rattle.std.specs.Option.{option_map_or}
-use Rattle.std.specs.Borrow.{Bor}
+use Rattle.std.specs.{Prelude.{ℕ, ◌==◌, List, [], ◌∷◌, ◌++◌, map, slice_get, if◌then◌else◌, Option, unwrap_or}, List.slice_split}
+use Rattle.std.specs.{Option.option_map_or, Borrow.Bor}
 use Rattle.bridge_io.specs.Texts.{is_among}
 
 abbrev pub texts_of : List (Bor (List ℕ)) → List (List ℕ)

@@ -1,10 +1,6 @@
 -- Texts by number.
 use Rattle.std.specs.Prelude.{◌≡◌, ◌<◌, ℕ, Bool, false, List, [], ◌++◌, map, length, get_or, slice_get, Option, Some, is_some, All}
-use Rattle.std.specs.Option.{option_map_or}
-use Rattle.std.specs.Borrow.{Bor}
-use Rattle.std.specs.BTreeMap.{BTreeMap, get_by}
-use Rattle.std.specs.Cmp.Lexicographic.{slice_cmp}
-use Rattle.std.specs.Ordering.{nat_cmp}
+use Rattle.std.specs.{Option.option_map_or, Borrow.Bor, BTreeMap.{BTreeMap, get_by}, Cmp.Lexicographic.slice_cmp, Ordering.nat_cmp}
 use Rattle.bridge_io.specs.Texts.{is_among}
 
 -- the number that a map has for a text

@@ -1,39 +1,28 @@
 -- The segments of a duration in a row.
 use Rattle.std.proofs.Common.{◌≡◌, ℕ, zero, suc, ◌+◌, ◌-◌, ◌*◌, ◌<◌, ◌≤◌, ◌^◌, Bool, true, false, not, List, ◌∷◌, ◌++◌, map, pos, ◌-ℤ◌, []}
-use Rattle.std.proofs.Common.{Option, Some, None, refl, ◌∙◌, sym, ap, subst, inl, inr, arith, ltb, ◌<ℤ◌}
+use Rattle.std.proofs.{Common.{Option, Some, None, refl, ◌∙◌, sym, ap, subst, inl, inr, arith, ltb, ◌<ℤ◌}, lemmas.Int.ints}
+use Rattle.std.proofs.{lemmas.Option.IfSome_then, lemmas.List.{append-nil, map-append, append_assoc}, Math.Bool.{or-false, or_assoc}}
+use Rattle.std.proofs.{Math.Nat.{mul-le-mul_right, mul-lt-mul_of_pos_left}, lemmas.Bool.{cases_Bool, cases_lt, cond-true, cond-false}}
+use Rattle.std.proofs.lemmas.Bool.{le-ltb, lt-ltb, or_from, ltb-false, or_parts}
 use Rattle.std.specs.Prelude.{◌||◌, ◌&&◌, nat_lt, IsNone, MatchResult, OnOk, Result, Ok, Err, int_le, unsigned_abs, option_map, length}
 use Rattle.std.specs.List.{list_any}
-use Rattle.std.proofs.lemmas.{Int.ints, Option.IfSome_then}
-use Rattle.std.proofs.lemmas.List.{append-nil, map-append, append_assoc}
-use Rattle.std.proofs.Math.{Bool.or-false, Bool.or_assoc, Nat.mul-le-mul_right, Nat.mul-lt-mul_of_pos_left}
-use Rattle.std.proofs.lemmas.Bool.{cases_Bool, cases_lt, cond-true, cond-false, le-ltb, lt-ltb, or_from, ltb-false, or_parts}
-use Rattle.exact_time.specs.Time.{Time, IsAtMost, in_units, seconds, at_most, before, nanoseconds, difference}
-use Rattle.exact_time.specs.{Floor.IsCeiling, Tick.time_of, declared.tick.Tick.Tick}
-use Rattle.timeline.specs.declared.{entry.End.End, entry.End.TheVariants.At, entry.End.TheVariants.Unbounded, fault.TimeFault.TimeFault}
-use Rattle.timeline.specs.declared.{builder.RunsBuilder.RunsBuilder, limits.Limits.Limits, span.Span.Span}
-use Rattle.timeline.specs.declared.fault.TimeFault.TheVariants.{Range, Step, ListLength}
-use Rattle.timeline.specs.Ratios.{earlier, steps_to_cover}
-use Rattle.timeline.specs.Expansions.{Extent, Member, Closed, Endless, lasting, repeated}
-use Rattle.timeline.specs.Durations.{cut_at, extent_at, extents_by, expansion_of_names, extent_of, expansion_of_list}
-use Rattle.timeline.specs.Faults.{begins_late, extents_break, fault_if, is_apart, members_by, or_fault, refusal, segment_fault}
-use Rattle.timeline.specs.Faults.{lasts_no_time}
-use Rattle.timeline.specs.Steady.{AreKept}
+use Rattle.exact_time.specs.{Time.{Time, IsAtMost, in_units, seconds, at_most, before, nanoseconds, difference}, Floor.IsCeiling}
+use Rattle.exact_time.specs.{Tick.time_of, declared.tick.Tick.Tick}
+use Rattle.timeline.specs.{declared.entry.End.End, declared.entry.End.TheVariants.{At, Unbounded}, declared.fault.TimeFault.TimeFault}
+use Rattle.timeline.specs.{declared.builder.RunsBuilder.RunsBuilder, declared.limits.Limits.Limits, declared.span.Span.Span}
+use Rattle.timeline.specs.{declared.fault.TimeFault.TheVariants.{Range, Step, ListLength}, Ratios.{earlier, steps_to_cover}}
+use Rattle.timeline.specs.{Expansions.{Extent, Member, Closed, Endless, lasting, repeated}, Durations.{cut_at, extent_at, extents_by}}
+use Rattle.timeline.specs.{Durations.{expansion_of_names, extent_of, expansion_of_list}, Faults.{begins_late, extents_break, fault_if}}
+use Rattle.timeline.specs.{Faults.{is_apart, members_by, or_fault, refusal, segment_fault, lasts_no_time}, Steady.AreKept}
 use Rattle.timeline.specs.Building.{AreAdded, IsFaultOf, IsInTime, breaks_in, extent_in, former_end, members_so_far, placed_in, IsLaidOut}
-use Rattle.timeline.specs.Limits.{breaks_limits, span_breaks_limits, too_long}
-use Rattle.timeline.specs.Rows.{AreCounted, IsCountedFault, IsFresh, IsLast, IsRange, IsRow, count_until, counted_fault, cut_fault}
-use Rattle.timeline.specs.Rows.{last_extent, row_of}
-use Rattle.timeline.proofs.Ratios.{steps_to_cover-is, ceiling-is, not_int_le-from}
+use Rattle.timeline.specs.{Limits.{breaks_limits, span_breaks_limits, too_long}, Rows.{AreCounted, IsCountedFault, IsFresh, IsLast}}
+use Rattle.timeline.specs.{Rows.{IsRange, IsRow, count_until, counted_fault, cut_fault, last_extent, row_of}, Reaches.IsTheirFault}
+use Rattle.timeline.specs.{Spans.{AreInRow, IsRowSoFar, fault_of_span, have_no_time}, RunSegments.one_extent}
+use Rattle.timeline.proofs.{Ratios.{steps_to_cover-is, ceiling-is, not_int_le-from}, Judged.{former_end-none, former_end-some, head_passes}}
+use Rattle.timeline.proofs.{Judged.{repeat-extent_in, touching, fault_of_two, passes}, Paced.kept_of, ExpansionsRise.durations_row}
+use Rattle.timeline.proofs.{ExpansionsRise.{row_fault, row_lasting, last_covers, spans_last}, OpenEnds.{no_faults, unless}}
+use Rattle.timeline.proofs.{LimitLemmas.{int_le-cancel, ltb-scaled}, Laid.refusal_some}
 use Rattle.exact_time.proofs.TimeOrder.{before-is, at_most-from, not_at_most-from}
-use Rattle.timeline.proofs.Judged.{former_end-none, former_end-some, head_passes, repeat-extent_in, touching, fault_of_two}
-use Rattle.timeline.proofs.Judged.{passes}
-use Rattle.timeline.proofs.Paced.{kept_of}
-use Rattle.timeline.proofs.ExpansionsRise.{durations_row, row_fault, row_lasting, last_covers, spans_last}
-use Rattle.timeline.proofs.OpenEnds.{no_faults, unless}
-use Rattle.timeline.specs.Reaches.{IsTheirFault}
-use Rattle.timeline.specs.Spans.{AreInRow, IsRowSoFar, fault_of_span, have_no_time}
-use Rattle.timeline.specs.RunSegments.{one_extent}
-use Rattle.timeline.proofs.LimitLemmas.{int_le-cancel, ltb-scaled}
-use Rattle.timeline.proofs.Laid.{refusal_some}
 
 pub count_until-is : (length ticks duration n : ℕ) → 0 < duration → IsCeiling (length * ticks) (duration * 1000000000) n
     → n ≡ steps_to_cover (nanoseconds (pos length)) (in_units ticks duration)

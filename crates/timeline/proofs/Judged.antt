@@ -1,20 +1,15 @@
 -- Judging segments in ticks of one scale.
 use Rattle.std.proofs.Common.{◌≡◌, ℕ, zero, suc, ◌+◌, ◌-◌, ◌*◌, ◌<◌, ◌≤◌, ◌^◌, Bool, true, false, cond, ltb, List, ◌∷◌, ◌++◌, map, ℤ, pos}
-use Rattle.std.proofs.Common.{negsuc, ◌+ℤ◌, ◌-ℤ◌, ◌*ℤ◌, Option, Some, None, refl, ◌∙◌, sym, ap, inl, inr, arith}
+use Rattle.std.proofs.{Common.{negsuc, ◌+ℤ◌, ◌-ℤ◌, ◌*ℤ◌, Option, Some, None, refl, ◌∙◌, sym, ap, inl, inr, arith}, lemmas.Int.ints}
+use Rattle.std.proofs.{lemmas.Bool.{cases_Bool, cond-true, cond-false, lt-leb, eq-eqb, ne_eqb, or_parts}, Math.Nat.one-le-mul}
 use Rattle.std.specs.Prelude.{unsigned_abs, ◌||◌, ◌⊎◌, ◌==◌}
-use Rattle.std.proofs.lemmas.Int.{ints}
-use Rattle.std.proofs.lemmas.Bool.{cases_Bool, cond-true, cond-false, lt-leb, eq-eqb, ne_eqb, or_parts}
-use Rattle.std.proofs.Math.Nat.{one-le-mul}
 use Rattle.exact_time.specs.Time.{Time, seconds, before, at_most}
-use Rattle.timeline.specs.declared.{fault.TimeFault.TimeFault, fault.TimeFault.TheVariants.Step, fault.TimeFault.TheVariants.Range}
-use Rattle.timeline.specs.declared.{builder.RunsBuilder.RunsBuilder, limits.Limits.Limits}
-use Rattle.timeline.specs.Expansions.{Extent, Member, Closed, lasting, repeat_of, repeated}
-use Rattle.timeline.specs.Limits.{breaks_limits, media_extent, too_long}
-use Rattle.timeline.specs.Faults.{is_apart, segment_fault}
-use Rattle.timeline.specs.Building.{placed_in, extent_in, breaks_in, fault_of, former_end}
-use Rattle.timeline.proofs.Ratios.{int_add-mul, int_le-false}
-use Rattle.timeline.proofs.Repeats.{row, repeat-row}
-use Rattle.timeline.proofs.LimitLemmas.{breaks_ticks, breaks-row, breaks-later, int_le-cancel, ltb-scaled}
+use Rattle.timeline.specs.{declared.fault.TimeFault.TimeFault, declared.fault.TimeFault.TheVariants.{Step, Range}}
+use Rattle.timeline.specs.{declared.builder.RunsBuilder.RunsBuilder, declared.limits.Limits.Limits, Expansions.{Extent, Member, Closed}}
+use Rattle.timeline.specs.{Expansions.{lasting, repeat_of, repeated}, Limits.{breaks_limits, media_extent, too_long}, Faults.is_apart}
+use Rattle.timeline.specs.{Faults.segment_fault, Building.{placed_in, extent_in, breaks_in, fault_of, former_end}}
+use Rattle.timeline.proofs.{Ratios.{int_add-mul, int_le-false}, Repeats.{row, repeat-row}, LimitLemmas.{breaks_ticks, breaks-row}}
+use Rattle.timeline.proofs.LimitLemmas.{breaks-later, int_le-cancel, ltb-scaled}
 
 -- ---- whole numbers
 

@@ -1,23 +1,15 @@
 -- What the runs and the open end of a `Runs` have.
 use Rattle.std.proofs.Common.{◌≡◌, ℕ, zero, suc, ◌+◌, ◌-◌, ◌*◌, ◌<◌, ◌≤◌, ◌^◌, Bool, true, false, ◌&&◌, ltb, List, ◌∷◌, ◌++◌, length}
 use Rattle.std.proofs.Common.{get_or, ℤ, pos, ◌+ℤ◌, ◌≤ℤ◌, ◌<ℤ◌, neg_ℤ, refl, ◌∙◌, sym, ap, subst, inl, inr, arith, length-append, []}
-use Rattle.std.specs.Prelude.{Option, Some, None}
-use Rattle.std.specs.List.{AllByRecursion}
-use Rattle.std.proofs.lemmas.{Int.ints, List.Elements.All-from_recursion, Bool.Decides.nat_tests}
-use Rattle.std.proofs.lemmas.Bool.{cases_order, cases_lt, lt-ltb, true≢false}
-use Rattle.std.proofs.Math.Nat.{mul-le-mul_left}
+use Rattle.std.proofs.{lemmas.Int.ints, lemmas.List.Elements.All-from_recursion, lemmas.Bool.Decides.nat_tests, lemmas.Bool.cases_order}
+use Rattle.std.proofs.{lemmas.Bool.{cases_lt, lt-ltb, true≢false}, Math.Nat.mul-le-mul_left}
+use Rattle.std.specs.{Prelude.{Option, Some, None}, List.AllByRecursion}
 use Rattle.exact_time.specs.Time.{Time}
-use Rattle.timeline.specs.Ratios.{natural}
-use Rattle.timeline.specs.Bounds.{IsNear}
-use Rattle.timeline.specs.Expansions.{Extent, repeated, repeat_of}
-use Rattle.timeline.specs.Limits.{too_long}
-use Rattle.timeline.specs.Laws.{EndsRise}
-use Rattle.timeline.specs.declared.{runs.Runs.TheInside.Inside, run.Endless.Endless}
-use Rattle.timeline.proofs.Rises.{ends_rise, no_step_from}
-use Rattle.timeline.specs.RunSegments.{IsRun, AreLaid, IsEndless, HasRoom, all_extents, extents_of, endless_count, first_of, TimedRun}
-use Rattle.timeline.specs.RunSegments.{head_of}
-use Rattle.timeline.specs.Kept.{Follows, FollowsOn, IsKept, timeline_of}
-use Rattle.timeline.proofs.Repeats.{row, repeat-row, length-repeated, natural-pos, one_extent-row}
+use Rattle.timeline.specs.{Ratios.natural, Bounds.IsNear, Expansions.{Extent, repeated, repeat_of}, Limits.too_long, Laws.EndsRise}
+use Rattle.timeline.specs.{declared.runs.Runs.TheInside.Inside, declared.run.Endless.Endless, RunSegments.{IsRun, AreLaid, IsEndless}}
+use Rattle.timeline.specs.{RunSegments.{HasRoom, all_extents, extents_of, endless_count, first_of, TimedRun, head_of}, Kept.Follows}
+use Rattle.timeline.specs.Kept.{FollowsOn, IsKept, timeline_of}
+use Rattle.timeline.proofs.{Rises.{ends_rise, no_step_from}, Repeats.{row, repeat-row, length-repeated, natural-pos, one_extent-row}}
 use Rattle.timeline.proofs.LimitLemmas.{abs-bounds, breaks_ticks, open_breaks, AreAlike, near-from, some_breaks, alike_breaks, alike_count}
 use Rattle.timeline.proofs.SegmentTimelineLemmas.{open_at, open_count, open_breaks_limits, HasScale, LastsSome}
 

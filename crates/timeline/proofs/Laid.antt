@@ -1,28 +1,21 @@
 -- Stretches in a row.
-use Rattle.timeline.specs.declared.{shared_timeline.Laid.Laid, run_table.RunTable.RunTable, run.Run.Run, fault.TimeFault.TimeFault}
-use Rattle.timeline.specs.declared.{fault.TimeFault.TheVariants.Memory, builder.RunsBuilder.RunsBuilder, limits.Limits.Limits}
-use Rattle.timeline.specs.RunTables.{media_of, runs_at}
+use Rattle.timeline.specs.{declared.shared_timeline.Laid.Laid, declared.run_table.RunTable.RunTable, declared.run.Run.Run}
+use Rattle.timeline.specs.{declared.fault.TimeFault.TimeFault, declared.fault.TimeFault.TheVariants.Memory}
+use Rattle.timeline.specs.{declared.builder.RunsBuilder.RunsBuilder, declared.limits.Limits.Limits, RunTables.{media_of, runs_at}}
+use Rattle.timeline.specs.{declared.run.Endless.Endless as GoesOn, Ratios.natural, Expansions.{Extent, Member, Closed, is_open, repeated}}
+use Rattle.timeline.specs.{Expansions.repeat_of, RunSegments.{AreLaid, IsLonger, IsOne, IsRun, all_extents, extents_of, TimedRun}}
+use Rattle.timeline.specs.{RunSegments.{placed_run, timed}, Kept.{endless_members, FollowsOn}, Limits.{breaks_limits, media_extent}}
+use Rattle.timeline.specs.{Faults.{is_apart, refusal, segment_fault, are_paired}, Building.{placed_in, extent_in, breaks_in, fault_of}}
+use Rattle.timeline.specs.Building.{former_end, IsFaultOf, IsLaidOut, IsLastWith, members_so_far, runs_in}
 use Rattle.std.proofs.Common.{◌≡◌, ℕ, zero, suc, ◌+◌, ◌-◌, ◌*◌, ◌<◌, ◌≤◌, ◌^◌, min, ltb, false, List, ◌∷◌, ◌++◌, map, length, take, drop}
-use Rattle.std.proofs.Common.{pos, ◌+ℤ◌, ◌-ℤ◌, Option, Some, None, refl, ◌∙◌, sym, ap, subst, inl, inr, arith, []}
-use Rattle.std.specs.Prelude.{unsigned_abs, slice_get, All, IsNone, IfSome, MatchResult, Result, Ok, Err, ◌==◌, ◌⊎◌}
-use Rattle.std.specs.{Int.abs_diff, Result.IsErr, Result.IsErrAnd}
-use Rattle.std.proofs.lemmas.{Bool.cases_lt, Bool.ltb-false, Int.ints, Grind.flat_map-append}
-use Rattle.std.proofs.lemmas.{Option.get_or_from_slice_get, Option.slice_get_within}
-use Rattle.std.proofs.lemmas.List.{append_assoc, map-append, append-nil, length-map, take-append-drop, drop_more, drop_all}
-use Rattle.std.proofs.lemmas.List.Elements.{All-nil, All-cons, All-append}
-use Rattle.std.proofs.Math.Nat.{mul-le-mul_right}
+use Rattle.std.proofs.{Common.{pos, ◌+ℤ◌, ◌-ℤ◌, Option, Some, None, refl, ◌∙◌, sym, ap, subst, inl, inr, arith, []}, lemmas.Bool.cases_lt}
+use Rattle.std.proofs.{lemmas.Bool.ltb-false, lemmas.Int.ints, lemmas.Grind.flat_map-append, lemmas.Option.get_or_from_slice_get}
+use Rattle.std.proofs.{lemmas.Option.slice_get_within, lemmas.List.{append_assoc, map-append, append-nil, length-map, take-append-drop}}
+use Rattle.std.proofs.{lemmas.List.{drop_more, drop_all}, lemmas.List.Elements.{All-nil, All-cons, All-append}, Math.Nat.mul-le-mul_right}
+use Rattle.std.specs.{Prelude.{unsigned_abs, slice_get, All, IsNone, IfSome, MatchResult, Result, Ok, Err, ◌==◌, ◌⊎◌}, Int.abs_diff}
+use Rattle.std.specs.Result.{IsErr, IsErrAnd}
 use Rattle.exact_time.specs.Time.{Time}
-use Rattle.timeline.specs.declared.run.Endless.{Endless as GoesOn}
-use Rattle.timeline.specs.Ratios.{natural}
-use Rattle.timeline.specs.Expansions.{Extent, Member, Closed, is_open, repeated, repeat_of}
-use Rattle.timeline.specs.RunSegments.{AreLaid, IsLonger, IsOne, IsRun, all_extents, extents_of, TimedRun, placed_run, timed}
-use Rattle.timeline.specs.Kept.{endless_members, FollowsOn}
-use Rattle.timeline.specs.Limits.{breaks_limits, media_extent}
-use Rattle.timeline.specs.Faults.{is_apart, refusal, segment_fault, are_paired}
-use Rattle.timeline.specs.Building.{placed_in, extent_in, breaks_in, fault_of, former_end, IsFaultOf, IsLaidOut, IsLastWith, members_so_far}
-use Rattle.timeline.specs.Building.{runs_in}
-use Rattle.timeline.proofs.KeptLemmas.{length-laid}
-use Rattle.timeline.proofs.Judged.{repeat-extent_in, head_fault, is_apart-in, former_end-some, within-end}
+use Rattle.timeline.proofs.{KeptLemmas.length-laid, Judged.{repeat-extent_in, head_fault, is_apart-in, former_end-some, within-end}}
 
 -- ---- one more run
 

@@ -1,19 +1,14 @@
 -- The limits of segments, by ticks.
 use Rattle.std.proofs.Common.{◌≡◌, ℕ, zero, suc, ◌+◌, ◌-◌, ◌*◌, ◌<◌, ◌≤◌, ◌^◌, Bool, true, false, ◌&&◌, ◌||◌, ltb, leb, ℤ, pos, ◌+ℤ◌, ◌-ℤ◌}
-use Rattle.std.proofs.Common.{◌*ℤ◌, ◌≤ℤ◌, refl, ◌∙◌, sym, ap, inl, inr, arith, ◌⊎◌, negsuc, ◌<ℤ◌, neg_ℤ}
-use Rattle.std.specs.Prelude.{int_le, int_lt, unsigned_abs}
-use Rattle.std.specs.{List.list_any, Int.int_max, Int.int_min}
-use Rattle.std.proofs.lemmas.Int.{ints, by_lt_z, clamps}
-use Rattle.std.proofs.Math.{Bool.or-false, Nat.mul-le-mul_left}
-use Rattle.std.proofs.lemmas.Bool.{cases_lt, lt-ltb, le-ltb, cases_order, and_from, true≢false}
-use Rattle.std.proofs.lemmas.Bool.Decides.{nat_tests}
+use Rattle.std.proofs.{Common.{◌*ℤ◌, ◌≤ℤ◌, refl, ◌∙◌, sym, ap, inl, inr, arith, ◌⊎◌, negsuc, ◌<ℤ◌, neg_ℤ}, lemmas.Int.{ints, by_lt_z}}
+use Rattle.std.proofs.{lemmas.Int.clamps, Math.Bool.or-false, Math.Nat.mul-le-mul_left, lemmas.Bool.{cases_lt, lt-ltb, le-ltb, cases_order}}
+use Rattle.std.proofs.{lemmas.Bool.{and_from, true≢false}, lemmas.Bool.Decides.nat_tests}
+use Rattle.std.specs.{Prelude.{int_le, int_lt, unsigned_abs}, List.list_any, Int.{int_max, int_min}}
 use Rattle.exact_time.specs.Time.{seconds, before, Time, at_most, nanoseconds}
-use Rattle.timeline.specs.Expansions.{Extent, lasting, repeated, repeat_of, ended_by}
-use Rattle.timeline.specs.Limits.{breaks_limits, media_extent}
-use Rattle.timeline.specs.declared.limits.Limits.{Limits}
-use Rattle.timeline.proofs.Ratios.{int_le-mul, int_add-mul, int_le-from, not_int_le-from, floor_ticks, at_most-floor}
-use Rattle.timeline.proofs.Repeats.{row, repeat-row, ends_by, ends_by-in, ends_by-out, ended_by-row}
-use Rattle.timeline.specs.Bounds.{IsNear}
+use Rattle.timeline.specs.{Expansions.{Extent, lasting, repeated, repeat_of, ended_by}, Limits.{breaks_limits, media_extent}}
+use Rattle.timeline.specs.{declared.limits.Limits.Limits, Bounds.IsNear}
+use Rattle.timeline.proofs.{Ratios.{int_le-mul, int_add-mul, int_le-from, not_int_le-from, floor_ticks, at_most-floor}, Repeats.row}
+use Rattle.timeline.proofs.Repeats.{repeat-row, ends_by, ends_by-in, ends_by-out, ended_by-row}
 
 pub int_le-cancel : (x y : ℤ) (u : ℕ) → 0 < u → int_le (x *ℤ pos u) (y *ℤ pos u) ≡ int_le x y
 int_le-cancel x y u some = by_lt_z y x

@@ -1,23 +1,15 @@
 -- The addresses of segments.
 use Rattle.std.proofs.Common.{◌≡◌, ℕ, List, Option, Result, Ok, Err, ap, sym, subst, ◌≤◌, ◌++◌, true, length, ◌∙◌, arith, length-append}
-use Rattle.std.proofs.Common.{false}
-use Rattle.std.specs.Prelude.{IfSome, nat_le, nat_lt, None}
-use Rattle.std.specs.Result.{IsErr, IsErrAnd}
-use Rattle.bridge_io.specs.Answer.{Gives}
-use Rattle.url_parts.specs.Addresses.{refusal, resolve, IsAddress, IsBase, folder_of}
-use Rattle.url_parts.specs.declared.address.Part.{Part}
-use Rattle.url_parts.specs.declared.range.Range.{Range}
-use Rattle.url_parts.specs.declared.fault.UrlFault.{UrlFault}
-use Rattle.url_parts.specs.declared.fault.UrlFault.TheVariants.{Memory}
-use Rattle.timeline.specs.declared.{fault.ListFault.ListFault, names.Names.TheVariants.Template}
-use Rattle.timeline.specs.Names.{list_refusal, list_fault_of, part_at}
-use Rattle.std.proofs.lemmas.{Bool.Decides.nat_tests, List.length-take, Bool.and_parts, Bool.cond-false}
-use Rattle.bridge_io.specs.Names.{is_name}
+use Rattle.std.proofs.{Common.false, lemmas.Bool.Decides.nat_tests, lemmas.List.length-take, lemmas.Bool.{and_parts, cond-false}}
+use Rattle.std.specs.{Prelude.{IfSome, nat_le, nat_lt, None}, Result.{IsErr, IsErrAnd}}
+use Rattle.bridge_io.specs.{Answer.Gives, Names.is_name}
+use Rattle.url_parts.specs.{Addresses.{refusal, resolve, IsAddress, IsBase, folder_of}, declared.address.Part.Part}
+use Rattle.url_parts.specs.{declared.range.Range.Range, declared.fault.UrlFault.UrlFault, declared.fault.UrlFault.TheVariants.Memory}
+use Rattle.timeline.specs.{declared.fault.ListFault.ListFault, declared.names.Names.TheVariants.Template, Names.list_refusal}
+use Rattle.timeline.specs.{Names.{list_fault_of, part_at}, FileNames.{AreInFolder, are_files}}
 use Rattle.template_ids.specs.Templates.{named}
 use Rattle.template_ids.proofs.FileNames.{each_names}
-use Rattle.url_parts.proofs.Bases.{folder_of-take}
-use Rattle.url_parts.proofs.Relative.{resolve_name}
-use Rattle.timeline.specs.FileNames.{AreInFolder, are_files}
+use Rattle.url_parts.proofs.{Bases.folder_of-take, Relative.resolve_name}
 
 -- an address that is its own base
 pub resolve_own : (text : List ℕ) → IsAddress text → resolve text text ≡ Ok text

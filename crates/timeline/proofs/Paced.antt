@@ -1,24 +1,16 @@
 -- The ends of listed segments don't fall, and lie near one another.
 use Rattle.std.proofs.Common.{◌≡◌, ℕ, zero, suc, ◌+◌, ◌*◌, false, List, ◌∷◌, map, take, drop, ℤ, pos, negsuc, ◌≤ℤ◌, subst, append-nil, []}
-use Rattle.std.proofs.Common.{arith, Bool, Option, Some, None}
-use Rattle.std.specs.Prelude.{Option, Some, None, unsigned_abs, All}
-use Rattle.std.specs.List.{list_any, AllByRecursion}
-use Rattle.std.proofs.lemmas.{Bool.or_parts, Int.ints}
-use Rattle.exact_time.specs.Time.{Time, IsTime, IsAtMost, difference, seconds}
-use Rattle.exact_time.specs.Rounding.{IsRising, AreNear}
-use Rattle.exact_time.proofs.TimeOrder.{IsAtMost-trans, IsAtMost-from_before, before-false}
-use Rattle.exact_time.proofs.Times.{IsTime-difference, le_units-add}
-use Rattle.timeline.specs.declared.window.Window.{Window}
-use Rattle.timeline.specs.Expansions.{SegmentTimeline, Extent, Member, Closed, Short, Endless, ended_by, extents, lasting, numbered}
-use Rattle.timeline.specs.Expansions.{repeat_of, repeated}
-use Rattle.timeline.specs.Faults.{is_apart, segment_fault}
-use Rattle.timeline.specs.Limits.{breaks_limits, too_long}
-use Rattle.timeline.specs.Listed.{instant_of, reaches_fault, expansion, is_listed, listed_from}
+use Rattle.std.proofs.{Common.{arith, Bool, Option, Some, None}, lemmas.Bool.or_parts, lemmas.Int.ints, lemmas.List.Elements.All-drop}
+use Rattle.std.proofs.lemmas.List.Elements.{All-filter, All-from_recursion}
+use Rattle.std.specs.{Prelude.{Option, Some, None, unsigned_abs, All}, List.{list_any, AllByRecursion}}
+use Rattle.exact_time.specs.{Time.{Time, IsTime, IsAtMost, difference, seconds}, Rounding.{IsRising, AreNear}}
+use Rattle.exact_time.proofs.{TimeOrder.{IsAtMost-trans, IsAtMost-from_before, before-false}, Times.{IsTime-difference, le_units-add}}
+use Rattle.timeline.specs.{declared.window.Window.Window, Expansions.{SegmentTimeline, Extent, Member, Closed, Short, Endless, ended_by}}
+use Rattle.timeline.specs.{Expansions.{extents, lasting, numbered, repeat_of, repeated}, Faults.{is_apart, segment_fault}}
+use Rattle.timeline.specs.{Limits.{breaks_limits, too_long}, Listed.{instant_of, reaches_fault, expansion, is_listed, listed_from}}
 use Rattle.timeline.specs.Steady.{Lasts, LastsTicks, AreLasting, ArePaced, AreKept, EndInTime, IsWithinLimits}
-use Rattle.timeline.proofs.Judged.{not_long, passes, keeps}
-use Rattle.timeline.proofs.Rises.{IsSomeTime, Lasts-from_ticks, LastsTicks-repeat, ends_after, no_step, short_none, touching_own}
-use Rattle.timeline.proofs.Rises.{steady_from}
-use Rattle.std.proofs.lemmas.List.Elements.{All-drop, All-filter, All-from_recursion}
+use Rattle.timeline.proofs.{Judged.{not_long, passes, keeps}, Rises.{IsSomeTime, Lasts-from_ticks, LastsTicks-repeat, ends_after, no_step}}
+use Rattle.timeline.proofs.Rises.{short_none, touching_own, steady_from}
 
 -- ---- what the constructors judge
 

@@ -1,14 +1,11 @@
 -- How often one time fits into another: floors and ceilings, by cross products.
 use Rattle.std.proofs.Common.{◌≡◌, ℕ, zero, suc, ◌+◌, ◌-◌, ◌*◌, ◌/◌, ◌<◌, ◌≤◌, true, false, leb, ℤ, pos, negsuc, ◌+ℤ◌, ◌*ℤ◌, ◌≤ℤ◌, ◌<ℤ◌}
-use Rattle.std.proofs.Common.{neg_ℤ, refl, ◌∙◌, sym, ap, inl, inr, arith}
-use Rattle.std.specs.Prelude.{int_le}
-use Rattle.std.specs.Int.{int_div_euclid}
-use Rattle.std.proofs.lemmas.{Int.ints, Nat.le-div, Nat.div_below, Bool.Decides.nat_tests}
-use Rattle.std.proofs.lemmas.Bool.{le-leb, lt-leb, cases_lt}
-use Rattle.std.proofs.Math.Dec.{leb-suc-suc}
+use Rattle.std.proofs.{Common.{neg_ℤ, refl, ◌∙◌, sym, ap, inl, inr, arith}, lemmas.Int.ints, lemmas.Nat.{le-div, div_below}}
+use Rattle.std.proofs.{lemmas.Bool.Decides.nat_tests, lemmas.Bool.{le-leb, lt-leb, cases_lt}, Math.Dec.leb-suc-suc}
 use Rattle.std.proofs.Math.Nat.{div-mul-le_self, mul-le-mul_left, le_of_mul-le-mul_left, le_antisymm, one-le-mul}
+use Rattle.std.specs.{Prelude.int_le, Int.int_div_euclid}
 use borrow.Author.Differences.{up, down}
-use Rattle.exact_time.specs.{Time.Time, Time.at_most, Floor.IsCeiling}
+use Rattle.exact_time.specs.{Time.{Time, at_most}, Floor.IsCeiling}
 use Rattle.timeline.specs.Ratios.{natural, steps_within, steps_to_cover}
 
 -- ---- quotients

@@ -1,47 +1,35 @@
 -- How far the segments of an S go on.
-use Rattle.std.proofs.lemmas.List.{append_assoc, append-nil, map-append, drop-drop, length-append, length-drop}
-use Rattle.std.proofs.Common.{inl, inr, ◌≡◌, ℕ, zero, suc, ◌+◌, ◌-◌, ◌*◌, ◌<◌, ◌≤◌, Bool, true, false, cond, List, ◌∷◌, map, ℤ, pos, negsuc}
-use Rattle.std.proofs.Common.{[]}
-use Rattle.std.proofs.Common.{◌+ℤ◌, ◌-ℤ◌, ◌*ℤ◌, Option, Some, None, refl, ◌∙◌, sym, ap, subst, arith, ◌^◌, max, ltb, ◌||◌, ◌++◌, length}
-use Rattle.std.proofs.Common.{drop}
-use Rattle.std.specs.Prelude.{◌⊎◌, slice_get, not, ◌&&◌, ◌==◌, Option, Some, None, All, IsNone, unsigned_abs}
-use Rattle.std.specs.{List.list_any, Int.FitsUnsignedBits}
+use Rattle.std.proofs.{lemmas.List.{append_assoc, append-nil, map-append, drop-drop, length-append, length-drop}, Common.{inl, inr, ◌≡◌, ℕ}}
+use Rattle.std.proofs.Common.{zero, suc, ◌+◌, ◌-◌, ◌*◌, ◌<◌, ◌≤◌, Bool, true, false, cond, List, ◌∷◌, map, ℤ, pos, negsuc, [], ◌+ℤ◌, ◌-ℤ◌}
+use Rattle.std.proofs.Common.{◌*ℤ◌, Option, Some, None, refl, ◌∙◌, sym, ap, subst, arith, ◌^◌, max, ltb, ◌||◌, ◌++◌, length, drop}
+use Rattle.std.proofs.{lemmas.Int.ints, lemmas.Option.IfSome_then, lemmas.Bool.Decides.nat_tests, lemmas.Bool.{cond-true, cond-false}}
+use Rattle.std.proofs.{lemmas.Bool.{or_parts, cases_Bool, cases_lt, eq-eqb, ne_eqb, le-ltb, lt-leb}, Math.Nat.one-le-mul}
+use Rattle.std.proofs.Math.Nat.{mul-le-mul_right}
+use Rattle.std.specs.{Prelude.{◌⊎◌, slice_get, not, ◌&&◌, ◌==◌, Option, Some, None, All, IsNone, unsigned_abs}, List.list_any}
+use Rattle.std.specs.Int.{FitsUnsignedBits}
 use mir.Val.{SFits}
 use mir.Syntax.{w64}
-use Rattle.std.proofs.lemmas.{Int.ints, Option.IfSome_then, Bool.Decides.nat_tests}
-use Rattle.std.proofs.lemmas.Bool.{cond-true, cond-false, or_parts, cases_Bool, cases_lt, eq-eqb, ne_eqb, le-ltb, lt-leb}
-use Rattle.std.proofs.Math.Nat.{one-le-mul, mul-le-mul_right}
-use Rattle.exact_time.specs.Time.{Time, IsBefore, IsAtMost, difference, at_most, nanoseconds}
-use Rattle.exact_time.specs.Floor.{IsCeiling}
-use Rattle.timeline.specs.declared.{entry.SEntry.SEntry, entry.Scale.Scale, entry.End.End}
-use Rattle.timeline.specs.declared.{entry.End.TheVariants.At, entry.End.TheVariants.Unbounded, fault.TimeFault.TimeFault}
-use Rattle.timeline.specs.declared.{fault.TimeFault.TheVariants.Range, fault.TimeFault.TheVariants.Step, builder.RunsBuilder.RunsBuilder}
-use Rattle.timeline.specs.declared.{limits.Limits.Limits, names.Names.Names, media_run.MediaRun.MediaRun, media_runs.MediaRuns.MediaRuns}
-use Rattle.timeline.specs.declared.{shared_timeline.LaidTimeline.LaidTimeline}
-use Rattle.timeline.specs.declared.timelines.Reach.{Reach as Found}
-use Rattle.timeline.specs.declared.timelines.Reach.TheVariants.{Count, Open, Nowhere, Nowhere as Without}
-use Rattle.timeline.specs.Ratios.{natural}
-use Rattle.timeline.specs.Expansions.{Extent, Member, Closed, Short, lasting, repeated, Endless, repeat_of}
-use Rattle.timeline.specs.Timelines.{UpTo, placed, extent_from, count_up_to, members_of, reach_of, reach_of_end, members_from}
-use Rattle.timeline.specs.Timelines.{expansion_of_timeline, count_of, reach_of_next}
-use Rattle.timeline.specs.SegmentTimelines.{timeline_of_entries, timeline_if_paired}
-use Rattle.timeline.specs.Steady.{AreKept}
-use Rattle.timeline.specs.Limits.{breaks_limits}
-use Rattle.timeline.specs.Faults.{ends_open, is_apart, is_unbounded, refusal, segment_fault}
-use Rattle.timeline.specs.Building.{AreAdded, IsLaidOut, IsFaultOf, breaks_in, extent_in, fault_of, former_end, members_so_far, placed_in}
-use Rattle.timeline.specs.Building.{runs_in}
+use Rattle.exact_time.specs.{Time.{Time, IsBefore, IsAtMost, difference, at_most, nanoseconds}, Floor.IsCeiling}
+use Rattle.timeline.specs.{declared.entry.SEntry.SEntry, declared.entry.Scale.Scale, declared.entry.End.End}
+use Rattle.timeline.specs.{declared.entry.End.TheVariants.{At, Unbounded}, declared.fault.TimeFault.TimeFault}
+use Rattle.timeline.specs.{declared.fault.TimeFault.TheVariants.{Range, Step}, declared.builder.RunsBuilder.RunsBuilder}
+use Rattle.timeline.specs.{declared.limits.Limits.Limits, declared.names.Names.Names, declared.media_run.MediaRun.MediaRun}
+use Rattle.timeline.specs.{declared.media_runs.MediaRuns.MediaRuns, declared.shared_timeline.LaidTimeline.LaidTimeline}
+use Rattle.timeline.specs.{declared.timelines.Reach.Reach as Found, declared.timelines.Reach.TheVariants.{Count, Open, Nowhere}}
+use Rattle.timeline.specs.{declared.timelines.Reach.TheVariants.Nowhere as Without, Ratios.natural, Expansions.{Extent, Member, Closed}}
+use Rattle.timeline.specs.{Expansions.{Short, lasting, repeated, Endless, repeat_of}, Timelines.{UpTo, placed, extent_from, count_up_to}}
+use Rattle.timeline.specs.Timelines.{members_of, reach_of, reach_of_end, members_from, expansion_of_timeline, count_of, reach_of_next}
+use Rattle.timeline.specs.{SegmentTimelines.{timeline_of_entries, timeline_if_paired}, Steady.AreKept, Limits.breaks_limits}
+use Rattle.timeline.specs.{Faults.{ends_open, is_apart, is_unbounded, refusal, segment_fault}, Building.{AreAdded, IsLaidOut, IsFaultOf}}
+use Rattle.timeline.specs.Building.{breaks_in, extent_in, fault_of, former_end, members_so_far, placed_in, runs_in}
 use Rattle.timeline.specs.Reaches.{GoesOn as MoreFollow, IsUpTo, IsReach, AreLaidOut, AreLimitsOf, IsSoFar, IsTheirFault, members_of_entry}
-use Rattle.timeline.specs.Reaches.{next_of, start_of}
+use Rattle.timeline.specs.{Reaches.{next_of, start_of}, MediaTimelines.{IsLaidTimeline, IsMedia, IsNextRun, IsPushed, are_passed}}
+use Rattle.timeline.specs.{MediaTimelines.{media_end, rest_of, runs_by}, RunSegments.{AreLaid, IsRun, TimedRun, all_extents, placed_run}}
 use Rattle.timeline.proofs.Ratios.{steps_to_cover-is, ceiling-is, int_le-mul, int_add-mul, ceiling, ceiling-enough, ceiling-le}
-use Rattle.exact_time.proofs.TimeOrder.{at_most-from, not_at_most-from}
 use Rattle.timeline.proofs.Laid.{refusal_some, IsRun-in, extents-push, extents_after, laid-push, none_follows, none_of, room_after}
-use Rattle.timeline.proofs.Laid.{timed-in}
-use Rattle.timeline.proofs.Paced.{kept_of}
-use Rattle.timeline.proofs.ExpansionsRise.{entries_last}
-use Rattle.timeline.specs.MediaTimelines.{IsLaidTimeline, IsMedia, IsNextRun, IsPushed, are_passed, media_end, rest_of, runs_by}
-use Rattle.timeline.specs.RunSegments.{AreLaid, IsRun, TimedRun, all_extents, placed_run}
-use Rattle.timeline.proofs.Judged.{breaks-mono, head_breaks, is_apart-in, media_extent-in, run_fault}
-use Rattle.timeline.proofs.LimitLemmas.{breaks_media, abs-lt}
+use Rattle.timeline.proofs.{Laid.timed-in, Paced.kept_of, ExpansionsRise.entries_last, Judged.{breaks-mono, head_breaks, is_apart-in}}
+use Rattle.timeline.proofs.{Judged.{media_extent-in, run_fault}, LimitLemmas.{breaks_media, abs-lt}}
+use Rattle.exact_time.proofs.TimeOrder.{at_most-from, not_at_most-from}
 
 positive_from : (count length step : ℕ) → IsCeiling length step count → 0 < length → 0 < count
 positive_from zero length step is some = absurd (omega (arith, is.enough))

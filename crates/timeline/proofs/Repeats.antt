@@ -1,14 +1,11 @@
 -- Segments that are repeated: their number, the k-th one, their parts, and how many of them end by a time.
 use Rattle.std.proofs.Common.{◌≡◌, ℕ, zero, suc, ◌+◌, ◌-◌, ◌*◌, ◌/◌, ◌<◌, ◌≤◌, min, Bool, true, false, not, cond, List, ◌∷◌, ◌++◌, length}
-use Rattle.std.proofs.Common.{[]}
-use Rattle.std.proofs.Common.{take, drop, ℤ, pos, negsuc, ◌+ℤ◌, ◌-ℤ◌, ◌*ℤ◌, ◌≤ℤ◌, ◌<ℤ◌, refl, ◌∙◌, sym, ap, inl, inr, arith, ◌^◌}
+use Rattle.std.proofs.Common.{[], take, drop, ℤ, pos, negsuc, ◌+ℤ◌, ◌-ℤ◌, ◌*ℤ◌, ◌≤ℤ◌, ◌<ℤ◌, refl, ◌∙◌, sym, ap, inl, inr, arith, ◌^◌}
+use Rattle.std.proofs.{lemmas.Int.ints, lemmas.List.Sums.sum_by-cons, lemmas.Bool.{cases_lt, cases_Bool, cond-true, cond-false}}
+use Rattle.std.proofs.{lemmas.Bool.cases_order, Math.Nat.{mul-le-mul_left, one-le-mul}}
 use Rattle.std.specs.Prelude.{int_le, slice_get, Some, unsigned_abs}
-use Rattle.std.proofs.lemmas.{Int.ints, List.Sums.sum_by-cons}
-use Rattle.std.proofs.lemmas.Bool.{cases_lt, cases_Bool, cond-true, cond-false, cases_order}
-use Rattle.std.proofs.Math.Nat.{mul-le-mul_left, one-le-mul}
 use Rattle.exact_time.specs.Time.{Time, difference, before, at_most}
-use Rattle.timeline.specs.Ratios.{natural, steps_within}
-use Rattle.timeline.specs.Expansions.{Extent, repeated, repeat_of, ended_by, lasting}
+use Rattle.timeline.specs.{Ratios.{natural, steps_within}, Expansions.{Extent, repeated, repeat_of, ended_by, lasting}}
 use Rattle.timeline.specs.RunSegments.{count_ended, GoesOnAs, IsLonger, IsRun, IsRestOf, extents_of, TimedRun, head_of}
 use Rattle.timeline.proofs.Ratios.{quotient-is, quotient-low, quotient-high, steps_within-is, at_most-floor, floor_ticks, floor-low}
 use Rattle.timeline.proofs.Ratios.{floor-high, int_le-true, int_le-false, int_le-from, not_int_le-from, int_add-mul}

@@ -1,20 +1,15 @@
 -- Each segment ends after the one before it, where none is apart from it.
 use Rattle.std.proofs.Common.{◌≡◌, ℕ, zero, suc, ◌+◌, ◌*◌, ◌<◌, ◌≤◌, Bool, true, false, cond, ℤ, pos, negsuc, ◌+ℤ◌, ◌-ℤ◌, ◌*ℤ◌, ◌≤ℤ◌, ◌<ℤ◌}
-use Rattle.std.proofs.Common.{List, ◌∷◌, map, Option, Some, None, refl, ◌∙◌, ap, inl, inr, arith, []}
+use Rattle.std.proofs.{Common.{List, ◌∷◌, map, Option, Some, None, refl, ◌∙◌, ap, inl, inr, arith, []}, lemmas.Int.ints}
+use Rattle.std.proofs.{lemmas.Bool.cond-false, lemmas.List.append-nil, Math.Nat.{mul-le-mul_left, one-le-mul}}
 use Rattle.std.specs.Prelude.{unsigned_abs}
-use Rattle.std.proofs.lemmas.{Int.ints, Bool.cond-false, List.append-nil}
-use Rattle.std.proofs.Math.Nat.{mul-le-mul_left, one-le-mul}
 use borrow.Author.Differences.{up, down}
 use Rattle.exact_time.specs.Time.{Time, IsTime, IsBefore, IsAtMost, cross, difference, before, AreRising}
 use Rattle.exact_time.proofs.TimeOrder.{share, share_le_out, before-false, not_before-from, before_or_at_most, before_excludes}
-use Rattle.timeline.specs.declared.{fault.TimeFault.TimeFault, fault.TimeFault.TheVariants.Step, fault.TimeFault.TheVariants.Range}
-use Rattle.timeline.specs.Ratios.{earlier}
+use Rattle.timeline.specs.{declared.fault.TimeFault.TimeFault, declared.fault.TimeFault.TheVariants.{Step, Range}, Ratios.earlier}
 use Rattle.timeline.specs.Expansions.{Extent, Member, Closed, Short, Endless, extents, ended_by, lasting, repeat_of, repeated}
-use Rattle.timeline.specs.Faults.{is_apart, segment_fault}
-use Rattle.timeline.specs.Steady.{Lasts, LastsTicks, AreLasting}
-use Rattle.timeline.specs.Laws.{EndsRise}
-use Rattle.timeline.proofs.Judged.{head_passes, passes}
-use Rattle.timeline.proofs.Ratios.{int_le-mul}
+use Rattle.timeline.specs.{Faults.{is_apart, segment_fault}, Steady.{Lasts, LastsTicks, AreLasting}, Laws.EndsRise}
+use Rattle.timeline.proofs.{Judged.{head_passes, passes}, Ratios.int_le-mul}
 
 pub Lasts-from_ticks : (x : Extent) → LastsTicks x → Lasts x
 Lasts-from_ticks x is = record {

@@ -2,42 +2,35 @@
 -- those that end by the other.
 use Rattle.std.proofs.Common.{◌≡◌, ℕ, zero, suc, ◌+◌, ◌-◌, ◌*◌, ◌<◌, ◌≤◌, ◌^◌, min, max, Bool, true, false, not, ◌&&◌, List, ◌∷◌, ◌++◌, []}
 use Rattle.std.proofs.Common.{length, take, drop, ℤ, pos, negsuc, ◌+ℤ◌, ◌-ℤ◌, ◌≤ℤ◌, ◌*ℤ◌, refl, ◌∙◌, sym, ap, subst, inl, inr, arith}
-use Rattle.std.proofs.Common.{length-append, length-take, length-drop, get_or}
-use Rattle.std.specs.Prelude.{Option, Some, None, option_map, IsSome, is_some, count_by, sum_by, cond, filter, unwrap_or, All}
-use Rattle.std.specs.{Int.int_max, List.AllByRecursion, List.Sorted.IsPartitionedBy, List.Sorted.IsPartitionPoint}
-use Rattle.std.proofs.lemmas.{Int.ints, Bool.Decides.nat_tests, List.Sums.sum_by-cons}
-use Rattle.std.proofs.lemmas.Bool.{cases_lt, false≢true, lt-ltb, cases_Bool}
+use Rattle.std.proofs.{Common.{length-append, length-take, length-drop, get_or}, lemmas.Int.ints, lemmas.Bool.Decides.nat_tests}
+use Rattle.std.proofs.{lemmas.List.Sums.sum_by-cons, lemmas.Bool.{cases_lt, false≢true, lt-ltb, cases_Bool}}
 use Rattle.std.proofs.lemmas.List.Elements.{filter_agree, All-filter, All-weaker, All-drop, All-from_recursion, recursion_from_All}
 use Rattle.std.proofs.Math.Nat.{mul-le-mul_left}
+use Rattle.std.specs.Prelude.{Option, Some, None, option_map, IsSome, is_some, count_by, sum_by, cond, filter, unwrap_or, All}
+use Rattle.std.specs.{Int.int_max, List.AllByRecursion, List.Sorted.{IsPartitionedBy, IsPartitionPoint}}
 use Rattle.exact_time.specs.Time.{Time, seconds, before, at_most, nanoseconds, AreRising}
 use Rattle.exact_time.proofs.TimeOrder.{before-is}
-use Rattle.timeline.specs.Bounds.{StandsFor, StandsForSome, time_of_bound, low_of}
-use Rattle.timeline.specs.Expansions.{SegmentTimeline, Extent, Timing, extents, is_open, numbered, repeated, repeat_of}
-use Rattle.timeline.specs.Kept.{Follows, FollowsOn, IsKept, timeline_of, runs_of}
-use Rattle.timeline.specs.Limits.{breaks_limits, media_extent}
-use Rattle.timeline.specs.Listed.{expansion, is_after, is_until, is_listed, listed, listed_from, instant_of, is_out_of_range, IsWindowOf}
-use Rattle.timeline.specs.Listed.{IsReached, IsFirstListed, IsPlaceAfter, IsWithin, CanBeNamed}
+use Rattle.timeline.specs.{Bounds.{StandsFor, StandsForSome, time_of_bound, low_of}, Expansions.{SegmentTimeline, Extent, Timing, extents}}
+use Rattle.timeline.specs.{Expansions.{is_open, numbered, repeated, repeat_of}, Kept.{Follows, FollowsOn, IsKept, timeline_of, runs_of}}
+use Rattle.timeline.specs.{Limits.{breaks_limits, media_extent}, Listed.{expansion, is_after, is_until, is_listed, listed, listed_from}}
+use Rattle.timeline.specs.Listed.{instant_of, is_out_of_range, IsWindowOf, IsReached, IsFirstListed, IsPlaceAfter, IsWithin, CanBeNamed}
 use Rattle.timeline.specs.Places.{closed_total, reached_count, reached_by, count_until, open_extents, IsLastBegun, closed_count}
 use Rattle.timeline.specs.RunSegments.{AreLaidFrom, HasRoom, IsTail, TimedRun, all_extents, count_ended, endless_count, endless_extents}
-use Rattle.timeline.specs.RunSegments.{extents_of_some, first_of, AreLaid, extents_of, head_of}
-use Rattle.timeline.specs.Steady.{AreLasting, ArePaced, EndInTime, IsSteady, IsWithinLimits}
-use Rattle.timeline.specs.declared.{bound.Bound.Bound, limits.Limits.Limits, run.Endless.Endless, runs.Runs.TheInside.Inside}
-use Rattle.timeline.specs.declared.{window.Window.Window, run_slice.Test.TheVariants.BeginsBy}
+use Rattle.timeline.specs.{RunSegments.{extents_of_some, first_of, AreLaid, extents_of, head_of}, Steady.{AreLasting, ArePaced, EndInTime}}
+use Rattle.timeline.specs.{Steady.{IsSteady, IsWithinLimits}, declared.bound.Bound.Bound, declared.limits.Limits.Limits}
+use Rattle.timeline.specs.{declared.run.Endless.Endless, declared.runs.Runs.TheInside.Inside, declared.window.Window.Window}
+use Rattle.timeline.specs.{declared.run_slice.Test.TheVariants.BeginsBy, RunTables.passes}
 use Rattle.timeline.proofs.KeptLemmas.{AreReached, EndsNear, StartsTimed, alike_open, alike_open_breaks, all_append, kept_rises, lasts_some}
 use Rattle.timeline.proofs.KeptLemmas.{all_laid, length-laid, near_run, reached_open, room_reached, scales_open, scales_run, run_at}
-use Rattle.timeline.proofs.LimitLemmas.{breaks_at, AreAlike, some_breaks}
-use Rattle.timeline.proofs.Paced.{listed_within, listed_paced}
+use Rattle.timeline.proofs.{LimitLemmas.{breaks_at, AreAlike, some_breaks}, Paced.{listed_within, listed_paced}}
 use Rattle.timeline.proofs.NumberedLemmas.{count-numbered, count_all, drop-numbered, length-numbered, splits-numbered, take-numbered}
 use Rattle.timeline.proofs.SegmentTimelineLemmas.{HasScale, LastsSome, count_ended-append, count_ended-le, count_ended-open, ends_of}
 use Rattle.timeline.proofs.SegmentTimelineLemmas.{place_of-parts, splits_rising, ends_by_time, none_ended, front_ended, open_at, open_count}
 use Rattle.timeline.proofs.SegmentTimelineLemmas.{open_breaks_limits, members_of_parts, extents-parts, is_open-parts, open_extents-parts}
-use Rattle.timeline.proofs.SegmentTimelineLemmas.{out_of_range-parts, reached-parts, total-parts, closed-parts}
-use Rattle.timeline.proofs.Ratios.{int_le-mul}
-use Rattle.timeline.proofs.Repeats.{length-repeated, count_ended-in}
-use Rattle.timeline.proofs.Splits.{SplitsAt, IsPlaceOf, between, drop-place, filter-before, filter-between, first-between, left-place}
-use Rattle.timeline.proofs.Splits.{splits_after, splits_all, splits_before, splits_within, take-place, splits_front, splits_rest}
-use Rattle.timeline.specs.RunTables.{passes}
-use Rattle.timeline.proofs.WalkLemmas.{length-extents}
+use Rattle.timeline.proofs.{SegmentTimelineLemmas.{out_of_range-parts, reached-parts, total-parts, closed-parts}, Ratios.int_le-mul}
+use Rattle.timeline.proofs.{Repeats.{length-repeated, count_ended-in}, Splits.{SplitsAt, IsPlaceOf, between, drop-place, filter-before}}
+use Rattle.timeline.proofs.Splits.{filter-between, first-between, left-place, splits_after, splits_all, splits_before, splits_within}
+use Rattle.timeline.proofs.{Splits.{take-place, splits_front, splits_rest}, WalkLemmas.length-extents}
 
 -- ---- the bounds of a window
 

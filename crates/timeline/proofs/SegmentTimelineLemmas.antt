@@ -1,23 +1,17 @@
 -- The members of a timeline: segments, and perhaps those that go on to an open end.
-use Rattle.std.proofs.Common.{◌≡◌, ℕ, ◌+◌, Bool, true, false, not, cond, List, ◌∷◌, ◌++◌, map, length, refl, ◌∙◌, ap, append-nil, []}
-use Rattle.std.proofs.Common.{arith, zero, suc, ◌<◌, ◌≤◌, min, sym, inl, inr, length-append}
-use Rattle.std.specs.Prelude.{Option, Some, None, is_some, filter, flat_map, sum_by, count_by, cond}
-use Rattle.std.specs.List.{list_any, AllByRecursion}
-use Rattle.std.proofs.lemmas.List.Sums.{sum_by-cons, sum_by-append, count_by-le-length}
-use Rattle.std.proofs.lemmas.{Grind.flat_map-append, Bool.cases_Bool, Bool.cases_lt}
+use Rattle.std.proofs.Common.{◌≡◌, ℕ, ◌+◌, Bool, true, false, not, cond, List, ◌∷◌, ◌++◌, map, length, refl, ◌∙◌, ap, append-nil, [], arith}
+use Rattle.std.proofs.{Common.{zero, suc, ◌<◌, ◌≤◌, min, sym, inl, inr, length-append}, lemmas.List.Sums.{sum_by-cons, sum_by-append}}
+use Rattle.std.proofs.{lemmas.List.Sums.count_by-le-length, lemmas.Grind.flat_map-append, lemmas.Bool.{cases_Bool, cases_lt}}
+use Rattle.std.proofs.Math.Bool.{or-false}
+use Rattle.std.specs.{Prelude.{Option, Some, None, is_some, filter, flat_map, sum_by, count_by, cond}, List.{list_any, AllByRecursion}}
 use Rattle.exact_time.specs.Time.{Time, at_most, IsBefore, AreRising}
 use Rattle.timeline.specs.Expansions.{SegmentTimeline, Extent, Member, Closed, extents, extents_at, goes_on, is_open}
-use Rattle.timeline.specs.Limits.{breaks_limits}
-use Rattle.timeline.specs.Places.{closed_by, reached_by}
-use Rattle.timeline.specs.RunSegments.{count_ended, endless_count, endless_extents, first_of}
-use Rattle.timeline.specs.Kept.{endless_members}
-use Rattle.timeline.specs.Listed.{reaches_fault, instant_of}
-use Rattle.timeline.specs.declared.{run.Endless.Endless, window.Window.Window}
+use Rattle.timeline.specs.{Limits.breaks_limits, Places.{closed_by, reached_by}, RunSegments.{count_ended, endless_count, endless_extents}}
+use Rattle.timeline.specs.{RunSegments.first_of, Kept.endless_members, Listed.{reaches_fault, instant_of}, declared.run.Endless.Endless}
+use Rattle.timeline.specs.declared.window.Window.{Window}
 use Rattle.exact_time.proofs.TimeOrder.{before_then_at_most, IsAtMost-from_before, at_most-false, not_at_most-from}
-use Rattle.timeline.proofs.NumberedLemmas.{count_all}
-use Rattle.timeline.proofs.Repeats.{length-repeated, count_ended-in, count_ended-out, count_ended-row, ended_by-row}
-use Rattle.timeline.proofs.Splits.{SplitsAt, splits_same, IsPlaceOf}
-use Rattle.std.proofs.Math.Bool.{or-false}
+use Rattle.timeline.proofs.{NumberedLemmas.count_all, Repeats.{length-repeated, count_ended-in, count_ended-out, count_ended-row}}
+use Rattle.timeline.proofs.{Repeats.ended_by-row, Splits.{SplitsAt, splits_same, IsPlaceOf}}
 
 -- the segments that go on to an open end, up to a time
 abbrev pub open_at : Time → Option Endless → List Extent

@@ -1,10 +1,9 @@
 -- Lists of which the first ones pass a test and the others don't.
 use Rattle.std.proofs.Common.{◌≡◌, ℕ, zero, suc, ◌+◌, ◌-◌, ◌<◌, ◌≤◌, ◌⊎◌, min, max, Bool, true, false, not, ◌&&◌, List, ◌∷◌, ◌++◌, length}
-use Rattle.std.proofs.Common.{take, drop, refl, ◌∙◌, sym, ap, subst, inl, inr, arith, []}
+use Rattle.std.proofs.{Common.{take, drop, refl, ◌∙◌, sym, ap, subst, inl, inr, arith, []}, lemmas.List.Elements.{All-nil, All-cons}}
+use Rattle.std.proofs.{lemmas.List.{drop-drop, drop_all, take_all}, lemmas.Bool.{cond-true, cond-false, and_left, and_right, and_from}}
+use Rattle.std.proofs.lemmas.Bool.{not_from_true, not_from_false}
 use Rattle.std.specs.Prelude.{slice_get, IsSome, All, filter}
-use Rattle.std.proofs.lemmas.List.Elements.{All-nil, All-cons}
-use Rattle.std.proofs.lemmas.List.{drop-drop, drop_all, take_all}
-use Rattle.std.proofs.lemmas.Bool.{cond-true, cond-false, and_left, and_right, and_from, not_from_true, not_from_false}
 
 -- the first k pass the test, and the others don't
 abbrev pub SplitsAt : {X : Type 0} → (X → Bool) → ℕ → List X → Type 0

@@ -1,26 +1,19 @@
 -- Where a walk over runs stands.
 use Rattle.std.proofs.Common.{◌≡◌, min, leb, true, false, ℕ, zero, suc, ◌+◌, ◌-◌, ◌<◌, ◌≤◌, List, ◌∷◌, ◌++◌, ◌⊎◌, inl, inr, length, take}
-use Rattle.std.proofs.Common.{[]}
-use Rattle.std.proofs.Common.{drop, get_or, refl, ◌∙◌, sym, ap, subst, append_assoc, append-nil, arith, length-append, ◌*◌, ◌^◌, map, ℤ}
-use Rattle.std.proofs.Common.{pos, ◌+ℤ◌, ◌<ℤ◌}
-use Rattle.std.specs.Prelude.{Option, Some, None, option_map, slice_get}
-use Rattle.timeline.specs.RunTables.{passes, slice_runs}
-use Rattle.timeline.specs.declared.{run_slice.Test.TheVariants.EndsBy, time_walk.TimeWalk.TheInside.Inside, run.Run.Run}
-use Rattle.timeline.specs.declared.{span.SpanRun.SpanRun}
-use Rattle.std.specs.List.Sorted.{IsPartitionPoint, IsPartitionedBy}
-use Rattle.std.proofs.lemmas.Bool.{cases_lt, le-leb, leb-true, leb-false}
-use Rattle.std.proofs.lemmas.{List.Elements.All-from_recursion, Int.ints}
-use Rattle.std.proofs.lemmas.List.{length-drop, drop_all, drop-append-le, get_or-drop, take-append-le, take_rest, drop-map, length-map}
-use Rattle.timeline.specs.Expansions.{Extent, numbered, repeated, repeat_of, Timing}
-use Rattle.timeline.specs.RunSegments.{IsRun, IsRestOf, IsSplit, AreLaid, AreLaidFrom, ArePassed, all_extents, extents_of, extents_of_some}
-use Rattle.timeline.specs.RunSegments.{TimedRun, head_of, timed}
-use Rattle.timeline.specs.Walks.{StandsIn, IsWalk, place_of, timings_left}
-use Rattle.timeline.proofs.KeptLemmas.{runs_laid}
-use Rattle.timeline.proofs.Repeats.{length-repeated, repeat-row, row, take-repeated, one_extent-row}
+use Rattle.std.proofs.Common.{[], drop, get_or, refl, ◌∙◌, sym, ap, subst, append_assoc, append-nil, arith, length-append, ◌*◌, ◌^◌, map, ℤ}
+use Rattle.std.proofs.{Common.{pos, ◌+ℤ◌, ◌<ℤ◌}, lemmas.Bool.{cases_lt, le-leb, leb-true, leb-false}}
+use Rattle.std.proofs.{lemmas.List.Elements.All-from_recursion, lemmas.Int.ints, lemmas.List.{length-drop, drop_all, drop-append-le}}
+use Rattle.std.proofs.{lemmas.List.{get_or-drop, take-append-le, take_rest, drop-map, length-map}, Math.Nat.mul-le-mul_left}
+use Rattle.std.proofs.Math.Seq.{take-append-add, drop-append-add}
+use Rattle.std.specs.{Prelude.{Option, Some, None, option_map, slice_get}, List.Sorted.{IsPartitionPoint, IsPartitionedBy}}
+use Rattle.timeline.specs.{RunTables.{passes, slice_runs}, declared.run_slice.Test.TheVariants.EndsBy}
+use Rattle.timeline.specs.{declared.time_walk.TimeWalk.TheInside.Inside, declared.run.Run.Run, declared.span.SpanRun.SpanRun}
+use Rattle.timeline.specs.{Expansions.{Extent, numbered, repeated, repeat_of, Timing}, RunSegments.{IsRun, IsRestOf, IsSplit, AreLaid}}
+use Rattle.timeline.specs.RunSegments.{AreLaidFrom, ArePassed, all_extents, extents_of, extents_of_some, TimedRun, head_of, timed}
+use Rattle.timeline.specs.{Walks.{StandsIn, IsWalk, place_of, timings_left}, SpanRuns.IsNextRun}
+use Rattle.timeline.proofs.{KeptLemmas.runs_laid, Repeats.{length-repeated, repeat-row, row, take-repeated, one_extent-row}}
 use Rattle.timeline.proofs.NumberedLemmas.{numbered-same}
-use Rattle.std.proofs.Math.{Nat.mul-le-mul_left, Seq.take-append-add, Seq.drop-append-add}
 use Rattle.exact_time.specs.{Equal.ends_after, Time.Time}
-use Rattle.timeline.specs.SpanRuns.{IsNextRun}
 
 -- ---- what is left behind the first ones
 

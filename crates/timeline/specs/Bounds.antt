@@ -1,9 +1,7 @@
 -- Times against which the ends of segments are held.
-use Rattle.std.specs.Prelude.{◌≡◌, ◌*◌, ◌<◌, ◌^◌, pos, unsigned_abs, Option, Some, None, option_map, unwrap_or}
-use Rattle.std.specs.Int.{int_max}
+use Rattle.std.specs.{Prelude.{◌≡◌, ◌*◌, ◌<◌, ◌^◌, pos, unsigned_abs, Option, Some, None, option_map, unwrap_or}, Int.int_max}
 use Rattle.exact_time.specs.Time.{Time, at_most, nanoseconds}
-use Rattle.timeline.specs.declared.bound.Bound.{Bound}
-use Rattle.timeline.specs.declared.window.Window.{Window}
+use Rattle.timeline.specs.{declared.bound.Bound.Bound, declared.window.Window.Window}
 
 abbrev pub time_of_bound : Bound → Time
 time_of_bound bound = record { ticks = bound.count; scale = bound.unit }

@@ -2,17 +2,10 @@
 use Rattle.std.specs.Prelude.{◌≡◌, ℕ, ◌+◌, ◌<◌, ◌≤◌, ◌^◌, ◌==◌, pos, ◌+ℤ◌, ◌-ℤ◌, Bool, List, [], ◌∷◌, ◌++◌, map, All, IfSome, Option, Some}
 use Rattle.std.specs.Prelude.{None, if◌then◌else◌}
 use Rattle.exact_time.specs.Time.{Time}
-use Rattle.timeline.specs.declared.fault.TimeFault.{TimeFault}
-use Rattle.timeline.specs.declared.fault.TimeFault.TheVariants.{Range, Step}
-use Rattle.timeline.specs.declared.builder.RunsBuilder.{RunsBuilder}
-use Rattle.timeline.specs.declared.limits.Limits.{Limits}
-use Rattle.timeline.specs.Expansions.{Extent, Member, Closed}
-use Rattle.timeline.specs.Limits.{breaks_limits}
-use Rattle.timeline.specs.Faults.{is_apart, refusal, segment_fault}
-use Rattle.timeline.specs.RunSegments.{TimedRun, AreLaid, all_extents}
-use Rattle.timeline.specs.RunTables.{runs_at}
-use Rattle.timeline.specs.Kept.{FollowsOn, endless_members}
-use Rattle.timeline.specs.Ratios.{natural}
+use Rattle.timeline.specs.{declared.fault.TimeFault.TimeFault, declared.fault.TimeFault.TheVariants.{Range, Step}}
+use Rattle.timeline.specs.{declared.builder.RunsBuilder.RunsBuilder, declared.limits.Limits.Limits, Expansions.{Extent, Member, Closed}}
+use Rattle.timeline.specs.{Limits.breaks_limits, Faults.{is_apart, refusal, segment_fault}, RunSegments.{TimedRun, AreLaid, all_extents}}
+use Rattle.timeline.specs.{RunTables.runs_at, Kept.{FollowsOn, endless_members}, Ratios.natural}
 
 abbrev pub runs_in : RunsBuilder → List TimedRun
 runs_in l = runs_at l.limits.ticks l.limits.origin l.table

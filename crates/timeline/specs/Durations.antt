@@ -1,13 +1,9 @@
 -- The segments of a Representation with `@duration`: ISO/IEC 23009-1, 5.3.9.5.2. Their times are counted from the
 -- Period's start.
 use Rattle.std.specs.Prelude.{ℕ, zero, suc, ◌+◌, ◌*◌, pos, List, [], ◌∷◌, map}
-use Rattle.exact_time.specs.Time.{Time, in_units, nanoseconds}
-use Rattle.timeline.specs.declared.entry.End.{End}
-use Rattle.timeline.specs.declared.entry.End.TheVariants.{At, Unbounded}
-use Rattle.timeline.specs.declared.span.Span.{Span}
-use Rattle.exact_time.specs.Tick.{time_of}
-use Rattle.timeline.specs.Ratios.{earlier, steps_to_cover}
-use Rattle.timeline.specs.Expansions.{Extent, Member, Closed, Endless}
+use Rattle.exact_time.specs.{Time.{Time, in_units, nanoseconds}, Tick.time_of}
+use Rattle.timeline.specs.{declared.entry.End.End, declared.entry.End.TheVariants.{At, Unbounded}, declared.span.Span.Span, Ratios.earlier}
+use Rattle.timeline.specs.{Ratios.steps_to_cover, Expansions.{Extent, Member, Closed, Endless}}
 
 -- segment k lasts from k * D to (k + 1) * D
 abbrev pub extent_at : ℕ → ℕ → ℕ → Extent

@@ -1,9 +1,7 @@
 -- The segments of a Representation in one Period, written out one by one.
-use Rattle.std.specs.Prelude.{ℕ, zero, suc, ◌+◌, ◌+ℤ◌, ◌-ℤ◌, Bool, true, false, List, [], ◌∷◌, flat_map, if◌then◌else◌}
-use Rattle.std.specs.List.{list_any}
+use Rattle.std.specs.{Prelude.{ℕ, zero, suc, ◌+◌, ◌+ℤ◌, ◌-ℤ◌, Bool, true, false, List, [], ◌∷◌, flat_map, if◌then◌else◌}, List.list_any}
 use Rattle.exact_time.specs.Time.{Time, difference, before}
-use Rattle.timeline.specs.Ratios.{steps_within}
-use Rattle.timeline.specs.declared.names.Names.{Names}
+use Rattle.timeline.specs.{Ratios.steps_within, declared.names.Names.Names}
 
 -- where a segment begins and ends, from the Period's start
 pub record Extent : Type 0 where

@@ -1,10 +1,8 @@
 -- Names of files in one folder, for all numbers and times.
 use Rattle.std.specs.Prelude.{◌≡◌, ℕ, ◌<◌, ◌^◌, ◌&&◌, ◌++◌, nat_le, Bool, false, List, [], length, None, Ok}
-use Rattle.template_ids.specs.Templates.{named}
-use Rattle.template_ids.specs.FileNames.{names_files}
+use Rattle.template_ids.specs.{Templates.named, FileNames.names_files}
 use Rattle.url_parts.specs.Addresses.{folder_of}
-use Rattle.timeline.specs.declared.names.Names.{Names}
-use Rattle.timeline.specs.declared.names.Names.TheVariants.{Template, List as Listed, Shared, Addresses}
+use Rattle.timeline.specs.{declared.names.Names.Names, declared.names.Names.TheVariants.{Template, List as Listed, Shared, Addresses}}
 use Rattle.timeline.specs.Names.{part_of}
 
 -- whether a template names files, for which the base's text leaves room in an address

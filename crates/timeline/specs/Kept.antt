@@ -1,12 +1,8 @@
 -- The segments that a `Runs` keeps.
 use Rattle.std.specs.Prelude.{◌≡◌, ℕ, ◌+◌, ◌*◌, ◌<◌, ◌≤◌, ◌^◌, pos, ◌+ℤ◌, ◌≤ℤ◌, List, [], ◌∷◌, ◌++◌, map, All, Option, Some, None}
-use Rattle.timeline.specs.Expansions.{SegmentTimeline, Member, Closed, Endless as GoesOn}
-use Rattle.timeline.specs.RunSegments.{TimedRun, AreLaid, IsEndless, all_extents, first_of}
-use Rattle.timeline.specs.Steady.{AreLasting, EndInTime, IsSteady}
-use Rattle.timeline.specs.Ratios.{natural}
-use Rattle.timeline.specs.RunTables.{runs_at}
-use Rattle.timeline.specs.declared.run.Endless.{Endless}
-use Rattle.timeline.specs.declared.runs.Runs.TheInside.{Inside}
+use Rattle.timeline.specs.{Expansions.{SegmentTimeline, Member, Closed, Endless as GoesOn}, RunSegments.{TimedRun, AreLaid, IsEndless}}
+use Rattle.timeline.specs.{RunSegments.{all_extents, first_of}, Steady.{AreLasting, EndInTime, IsSteady}, Ratios.natural, RunTables.runs_at}
+use Rattle.timeline.specs.{declared.run.Endless.Endless, declared.runs.Runs.TheInside.Inside}
 
 abbrev pub endless_members : Option Endless → List Member
 endless_members None = []

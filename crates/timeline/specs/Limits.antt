@@ -1,8 +1,7 @@
 -- How far and how long segments may be.
 use Rattle.std.specs.Prelude.{ℕ, ◌-◌, ◌^◌, pos, ◌-ℤ◌, Bool, ◌||◌}
 use Rattle.exact_time.specs.Time.{seconds, before, at_most}
-use Rattle.timeline.specs.Expansions.{Extent, lasting}
-use Rattle.timeline.specs.declared.limits.Limits.{Limits}
+use Rattle.timeline.specs.{Expansions.{Extent, lasting}, declared.limits.Limits.Limits}
 
 -- whether a segment lasts longer than 1,000,000 s
 abbrev pub too_long : Extent → Bool

@@ -2,18 +2,12 @@
 use Rattle.std.specs.Prelude.{◌≡◌, ℕ, ◌-◌, ◌<◌, ◌≤◌, ◌^◌, ℤ, pos, ◌+ℤ◌, Bool, true, false, ◌&&◌, ◌⊎◌, List, [], ◌∷◌, filter, take, drop}
 use Rattle.std.specs.Prelude.{length, slice_get, All, IsSome, IfSome, Option, Some, None, unwrap_or, Result, Ok, Err, if◌then◌else◌}
 use Rattle.std.specs.List.{list_any}
-use Rattle.exact_time.specs.Time.{Time, seconds, before, at_most, nanoseconds}
-use Rattle.exact_time.specs.Tick.{time_of}
+use Rattle.exact_time.specs.{Time.{Time, seconds, before, at_most, nanoseconds}, Tick.time_of}
 use Rattle.url_parts.specs.declared.address.Part.{Part}
-use Rattle.timeline.specs.declared.window.Window.{Window}
-use Rattle.timeline.specs.declared.span.Span.{Span}
-use Rattle.timeline.specs.declared.fault.TimeFault.{TimeFault}
-use Rattle.timeline.specs.declared.fault.TimeFault.TheVariants.{Range}
-use Rattle.timeline.specs.declared.fault.ListFault.{ListFault}
-use Rattle.timeline.specs.Ratios.{natural}
-use Rattle.timeline.specs.Limits.{breaks_limits}
-use Rattle.timeline.specs.Expansions.{SegmentTimeline, Member, Closed, Short, Endless, Timing, is_open, extents_at, expansion_at}
-use Rattle.timeline.specs.Names.{part_of, list_refusal}
+use Rattle.timeline.specs.{declared.window.Window.Window, declared.span.Span.Span, declared.fault.TimeFault.TimeFault}
+use Rattle.timeline.specs.{declared.fault.TimeFault.TheVariants.Range, declared.fault.ListFault.ListFault, Ratios.natural}
+use Rattle.timeline.specs.{Limits.breaks_limits, Expansions.{SegmentTimeline, Member, Closed, Short, Endless, Timing, is_open, extents_at}}
+use Rattle.timeline.specs.{Expansions.expansion_at, Names.{part_of, list_refusal}}
 
 abbrev pub is_after : Option ℤ → Time → Bool
 is_after None end = true

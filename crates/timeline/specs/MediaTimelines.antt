@@ -1,24 +1,13 @@
 -- S elements that were laid out in media time, whatever the timescale.
 use Rattle.std.specs.Prelude.{◌≡◌, ℕ, ◌+◌, ◌*◌, ◌<◌, ◌≤◌, ◌^◌, ◌==◌, pos, ◌+ℤ◌, Bool, ◌||◌, nat_lt, max, List, [], ◌∷◌, ◌++◌, map, drop}
-use Rattle.std.specs.Prelude.{length, All, Option, Some, None, if◌then◌else◌}
-use Rattle.std.specs.List.{list_any}
+use Rattle.std.specs.{Prelude.{length, All, Option, Some, None, if◌then◌else◌}, List.list_any}
 use Rattle.exact_time.specs.Time.{Time}
-use Rattle.timeline.specs.declared.entry.SEntry.{SEntry}
-use Rattle.timeline.specs.declared.entry.Scale.{Scale}
-use Rattle.timeline.specs.declared.entry.End.{End}
-use Rattle.timeline.specs.declared.fault.TimeFault.TheVariants.{Range}
-use Rattle.timeline.specs.declared.limits.Limits.{Limits}
-use Rattle.timeline.specs.declared.media_run.MediaRun.{MediaRun}
-use Rattle.timeline.specs.declared.media_runs.MediaRuns.{MediaRuns}
-use Rattle.timeline.specs.declared.shared_timeline.LaidTimeline.{LaidTimeline}
-use Rattle.timeline.specs.declared.timelines.Reach.TheVariants.{Count}
-use Rattle.timeline.specs.Building.{breaks_in, placed_in}
-use Rattle.timeline.specs.Expansions.{Member, Closed}
-use Rattle.timeline.specs.Faults.{segment_fault}
-use Rattle.timeline.specs.Ratios.{natural}
-use Rattle.timeline.specs.Reaches.{IsReach, start_of}
-use Rattle.timeline.specs.RunSegments.{AreLaid, TimedRun, all_extents, placed_run}
-use Rattle.timeline.specs.Timelines.{expansion_of_timeline, extent_from, members_from, reach_of}
+use Rattle.timeline.specs.{declared.entry.SEntry.SEntry, declared.entry.Scale.Scale, declared.entry.End.End}
+use Rattle.timeline.specs.{declared.fault.TimeFault.TheVariants.Range, declared.limits.Limits.Limits, declared.media_run.MediaRun.MediaRun}
+use Rattle.timeline.specs.{declared.media_runs.MediaRuns.MediaRuns, declared.shared_timeline.LaidTimeline.LaidTimeline}
+use Rattle.timeline.specs.{declared.timelines.Reach.TheVariants.Count, Building.{breaks_in, placed_in}, Expansions.{Member, Closed}}
+use Rattle.timeline.specs.{Faults.segment_fault, Ratios.natural, Reaches.{IsReach, start_of}, RunSegments.{AreLaid, TimedRun, all_extents}}
+use Rattle.timeline.specs.{RunSegments.placed_run, Timelines.{expansion_of_timeline, extent_from, members_from, reach_of}}
 
 -- the S elements that have no run here
 abbrev pub rest_of : List SEntry → MediaRuns → List SEntry

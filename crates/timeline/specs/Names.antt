@@ -1,16 +1,11 @@
 -- The addresses of segments.
 use Rattle.std.specs.Prelude.{ℕ, Bool, false, List, length, slice_get, Option, Some, None, Result, Ok, Err}
 use Rattle.template_ids.specs.Templates.{named, uses_time}
-use Rattle.url_parts.specs.Addresses.{resolve}
-use Rattle.url_parts.specs.declared.address.Part.{Part}
-use Rattle.url_parts.specs.declared.range.Range.{Range}
-use Rattle.url_parts.specs.declared.fault.UrlFault.{UrlFault}
+use Rattle.url_parts.specs.{Addresses.resolve, declared.address.Part.Part, declared.range.Range.Range, declared.fault.UrlFault.UrlFault}
 use Rattle.url_parts.specs.declared.fault.UrlFault.TheVariants.{Refused, Memory as NoRoom}
-use Rattle.timeline.specs.declared.fault.ListFault.{ListFault}
-use Rattle.timeline.specs.declared.fault.ListFault.TheVariants.{Url, Memory}
-use Rattle.timeline.specs.declared.names.RefPart.{RefPart}
-use Rattle.timeline.specs.declared.names.Names.{Names}
-use Rattle.timeline.specs.declared.names.Names.TheVariants.{Template, List as Listed, Shared, Addresses}
+use Rattle.timeline.specs.{declared.fault.ListFault.ListFault, declared.fault.ListFault.TheVariants.{Url, Memory}}
+use Rattle.timeline.specs.{declared.names.RefPart.RefPart, declared.names.Names.Names, declared.names.Names.TheVariants.Template}
+use Rattle.timeline.specs.declared.names.Names.TheVariants.{List as Listed, Shared, Addresses}
 
 -- how many names a list has
 abbrev pub count_of : Names → Option ℕ

@@ -1,18 +1,10 @@
 -- When segments go on to an end that isn't known yet, and how many of them there are by an instant.
 use Rattle.std.specs.Prelude.{◌≡◌, ◌↔◌, ℕ, ◌<◌, Bool, false, ◌&&◌, List, slice_get, IfSome, is_none, Ok}
 use Rattle.exact_time.specs.Time.{Time, IsTime, IsAtMost}
-use Rattle.timeline.specs.declared.entry.SEntry.{SEntry}
-use Rattle.timeline.specs.declared.entry.Scale.{Scale}
-use Rattle.timeline.specs.declared.entry.End.{End}
-use Rattle.timeline.specs.declared.names.Names.{Names}
-use Rattle.timeline.specs.declared.span.Span.{Span}
-use Rattle.timeline.specs.declared.window.Window.{Window}
-use Rattle.timeline.specs.Expansions.{Extent, SegmentTimeline, ended_by, is_open, repeated}
-use Rattle.timeline.specs.Faults.{is_unbounded}
-use Rattle.timeline.specs.Listed.{IsReached, IsWindowOf, expansion}
-use Rattle.timeline.specs.Names.{count_of}
-use Rattle.timeline.specs.SegmentTimelines.{timeline_of_entries, timeline_of_duration, timeline_of_spans}
-use Rattle.timeline.specs.Steady.{LastsTicks}
+use Rattle.timeline.specs.{declared.entry.SEntry.SEntry, declared.entry.Scale.Scale, declared.entry.End.End, declared.names.Names.Names}
+use Rattle.timeline.specs.{declared.span.Span.Span, declared.window.Window.Window, Expansions.{Extent, SegmentTimeline, ended_by, is_open}}
+use Rattle.timeline.specs.{Expansions.repeated, Faults.is_unbounded, Listed.{IsReached, IsWindowOf, expansion}, Names.count_of}
+use Rattle.timeline.specs.{SegmentTimelines.{timeline_of_entries, timeline_of_duration, timeline_of_spans}, Steady.LastsTicks}
 
 -- segments may go on only in a dynamic MPD, to an open end, and where a template names them
 abbrev pub may_be_open : Bool → End → Names → Bool

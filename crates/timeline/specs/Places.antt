@@ -2,8 +2,7 @@
 use Rattle.std.specs.Prelude.{◌≡◌, ℕ, ◌+◌, ◌<◌, ◌^◌, List, filter, flat_map, sum_by, count_by, not, if◌then◌else◌}
 use Rattle.exact_time.specs.Time.{Time, at_most}
 use Rattle.timeline.specs.Expansions.{SegmentTimeline, Extent, Member, Closed, Short, Endless, ended_by, extents_at, goes_on}
-use Rattle.timeline.specs.Listed.{expansion, instant_of, is_until}
-use Rattle.timeline.specs.RunSegments.{TimedRun, IsRun, extents_of, count_ended}
+use Rattle.timeline.specs.{Listed.{expansion, instant_of, is_until}, RunSegments.{TimedRun, IsRun, extents_of, count_ended}}
 use Rattle.timeline.specs.declared.window.Window.{Window}
 
 abbrev pub closed_by : Time → Member → ℕ

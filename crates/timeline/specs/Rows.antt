@@ -2,18 +2,11 @@
 use Rattle.std.specs.Prelude.{◌≡◌, ℕ, ◌+◌, ◌*◌, pos, Bool, true, false, List, [], ◌∷◌, ◌++◌, map, IfSome, IsNone, Option, Some, None}
 use Rattle.std.specs.List.{list_any}
 use Rattle.exact_time.specs.Time.{in_units, nanoseconds}
-use Rattle.timeline.specs.declared.entry.End.{End}
-use Rattle.timeline.specs.declared.entry.End.TheVariants.{At}
-use Rattle.timeline.specs.declared.fault.TimeFault.{TimeFault}
-use Rattle.timeline.specs.declared.fault.TimeFault.TheVariants.{Range, ListLength}
-use Rattle.timeline.specs.declared.builder.RunsBuilder.{RunsBuilder}
-use Rattle.timeline.specs.declared.limits.Limits.{Limits}
-use Rattle.timeline.specs.Ratios.{earlier, steps_to_cover}
-use Rattle.timeline.specs.Expansions.{Extent, Member, Closed, repeated}
-use Rattle.timeline.specs.Durations.{expansion_of_names}
-use Rattle.timeline.specs.Faults.{begins_late, extents_break, fault_if, is_too_many, members_by, or_fault, refusal}
-use Rattle.timeline.specs.Building.{IsInTime, IsLaidOut, breaks_in, extent_in, members_so_far}
-use Rattle.timeline.specs.Limits.{breaks_limits}
+use Rattle.timeline.specs.{declared.entry.End.End, declared.entry.End.TheVariants.At, declared.fault.TimeFault.TimeFault}
+use Rattle.timeline.specs.{declared.fault.TimeFault.TheVariants.{Range, ListLength}, declared.builder.RunsBuilder.RunsBuilder}
+use Rattle.timeline.specs.{declared.limits.Limits.Limits, Ratios.{earlier, steps_to_cover}, Expansions.{Extent, Member, Closed, repeated}}
+use Rattle.timeline.specs.{Durations.expansion_of_names, Faults.{begins_late, extents_break, fault_if, is_too_many, members_by, or_fault}}
+use Rattle.timeline.specs.{Faults.refusal, Building.{IsInTime, IsLaidOut, breaks_in, extent_in, members_so_far}, Limits.breaks_limits}
 
 -- so many segments from the Period's start on
 abbrev pub row_of : Limits → ℕ → ℕ → List Extent

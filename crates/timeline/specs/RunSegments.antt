@@ -1,12 +1,8 @@
 -- The segments that a run stands for.
 use Rattle.std.specs.Prelude.{◌≡◌, ℕ, ◌+◌, ◌-◌, ◌*◌, ◌<◌, ◌≤◌, ◌^◌, pos, ◌+ℤ◌, ◌-ℤ◌, ◌<ℤ◌, unsigned_abs, List, [], ◌∷◌, ◌++◌, length, drop}
 use Rattle.std.specs.Prelude.{slice_index_or, flat_map, count_by, Option, Some, None}
-use Rattle.exact_time.specs.Time.{Time, at_most}
-use Rattle.exact_time.specs.Tick.{time_of}
-use Rattle.exact_time.specs.declared.tick.Tick.{Tick}
-use Rattle.timeline.specs.Expansions.{Extent, repeated, ended_by}
-use Rattle.timeline.specs.declared.run.Run.{Run}
-use Rattle.timeline.specs.declared.media_run.MediaRun.{MediaRun}
+use Rattle.exact_time.specs.{Time.{Time, at_most}, Tick.time_of, declared.tick.Tick.Tick}
+use Rattle.timeline.specs.{Expansions.{Extent, repeated, ended_by}, declared.run.Run.Run, declared.media_run.MediaRun.MediaRun}
 use Rattle.timeline.specs.declared.run.Endless.{Endless}
 
 -- a run with its times

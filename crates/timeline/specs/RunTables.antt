@@ -1,14 +1,9 @@
 -- The runs of a table, and of what is left of one.
 use Rattle.std.specs.Prelude.{◌≡◌, ℕ, ◌+◌, ◌<◌, ◌≤◌, Bool, true, false, min, leb, length, get_or, List, [], ◌++◌, map, Option, Some, None}
 use Rattle.exact_time.specs.Time.{at_most}
-use Rattle.timeline.specs.Bounds.{time_of_bound}
-use Rattle.timeline.specs.RunSegments.{TimedRun, placed_run, timed}
-use Rattle.timeline.specs.declared.media_run.MediaRun.{MediaRun}
-use Rattle.timeline.specs.declared.run_slice.Test.{Test}
-use Rattle.timeline.specs.declared.run_slice.Test.TheVariants.{EndsBy, BeginsBy}
-use Rattle.timeline.specs.declared.run_slice.RunSlice.{RunSlice}
-use Rattle.timeline.specs.declared.run_table.RunTable.{RunTable}
-use Rattle.timeline.specs.declared.shared_timeline.Laid.{Laid}
+use Rattle.timeline.specs.{Bounds.time_of_bound, RunSegments.{TimedRun, placed_run, timed}, declared.media_run.MediaRun.MediaRun}
+use Rattle.timeline.specs.{declared.run_slice.Test.Test, declared.run_slice.Test.TheVariants.{EndsBy, BeginsBy}}
+use Rattle.timeline.specs.{declared.run_slice.RunSlice.RunSlice, declared.run_table.RunTable.RunTable, declared.shared_timeline.Laid.Laid}
 
 abbrev pub media_of : Option Laid → List MediaRun
 media_of None = []

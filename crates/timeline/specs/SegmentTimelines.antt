@@ -1,17 +1,10 @@
 -- What the constructors of `Runs` give.
 use Rattle.std.specs.Prelude.{ℕ, Bool, List, not, Option, Some, None, Result, Ok, Err, IsSome}
-use Rattle.timeline.specs.declared.fault.TimeFault.{TimeFault}
-use Rattle.timeline.specs.declared.fault.TimeFault.TheVariants.{ListLength}
-use Rattle.timeline.specs.declared.entry.SEntry.{SEntry}
-use Rattle.timeline.specs.declared.entry.Scale.{Scale}
-use Rattle.timeline.specs.declared.entry.End.{End}
-use Rattle.timeline.specs.declared.span.Span.{Span}
-use Rattle.timeline.specs.declared.names.Names.{Names}
-use Rattle.timeline.specs.Expansions.{SegmentTimeline, Member}
-use Rattle.timeline.specs.Timelines.{expansion_of_timeline}
-use Rattle.timeline.specs.Durations.{expansion_of_list}
-use Rattle.timeline.specs.Faults.{timeline_fault, duration_fault, list_fault, members_by, are_paired, fault_if}
-use Rattle.timeline.specs.Names.{count_of}
+use Rattle.timeline.specs.{declared.fault.TimeFault.TimeFault, declared.fault.TimeFault.TheVariants.ListLength}
+use Rattle.timeline.specs.{declared.entry.SEntry.SEntry, declared.entry.Scale.Scale, declared.entry.End.End, declared.span.Span.Span}
+use Rattle.timeline.specs.{declared.names.Names.Names, Expansions.{SegmentTimeline, Member}, Timelines.expansion_of_timeline}
+use Rattle.timeline.specs.{Durations.expansion_of_list, Faults.{timeline_fault, duration_fault, list_fault, members_by, are_paired}}
+use Rattle.timeline.specs.{Faults.fault_if, Names.count_of}
 
 abbrev pub unless_fault : Option TimeFault → SegmentTimeline → Result SegmentTimeline TimeFault
 unless_fault None timeline = Ok timeline

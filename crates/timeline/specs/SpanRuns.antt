@@ -1,10 +1,7 @@
 -- The next segments of a walk that last equally long.
 use Rattle.std.specs.Prelude.{◌≡◌, ◌+◌, ◌-◌, ◌*◌, ◌<◌, ◌≤◌, ◌^◌, pos, ◌+ℤ◌, ◌<ℤ◌, List, ◌∷◌, ◌++◌, map}
-use Rattle.exact_time.specs.Equal.{ends_after}
-use Rattle.exact_time.specs.Tick.{time_of}
-use Rattle.timeline.specs.Durations.{extent_of}
-use Rattle.timeline.specs.Expansions.{Timing, numbered, repeated}
-use Rattle.timeline.specs.declared.span.SpanRun.{SpanRun}
+use Rattle.exact_time.specs.{Equal.ends_after, Tick.time_of}
+use Rattle.timeline.specs.{Durations.extent_of, Expansions.{Timing, numbered, repeated}, declared.span.SpanRun.SpanRun}
 
 abbrev pub timings_of : SpanRun → List Timing
 timings_of run = numbered run.first.number (repeated run.count (extent_of run.first))

@@ -1,16 +1,10 @@
 -- Segments whose times are given one by one, while they are judged and put in a row.
 use Rattle.std.specs.Prelude.{◌≡◌, ℕ, ◌+◌, Bool, false, List, ◌++◌, length, IsNone, Option, Some, None, option_map, if◌then◌else◌}
 use Rattle.std.specs.List.{list_any}
-use Rattle.exact_time.specs.Tick.{time_of}
-use Rattle.exact_time.specs.declared.tick.Tick.{Tick}
-use Rattle.timeline.specs.declared.fault.TimeFault.{TimeFault}
-use Rattle.timeline.specs.declared.fault.TimeFault.TheVariants.{Range, Step}
-use Rattle.timeline.specs.declared.builder.RunsBuilder.{RunsBuilder}
-use Rattle.timeline.specs.declared.span.Span.{Span}
-use Rattle.timeline.specs.Durations.{expansion_of_list, extent_of}
-use Rattle.timeline.specs.Expansions.{Member}
-use Rattle.timeline.specs.Faults.{is_apart, lasts_no_time, segment_fault}
-use Rattle.timeline.specs.Building.{IsLaidOut, members_so_far}
+use Rattle.exact_time.specs.{Tick.time_of, declared.tick.Tick.Tick}
+use Rattle.timeline.specs.{declared.fault.TimeFault.TimeFault, declared.fault.TimeFault.TheVariants.{Range, Step}}
+use Rattle.timeline.specs.{declared.builder.RunsBuilder.RunsBuilder, declared.span.Span.Span, Durations.{expansion_of_list, extent_of}}
+use Rattle.timeline.specs.{Expansions.Member, Faults.{is_apart, lasts_no_time, segment_fault}, Building.{IsLaidOut, members_so_far}}
 use Rattle.timeline.specs.Limits.{span_breaks_limits}
 
 abbrev pub have_no_time : List Span → Bool

@@ -1,10 +1,7 @@
 -- Segments that last some time, no more than 1,000,000 s, and lie near one another.
 use Rattle.std.specs.Prelude.{◌≡◌, ◌<ℤ◌, List, [], ◌∷◌, map, None}
-use Rattle.exact_time.specs.Time.{IsTime, IsBefore, IsAtMost, difference, seconds}
-use Rattle.exact_time.specs.Rounding.{IsRising, AreNear}
-use Rattle.timeline.specs.Expansions.{Extent, Timing, Member, Closed, Short, Endless}
-use Rattle.timeline.specs.Faults.{segment_fault}
-use Rattle.timeline.specs.Limits.{too_long}
+use Rattle.exact_time.specs.{Time.{IsTime, IsBefore, IsAtMost, difference, seconds}, Rounding.{IsRising, AreNear}}
+use Rattle.timeline.specs.{Expansions.{Extent, Timing, Member, Closed, Short, Endless}, Faults.segment_fault, Limits.too_long}
 
 -- a segment that lasts some time
 pub record Lasts (x : Extent) : Type 0 where

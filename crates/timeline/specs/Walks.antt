@@ -1,9 +1,7 @@
 -- The segments that a walk has left.
 use Rattle.std.specs.Prelude.{◌≡◌, ℕ, ◌+◌, ◌<◌, ◌^◌, List, ◌++◌, take, Option, Some, None, option_map}
-use Rattle.timeline.specs.Expansions.{Extent, Timing, numbered}
-use Rattle.timeline.specs.RunSegments.{TimedRun, AreLaidFrom, IsRun, all_extents, extents_of_some, timed}
-use Rattle.timeline.specs.RunTables.{slice_runs}
-use Rattle.timeline.specs.declared.time_walk.TimeWalk.TheInside.{Inside}
+use Rattle.timeline.specs.{Expansions.{Extent, Timing, numbered}, RunSegments.{TimedRun, AreLaidFrom, IsRun, all_extents, extents_of_some}}
+use Rattle.timeline.specs.{RunSegments.timed, RunTables.slice_runs, declared.time_walk.TimeWalk.TheInside.Inside}
 
 -- how many segments stand before the next one
 abbrev pub place_of : Option TimedRun → ℕ

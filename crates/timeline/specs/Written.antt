@@ -1,10 +1,7 @@
 -- The address that is written last.
 use Rattle.std.specs.Prelude.{ℕ, List, Option, IfSome, string_bytes}
-use Rattle.url_parts.specs.declared.address.Part.{Part}
-use Rattle.url_parts.specs.declared.range.Range.{Range}
-use Rattle.timeline.specs.Expansions.{SegmentTimeline}
-use Rattle.timeline.specs.FileNames.{IsFolder}
-use Rattle.timeline.specs.declared.address_writer.AddressWriter.TheInside.{Inside}
+use Rattle.url_parts.specs.{declared.address.Part.Part, declared.range.Range.Range}
+use Rattle.timeline.specs.{Expansions.SegmentTimeline, FileNames.IsFolder, declared.address_writer.AddressWriter.TheInside.Inside}
 
 pub record Written : Type 0 where
   pub timeline : SegmentTimeline

@@ -1,22 +1,14 @@
 -- A reference that begins with `http://` or `https://` needs no base.
 use Rattle.std.proofs.Common.{◌≡◌, ℕ, ◌+◌, ◌-◌, ◌≤◌, Bool, true, false, List, [], ◌∷◌, ◌++◌, length, take, drop, Option, Some, None, Ok}
-use Rattle.std.proofs.Common.{sym, refl, ap, ◌∙◌, ⊎_elim, arith, length-append}
-use Rattle.std.specs.Prelude.{codes, reverse, nat_eq}
-use Rattle.std.specs.List.{starts_with, prefix_len, suffix_len}
-use Rattle.std.proofs.lemmas.Bool.{cond-false, cond_both, cases_Bool, and_parts}
-use Rattle.std.proofs.lemmas.Bool.Decides.{Decides-eqb}
-use Rattle.std.proofs.lemmas.List.{reverse-append, length-reverse}
-use Rattle.std.proofs.lemmas.List.Elements.{All-nil}
-use Rattle.std.proofs.Math.Seq.{take-append-add}
-use Rattle.std.proofs.lemmas.Slice.Eq.{starts_is, bytes_eq-Decides}
-use Rattle.url.specs.Input.{is_c0_control_or_space, trim_c0_control_and_space, strip_tabs_and_new_lines, split_once}
-use Rattle.url.specs.Scheme.{scheme_len}
-use Rattle.url.specs.Parts.{Parts}
-use Rattle.url.specs.Parser.{and_then, with_tail, before_tail, leading_slashes, skip_slashes, after_double_slash, parse_relative}
-use Rattle.url.specs.Parser.{parse_body, parse_parts, split_scheme, base_for_scheme, parse_by_scheme, parse_url, Parsed}
+use Rattle.std.proofs.{Common.{sym, refl, ap, ◌∙◌, ⊎_elim, arith, length-append}, lemmas.Bool.{cond-false, cond_both, cases_Bool}}
+use Rattle.std.proofs.{lemmas.Bool.and_parts, lemmas.Bool.Decides.Decides-eqb, lemmas.List.{reverse-append, length-reverse}}
+use Rattle.std.proofs.{lemmas.List.Elements.All-nil, Math.Seq.take-append-add, lemmas.Slice.Eq.{starts_is, bytes_eq-Decides}}
+use Rattle.std.specs.{Prelude.{codes, reverse, nat_eq}, List.{starts_with, prefix_len, suffix_len}}
+use Rattle.url.specs.{Input.{is_c0_control_or_space, trim_c0_control_and_space, strip_tabs_and_new_lines, split_once}, Scheme.scheme_len}
+use Rattle.url.specs.{Parts.Parts, Parser.{and_then, with_tail, before_tail, leading_slashes, skip_slashes, after_double_slash}}
+use Rattle.url.specs.Parser.{parse_relative, parse_body, parse_parts, split_scheme, base_for_scheme, parse_by_scheme, parse_url, Parsed}
 use Rattle.url.proofs.InputLemmas.{StopsAt, prefix_len_at, is_empty_nonempty}
-use Rattle.url_parts.specs.Addresses.{is_web}
-use Rattle.url_parts.specs.Laws.{NeedsNoBase}
+use Rattle.url_parts.specs.{Addresses.is_web, Laws.NeedsNoBase}
 use Rattle.url_parts.proofs.Bases.{kind_of_web}
 
 -- a run of bytes that pass a test ends at one that fails

@@ -1,18 +1,11 @@
 -- Bases, seen as their URLs.
 use Rattle.std.proofs.Common.{◌≡◌, ℕ, ◌-◌, ◌≤◌, ◌==◌, take, drop, take_at, length-append, true, not, List, ◌++◌, Option, Some, None, Ok}
-use Rattle.std.proofs.Common.{sym, refl, ap, ◌∙◌, subst, ⊎_elim, arith}
-use Rattle.std.specs.Prelude.{codes, bytes_eq, length}
-use Rattle.std.specs.List.{list_all, position_or_len, suffix_len}
-use Rattle.std.proofs.lemmas.List.{append_assoc, take-append-drop}
-use Rattle.std.specs.Result.{result_ok}
-use Rattle.std.proofs.lemmas.Bool.{cases_Bool, cond-true}
-use Rattle.std.proofs.lemmas.Slice.Eq.{bytes_eq-Decides}
-use Rattle.url.specs.declared.scheme.SchemeType.TheVariants.{SpecialNotFile}
-use Rattle.url.specs.Scheme.{scheme_type, default_port, is_special}
-use Rattle.url.specs.Parser.{parse_url}
-use Rattle.url.specs.Parts.{Parts, kind_of, IsValid}
-use Rattle.url.proofs.ValidLemmas.{special_has_authority}
-use Rattle.url.proofs.Theorems.{parse_url-serialize_special}
+use Rattle.std.proofs.{Common.{sym, refl, ap, ◌∙◌, subst, ⊎_elim, arith}, lemmas.List.{append_assoc, take-append-drop}}
+use Rattle.std.proofs.{lemmas.Bool.{cases_Bool, cond-true}, lemmas.Slice.Eq.bytes_eq-Decides}
+use Rattle.std.specs.{Prelude.{codes, bytes_eq, length}, List.{list_all, position_or_len, suffix_len}, Result.result_ok}
+use Rattle.url.specs.{declared.scheme.SchemeType.TheVariants.SpecialNotFile, Scheme.{scheme_type, default_port, is_special}}
+use Rattle.url.specs.{Parser.parse_url, Parts.{Parts, kind_of, IsValid}}
+use Rattle.url.proofs.{ValidLemmas.special_has_authority, Theorems.parse_url-serialize_special}
 use Rattle.url_parts.specs.Addresses.{is_address_byte, is_web, text_of, accepted_url, accepted, absolute, is_absolute, url_of, resolve}
 use Rattle.url_parts.specs.Addresses.{is_tail, without_tail, folder_of, IsAddress, IsBase, IsBaseUrl}
 

@@ -1,8 +1,6 @@
 -- References that are resolved one after another.
 use Rattle.std.proofs.Common.{◌≡◌, ℕ, List, [], ◌∷◌, ◌++◌, Result, Ok, Err, refl}
-use Rattle.url_parts.specs.declared.fault.UrlFault.{UrlFault}
-use Rattle.url_parts.specs.Addresses.{resolve, resolve_more, chain}
-use Rattle.url_parts.specs.Laws.{GoesOn}
+use Rattle.url_parts.specs.{declared.fault.UrlFault.UrlFault, Addresses.{resolve, resolve_more, chain}, Laws.GoesOn}
 
 stays : (result : Result (List ℕ) UrlFault) → resolve_more (λ next. Ok next) result ≡ result
 stays (Ok base) = refl

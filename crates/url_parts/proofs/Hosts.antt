@@ -1,34 +1,17 @@
 -- The hosts that the URL Standard reads in a special URL.
 use Rattle.std.proofs.Common.{◌≡◌, ◌≢◌, ℕ, zero, suc, ◌+◌, ◌-◌, ◌*◌, ◌/◌, ◌^◌, ◌<◌, ◌≤◌, Bool, true, false, ◌&&◌, ◌==◌, List, [], ◌∷◌, ◌++◌}
 use Rattle.std.proofs.Common.{length, get_or, Option, Some, None, All, sym, refl, inl, inr, subst, ⊎_elim, arith, length-append, lit<}
-use Rattle.std.proofs.Common.{mod-lt}
-use Rattle.std.specs.Prelude.{codes, IfOk, nat_eq, nat_lt}
-use Rattle.std.specs.Int.{w32, byte_at, bytes_high_first, to_be_bytes}
-use Rattle.std.specs.List.{list_all, list_any}
-use Rattle.std.specs.Char.{is_ascii_digit}
-use Rattle.std.specs.Option.{option_eq}
-use Rattle.std.specs.Str.Parse.{digits_value}
-use Rattle.std.specs.Net.Addr.{segments_of, IsIpv6Addr}
-use Rattle.std.specs.Net.Grammar.{IsGroup, IsGroupsAfter, IsDotted, IsElided, IsColonHex}
-use Rattle.std.specs.Net.Reader.{whole_value, read_ipv6}
-use Rattle.std.proofs.NetLemmas.Ipv6.{read_ipv6_sound}
-use Rattle.std.proofs.lemmas.Int.Digits.{digits_value-lt}
-use Rattle.std.proofs.Math.Nat.{pow-le-pow_right}
-use Rattle.std.proofs.lemmas.Bool.{cond_both, cases_lt, and_parts, ltb-true}
-use Rattle.std.proofs.lemmas.Bool.Decides.{nat_tests}
-use Rattle.std.proofs.lemmas.List.{get_or_past, length-replicate}
-use Rattle.std.proofs.lemmas.List.Elements.{All-nil, All-cons, All-append, All-replicate}
-use Rattle.url.specs.declared.host.Host.{Host}
-use Rattle.url.specs.declared.scheme.SchemeType.TheVariants.{SpecialNotFile}
-use Rattle.url.specs.Input.{is_empty}
-use Rattle.url.specs.Scheme.{default_port}
+use Rattle.std.proofs.{Common.mod-lt, NetLemmas.Ipv6.read_ipv6_sound, lemmas.Int.Digits.digits_value-lt, Math.Nat.pow-le-pow_right}
+use Rattle.std.proofs.{lemmas.Bool.{cond_both, cases_lt, and_parts, ltb-true}, lemmas.Bool.Decides.nat_tests, lemmas.List.get_or_past}
+use Rattle.std.proofs.{lemmas.List.length-replicate, lemmas.List.Elements.{All-nil, All-cons, All-append, All-replicate}}
+use Rattle.std.specs.{Prelude.{codes, IfOk, nat_eq, nat_lt}, Int.{w32, byte_at, bytes_high_first, to_be_bytes}, List.{list_all, list_any}}
+use Rattle.std.specs.{Char.is_ascii_digit, Option.option_eq, Str.Parse.digits_value, Net.Addr.{segments_of, IsIpv6Addr}}
+use Rattle.std.specs.{Net.Grammar.{IsGroup, IsGroupsAfter, IsDotted, IsElided, IsColonHex}, Net.Reader.{whole_value, read_ipv6}}
+use Rattle.url.specs.{declared.host.Host.Host, declared.scheme.SchemeType.TheVariants.SpecialNotFile, Input.is_empty, Scheme.default_port}
 use Rattle.url.specs.Host.{is_forbidden_in_domain, ipv4_host, ipv6_host, ascii_domain, host_of_ascii, parse_bracketed, parse_special_host}
-use Rattle.url.specs.Host.{is_empty_host, IsHostOf}
-use Rattle.url.specs.Ipv4.{ends_in_a_number, parse_ipv4}
-use Rattle.url.specs.Parts.{IsPortOf}
-use Rattle.url.specs.Parser.{Parsed, without_default_port, parse_port}
-use Rattle.url.proofs.InputLemmas.{is_empty_nonempty}
-use Rattle.url.proofs.HostLemmas.{none_from_list_any, ascii_domain-lower}
+use Rattle.url.specs.{Host.{is_empty_host, IsHostOf}, Ipv4.{ends_in_a_number, parse_ipv4}, Parts.IsPortOf, Parser.Parsed}
+use Rattle.url.specs.Parser.{without_default_port, parse_port}
+use Rattle.url.proofs.{InputLemmas.is_empty_nonempty, HostLemmas.{none_from_list_any, ascii_domain-lower}}
 
 -- ---- addresses
 

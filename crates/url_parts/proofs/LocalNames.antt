@@ -1,13 +1,9 @@
 -- A name that is found under a folder's text, as a reference.
 use Rattle.std.proofs.Common.{◌≡◌, ℕ, ◌+◌, ◌≤◌, Bool, true, false, not, cond, List, [], ◌∷◌, ◌++◌, length, take, drop, length-take, Some}
-use Rattle.std.proofs.Common.{None, Ok, Err, refl, sym, ap, ◌∙◌, arith}
-use Rattle.std.specs.Prelude.{nat_eq}
-use Rattle.std.specs.List.{position_or_len, starts_with}
-use Rattle.std.proofs.Math.Seq.{take-append-add}
-use Rattle.std.proofs.lemmas.Bool.Decides.{Decides-eqb, nat_tests}
-use Rattle.std.proofs.lemmas.Slice.Eq.{starts_is}
-use Rattle.url.specs.Parts.{Parts}
-use Rattle.url.specs.Parser.{Parsed, parse_url}
+use Rattle.std.proofs.{Common.{None, Ok, Err, refl, sym, ap, ◌∙◌, arith}, Math.Seq.take-append-add, lemmas.Bool.Decides.Decides-eqb}
+use Rattle.std.proofs.{lemmas.Bool.Decides.nat_tests, lemmas.Slice.Eq.starts_is}
+use Rattle.std.specs.{Prelude.nat_eq, List.{position_or_len, starts_with}}
+use Rattle.url.specs.{Parts.Parts, Parser.{Parsed, parse_url}}
 use Rattle.bridge_io.specs.Names.{is_name}
 use Rattle.url_parts.specs.Addresses.{accepted_url, accepted, absolute, resolve, IsAddress, IsBase, is_tail, without_tail, folder_of}
 use Rattle.url_parts.specs.Addresses.{unless_long, local_name_of}

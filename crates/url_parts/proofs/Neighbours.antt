@@ -1,16 +1,11 @@
 -- Texts that go on with a name behind the folder of an address.
-use Rattle.std.proofs.Common.{◌≡◌, ℕ, ◌≤◌, true, List, ◌++◌, length, drop, refl, sym, ap, ◌∙◌, subst}
-use Rattle.std.specs.Prelude.{nat_eq}
-use Rattle.std.specs.List.{starts_with}
-use Rattle.std.proofs.lemmas.Bool.{and_parts}
-use Rattle.std.proofs.lemmas.Bool.Decides.{Decides-eqb}
-use Rattle.std.proofs.lemmas.Slice.Eq.{starts_is}
+use Rattle.std.proofs.{Common.{◌≡◌, ℕ, ◌≤◌, true, List, ◌++◌, length, drop, refl, sym, ap, ◌∙◌, subst}, lemmas.Bool.and_parts}
+use Rattle.std.proofs.{lemmas.Bool.Decides.Decides-eqb, lemmas.Slice.Eq.starts_is}
+use Rattle.std.specs.{Prelude.nat_eq, List.starts_with}
 use Rattle.bridge_io.specs.Names.{is_name}
-use Rattle.url_parts.specs.Addresses.{resolve, unless_long, folder_of, is_name_in, IsAddress, IsBase, IsFolder}
-use Rattle.url_parts.specs.Laws.{IsGivenInFolder}
-use Rattle.url_parts.proofs.Bases.{resolve_web_text, web_from_accepted}
-use Rattle.url_parts.proofs.Parsed.{address_is_base}
-use Rattle.url_parts.proofs.Relative.{child, child_valid, child_spelled, accepted_child, name_is_address}
+use Rattle.url_parts.specs.{Addresses.{resolve, unless_long, folder_of, is_name_in, IsAddress, IsBase, IsFolder}, Laws.IsGivenInFolder}
+use Rattle.url_parts.proofs.{Bases.{resolve_web_text, web_from_accepted}, Parsed.address_is_base, Relative.{child, child_valid}}
+use Rattle.url_parts.proofs.Relative.{child_spelled, accepted_child, name_is_address}
 
 -- a folder's text and a name is given by each base
 resolve_whole : (front name base : List ℕ) → IsBase front → is_name name ≡ true

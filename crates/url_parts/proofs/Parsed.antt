@@ -1,38 +1,29 @@
 -- What the URL Standard reads with a scheme of the web is a valid URL, so that an address is given again with any base.
 use Rattle.std.proofs.Common.{◌≡◌, ℕ, ◌+◌, ◌-◌, ◌<◌, Bool, true, false, cond, not, ◌&&◌, ◌==◌, List, [], ◌∷◌, ◌++◌, length, get_or, take}
 use Rattle.std.proofs.Common.{drop, Option, Some, None, Result, Ok, Err, All, sym, refl, inl, ap, ◌∙◌, subst, ⊎_elim, arith, lit<}
-use Rattle.std.specs.Prelude.{codes, bytes_eq, unwrap_or, nat_lt, IfOk, IfSome, if◌then◌else◌}
-use Rattle.std.specs.Result.{result_ok}
-use Rattle.std.specs.List.{list_all, prefix_len, suffix_len}
-use Rattle.std.proofs.lemmas.Bool.{cond_both, cond-true, or_from, cases_Bool, and_parts, true≢false}
-use Rattle.std.proofs.lemmas.Bool.Decides.{nat_tests}
-use Rattle.std.proofs.lemmas.Slice.Eq.{bytes_eq-Decides}
-use Rattle.std.proofs.lemmas.List.Elements.{All-nil, All-cons, All-head, All-tail, All-push, All-take, All-drop, All-filter, All-weaker}
-use Rattle.url.specs.declared.scheme.SchemeType.TheVariants.{File, SpecialNotFile, NotSpecial}
-use Rattle.url.specs.Input.{is_empty, is_c0_control_or_space, is_tab_or_new_line, trim_start, trim_c0_control_and_space}
-use Rattle.url.specs.Input.{strip_tabs_and_new_lines, lowercase, split_once, rsplit_once}
-use Rattle.url.specs.Scheme.{IsScheme, scheme_type, scheme_len, is_special, is_file, is_slash}
-use Rattle.url.specs.Host.{parse_host, parse_file_host, IsHostOf}
-use Rattle.url.specs.Path.{escape_end, is_windows_drive_letter, segment_len, push_segment, parse_segments, parse_path, parse_path_start}
-use Rattle.url.specs.Path.{shorten_path, IsSegmentList}
-use Rattle.url.specs.Parts.{Parts, kind_of, cannot_be_a_base, IsHierarchicalPath, IsPortOf, IsValidHead, IsValidPath, IsValid}
-use Rattle.url.specs.Parser.{Parsed, and_then, after_slashes, after_file_double_slash, file_start, inherit_file, parse_not_file}
-use Rattle.url.specs.Parser.{is_fragment_only, split_port, lacks_host, with_path, parse_port, parse_authority, leading_slashes}
-use Rattle.url.specs.Parser.{after_double_slash, parse_non_special, parse_relative, inherit, parse_file, parse_body, parse_all, parse_parts}
-use Rattle.url.specs.Parser.{before_tail, split_scheme, base_for_scheme, parse_by_scheme, parse_url}
-use Rattle.url.proofs.InputLemmas.{Passes, All_from_list_all}
-use Rattle.url.proofs.SchemeLemmas.{file_from_scheme_type, file_from_is_file}
+use Rattle.std.proofs.{lemmas.Bool.{cond_both, cond-true, or_from, cases_Bool, and_parts, true≢false}, lemmas.Bool.Decides.nat_tests}
+use Rattle.std.proofs.{lemmas.Slice.Eq.bytes_eq-Decides, lemmas.List.Elements.{All-nil, All-cons, All-head, All-tail, All-push, All-take}}
+use Rattle.std.proofs.lemmas.List.Elements.{All-drop, All-filter, All-weaker}
+use Rattle.std.specs.{Prelude.{codes, bytes_eq, unwrap_or, nat_lt, IfOk, IfSome, if◌then◌else◌}, Result.result_ok, List.list_all}
+use Rattle.std.specs.List.{prefix_len, suffix_len}
+use Rattle.url.specs.{declared.scheme.SchemeType.TheVariants.{File, SpecialNotFile, NotSpecial}, Input.{is_empty, is_c0_control_or_space}}
+use Rattle.url.specs.Input.{is_tab_or_new_line, trim_start, trim_c0_control_and_space, strip_tabs_and_new_lines, lowercase, split_once}
+use Rattle.url.specs.{Input.rsplit_once, Scheme.{IsScheme, scheme_type, scheme_len, is_special, is_file, is_slash}, Host.parse_host}
+use Rattle.url.specs.{Host.{parse_file_host, IsHostOf}, Path.{escape_end, is_windows_drive_letter, segment_len, push_segment}}
+use Rattle.url.specs.{Path.{parse_segments, parse_path, parse_path_start, shorten_path, IsSegmentList}, Parts.{Parts, kind_of}}
+use Rattle.url.specs.{Parts.{cannot_be_a_base, IsHierarchicalPath, IsPortOf, IsValidHead, IsValidPath, IsValid}, Parser.{Parsed, and_then}}
+use Rattle.url.specs.Parser.{after_slashes, after_file_double_slash, file_start, inherit_file, parse_not_file, is_fragment_only, split_port}
+use Rattle.url.specs.Parser.{lacks_host, with_path, parse_port, parse_authority, leading_slashes, after_double_slash, parse_non_special}
+use Rattle.url.specs.Parser.{parse_relative, inherit, parse_file, parse_body, parse_all, parse_parts, before_tail, split_scheme}
+use Rattle.url.specs.Parser.{base_for_scheme, parse_by_scheme, parse_url}
+use Rattle.url.proofs.{InputLemmas.{Passes, All_from_list_all}, SchemeLemmas.{file_from_scheme_type, file_from_is_file}}
 use Rattle.url.proofs.PathLemmas.{IsNoSlash, no_segments, push_segment_valid, push_last_nonempty, shorten_valid}
-use Rattle.url.proofs.LayoutLemmas.{IsValidHead_same}
-use Rattle.url.proofs.SetterLemmas.{valid_with_authority}
-use Rattle.url.proofs.ValidLemmas.{IsValid-with_tail, special_has_authority, base_from_authority, hierarchical}
-use Rattle.url.proofs.ParsedCanonical.{before_special}
-use Rattle.url_parts.specs.declared.fault.UrlFault.{UrlFault}
-use Rattle.url_parts.specs.Laws.{IsGivenAgain}
-use Rattle.url_parts.specs.Addresses.{is_web, accepted, accepted_url, absolute, is_absolute, url_of, text_of, resolve, is_address_byte}
-use Rattle.url_parts.specs.Addresses.{IsAddress, IsBase}
-use Rattle.url_parts.proofs.Bases.{at_web, kind_of_web, web_from_accepted, bytes_from_accepted, IsBase-address}
-use Rattle.url_parts.proofs.Hosts.{IsHost, host_valid, port_valid}
+use Rattle.url.proofs.{LayoutLemmas.IsValidHead_same, SetterLemmas.valid_with_authority, ValidLemmas.IsValid-with_tail}
+use Rattle.url.proofs.{ValidLemmas.{special_has_authority, base_from_authority, hierarchical}, ParsedCanonical.before_special}
+use Rattle.url_parts.specs.{declared.fault.UrlFault.UrlFault, Laws.IsGivenAgain, Addresses.{is_web, accepted, accepted_url, absolute}}
+use Rattle.url_parts.specs.Addresses.{is_absolute, url_of, text_of, resolve, is_address_byte, IsAddress, IsBase}
+use Rattle.url_parts.proofs.{Bases.{at_web, kind_of_web, web_from_accepted, bytes_from_accepted, IsBase-address}, Hosts.IsHost}
+use Rattle.url_parts.proofs.Hosts.{host_valid, port_valid}
 
 -- ---- steps
 

@@ -1,40 +1,25 @@
 -- A name that is resolved against a base stands behind the base's folder.
 use Rattle.std.proofs.Common.{◌≡◌, ◌≢◌, ℕ, suc, ◌+◌, ◌-◌, ◌<◌, ◌≤◌, true, false, not, ◌==◌, ltb, List, [], ◌∷◌, ◌++◌, length, get_or, take}
 use Rattle.std.proofs.Common.{drop, Option, Some, None, Ok, All, sym, refl, inl, ap, ◌∙◌, subst, ⊎_elim, append_assoc, append-nil, arith}
-use Rattle.std.proofs.Common.{length-append, take_all, take_at, lit<}
-use Rattle.std.specs.Prelude.{nat_eq, bytes_eq, option_map, codes, reverse, is_some, unwrap_or}
-use Rattle.std.specs.List.{starts_with, list_all, prefix_len, suffix_len, concat}
-use Rattle.std.proofs.lemmas.Bool.{cond-false, cases_Bool, cases_eq, true≢false, and_parts, and_left, and_right, ne_eqb, eq-eqb, le-ltb}
-use Rattle.std.proofs.lemmas.Bool.{ltb-true, ltb-false}
-use Rattle.std.specs.Option.{option_eq}
-use Rattle.std.specs.Result.{result_ok}
-use Rattle.std.proofs.lemmas.Slice.Eq.{bytes_eq-Decides, starts_is}
-use Rattle.std.proofs.lemmas.Bool.Decides.{nat_tests, Decides-eqb}
+use Rattle.std.proofs.{Common.{length-append, take_all, take_at, lit<}, lemmas.Bool.{cond-false, cases_Bool, cases_eq, true≢false}}
+use Rattle.std.proofs.lemmas.Bool.{and_parts, and_left, and_right, ne_eqb, eq-eqb, le-ltb, ltb-true, ltb-false}
+use Rattle.std.proofs.{lemmas.Slice.Eq.{bytes_eq-Decides, starts_is}, lemmas.Bool.Decides.{nat_tests, Decides-eqb}}
 use Rattle.std.proofs.lemmas.List.{take-append-drop, get_or-reverse, length-reverse, get_or_past, get_or_at, get_or_append_left}
-use Rattle.std.proofs.lemmas.List.{get_or-append_right}
-use Rattle.std.proofs.lemmas.List.Elements.{All-nil, All-cons, All-head, All-tail, All-append, All-push, All-take, All-weaker}
-use Rattle.std.proofs.lemmas.List.Sums.{suffix_len_is}
-use Rattle.std.proofs.lemmas.List.Concat.{flat_map-append}
-use Rattle.url.specs.declared.slicing.Position.TheVariants.{AfterPort, AfterPath}
-use Rattle.url.specs.declared.sets.TheConstants.{PATH}
-use Rattle.url.specs.declared.scheme.SchemeType.TheVariants.{SpecialNotFile}
-use Rattle.url.specs.Path.{dot_count, parse_path, without_last_segment, shorten_path, IsSegment, join_segments, IsSegmentList}
-use Rattle.url.specs.Input.{when, rsplit_step, rsplit_once, is_c0_control_or_space, is_tab_or_new_line, trim_c0_control_and_space}
-use Rattle.url.specs.Input.{strip_tabs_and_new_lines, split_once}
-use Rattle.url.specs.Scheme.{scheme_len, is_special, is_file}
-use Rattle.url.specs.Parts.{Parts, pieces, text_before, IsHierarchicalPath, IsValid}
-use Rattle.url.specs.Head.{head_only}
-use Rattle.url.specs.Parser.{split_scheme, parse_parts, parse_body, parse_relative, parse_by_scheme, leading_slashes, and_then, with_path}
-use Rattle.url.specs.Parser.{with_tail, before_tail, parse_url}
+use Rattle.std.proofs.{lemmas.List.get_or-append_right, lemmas.List.Elements.{All-nil, All-cons, All-head, All-tail, All-append, All-push}}
+use Rattle.std.proofs.{lemmas.List.Elements.{All-take, All-weaker}, lemmas.List.Sums.suffix_len_is, lemmas.List.Concat.flat_map-append}
+use Rattle.std.specs.{Prelude.{nat_eq, bytes_eq, option_map, codes, reverse, is_some, unwrap_or}, List.{starts_with, list_all, prefix_len}}
+use Rattle.std.specs.{List.{suffix_len, concat}, Option.option_eq, Result.result_ok}
+use Rattle.url.specs.{declared.slicing.Position.TheVariants.{AfterPort, AfterPath}, declared.sets.TheConstants.PATH}
+use Rattle.url.specs.{declared.scheme.SchemeType.TheVariants.SpecialNotFile, Path.{dot_count, parse_path, without_last_segment}}
+use Rattle.url.specs.{Path.{shorten_path, IsSegment, join_segments, IsSegmentList}, Input.{when, rsplit_step, rsplit_once}}
+use Rattle.url.specs.Input.{is_c0_control_or_space, is_tab_or_new_line, trim_c0_control_and_space, strip_tabs_and_new_lines, split_once}
+use Rattle.url.specs.{Scheme.{scheme_len, is_special, is_file}, Parts.{Parts, pieces, text_before, IsHierarchicalPath, IsValid}}
+use Rattle.url.specs.{Head.head_only, Parser.{split_scheme, parse_parts, parse_body, parse_relative, parse_by_scheme, leading_slashes}}
+use Rattle.url.specs.Parser.{and_then, with_path, with_tail, before_tail, parse_url}
 use Rattle.url.proofs.InputLemmas.{IsNot, Passes, All_from_list_all, list_all_from_All, StopsAt, prefix_len_at, split_once_none, filter_all}
-use Rattle.url.proofs.InputLemmas.{is_empty_nonempty}
-use Rattle.url.proofs.ValidLemmas.{special_has_authority, base_from_authority, hierarchical}
-use Rattle.url.proofs.LayoutLemmas.{IsValidHead_same}
-use Rattle.url.proofs.PathLemmas.{rooted, without_last_valid}
-use Rattle.url.proofs.PiecesLemmas.{concat-split}
-use Rattle.url.proofs.TextLemmas.{is_body_byte, body_bytes}
-use Rattle.url.proofs.SetLemmas.{kept_from_passes}
-use Rattle.url.proofs.RoundTrip.{parse_own_segments, stays_unless_file}
+use Rattle.url.proofs.{InputLemmas.is_empty_nonempty, ValidLemmas.{special_has_authority, base_from_authority, hierarchical}}
+use Rattle.url.proofs.{LayoutLemmas.IsValidHead_same, PathLemmas.{rooted, without_last_valid}, PiecesLemmas.concat-split}
+use Rattle.url.proofs.{TextLemmas.{is_body_byte, body_bytes}, SetLemmas.kept_from_passes, RoundTrip.{parse_own_segments, stays_unless_file}}
 use Rattle.url_parts.specs.Addresses.{is_address_byte, is_web, accepted_url, accepted, is_normal, resolve, beside, unchanged, is_absolute}
 use Rattle.url_parts.specs.Addresses.{url_of, text_of, is_tail, without_tail, through_last_slash, folder_of, unless_long, IsAddress, IsBase}
 use Rattle.url_parts.specs.Addresses.{IsBaseUrl}

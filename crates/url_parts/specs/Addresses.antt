@@ -1,16 +1,11 @@
 -- Addresses: absolute http and https URLs, resolved by the URL Standard, section 4.4, and written by its section 4.5.
 use Rattle.std.specs.Prelude.{◌≡◌, ℕ, ◌-◌, ◌==◌, ◌&&◌, ◌||◌, not, nat_le, nat_lt, nat_eq, Bool, true, List, [], ◌∷◌, ◌++◌, length, take}
-use Rattle.std.specs.Prelude.{drop, codes, bytes_eq, if◌then◌else◌, Result, Ok, Err, Option, Some, None, option_map}
-use Rattle.std.specs.List.{list_all, starts_with, before_first, suffix_len}
-use Rattle.std.specs.Option.{option_eq}
-use Rattle.std.specs.Result.{result_ok}
-use Rattle.url.specs.declared.error.ParseError.{ParseError}
-use Rattle.url.specs.declared.error.ParseError.TheVariants.{Overflow, OutOfMemory}
-use Rattle.url.specs.Parser.{Parsed, parse_url}
-use Rattle.url.specs.Parts.{Parts, serialize, IsValid}
+use Rattle.std.specs.{Prelude.{drop, codes, bytes_eq, if◌then◌else◌, Result, Ok, Err, Option, Some, None, option_map}, List.list_all}
+use Rattle.std.specs.{List.{starts_with, before_first, suffix_len}, Option.option_eq, Result.result_ok}
+use Rattle.url.specs.{declared.error.ParseError.ParseError, declared.error.ParseError.TheVariants.{Overflow, OutOfMemory}, Parser.Parsed}
+use Rattle.url.specs.{Parser.parse_url, Parts.{Parts, serialize, IsValid}}
 use Rattle.bridge_io.specs.Names.{is_name}
-use Rattle.url_parts.specs.declared.fault.UrlFault.{UrlFault}
-use Rattle.url_parts.specs.declared.fault.UrlFault.TheVariants.{Refused, Scheme, TooLong, Memory}
+use Rattle.url_parts.specs.{declared.fault.UrlFault.UrlFault, declared.fault.UrlFault.TheVariants.{Refused, Scheme, TooLong, Memory}}
 
 -- 0x21 to 0x7E without `"`
 abbrev pub is_address_byte : ℕ → Bool

@@ -1,9 +1,7 @@
 -- The classes of codes in a codecs list (RFC 6381, 3.3), by the characters that stand before the first `.`.
-use Rattle.std.specs.Prelude.{ℕ, ◌==◌, List, [], ◌∷◌, codes, if◌then◌else◌}
-use Rattle.std.specs.List.{before_first}
+use Rattle.std.specs.{Prelude.{ℕ, ◌==◌, List, [], ◌∷◌, codes, if◌then◌else◌}, List.before_first}
 use Rattle.bridge_io.specs.Texts.{is_among}
-use Rattle.url_parts.specs.declared.code.CodeClass.{CodeClass}
-use Rattle.url_parts.specs.declared.code.CodeClass.TheVariants.{Video, Audio, Text, Unknown}
+use Rattle.url_parts.specs.{declared.code.CodeClass.CodeClass, declared.code.CodeClass.TheVariants.{Video, Audio, Text, Unknown}}
 
 abbrev pub video_names : List (List ℕ)
 video_names =

@@ -1,7 +1,6 @@
 -- Laws of addresses.
 use Rattle.std.specs.Prelude.{◌≡◌, ℕ, true, List, [], ◌∷◌, ◌++◌, Some, None, Ok}
-use Rattle.url.specs.Parser.{parse_url}
-use Rattle.url.specs.Parts.{Parts}
+use Rattle.url.specs.{Parser.parse_url, Parts.Parts}
 use Rattle.url_parts.specs.Addresses.{is_absolute, resolve, resolve_more, chain, unless_long, folder_of, is_name_in}
 
 -- a reference that begins with `http://` or `https://` is read alike with any base and without one

@@ -1,9 +1,6 @@
 -- Ranges of bytes as an MPD writes them: ISO/IEC 23009-1, 5.3.9.2.2 and RFC 7233, 2.1.
 use Rattle.std.specs.Prelude.{ℕ, ◌+◌, ◌-◌, ◌^◌, ◌==◌, ◌&&◌, nat_lt, nat_le, List, length, take, drop, position, if◌then◌else◌, Option, Some}
-use Rattle.std.specs.Prelude.{None}
-use Rattle.std.specs.List.{list_all}
-use Rattle.std.specs.Char.{is_ascii_digit}
-use Rattle.std.specs.Str.Parse.{digits_value}
+use Rattle.std.specs.{Prelude.None, List.list_all, Char.is_ascii_digit, Str.Parse.digits_value}
 use Rattle.url_parts.specs.declared.range.Range.{Range}
 
 -- the place of a byte: one digit or more, with a value below 2^63

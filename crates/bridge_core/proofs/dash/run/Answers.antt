@@ -1,10 +1,9 @@
+use Rattle.bridge_core.proofs.dash.run.Goals as goal
 use Rattle.std.proofs.Common.{ap, Err}
-use Rattle.bridge_playlists.specs.Places.{store_place_of}
-use Rattle.bridge_playlists.specs.Playlists.{presented_at}
+use Rattle.bridge_playlists.specs.{Places.store_place_of, Playlists.presented_at}
 use Rattle.bridge_steps.specs.Done.{done_line}
 use Rattle.bridge_steps.proofs.Endings.{at_place, halts, then_ends, writing}
 use Rattle.bridge_core.specs.Dash.{dash_at, dash_outcome, files_of, outcome_of}
-use Rattle.bridge_core.proofs.dash.run.Goals as goal
 
 pub returns-in-Ok-presented_at : goal.returns-in-Ok-presented_at
 unfolding dash_outcome

@@ -1,12 +1,9 @@
+use Rattle.bridge_core.proofs.follow.run.Goals as goal
 use Rattle.std.proofs.Common.{None, refl}
 use Rattle.bridge_playlists.specs.Places.{store_place_of}
-use Rattle.bridge_steps.specs.Follow.{follow_course}
-use Rattle.bridge_steps.specs.LiveMpds.{followed_mpd, frame_stream}
-use Rattle.bridge_steps.proofs.Endings.{over}
-use Rattle.bridge_steps.proofs.Grown.{none_grown}
+use Rattle.bridge_steps.specs.{Follow.follow_course, LiveMpds.{followed_mpd, frame_stream}}
+use Rattle.bridge_steps.proofs.{Endings.over, Grown.none_grown, Unplaced.{placed_worked, unplaced_caused, unplaced_worked}}
 use Rattle.bridge_core.specs.Follow.{follow_at, followed_course, terms_at}
-use Rattle.bridge_steps.proofs.Unplaced.{placed_worked, unplaced_caused, unplaced_worked}
-use Rattle.bridge_core.proofs.follow.run.Goals as goal
 
 pub returns-in-Ok-clause-work : goal.returns-in-Ok-clause-work
 unfolding followed_course

@@ -1,17 +1,13 @@
+use Rattle.bridge_courses.specs.declared.status.Verdict.TheVariants as verdict
+use Rattle.bridge_report.specs.declared.reading.Halt.TheVariants as halt
+use Rattle.bridge_core.proofs.make.run.Goals as goal
 use Rattle.std.proofs.Common.{◌≡◌, ◌∙◌, ◌^◌, IsTrue, None, Some, IfSome, Result, Ok, Err, ap, false, subst}
 use Rattle.presentation.specs.Presented.{Presented}
-use Rattle.bridge_courses.specs.declared.status.Verdict.TheVariants as verdict
-use Rattle.bridge_report.specs.declared.reading.Halt.{Halt}
-use Rattle.bridge_report.specs.declared.reading.Halt.TheVariants as halt
-use Rattle.bridge_report.specs.declared.refusal.Refusal.TheVariants.{NotStatic}
-use Rattle.bridge_report.specs.Outcomes.{Ends, course_by}
-use Rattle.bridge_report.specs.Reading.{Named, halted}
-use Rattle.bridge_report.specs.Refusals.{refusal_line}
+use Rattle.bridge_report.specs.{declared.reading.Halt.Halt, declared.refusal.Refusal.TheVariants.NotStatic, Outcomes.{Ends, course_by}}
+use Rattle.bridge_report.specs.{Reading.{Named, halted}, Refusals.refusal_line}
 use Rattle.bridge_steps.specs.Manifests.{mpd_in}
 use Rattle.bridge_steps.proofs.Endings.{at_place, is_refused}
-use Rattle.bridge_core.specs.Make.{make_at, make_outcome, made_presentation, outcome_of, source_place}
-use Rattle.bridge_core.specs.declared.make.Make.{Make}
-use Rattle.bridge_core.proofs.make.run.Goals as goal
+use Rattle.bridge_core.specs.{Make.{make_at, make_outcome, made_presentation, outcome_of, source_place}, declared.make.Make.Make}
 
 uncounted : (job : Make) (r : Result Presented Named) → IsTrue (course_by (outcome_of job r)).counts → ⊥
 uncounted job (Ok p) is = absurd (let e = is in cc)

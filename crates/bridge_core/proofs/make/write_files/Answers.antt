@@ -1,12 +1,10 @@
+use Rattle.bridge_core.proofs.make.write_files.Goals as goal
 use Rattle.std.proofs.Common.{subst}
-use Rattle.bridge_io.specs.Outside.{put, Changes}
-use Rattle.bridge_io.specs.InOrder.{put_all, MayBegin, AreBegun}
+use Rattle.bridge_io.specs.{Outside.{put, Changes}, InOrder.{put_all, MayBegin, AreBegun}}
 use Rattle.bridge_jobs.specs.Laws.{in_folder}
 use Rattle.bridge_core.specs.Make.{source_file, source_name}
 use Rattle.bridge_steps.specs.Playlists.{playlists}
-use Rattle.bridge_steps.proofs.Beginning.{first_begun, then_put, then_begun}
-use Rattle.bridge_steps.proofs.Files.{on_ok_by, on_err_by, on_err}
-use Rattle.bridge_core.proofs.make.write_files.Goals as goal
+use Rattle.bridge_steps.proofs.{Beginning.{first_begun, then_put, then_begun}, Files.{on_ok_by, on_err_by, on_err}}
 
 pub returns-in_err-write_source-clause-err : goal.returns-in_err-write_source-clause-err
 returns-in_err-write_source-clause-err g c =

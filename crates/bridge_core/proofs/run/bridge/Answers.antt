@@ -1,9 +1,8 @@
+use Rattle.bridge_core.proofs.run.bridge.Goals as goal
 use Rattle.std.proofs.Common.{refl, inl, inr}
-use Rattle.bridge_courses.proofs.ExecutionLaws.{is_complete}
-use Rattle.bridge_courses.proofs.Statuses.{rose_first, rose_later}
+use Rattle.bridge_courses.proofs.{ExecutionLaws.is_complete, Statuses.{rose_first, rose_later}}
 use Rattle.bridge_steps.proofs.Works.{read_fault_told, words_told, write_fault_told}
 use Rattle.bridge_core.proofs.Blamed.{told_earlier}
-use Rattle.bridge_core.proofs.run.bridge.Goals as goal
 
 pub returns-clause-run : goal.returns-clause-run
 returns-clause-run g c = λ course is. let work = c.work-ending.ensures.work course is in record {

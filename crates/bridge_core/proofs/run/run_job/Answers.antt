@@ -1,9 +1,8 @@
+use Rattle.bridge_core.proofs.run.run_job.Goals as goal
 use Rattle.std.proofs.Common.{Some, refl}
 use Rattle.bridge_steps.proofs.Grown.{none_grown}
 use Rattle.bridge_core.specs.Courses.{outcome_of_job}
-use Rattle.bridge_core.proofs.Blamed.{alone_follows, command_blamed, not_followed}
-use Rattle.bridge_core.proofs.Worked.{command_worked}
-use Rattle.bridge_core.proofs.run.run_job.Goals as goal
+use Rattle.bridge_core.proofs.{Blamed.{alone_follows, command_blamed, not_followed}, Worked.command_worked}
 
 pub run_command-requires-clause-other : goal.run_command-requires-clause-other
 run_command-requires-clause-other g c = not_followed c.args.job c.in_default.not-Follow c.in_default.not-FollowHls

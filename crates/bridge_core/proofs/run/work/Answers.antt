@@ -1,11 +1,9 @@
+use Rattle.bridge_core.proofs.run.work.Goals as goal
 use Rattle.std.proofs.Common.{◌≡◌, None, refl}
 use Rattle.bridge_jobs.specs.Jobs.{job_of}
-use Rattle.bridge_steps.proofs.Grown.{none_grown}
+use Rattle.bridge_steps.proofs.{Grown.none_grown, Unplaced.memory_worked}
 use Rattle.bridge_core.specs.Courses.{course_of}
-use Rattle.bridge_core.proofs.Blamed.{memory_blamed, no_job_blamed}
-use Rattle.bridge_steps.proofs.Unplaced.{memory_worked}
-use Rattle.bridge_core.proofs.Worked.{no_job_worked, same_worked}
-use Rattle.bridge_core.proofs.run.work.Goals as goal
+use Rattle.bridge_core.proofs.{Blamed.{memory_blamed, no_job_blamed}, Worked.{no_job_worked, same_worked}}
 
 pub returns-in-Ok-Some-clause-work : goal.returns-in-Ok-Some-clause-work
 unfolding course_of

@@ -1,7 +1,6 @@
-use Rattle.std.proofs.Common.{rules}
-use Rattle.std.proofs.lemmas.Map.Text.{btree_map_updates_text}
-use Rattle.bridge_io.proofs.Files.{same_files, extends_known, same_known}
 use Rattle.bridge_io.proofs.mem_store.extend.Goals as goal
+use Rattle.std.proofs.{Common.rules, lemmas.Map.Text.btree_map_updates_text}
+use Rattle.bridge_io.proofs.Files.{same_files, extends_known, same_known}
 
 pub returns-in-Some-clause-ok : goal.returns-in-Some-clause-ok
 returns-in-Some-clause-ok c =

@@ -1,8 +1,6 @@
-use Rattle.std.proofs.Common.{◌≡◌, string_bytes}
-use Rattle.std.proofs.lemmas.Map.Text.{btree_map_updates_text}
-use Rattle.std.proofs.lemmas.Result.{IfOk-at_ok}
-use Rattle.bridge_io.proofs.Files.{same_files}
 use Rattle.bridge_io.proofs.mem_store.set.Goals as goal
+use Rattle.std.proofs.{Common.{◌≡◌, string_bytes}, lemmas.Map.Text.btree_map_updates_text, lemmas.Result.IfOk-at_ok}
+use Rattle.bridge_io.proofs.Files.{same_files}
 
 -- the key has the name's bytes
 pub returns-clause-ok : goal.returns-clause-ok

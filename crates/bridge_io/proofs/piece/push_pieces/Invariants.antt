@@ -1,7 +1,6 @@
-use Rattle.std.proofs.Common.{take, Ok}
-use Rattle.bridge_io.specs.Adding.{Adds, shown}
-use Rattle.bridge_io.specs.Pieces.{pieces_text}
 use Rattle.bridge_io.proofs.piece.push_pieces.Given as goal
+use Rattle.std.proofs.Common.{take, Ok}
+use Rattle.bridge_io.specs.{Adding.{Adds, shown}, Pieces.pieces_text}
 
 -- the pieces so far are added
 abbrev pub invariant-loop-piece : goal.invariant-loop-piece

@@ -1,8 +1,7 @@
-use Rattle.std.proofs.Common.{◌≡◌, ◌∙◌, sym, ap, Err, arith}
-use Rattle.bridge_io.specs.Slurped.{Long}
-use Rattle.bridge_io.specs.Places.{place_of}
-use Rattle.bridge_io.proofs.WholeFile.{absent_file, whole_read, long_read}
 use Rattle.bridge_io.proofs.whole_file.slurp.Goals as goal
+use Rattle.std.proofs.Common.{◌≡◌, ◌∙◌, sym, ap, Err, arith}
+use Rattle.bridge_io.specs.{Slurped.Long, Places.place_of}
+use Rattle.bridge_io.proofs.WholeFile.{absent_file, whole_read, long_read}
 
 pub returns-then-not-branch-clause-file : goal.returns-then-not-branch-clause-file
 returns-then-not-branch-clause-file g c = λ files told.

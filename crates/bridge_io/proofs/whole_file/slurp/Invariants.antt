@@ -1,7 +1,6 @@
-use Rattle.std.proofs.Common.{◌≡◌, ◌+◌, ◌-◌, ◌<◌, ◌≤◌, length, vec_len, Some, is_some, true}
-use Rattle.bridge_io.specs.Outside.{Files, content_of}
-use Rattle.bridge_io.specs.Slurped.{IsFront}
 use Rattle.bridge_io.proofs.whole_file.slurp.Given as goal
+use Rattle.std.proofs.Common.{◌≡◌, ◌+◌, ◌-◌, ◌<◌, ◌≤◌, length, vec_len, Some, is_some, true}
+use Rattle.bridge_io.specs.{Outside.{Files, content_of}, Slurped.IsFront}
 
 -- what was read is a front of the file, which is there, and the store is as it was
 abbrev pub invariant-loop-store : goal.invariant-loop-store

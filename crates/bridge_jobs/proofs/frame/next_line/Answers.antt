@@ -1,7 +1,6 @@
-use Rattle.std.proofs.Common.{◌≡◌, ◌∙◌, ◌<◌, ◌==◌, ℕ, List, [], ◌∷◌, length, true, false, sym, refl, arith}
-use Rattle.std.proofs.lemmas.Bool.Decides.{nat_tests}
-use Rattle.bridge_jobs.proofs.Reading.{next_none, next_some, next_too_many}
 use Rattle.bridge_jobs.proofs.frame.next_line.Goals as goal
+use Rattle.std.proofs.{Common.{◌≡◌, ◌∙◌, ◌<◌, ◌==◌, ℕ, List, [], ◌∷◌, length, true, false, sym, refl, arith}, lemmas.Bool.Decides.nat_tests}
+use Rattle.bridge_jobs.proofs.Reading.{next_none, next_some, next_too_many}
 
 empty : (xs : List ℕ) → (length xs == 0) ≡ true → xs ≡ []
 empty [] is = refl

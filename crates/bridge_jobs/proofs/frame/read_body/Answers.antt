@@ -1,9 +1,7 @@
-use Rattle.std.proofs.lemmas.Result.{err_from_is_err_and}
-use Rattle.std.proofs.Common.{Err}
-use Rattle.bridge_jobs.specs.Frames.{body_of, piece_of}
-use Rattle.bridge_jobs.specs.Headers.{body_length}
-use Rattle.bridge_jobs.proofs.Reading.{body_by, told_on}
 use Rattle.bridge_jobs.proofs.frame.read_body.Goals as goal
+use Rattle.std.proofs.{lemmas.Result.err_from_is_err_and, Common.Err}
+use Rattle.bridge_jobs.specs.{Frames.{body_of, piece_of}, Headers.body_length}
+use Rattle.bridge_jobs.proofs.Reading.{body_by, told_on}
 
 pub returns-in_err-body-clause-frame : goal.returns-in_err-body-clause-frame
 returns-in_err-body-clause-frame g c = λ bytes told.

@@ -1,8 +1,7 @@
-use Rattle.std.proofs.Common.{◌∙◌, Err, ap}
-use Rattle.std.proofs.lemmas.Result.{err_from_is_err_and}
+use Rattle.bridge_jobs.proofs.frame.read_frame.Goals as goal
+use Rattle.std.proofs.{Common.{◌∙◌, Err, ap}, lemmas.Result.err_from_is_err_and}
 use Rattle.bridge_jobs.specs.Frames.{frame_by_line, most_header, next_frame, next_line, some_of}
 use Rattle.bridge_jobs.proofs.Reading.{next_frame_by, told_on}
-use Rattle.bridge_jobs.proofs.frame.read_frame.Goals as goal
 
 pub returns-in_err-next-clause-frame : goal.returns-in_err-next-clause-frame
 returns-in_err-next-clause-frame g c = λ bytes told.

@@ -1,7 +1,6 @@
-use Rattle.std.proofs.Common.{◌≡◌, ◌∙◌, ◌+◌, ◌-◌, List, ℕ, length, take, drop, Some, ap, arith, length-drop}
-use Rattle.std.proofs.lemmas.List.{take_all}
-use Rattle.bridge_jobs.specs.Headers.{cut_at}
 use Rattle.bridge_jobs.proofs.header.cut_at_space.Goals as goal
+use Rattle.std.proofs.{Common.{◌≡◌, ◌∙◌, ◌+◌, ◌-◌, List, ℕ, length, take, drop, Some, ap, arith, length-drop}, lemmas.List.take_all}
+use Rattle.bridge_jobs.specs.Headers.{cut_at}
 
 pub returns : goal.returns
 returns c =

@@ -1,7 +1,6 @@
-use Rattle.std.proofs.Common.{[], ◌∷◌, get_or, arith, length-append}
-use Rattle.std.proofs.lemmas.Result.{err_from_is_err_and}
-use Rattle.bridge_jobs.proofs.RoundsRead.{all_bodies, behind_next, body_fails, body_more, next_size}
 use Rattle.bridge_jobs.proofs.round.read_bodies.Goals as goal
+use Rattle.std.proofs.{Common.{[], ◌∷◌, get_or, arith, length-append}, lemmas.Result.err_from_is_err_and}
+use Rattle.bridge_jobs.proofs.RoundsRead.{all_bodies, behind_next, body_fails, body_more, next_size}
 
 pub returns-in_err-body-clause-bodies : goal.returns-in_err-body-clause-bodies
 returns-in_err-body-clause-bodies g c = λ bytes told.

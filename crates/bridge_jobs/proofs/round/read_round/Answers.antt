@@ -1,10 +1,7 @@
-use Rattle.std.proofs.Common.{◌∙◌, Err, ap}
-use Rattle.std.proofs.lemmas.Result.{err_from_is_err_and}
-use Rattle.bridge_jobs.specs.Frames.{next_line, some_of}
-use Rattle.bridge_jobs.specs.Rounds.{most_header, next_round, round_by_line}
-use Rattle.bridge_jobs.proofs.Reading.{told_on}
-use Rattle.bridge_jobs.proofs.RoundsRead.{next_round_by}
 use Rattle.bridge_jobs.proofs.round.read_round.Goals as goal
+use Rattle.std.proofs.{Common.{◌∙◌, Err, ap}, lemmas.Result.err_from_is_err_and}
+use Rattle.bridge_jobs.specs.{Frames.{next_line, some_of}, Rounds.{most_header, next_round, round_by_line}}
+use Rattle.bridge_jobs.proofs.{Reading.told_on, RoundsRead.next_round_by}
 
 pub returns-in_err-next-clause-round : goal.returns-in_err-next-clause-round
 returns-in_err-next-clause-round g c = λ bytes told.

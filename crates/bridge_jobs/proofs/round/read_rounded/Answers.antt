@@ -1,10 +1,7 @@
-use Rattle.std.proofs.Common.{◌∙◌, Ok, Err, ap}
-use Rattle.std.proofs.lemmas.Result.{err_from_is_err_and}
-use Rattle.bridge_jobs.specs.Frames.{behind, header_at}
-use Rattle.bridge_jobs.specs.Rounds.{bodies_of, counted, header_of, most_header, round_by_line}
-use Rattle.bridge_jobs.proofs.Reading.{told_on}
-use Rattle.bridge_jobs.proofs.RoundsRead.{round_by}
 use Rattle.bridge_jobs.proofs.round.read_rounded.Goals as goal
+use Rattle.std.proofs.{Common.{◌∙◌, Ok, Err, ap}, lemmas.Result.err_from_is_err_and}
+use Rattle.bridge_jobs.specs.{Frames.{behind, header_at}, Rounds.{bodies_of, counted, header_of, most_header, round_by_line}}
+use Rattle.bridge_jobs.proofs.{Reading.told_on, RoundsRead.round_by}
 
 pub returns-in_err-header-clause-round : goal.returns-in_err-header-clause-round
 returns-in_err-header-clause-round g c = λ bytes told.

@@ -1,14 +1,10 @@
-use Rattle.std.proofs.Common.{[], ◌∷◌, true, subst}
-use Rattle.bridge_io.specs.InOrder.{put_all, AreBegun}
-use Rattle.bridge_io.specs.Outside.{Changes}
-use Rattle.dash_writer.specs.Timed.{timed_text}
-use Rattle.bridge_steps.specs.Done.{done_line}
-use Rattle.bridge_steps.specs.Endings.{IsWritten}
-use Rattle.bridge_steps.proofs.Begun.{begun, one_put}
-use Rattle.bridge_steps.proofs.Endings.{writes}
-use Rattle.bridge_steps.proofs.Files.{on_ok_by, on_err_by}
-use Rattle.bridge_reach.specs.DashTimes.{files_of}
 use Rattle.bridge_reach.proofs.dash_times.write.Goals as goal
+use Rattle.std.proofs.Common.{[], ◌∷◌, true, subst}
+use Rattle.bridge_io.specs.{InOrder.{put_all, AreBegun}, Outside.Changes}
+use Rattle.dash_writer.specs.Timed.{timed_text}
+use Rattle.bridge_steps.specs.{Done.done_line, Endings.IsWritten}
+use Rattle.bridge_steps.proofs.{Begun.{begun, one_put}, Endings.writes, Files.{on_ok_by, on_err_by}}
+use Rattle.bridge_reach.specs.DashTimes.{files_of}
 
 pub returns : goal.returns
 returns g c =

@@ -1,10 +1,9 @@
+use Rattle.bridge_reach.proofs.index.run_hls_index.Goals as goal
 use Rattle.std.proofs.Common.{ap, Err}
 use Rattle.bridge_playlists.specs.Places.{store_place_of}
-use Rattle.bridge_steps.specs.Done.{done_line}
-use Rattle.bridge_steps.specs.Playlists.{playlists}
+use Rattle.bridge_steps.specs.{Done.done_line, Playlists.playlists}
 use Rattle.bridge_steps.proofs.Endings.{at_place, halts, then_ends, writing}
 use Rattle.bridge_reach.specs.Index.{index_at, index_outcome, outcome_of, presented}
-use Rattle.bridge_reach.proofs.index.run_hls_index.Goals as goal
 
 pub returns-in-Ok-indexed_at : goal.returns-in-Ok-indexed_at
 unfolding index_outcome

@@ -1,9 +1,7 @@
-use Rattle.std.proofs.Common.{true, sym, subst}
-use Rattle.bridge_steps.specs.Done.{done_line}
-use Rattle.bridge_steps.specs.Endings.{IsWritten}
-use Rattle.bridge_steps.specs.Playlists.{playlists}
-use Rattle.bridge_steps.proofs.Endings.{writes}
 use Rattle.bridge_reach.proofs.index.write.Goals as goal
+use Rattle.std.proofs.Common.{true, sym, subst}
+use Rattle.bridge_steps.specs.{Done.done_line, Endings.IsWritten, Playlists.playlists}
+use Rattle.bridge_steps.proofs.Endings.{writes}
 
 pub returns : goal.returns
 returns g c =

@@ -1,10 +1,8 @@
-use Rattle.std.proofs.Common.{◌≡◌, [], ◌∷◌, ◌==◌, sym, subst, if◌then◌else◌}
-use Rattle.bridge_io.specs.Outside.{Changes}
-use Rattle.bridge_io.specs.InOrder.{put_all, AreBegun}
-use Rattle.bridge_steps.specs.LiveMpds.{track_files, master_file}
-use Rattle.bridge_steps.proofs.Files.{begun_more, put_last, begun_last, on_ok_by, on_err_by, on_err}
-use Rattle.bridge_steps.proofs.LiveFiles.{files_first}
 use Rattle.bridge_steps.proofs.live_files.write_live_files.Goals as goal
+use Rattle.std.proofs.Common.{◌≡◌, [], ◌∷◌, ◌==◌, sym, subst, if◌then◌else◌}
+use Rattle.bridge_io.specs.{Outside.Changes, InOrder.{put_all, AreBegun}}
+use Rattle.bridge_steps.specs.LiveMpds.{track_files, master_file}
+use Rattle.bridge_steps.proofs.{Files.{begun_more, put_last, begun_last, on_ok_by, on_err_by, on_err}, LiveFiles.files_first}
 
 pub returns-in_err-write_tracks-clause-err : goal.returns-in_err-write_tracks-clause-err
 returns-in_err-write_tracks-clause-err g c = let s = c.args.session.now in let out = c.args.out.now in

@@ -1,9 +1,8 @@
+use Rattle.bridge_steps.proofs.live_files.write_tracks.Goals as goal
 use Rattle.std.proofs.Common.{◌<◌, ◌≤◌, length, ap, ◌∙◌, subst, arith}
-use Rattle.bridge_io.specs.Outside.{Changes}
-use Rattle.bridge_io.specs.InOrder.{put_all, put_next, begun_at}
+use Rattle.bridge_io.specs.{Outside.Changes, InOrder.{put_all, put_next, begun_at}}
 use Rattle.bridge_steps.specs.LiveMpds.{track_file, track_files}
 use Rattle.bridge_steps.proofs.Files.{track_at, all_tracks, on_err}
-use Rattle.bridge_steps.proofs.live_files.write_tracks.Goals as goal
 
 pub returns-in_err-write_track-clause-err : goal.returns-in_err-write_track-clause-err
 returns-in_err-write_track-clause-err g c =

@@ -1,10 +1,9 @@
+use Rattle.bridge_steps.proofs.live_frame.first_frame.Goals as goal
 use Rattle.std.proofs.Common.{◌≡◌, Ok, sym, ap, ◌∙◌}
 use Rattle.mpd_rules.specs.Views.{segments_mpd}
 use Rattle.live_meaning.specs.Updates.{Terms}
-use Rattle.bridge_steps.specs.LiveMpds.{first_appends}
-use Rattle.bridge_steps.specs.Manifests.{values_of}
+use Rattle.bridge_steps.specs.{LiveMpds.first_appends, Manifests.values_of}
 use Rattle.bridge_steps.proofs.LiveFrames.{first_listed, first_one, first_read}
-use Rattle.bridge_steps.proofs.live_frame.first_frame.Goals as goal
 
 pub returns-in_ok-mpd-in-Mpd-clause-listed : goal.returns-in_ok-mpd-in-Mpd-clause-listed
 returns-in_ok-mpd-in-Mpd-clause-listed g c =

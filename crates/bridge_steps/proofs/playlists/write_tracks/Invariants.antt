@@ -1,8 +1,7 @@
-use Rattle.std.proofs.Common.{◌≡◌, ◌≤◌, take}
-use Rattle.bridge_io.specs.Outside.{Changes}
-use Rattle.bridge_io.specs.InOrder.{put_all}
-use Rattle.bridge_steps.specs.Playlists.{track_files}
 use Rattle.bridge_steps.proofs.playlists.write_tracks.Given as goal
+use Rattle.std.proofs.Common.{◌≡◌, ◌≤◌, take}
+use Rattle.bridge_io.specs.{Outside.Changes, InOrder.put_all}
+use Rattle.bridge_steps.specs.Playlists.{track_files}
 
 -- the playlists of the tracks before this one are put
 abbrev pub invariant-loop-track : goal.invariant-loop-track

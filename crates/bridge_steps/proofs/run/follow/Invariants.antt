@@ -1,9 +1,8 @@
+use Rattle.bridge_steps.proofs.run.follow.Given as goal
 use Rattle.std.proofs.Common.{◌≡◌, ◌-◌, ℕ, List, Some}
 use Rattle.bridge_jobs.specs.Frames.{most_frames}
-use Rattle.bridge_courses.specs.Executions.{NeverFalls}
-use Rattle.bridge_courses.specs.Steps.{Leads}
+use Rattle.bridge_courses.specs.{Executions.NeverFalls, Steps.Leads}
 use Rattle.bridge_steps.specs.Follow.{follow_course, rest_course, IsGoing, Grows, world_of}
-use Rattle.bridge_steps.proofs.run.follow.Given as goal
 
 -- what was worked off leads on to the rest of the course
 abbrev pub invariant-loop-told : goal.invariant-loop-told

@@ -1,10 +1,8 @@
-use Rattle.std.proofs.Common.{◌≡◌, Err, Some, None, refl, ap, ◌∙◌, arith}
-use Rattle.bridge_steps.specs.Follow.{world_of}
-use Rattle.bridge_report.specs.Following.{step_of}
-use Rattle.bridge_steps.specs.Streams.{with_first}
-use Rattle.bridge_steps.proofs.Grown.{none_grown, stops_grown}
-use Rattle.bridge_steps.proofs.Rest.{ended, broken, stopped, next_leads}
 use Rattle.bridge_steps.proofs.run.follow_next.Goals as goal
+use Rattle.std.proofs.Common.{◌≡◌, Err, Some, None, refl, ap, ◌∙◌, arith}
+use Rattle.bridge_steps.specs.{Follow.world_of, Streams.with_first}
+use Rattle.bridge_report.specs.Following.{step_of}
+use Rattle.bridge_steps.proofs.{Grown.{none_grown, stops_grown}, Rest.{ended, broken, stopped, next_leads}}
 
 pub returns-in-Ok-clause-next : goal.returns-in-Ok-clause-next
 returns-in-Ok-clause-next g c = λ bytes told.

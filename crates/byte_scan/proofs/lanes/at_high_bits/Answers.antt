@@ -1,7 +1,6 @@
-use Rattle.std.proofs.Common.{◌/◌, arith}
-use Rattle.std.proofs.lemmas.Simd.{zip2_splat}
-use Rattle.byte_scan.proofs.LookupLemmas.{shifted, high_ok, looked_up}
 use Rattle.byte_scan.proofs.lanes.at_high_bits.Goals as goal
+use Rattle.std.proofs.{Common.{◌/◌, arith}, lemmas.Simd.zip2_splat}
+use Rattle.byte_scan.proofs.LookupLemmas.{shifted, high_ok, looked_up}
 
 pub swizzle : goal.swizzle
 swizzle c = high_ok c.args.lanes (record { long = c.fits-lanes.0; each = c.fits-lanes.1 })

@@ -1,8 +1,6 @@
-use Rattle.std.proofs.Common.{◌≡◌, ℕ, ◌%◌, List, get_or, map, bit_and, ap, ◌∙◌, arith}
-use Rattle.std.proofs.lemmas.Nat.{and_mask}
-use Rattle.std.proofs.lemmas.Simd.{zip2_splat}
-use Rattle.byte_scan.proofs.LookupLemmas.{low_ok, looked_up}
 use Rattle.byte_scan.proofs.lanes.at_low_bits.Goals as goal
+use Rattle.std.proofs.{Common.{◌≡◌, ℕ, ◌%◌, List, get_or, map, bit_and, ap, ◌∙◌, arith}, lemmas.Nat.and_mask, lemmas.Simd.zip2_splat}
+use Rattle.byte_scan.proofs.LookupLemmas.{low_ok, looked_up}
 
 pub swizzle : goal.swizzle
 swizzle c = low_ok c.args.lanes (record { long = c.fits-lanes.0; each = c.fits-lanes.1 })

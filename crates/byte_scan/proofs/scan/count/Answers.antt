@@ -1,7 +1,6 @@
-use Rattle.std.proofs.Common.{◌≡◌, ◌*◌, sym, ap, ◌∙◌, count_by, length, drop, arith}
-use Rattle.std.proofs.lemmas.List.Sums.{count_by-le-length}
-use Rattle.byte_scan.proofs.CountLemmas.{count_by_block}
 use Rattle.byte_scan.proofs.scan.count.Goals as goal
+use Rattle.std.proofs.{Common.{◌≡◌, ◌*◌, sym, ap, ◌∙◌, count_by, length, drop, arith}, lemmas.List.Sums.count_by-le-length}
+use Rattle.byte_scan.proofs.CountLemmas.{count_by_block}
 
 pub overflow_add-count : goal.overflow_add-count
 overflow_add-count g c =

@@ -1,7 +1,6 @@
-use Rattle.std.proofs.Common.{◌∙◌, arith}
-use Rattle.std.proofs.lemmas.List.{length-set}
-use Rattle.byte_scan.proofs.SetLemmas.{ascii_at, HasRows_more}
 use Rattle.byte_scan.proofs.set.rows_of.Goals as goal
+use Rattle.std.proofs.{Common.{◌∙◌, arith}, lemmas.List.length-set}
+use Rattle.byte_scan.proofs.SetLemmas.{ascii_at, HasRows_more}
 
 pub loop-member-preserved : goal.loop-member-preserved
 loop-member-preserved c =

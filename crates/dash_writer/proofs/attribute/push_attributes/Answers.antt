@@ -1,9 +1,8 @@
-use Rattle.std.proofs.Common.{◌∙◌, ap, flat_map}
-use Rattle.std.proofs.lemmas.List.{take_all}
+use Rattle.dash_writer.proofs.attribute.push_attributes.Goals as goal
+use Rattle.std.proofs.{Common.{◌∙◌, ap, flat_map}, lemmas.List.take_all}
 use Rattle.bridge_io.proofs.Adding.{adds_more, adds_none, adds_same, adds_until}
 use Rattle.dash_writer.specs.Written.{known_text, told}
 use Rattle.dash_writer.proofs.Nodes.{each_attribute}
-use Rattle.dash_writer.proofs.attribute.push_attributes.Goals as goal
 
 pub loop-attribute-init : goal.loop-attribute-init
 loop-attribute-init g c = adds_none _ _

@@ -1,8 +1,7 @@
-use Rattle.std.proofs.Common.{◌/◌, ◌%◌, ◌==◌, refl, inl, inr}
-use Rattle.std.proofs.lemmas.Bool.{cases_Bool, eqb-true}
+use Rattle.dash_writer.proofs.attribute.push_rate.Goals as goal
+use Rattle.std.proofs.{Common.{◌/◌, ◌%◌, ◌==◌, refl, inl, inr}, lemmas.Bool.{cases_Bool, eqb-true}}
 use Rattle.bridge_io.proofs.Adding.{adds_same}
 use Rattle.dash_writer.proofs.Escaping.{alone_stays, numbers_stay}
-use Rattle.dash_writer.proofs.attribute.push_rate.Goals as goal
 
 pub returns-then-ratio-eq0 : goal.returns-then-ratio-eq0
 returns-then-ratio-eq0 g c = let ratio = c.args.ratio in

@@ -1,8 +1,7 @@
-use Rattle.bridge_io.proofs.Adding.{adds_same, adds_stop_at, adds_then}
-use Rattle.dash_writer.specs.Elements.{attributes_of}
-use Rattle.dash_writer.specs.Written.{all_told, attributes_text}
-use Rattle.dash_writer.proofs.Nodes.{opening_parts}
 use Rattle.dash_writer.proofs.element.push_opening.Goals as goal
+use Rattle.bridge_io.proofs.Adding.{adds_same, adds_stop_at, adds_then}
+use Rattle.dash_writer.specs.{Elements.attributes_of, Written.{all_told, attributes_text}}
+use Rattle.dash_writer.proofs.Nodes.{opening_parts}
 
 pub returns-in_err-push_pieces : goal.returns-in_err-push_pieces
 returns-in_err-push_pieces g c = adds_same

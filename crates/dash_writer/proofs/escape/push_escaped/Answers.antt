@@ -1,10 +1,8 @@
-use Rattle.std.proofs.Common.{drop, sym, ◌∙◌, arith}
-use Rattle.std.proofs.lemmas.List.{append-nil, take_rest}
+use Rattle.dash_writer.proofs.escape.push_escaped.Goals as goal
+use Rattle.std.proofs.{Common.{drop, sym, ◌∙◌, arith}, lemmas.List.{append-nil, take_rest}}
 use Rattle.mpd_text.specs.Escapes.{escape_all}
 use Rattle.bridge_io.proofs.Adding.{adds_same}
-use Rattle.dash_writer.proofs.Escaping.{first_parts, found_at, none_escaped}
-use Rattle.dash_writer.proofs.Progress.{ends, fails, further, nothing_yet}
-use Rattle.dash_writer.proofs.escape.push_escaped.Goals as goal
+use Rattle.dash_writer.proofs.{Escaping.{first_parts, found_at, none_escaped}, Progress.{ends, fails, further, nothing_yet}}
 
 pub loop-place-init : goal.loop-place-init
 loop-place-init g c = nothing_yet _ _ _

@@ -1,12 +1,10 @@
+use Rattle.dash_writer.proofs.listed.push_listed.Goals as goal
 use Rattle.std.proofs.Common.{List, ◌∙◌, ap}
 use Rattle.url_parts.specs.declared.address.Part.{Part}
 use Rattle.bridge_io.proofs.Adding.{adds_same}
 use Rattle.timeline.specs.Listed.{expansion}
-use Rattle.presentation.proofs.OwnListed.{have_addresses, reached}
-use Rattle.presentation.proofs.Printing.{all_listed}
-use Rattle.dash_writer.specs.Lists.{list_with, parts_of}
-use Rattle.dash_writer.specs.Written.{element_text}
-use Rattle.dash_writer.proofs.listed.push_listed.Goals as goal
+use Rattle.presentation.proofs.{OwnListed.{have_addresses, reached}, Printing.all_listed}
+use Rattle.dash_writer.specs.{Lists.{list_with, parts_of}, Written.element_text}
 
 pub seek-requires-clause-reached : goal.seek-requires-clause-reached
 seek-requires-clause-reached g c = reached c.args.runs.now c.args.window.now c.requires.addressed.ended

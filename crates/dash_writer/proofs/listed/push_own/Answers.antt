@@ -1,17 +1,13 @@
-use Rattle.std.proofs.Common.{◌≡◌, None, length, map, ap, ◌∙◌, arith}
-use Rattle.std.proofs.lemmas.List.{length-map}
+use Rattle.dash_writer.proofs.listed.push_own.Goals as goal
+use Rattle.std.proofs.{Common.{◌≡◌, None, length, map, ap, ◌∙◌, arith}, lemmas.List.length-map}
 use Rattle.std.specs.Result.{result_unwrap_or}
 use Rattle.bridge_io.proofs.Adding.{adds_same}
 use Rattle.exact_time.specs.Time.{Time}
 use Rattle.timeline.specs.Listed.{expansion}
 use Rattle.presentation.specs.Presented.{listed_in}
-use Rattle.presentation.proofs.OwnListed.{counted, fits, reached}
-use Rattle.presentation.proofs.Printing.{all_listed}
-use Rattle.dash_writer.specs.Lists.{list_with, parts_of}
-use Rattle.dash_writer.specs.Segments.{duration_of}
-use Rattle.dash_writer.specs.Written.{element_text}
+use Rattle.presentation.proofs.{OwnListed.{counted, fits, reached}, Printing.all_listed}
+use Rattle.dash_writer.specs.{Lists.{list_with, parts_of}, Segments.duration_of, Written.element_text}
 use Rattle.dash_writer.proofs.Urls.{with_own_times}
-use Rattle.dash_writer.proofs.listed.push_own.Goals as goal
 
 pub count-requires : goal.count-requires
 count-requires g c = fits c.args.runs.now c.args.window.now c.requires.ended

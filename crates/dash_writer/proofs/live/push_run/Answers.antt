@@ -1,10 +1,7 @@
+use Rattle.dash_writer.proofs.live.push_run.Goals as goal
 use Rattle.std.proofs.Common.{List, None, ◌^◌, map, ap, ◌∙◌}
 use Rattle.bridge_io.proofs.Adding.{adds_same}
-use Rattle.dash_writer.specs.declared.live.LiveSegment.{LiveSegment}
-use Rattle.dash_writer.specs.Lists.{list_with}
-use Rattle.dash_writer.specs.Live.{first_time, part_of}
-use Rattle.dash_writer.specs.Written.{element_text}
-use Rattle.dash_writer.proofs.live.push_run.Goals as goal
+use Rattle.dash_writer.specs.{declared.live.LiveSegment.LiveSegment, Lists.list_with, Live.{first_time, part_of}, Written.element_text}
 
 pub returns : goal.returns
 returns g c = let part = c.args.run.now.initialization in let segments = c.as_slice-segments.result.now in

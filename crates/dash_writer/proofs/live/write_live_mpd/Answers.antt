@@ -1,12 +1,9 @@
+use Rattle.dash_writer.proofs.live.write_live_mpd.Goals as goal
 use Rattle.std.proofs.Common.{◌≡◌, ◌<◌, length, refl, ap, ◌∙◌, arith}
 use Rattle.iso_time.specs.Civil.{instant_text}
-use Rattle.dash_writer.specs.declared.live.LiveMpd.{LiveMpd}
-use Rattle.dash_writer.specs.Given.{text_with}
-use Rattle.dash_writer.specs.Live.{growing_root, last_live_end, live_lists, live_period, live_root, live_text}
-use Rattle.dash_writer.specs.Manifest.{finished_root}
-use Rattle.dash_writer.specs.Written.{all_told}
+use Rattle.dash_writer.specs.{declared.live.LiveMpd.LiveMpd, Given.text_with, Live.{growing_root, last_live_end, live_lists, live_period}}
+use Rattle.dash_writer.specs.{Live.{live_root, live_text}, Manifest.finished_root, Written.all_told}
 use Rattle.dash_writer.proofs.LiveTracks.{has_run, root_is, some_run}
-use Rattle.dash_writer.proofs.live.write_live_mpd.Goals as goal
 
 pub write-requires : goal.write-requires
 write-requires g c = let mpd = c.args.mpd.now in λ section below place from within.

@@ -1,12 +1,9 @@
-use Rattle.std.proofs.Common.{◌≡◌, ◌+◌, drop, codes, Err, refl, ap, arith}
-use Rattle.std.proofs.lemmas.List.{drop_all}
-use Rattle.bridge_io.proofs.Adding.{adds_same}
-use Rattle.dash_writer.specs.Outline.{set_attributes, track_elements}
-use Rattle.dash_writer.specs.Written.{elements_text}
-use Rattle.dash_writer.proofs.Nodes.{adds_node, stops_at_children, stops_at_start}
-use Rattle.dash_writer.proofs.Progress.{all_added, fails, further, nothing_yet}
-use Rattle.dash_writer.proofs.Sections.{one_set, some_tracks, tracks_behind}
 use Rattle.dash_writer.proofs.sets.push_set.Goals as goal
+use Rattle.std.proofs.{Common.{◌≡◌, ◌+◌, drop, codes, Err, refl, ap, arith}, lemmas.List.drop_all}
+use Rattle.bridge_io.proofs.Adding.{adds_same}
+use Rattle.dash_writer.specs.{Outline.{set_attributes, track_elements}, Written.elements_text}
+use Rattle.dash_writer.proofs.{Nodes.{adds_node, stops_at_children, stops_at_start}, Progress.{all_added, fails, further, nothing_yet}}
+use Rattle.dash_writer.proofs.Sections.{one_set, some_tracks, tracks_behind}
 
 pub returns-in_err-push_start : goal.returns-in_err-push_start
 returns-in_err-push_start g c = let lists = g.T.TrackLists.lists c.args.lists.now c.args.section in let k = c.args.place in

@@ -1,9 +1,8 @@
+use Rattle.dash_writer.proofs.sets.push_set.Given as goal
 use Rattle.std.proofs.Common.{◌+◌, drop}
 use Rattle.bridge_io.specs.Adding.{shown}
-use Rattle.dash_writer.specs.Outline.{track_elements}
-use Rattle.dash_writer.specs.Written.{elements_text}
+use Rattle.dash_writer.specs.{Outline.track_elements, Written.elements_text}
 use Rattle.dash_writer.proofs.Progress.{Progress}
-use Rattle.dash_writer.proofs.sets.push_set.Given as goal
 
 abbrev pub invariant-loop-index : goal.invariant-loop-index
 invariant-loop-index g l =

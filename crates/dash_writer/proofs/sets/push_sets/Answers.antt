@@ -1,10 +1,7 @@
-use Rattle.std.proofs.Common.{◌≡◌, ◌+◌, ◌-◌, length, ap, arith}
-use Rattle.dash_writer.specs.Outline.{set_element, set_elements, sets_of, stand_together}
-use Rattle.dash_writer.specs.Runs.{longest_runs}
-use Rattle.dash_writer.specs.Written.{elements_text}
-use Rattle.dash_writer.proofs.Progress.{all_added, fails, further, nothing_yet}
-use Rattle.dash_writer.proofs.Sections.{first_set, nothing_left}
 use Rattle.dash_writer.proofs.sets.push_sets.Goals as goal
+use Rattle.std.proofs.Common.{◌≡◌, ◌+◌, ◌-◌, length, ap, arith}
+use Rattle.dash_writer.specs.{Outline.{set_element, set_elements, sets_of, stand_together}, Runs.longest_runs, Written.elements_text}
+use Rattle.dash_writer.proofs.{Progress.{all_added, fails, further, nothing_yet}, Sections.{first_set, nothing_left}}
 
 pub loop-first-init : goal.loop-first-init
 loop-first-init g c = let lists = g.T.TrackLists.lists c.args.lists.now c.args.section in let tracks = c.args.tracks.now in

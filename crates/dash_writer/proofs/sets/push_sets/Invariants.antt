@@ -1,10 +1,8 @@
+use Rattle.dash_writer.proofs.sets.push_sets.Given as goal
 use Rattle.std.proofs.Common.{◌-◌, ◌≤◌, length}
 use Rattle.bridge_io.specs.Adding.{shown}
-use Rattle.dash_writer.specs.Outline.{set_elements, sets_of, stand_together}
-use Rattle.dash_writer.specs.Runs.{longest_runs}
-use Rattle.dash_writer.specs.Written.{elements_text}
+use Rattle.dash_writer.specs.{Outline.{set_elements, sets_of, stand_together}, Runs.longest_runs, Written.elements_text}
 use Rattle.dash_writer.proofs.Progress.{Progress}
-use Rattle.dash_writer.proofs.sets.push_sets.Given as goal
 
 abbrev pub invariant-loop-first : goal.invariant-loop-first
 invariant-loop-first g l =

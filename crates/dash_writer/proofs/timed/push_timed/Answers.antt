@@ -1,9 +1,8 @@
+use Rattle.dash_writer.proofs.timed.push_timed.Goals as goal
 use Rattle.std.proofs.Common.{ℕ, List, Some, ap, ◌∙◌}
 use Rattle.bridge_io.proofs.Adding.{adds_same}
 use Rattle.presentation.specs.Presented.{listed_in}
-use Rattle.dash_writer.specs.Lists.{list_with, parts_of}
-use Rattle.dash_writer.specs.Written.{element_text}
-use Rattle.dash_writer.proofs.timed.push_timed.Goals as goal
+use Rattle.dash_writer.specs.{Lists.{list_with, parts_of}, Written.element_text}
 
 pub push_listed-requires-clause-addressed : goal.push_listed-requires-clause-addressed
 push_listed-requires-clause-addressed g c = c.requires

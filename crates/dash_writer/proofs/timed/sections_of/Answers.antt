@@ -1,9 +1,8 @@
-use Rattle.std.proofs.Common.{◌≡◌, suc, ◌+◌, ◌-◌, ◌∷◌, ◌++◌, [], length, take, drop, refl, sym, ap, ◌∙◌, arith}
-use Rattle.std.proofs.Common.{length-append, length-drop, append_assoc}
-use Rattle.std.proofs.lemmas.List.Elements.{All-drop, All-take}
+use Rattle.dash_writer.proofs.timed.sections_of.Goals as goal
+use Rattle.std.proofs.Common.{◌≡◌, suc, ◌+◌, ◌-◌, ◌∷◌, ◌++◌, [], length, take, drop, refl, sym, ap, ◌∙◌, arith, length-append, length-drop}
+use Rattle.std.proofs.{Common.append_assoc, lemmas.List.Elements.{All-drop, All-take}}
 use Rattle.dash_writer.specs.Timed.{CanBeCounted, lengths, longest, sections_from}
 use Rattle.dash_writer.proofs.Timing.{first_length, first_row, room_first, section_of}
-use Rattle.dash_writer.proofs.timed.sections_of.Goals as goal
 
 pub loop-rest-init : goal.loop-rest-init
 loop-rest-init c = let none : c.args.count - 0 ≡ c.args.count = omega arith in

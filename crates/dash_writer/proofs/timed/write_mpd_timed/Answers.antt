@@ -1,15 +1,10 @@
+use Rattle.dash_writer.proofs.timed.write_mpd_timed.Goals as goal
 use Rattle.std.proofs.Common.{◌≡◌, ◌<◌, ℕ, List, length, refl, ap, ◌∙◌, arith}
 use Rattle.presentation.specs.Presented.{AreFilled, Presented}
-use Rattle.dash_writer.specs.declared.timed.TickRun.{TickRun}
-use Rattle.dash_writer.specs.declared.timed.TimedLists.{TimedLists}
-use Rattle.dash_writer.specs.Given.{text_with}
-use Rattle.dash_writer.specs.Elements.{Element}
-use Rattle.dash_writer.specs.Outline.{outline_text}
-use Rattle.dash_writer.specs.Manifest.{all_period_attributes, finished_root, last_end, period_attributes, root_attributes}
-use Rattle.dash_writer.specs.Timed.{timed_lists, timed_sections, timed_text}
-use Rattle.dash_writer.proofs.Origins.{place_within}
-use Rattle.dash_writer.proofs.Timing.{length_timed, sections_are, some_timed_list}
-use Rattle.dash_writer.proofs.timed.write_mpd_timed.Goals as goal
+use Rattle.dash_writer.specs.{declared.timed.TickRun.TickRun, declared.timed.TimedLists.TimedLists, Given.text_with, Elements.Element}
+use Rattle.dash_writer.specs.{Outline.outline_text, Manifest.{all_period_attributes, finished_root, last_end, period_attributes}}
+use Rattle.dash_writer.specs.{Manifest.root_attributes, Timed.{timed_lists, timed_sections, timed_text}}
+use Rattle.dash_writer.proofs.{Origins.place_within, Timing.{length_timed, sections_are, some_timed_list}}
 
 pub write-requires : goal.write-requires
 write-requires g c = let p = c.args.presentation.now in let times = c.as_slice-times.result.now in

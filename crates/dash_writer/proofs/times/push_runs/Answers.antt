@@ -1,11 +1,9 @@
+use Rattle.dash_writer.proofs.times.push_runs.Goals as goal
 use Rattle.std.proofs.Common.{◌≡◌, [], length, codes, Err, refl, sym, ap, ◌∙◌}
 use Rattle.bridge_io.proofs.Adding.{adds_same}
-use Rattle.dash_writer.specs.SegmentRuns.{gone_on, runs_left}
-use Rattle.dash_writer.specs.Written.{elements_text}
-use Rattle.dash_writer.proofs.Nodes.{adds_node, stops_at_children, stops_at_start}
-use Rattle.dash_writer.proofs.Progress.{ends, fails, further, nothing_yet}
+use Rattle.dash_writer.specs.{SegmentRuns.{gone_on, runs_left}, Written.elements_text}
+use Rattle.dash_writer.proofs.{Nodes.{adds_node, stops_at_children, stops_at_start}, Progress.{ends, fails, further, nothing_yet}}
 use Rattle.dash_writer.proofs.RunLemmas.{more_runs, room_left, run_ends, some_runs}
-use Rattle.dash_writer.proofs.times.push_runs.Goals as goal
 
 pub returns-in_err-push_start : goal.returns-in_err-push_start
 returns-in_err-push_start g c = let durations = g.D.Durations.durations c.args.durations.now in

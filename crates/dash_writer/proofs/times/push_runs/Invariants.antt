@@ -1,9 +1,8 @@
+use Rattle.dash_writer.proofs.times.push_runs.Given as goal
 use Rattle.std.proofs.Common.{◌+◌, ◌<◌, ◌^◌, length}
 use Rattle.bridge_io.specs.Adding.{shown}
-use Rattle.dash_writer.specs.SegmentRuns.{runs_left}
-use Rattle.dash_writer.specs.Written.{elements_text}
+use Rattle.dash_writer.specs.{SegmentRuns.runs_left, Written.elements_text}
 use Rattle.dash_writer.proofs.Progress.{Progress}
-use Rattle.dash_writer.proofs.times.push_runs.Given as goal
 
 abbrev pub invariant-loop-duration : goal.invariant-loop-duration
 invariant-loop-duration g l =

@@ -1,8 +1,7 @@
+use Rattle.dash_writer.proofs.times.push_timeline.Goals as goal
 use Rattle.std.proofs.Common.{ap, sym}
 use Rattle.bridge_io.proofs.Adding.{adds_same}
-use Rattle.dash_writer.specs.Lists.{timeline_with}
-use Rattle.dash_writer.specs.Written.{element_text}
-use Rattle.dash_writer.proofs.times.push_timeline.Goals as goal
+use Rattle.dash_writer.specs.{Lists.timeline_with, Written.element_text}
 
 pub returns-in-None : goal.returns-in-None
 returns-in-None g c = adds_same (ap (λ durations. element_text (timeline_with c.args.time durations))

@@ -1,11 +1,7 @@
-use Rattle.std.proofs.Common.{◌≡◌, ◌+ℤ◌, ◌≤ℤ◌, pos, arith}
-use Rattle.std.proofs.lemmas.Int.{ints}
-use Rattle.exact_time.specs.Time.{difference}
-use Rattle.exact_time.specs.Floor.{IsFloorIn}
-use Rattle.exact_time.specs.Tick.{time_of}
-use Rattle.exact_time.proofs.Times.{ticks_at_most}
-use Rattle.exact_time.proofs.Floors.{IsFloorIn-ticks, floor_of-difference}
 use Rattle.exact_time.proofs.floor.floor_ticks.Goals as goal
+use Rattle.std.proofs.{Common.{◌≡◌, ◌+ℤ◌, ◌≤ℤ◌, pos, arith}, lemmas.Int.ints}
+use Rattle.exact_time.specs.{Time.difference, Floor.IsFloorIn, Tick.time_of}
+use Rattle.exact_time.proofs.{Times.ticks_at_most, Floors.{IsFloorIn-ticks, floor_of-difference}}
 
 is_floor : (c : goal.After-quotient) → IsFloorIn c.args.unit (difference (time_of c.args.end) (time_of c.args.first)) c.quotient.result
 is_floor c =

@@ -1,10 +1,7 @@
-use Rattle.std.proofs.Common.{◌*◌, ◌/◌}
-use Rattle.exact_time.specs.Time.{difference}
-use Rattle.exact_time.specs.Floor.{IsFloorIn}
-use Rattle.exact_time.specs.Tick.{time_of}
-use Rattle.exact_time.proofs.Times.{IsTime-difference}
-use Rattle.exact_time.proofs.Floors.{IsFloorIn-div, floor_of-difference}
 use Rattle.exact_time.proofs.floor.floor_unit.Goals as goal
+use Rattle.std.proofs.Common.{◌*◌, ◌/◌}
+use Rattle.exact_time.specs.{Time.difference, Floor.IsFloorIn, Tick.time_of}
+use Rattle.exact_time.proofs.{Times.IsTime-difference, Floors.{IsFloorIn-div, floor_of-difference}}
 
 is_floor : (c : goal.After-from-3) →
     IsFloorIn c.args.unit (difference (time_of c.args.end) (time_of c.args.first))

@@ -1,8 +1,7 @@
+use Rattle.exact_time.proofs.laws.calls_are_printed.Goals as goal
 use Rattle.std.proofs.Common.{arith, ◌∙◌, ap}
 use Rattle.exact_time.specs.Rounding.{differences, rounding_from}
-use Rattle.exact_time.proofs.Floors.{floor_in-difference_self}
-use Rattle.exact_time.proofs.Printed.{calls_print, calls_sum, calls_rise, floors}
-use Rattle.exact_time.proofs.laws.calls_are_printed.Goals as goal
+use Rattle.exact_time.proofs.{Floors.floor_in-difference_self, Printed.{calls_print, calls_sum, calls_rise, floors}}
 
 pub returns-clause-numbers : goal.returns-clause-numbers
 returns-clause-numbers c first unit ends numbers last calls =

@@ -1,12 +1,8 @@
-use Rattle.std.proofs.Common.{◌≡◌, ℕ, zero, suc, ◌-◌, List, [], ◌∷◌, ◌++◌, ap, subst, ◌∙◌, sym, refl}
-use Rattle.exact_time.specs.Time.{Time, difference}
-use Rattle.exact_time.specs.Laws.{CallsJoin, EqualEndsGoOn}
-use Rattle.exact_time.specs.Floor.{floor_in}
-use Rattle.exact_time.specs.Rounding.{AreNear, Calls, IsRising, Rounding, differences, rounding_behind}
-use Rattle.exact_time.specs.Equal.{ends_after, ticks_after}
-use Rattle.exact_time.proofs.EqualSteps.{ticks_after-none, ticks_further}
-use Rattle.exact_time.proofs.Printed.{calls_print, floors}
 use Rattle.exact_time.proofs.laws.calls_go_on.Goals as goal
+use Rattle.std.proofs.Common.{◌≡◌, ℕ, zero, suc, ◌-◌, List, [], ◌∷◌, ◌++◌, ap, subst, ◌∙◌, sym, refl}
+use Rattle.exact_time.specs.{Time.{Time, difference}, Laws.{CallsJoin, EqualEndsGoOn}, Floor.floor_in, Rounding.{AreNear, Calls, IsRising}}
+use Rattle.exact_time.specs.{Rounding.{Rounding, differences, rounding_behind}, Equal.{ends_after, ticks_after}}
+use Rattle.exact_time.proofs.{EqualSteps.{ticks_after-none, ticks_further}, Printed.{calls_print, floors}}
 
 differences_behind : (u n : ℕ) (s former : Time) (earlier ends : List Time) →
     differences n (floors u s (earlier ++ former ∷ ends)) ≡ differences n (floors u s (earlier ++ former ∷ []))

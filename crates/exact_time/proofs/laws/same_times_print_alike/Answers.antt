@@ -1,8 +1,7 @@
+use Rattle.exact_time.proofs.laws.same_times_print_alike.Goals as goal
 use Rattle.std.proofs.Common.{ap}
 use Rattle.exact_time.specs.Rounding.{differences}
-use Rattle.exact_time.proofs.TimeOrder.{IsAtMost_refl}
-use Rattle.exact_time.proofs.Printed.{floors-same}
-use Rattle.exact_time.proofs.laws.same_times_print_alike.Goals as goal
+use Rattle.exact_time.proofs.{TimeOrder.IsAtMost_refl, Printed.floors-same}
 
 pub returns : goal.returns
 returns c u s t xs ys is_s is_t rising_x rising_y start same =

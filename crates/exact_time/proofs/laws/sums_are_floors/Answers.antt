@@ -1,13 +1,9 @@
+use Rattle.exact_time.proofs.laws.sums_are_floors.Goals as goal
 use Rattle.std.proofs.Common.{◌≡◌, ◌+◌, ℕ, suc, sym, subst, add-one, arith}
 use Rattle.std.specs.Prelude.{sum, take}
-use Rattle.exact_time.specs.Time.{difference}
-use Rattle.exact_time.specs.Floor.{IsFloorIn, floor_in}
-use Rattle.exact_time.specs.Rounding.{printed, differences}
-use Rattle.exact_time.specs.Laws.{SumsAreFloors}
-use Rattle.exact_time.proofs.TimeOrder.{IsAtMost_refl}
-use Rattle.exact_time.proofs.Floors.{floor_in-difference_self, IsFloorIn-difference, IsFloorIn-next}
+use Rattle.exact_time.specs.{Time.difference, Floor.{IsFloorIn, floor_in}, Rounding.{printed, differences}, Laws.SumsAreFloors}
+use Rattle.exact_time.proofs.{TimeOrder.IsAtMost_refl, Floors.{floor_in-difference_self, IsFloorIn-difference, IsFloorIn-next}}
 use Rattle.exact_time.proofs.Printed.{sum-printed, rising-get, floors}
-use Rattle.exact_time.proofs.laws.sums_are_floors.Goals as goal
 
 sums : SumsAreFloors
 sums u s ends k end is_s rising at =

@@ -1,9 +1,7 @@
+use Rattle.exact_time.proofs.laws.whole_units_stay.Goals as goal
 use Rattle.std.proofs.Common.{sym, ◌∙◌, ap}
 use Rattle.exact_time.specs.Rounding.{differences}
-use Rattle.exact_time.proofs.TimeOrder.{IsAtMost_refl}
-use Rattle.exact_time.proofs.Floors.{floor_in-difference_self}
-use Rattle.exact_time.proofs.Printed.{printed-whole, floors}
-use Rattle.exact_time.proofs.laws.whole_units_stay.Goals as goal
+use Rattle.exact_time.proofs.{TimeOrder.IsAtMost_refl, Floors.floor_in-difference_self, Printed.{printed-whole, floors}}
 
 pub returns : goal.returns
 returns c u s counts ends some is_s whole =

@@ -1,9 +1,7 @@
-use Rattle.std.proofs.Common.{◌≡◌, ◌<◌, ◌*◌, ◌+◌, length, refl, ap, ◌∙◌, arith}
-use Rattle.std.proofs.lemmas.Option.{slice_get_read}
-use Rattle.exact_time.specs.Tick.{time_of}
-use Rattle.fragment_times.proofs.Apart.{apart_is, in_place}
-use Rattle.fragment_times.proofs.Listed.{is_reached, listed_whole}
 use Rattle.fragment_times.proofs.agreement.first_of_track.Goals as goal
+use Rattle.std.proofs.{Common.{◌≡◌, ◌<◌, ◌*◌, ◌+◌, length, refl, ap, ◌∙◌, arith}, lemmas.Option.slice_get_read}
+use Rattle.exact_time.specs.Tick.{time_of}
+use Rattle.fragment_times.proofs.{Apart.{apart_is, in_place}, Listed.{is_reached, listed_whole}}
 
 pub seek-requires-clause-reached : goal.seek-requires-clause-reached
 seek-requires-clause-reached c =

@@ -1,7 +1,6 @@
-use Rattle.std.proofs.Common.{◌≡◌, FitsSigned, unsigned_abs, ap, ◌∙◌, arith}
-use Rattle.std.specs.Int.{w128}
-use Rattle.std.proofs.lemmas.Int.{fits_signed_from_abs, to_z-of_z}
 use Rattle.fragment_times.proofs.agreement.magnitude.Goals as goal
+use Rattle.std.proofs.{Common.{◌≡◌, FitsSigned, unsigned_abs, ap, ◌∙◌, arith}, lemmas.Int.{fits_signed_from_abs, to_z-of_z}}
+use Rattle.std.specs.Int.{w128}
 
 is : (c : goal.After-unsigned_abs) → c.unsigned_abs.result ≡ unsigned_abs c.args.tick.n
 is c =

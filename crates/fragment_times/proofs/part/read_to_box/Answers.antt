@@ -1,7 +1,6 @@
-use Rattle.std.proofs.Common.{◌∙◌, arith}
-use Rattle.std.proofs.lemmas.Result.{err_from_is_err_and}
-use Rattle.fragment_times.proofs.Reached.{front_tells, joined_tells, no_box, short_tells}
 use Rattle.fragment_times.proofs.part.read_to_box.Goals as goal
+use Rattle.std.proofs.{Common.{◌∙◌, arith}, lemmas.Result.err_from_is_err_and}
+use Rattle.fragment_times.proofs.Reached.{front_tells, joined_tells, no_box, short_tells}
 
 pub returns-in_err-bytes-clause-found : goal.returns-in_err-bytes-clause-found
 returns-in_err-bytes-clause-found g c = λ files told.

@@ -1,8 +1,7 @@
-use Rattle.std.proofs.Common.{◌≡◌, ℕ, List, codes, ap, sym, ◌∙◌}
-use Rattle.fragment_times.specs.Parts.{scale_at, told_of}
-use Rattle.fragment_times.specs.Told.{scale_by, media_scale_of}
-use Rattle.fragment_times.proofs.Reached.{as_whole, file_told, part_is, unread}
 use Rattle.fragment_times.proofs.part.scale_at.Goals as goal
+use Rattle.std.proofs.Common.{◌≡◌, ℕ, List, codes, ap, sym, ◌∙◌}
+use Rattle.fragment_times.specs.{Parts.{scale_at, told_of}, Told.{scale_by, media_scale_of}}
+use Rattle.fragment_times.proofs.Reached.{as_whole, file_told, part_is, unread}
 
 pub returns-in-Ok-clause-scale : goal.returns-in-Ok-clause-scale
 unfolding scale_at media_scale_of

@@ -1,10 +1,8 @@
-use Rattle.std.proofs.Common.{◌<◌, ◌+◌, [], length, ap, ◌∙◌, arith, rules}
-use Rattle.std.proofs.lemmas.Result.{err_from_is_err_and}
-use Rattle.presentation.proofs.Counts.{from_on}
-use Rattle.presentation.proofs.Gathering.{behind_nothing}
+use Rattle.fragment_times.proofs.times.fragment_times.Goals as goal
+use Rattle.std.proofs.{Common.{◌<◌, ◌+◌, [], length, ap, ◌∙◌, arith, rules}, lemmas.Result.err_from_is_err_and}
+use Rattle.presentation.proofs.{Counts.from_on, Gathering.behind_nothing}
 use Rattle.fragment_times.specs.Times.{section_times, times_of}
 use Rattle.fragment_times.proofs.Gathered.{from_first, from_last, from_next, next_refused, next_told}
-use Rattle.fragment_times.proofs.times.fragment_times.Goals as goal
 
 pub loop-section-init : goal.loop-section-init
 loop-section-init g c =

@@ -1,10 +1,9 @@
+use Rattle.fragment_times.proofs.times.fragment_times.Given as goal
 use Rattle.std.proofs.Common.{◌≡◌, ◌≤◌, ◌*◌, All, Some, length}
 use Rattle.bridge_io.specs.Outside.{Files}
-use Rattle.presentation.specs.Counting.{sections_of}
-use Rattle.presentation.specs.Told.{gathered}
+use Rattle.presentation.specs.{Counting.sections_of, Told.gathered}
 use Rattle.presentation.proofs.Counts.{from_on}
 use Rattle.fragment_times.specs.Times.{IsScaled, behind, section_times}
-use Rattle.fragment_times.proofs.times.fragment_times.Given as goal
 
 -- what is told so far, and then of the sections that are left, is told of all
 abbrev pub invariant-loop-section : goal.invariant-loop-section

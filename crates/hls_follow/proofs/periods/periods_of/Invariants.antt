@@ -1,7 +1,6 @@
-use Rattle.std.proofs.Common.{◌≡◌, ◌<◌, ◌^◌, All, drop, length}
-use Rattle.hls_follow.specs.Faults.{behind}
-use Rattle.hls_follow.specs.Periods.{last_end, periods_from}
 use Rattle.hls_follow.proofs.periods.periods_of.Given as goal
+use Rattle.std.proofs.Common.{◌≡◌, ◌<◌, ◌^◌, All, drop, length}
+use Rattle.hls_follow.specs.{Faults.behind, Periods.{last_end, periods_from}}
 
 abbrev pub invariant-loop-number : goal.invariant-loop-number
 invariant-loop-number l = record {

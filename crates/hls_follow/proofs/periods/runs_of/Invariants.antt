@@ -1,8 +1,6 @@
-use Rattle.std.proofs.Common.{◌≡◌, drop, length}
-use Rattle.hls_follow.specs.Faults.{behind}
-use Rattle.hls_follow.specs.Groups.{row_at}
-use Rattle.hls_follow.specs.Periods.{runs_of}
 use Rattle.hls_follow.proofs.periods.runs_of.Given as goal
+use Rattle.std.proofs.Common.{◌≡◌, drop, length}
+use Rattle.hls_follow.specs.{Faults.behind, Groups.row_at, Periods.runs_of}
 
 abbrev pub invariant-loop-track : goal.invariant-loop-track
 invariant-loop-track l = record {

@@ -1,7 +1,6 @@
-use Rattle.std.proofs.Common.{arith}
-use Rattle.std.proofs.lemmas.Int.{ints}
-use Rattle.hls_follow.proofs.Rounding.{millis_near}
 use Rattle.hls_follow.proofs.round.first_start.Goals as goal
+use Rattle.std.proofs.{Common.arith, lemmas.Int.ints}
+use Rattle.hls_follow.proofs.Rounding.{millis_near}
 
 pub invariant_of-result : goal.invariant_of-result
 invariant_of-result c =

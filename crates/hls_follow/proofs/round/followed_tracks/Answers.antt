@@ -1,11 +1,8 @@
-use Rattle.std.proofs.Common.{◌<◌, ◌^◌, [], ◌∷◌, All, sym, subst, arith}
-use Rattle.std.proofs.lemmas.Grind.{common_steps}
-use Rattle.std.proofs.lemmas.List.Elements.{All-append, All-cons, All-nil}
-use Rattle.hls_follow.specs.declared.state.FollowedTrack.{FollowedTrack}
-use Rattle.hls_follow.specs.Kept.{IsEarly}
-use Rattle.hls_follow.proofs.Bounded.{bounded_at}
-use Rattle.hls_follow.proofs.Keeping.{followed_none, tracks_turn}
 use Rattle.hls_follow.proofs.round.followed_tracks.Goals as goal
+use Rattle.std.proofs.{Common.{◌<◌, ◌^◌, [], ◌∷◌, All, sym, subst, arith}, lemmas.Grind.common_steps, lemmas.List.Elements.All-append}
+use Rattle.std.proofs.lemmas.List.Elements.{All-cons, All-nil}
+use Rattle.hls_follow.specs.{declared.state.FollowedTrack.FollowedTrack, Kept.IsEarly}
+use Rattle.hls_follow.proofs.{Bounded.bounded_at, Keeping.{followed_none, tracks_turn}}
 
 pub returns-in_default : goal.returns-in_default
 returns-in_default c = grind (arith, common_steps, followed_none)

@@ -1,8 +1,7 @@
+use Rattle.hls_follow.proofs.round.followed_tracks.Given as goal
 use Rattle.std.proofs.Common.{◌≡◌, ◌++◌, All, drop, map}
 use Rattle.hls_presentation.specs.Views.{source_of}
-use Rattle.hls_follow.specs.Kept.{IsEarly}
-use Rattle.hls_follow.specs.Rounds.{followed_tracks}
-use Rattle.hls_follow.proofs.round.followed_tracks.Given as goal
+use Rattle.hls_follow.specs.{Kept.IsEarly, Rounds.followed_tracks}
 
 abbrev pub invariant-loop-source : goal.invariant-loop-source
 invariant-loop-source l = record {

@@ -1,8 +1,6 @@
-use Rattle.std.proofs.Common.{◌≡◌, ℕ, All, length, ap, sym, ◌∙◌, subst, arith}
-use Rattle.std.proofs.lemmas.Int.{ints}
-use Rattle.std.proofs.lemmas.List.{length-map}
-use Rattle.dash_writer.specs.declared.live.LivePeriod.{LivePeriod}
 use Rattle.hls_follow.proofs.round.mpd_of.Goals as goal
+use Rattle.std.proofs.{Common.{◌≡◌, ℕ, All, length, ap, sym, ◌∙◌, subst, arith}, lemmas.Int.ints, lemmas.List.length-map}
+use Rattle.dash_writer.specs.declared.live.LivePeriod.{LivePeriod}
 
 pub returns-clause-live : goal.returns-clause-live
 returns-clause-live c = record {

@@ -1,9 +1,8 @@
+use Rattle.hls_follow.proofs.rules.appended_by.Goals as goal
 use Rattle.std.proofs.Common.{◌≡◌, ℕ, ◌+◌, length, ap, arith}
 use Rattle.std.specs.Option.{option_copied}
 use Rattle.hls_follow.specs.Rules.{new_segments}
-use Rattle.hls_follow.proofs.Counting.{appended_next, count_next, new_fewer}
-use Rattle.hls_follow.proofs.Keeping.{lent_at}
-use Rattle.hls_follow.proofs.rules.appended_by.Goals as goal
+use Rattle.hls_follow.proofs.{Counting.{appended_next, count_next, new_fewer}, Keeping.lent_at}
 
 pub loop-source-preserved : goal.loop-source-preserved
 loop-source-preserved c =

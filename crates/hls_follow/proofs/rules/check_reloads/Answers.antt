@@ -1,13 +1,8 @@
-use Rattle.std.proofs.Common.{ℕ, ◌+◌, Option, IfSome, sym, ap, subst}
-use Rattle.std.proofs.lemmas.Result.{err_from_is_err_and}
-use Rattle.std.specs.Option.{option_copied}
-use Rattle.hls_follow.specs.declared.state.FollowedTrack.{FollowedTrack}
-use Rattle.hls_follow.specs.Kept.{IsEarly}
-use Rattle.hls_follow.specs.Rules.{judged_reload}
-use Rattle.hls_follow.proofs.Bounded.{bounded_at}
-use Rattle.hls_follow.proofs.Judging.{judged_stop, judged_turn}
-use Rattle.hls_follow.proofs.Keeping.{early_at, lent_at}
 use Rattle.hls_follow.proofs.rules.check_reloads.Goals as goal
+use Rattle.std.proofs.{Common.{ℕ, ◌+◌, Option, IfSome, sym, ap, subst}, lemmas.Result.err_from_is_err_and}
+use Rattle.std.specs.Option.{option_copied}
+use Rattle.hls_follow.specs.{declared.state.FollowedTrack.FollowedTrack, Kept.IsEarly, Rules.judged_reload}
+use Rattle.hls_follow.proofs.{Bounded.bounded_at, Judging.{judged_stop, judged_turn}, Keeping.{early_at, lent_at}}
 
 pub returns-in_err-check_reload : goal.returns-in_err-check_reload
 returns-in_err-check_reload c =

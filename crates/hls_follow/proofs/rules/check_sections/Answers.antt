@@ -1,10 +1,8 @@
-use Rattle.std.proofs.Common.{ℕ, ◌+◌, ap}
-use Rattle.std.proofs.lemmas.Result.{err_from_is_err_and}
+use Rattle.hls_follow.proofs.rules.check_sections.Goals as goal
+use Rattle.std.proofs.{Common.{ℕ, ◌+◌, ap}, lemmas.Result.err_from_is_err_and}
 use Rattle.std.specs.Option.{option_copied}
 use Rattle.hls_follow.specs.Rules.{judged_section}
-use Rattle.hls_follow.proofs.Judging.{judged_stop, judged_turn}
-use Rattle.hls_follow.proofs.Keeping.{lent_at}
-use Rattle.hls_follow.proofs.rules.check_sections.Goals as goal
+use Rattle.hls_follow.proofs.{Judging.{judged_stop, judged_turn}, Keeping.lent_at}
 
 pub returns-in_err-check_section : goal.returns-in_err-check_section
 returns-in_err-check_section c =

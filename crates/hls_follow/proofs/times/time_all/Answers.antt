@@ -1,10 +1,7 @@
-use Rattle.std.proofs.Common.{ℕ, ◌+◌, ◌∷◌, [], ap, length, length-append, arith}
-use Rattle.std.proofs.lemmas.Result.{err_from_is_err_and}
-use Rattle.std.specs.Option.{option_copied}
-use Rattle.hls_follow.proofs.Bounded.{bounded_at}
-use Rattle.hls_follow.proofs.Keeping.{lent_at}
-use Rattle.hls_follow.proofs.Timing.{track_stop, track_turn}
 use Rattle.hls_follow.proofs.times.time_all.Goals as goal
+use Rattle.std.proofs.{Common.{ℕ, ◌+◌, ◌∷◌, [], ap, length, length-append, arith}, lemmas.Result.err_from_is_err_and}
+use Rattle.std.specs.Option.{option_copied}
+use Rattle.hls_follow.proofs.{Bounded.bounded_at, Keeping.lent_at, Timing.{track_stop, track_turn}}
 
 pub time_segments-requires : goal.time_segments-requires
 time_segments-requires c =

@@ -1,8 +1,7 @@
+use Rattle.hls_follow.proofs.times.time_all.Given as goal
 use Rattle.std.proofs.Common.{◌≡◌, drop, length, map}
 use Rattle.hls_presentation.specs.Views.{source_of}
-use Rattle.hls_follow.specs.Faults.{behind}
-use Rattle.hls_follow.specs.Times.{timed_all}
-use Rattle.hls_follow.proofs.times.time_all.Given as goal
+use Rattle.hls_follow.specs.{Faults.behind, Times.timed_all}
 
 abbrev pub invariant-loop-source : goal.invariant-loop-source
 invariant-loop-source l = record {

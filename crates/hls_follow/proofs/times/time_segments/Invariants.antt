@@ -1,8 +1,7 @@
+use Rattle.hls_follow.proofs.times.time_segments.Given as goal
 use Rattle.std.proofs.Common.{◌≡◌, ◌+◌, drop}
 use Rattle.std.specs.Option.{option_copied}
-use Rattle.hls_follow.specs.Faults.{behind}
-use Rattle.hls_follow.specs.Times.{timed_of, timed_from, unless_late}
-use Rattle.hls_follow.proofs.times.time_segments.Given as goal
+use Rattle.hls_follow.specs.{Faults.behind, Times.{timed_of, timed_from, unless_late}}
 
 abbrev pub invariant-loop-segment : goal.invariant-loop-segment
 invariant-loop-segment l = record {

@@ -1,11 +1,8 @@
-use Rattle.std.proofs.Common.{List, Some, sym, ap, ◌∙◌, subst, arith, rules}
-use Rattle.std.proofs.lemmas.Bool.{eqb-true}
-use Rattle.std.proofs.lemmas.Bool.Decides.{nat_tests}
-use Rattle.std.proofs.lemmas.List.{map-append}
-use Rattle.hls_lines.specs.Attributes.{NameValue}
-use Rattle.hls_lines.specs.Pairs.{pair_of, pairs_of}
-use Rattle.hls_lines.proofs.AttributeLemmas.{GoesOn, GoesOn-begin, no_first, the_last, no_comma, one_more, attribute_shorter, comma_shorter}
 use Rattle.hls_lines.proofs.attributes.read_pairs.Goals as goal
+use Rattle.std.proofs.{Common.{List, Some, sym, ap, ◌∙◌, subst, arith, rules}, lemmas.Bool.eqb-true, lemmas.Bool.Decides.nat_tests}
+use Rattle.std.proofs.lemmas.List.{map-append}
+use Rattle.hls_lines.specs.{Attributes.NameValue, Pairs.{pair_of, pairs_of}}
+use Rattle.hls_lines.proofs.AttributeLemmas.{GoesOn, GoesOn-begin, no_first, the_last, no_comma, one_more, attribute_shorter, comma_shorter}
 
 pub loop-found-init : goal.loop-found-init
 loop-found-init c = (c.utf8.text, rw c.new-pairs.ensures.items (GoesOn-begin _))

@@ -1,8 +1,7 @@
-use Rattle.std.proofs.Common.{◌≡◌, [], take, drop}
-use Rattle.hls_lines.specs.Attributes.{names_of, repeats_after}
-use Rattle.hls_lines.specs.Pairs.{pairs_of}
-use Rattle.hls_lines.proofs.NameSets.{AreNames}
 use Rattle.hls_lines.proofs.attributes.repeats_a_name.Given as goal
+use Rattle.std.proofs.Common.{◌≡◌, [], take, drop}
+use Rattle.hls_lines.specs.{Attributes.{names_of, repeats_after}, Pairs.pairs_of}
+use Rattle.hls_lines.proofs.NameSets.{AreNames}
 
 abbrev pub invariant-loop-name : goal.invariant-loop-name
 invariant-loop-name l = record {

@@ -1,11 +1,8 @@
-use Rattle.std.proofs.Common.{◌∙◌, map, filter, lit<, ap}
-use Rattle.std.proofs.lemmas.Iterator.Splits.{YieldsList-from_str_split}
-use Rattle.std.proofs.lemmas.Iterator.Consumers.{YieldsList-end}
-use Rattle.mpd_values.specs.Blanks.{trimmed}
-use Rattle.mpd_values.specs.Codecs.{codes_of}
-use Rattle.mpd_values.specs.declared.blank.Blank.TheVariants.{Space}
-use Rattle.hls_master.specs.Codes.{is_of}
 use Rattle.hls_master.proofs.codes.chosen_codes.Goals as goal
+use Rattle.std.proofs.{Common.{◌∙◌, map, filter, lit<, ap}, lemmas.Iterator.Splits.YieldsList-from_str_split}
+use Rattle.std.proofs.lemmas.Iterator.Consumers.{YieldsList-end}
+use Rattle.mpd_values.specs.{Blanks.trimmed, Codecs.codes_of, declared.blank.Blank.TheVariants.Space}
+use Rattle.hls_master.specs.Codes.{is_of}
 
 pub returns : goal.returns
 unfolding codes_of

@@ -1,8 +1,7 @@
-use Rattle.std.proofs.Common.{option_map}
-use Rattle.hls_master.specs.Entries.{known_lines}
-use Rattle.hls_master.specs.Seen.{line_seen}
-use Rattle.hls_master.proofs.Entries.{no_uri, none_left}
 use Rattle.hls_master.proofs.entry.join_uri.Goals as goal
+use Rattle.std.proofs.Common.{option_map}
+use Rattle.hls_master.specs.{Entries.known_lines, Seen.line_seen}
+use Rattle.hls_master.proofs.Entries.{no_uri, none_left}
 
 pub returns-in-None : goal.returns-in-None
 returns-in-None c =

@@ -1,8 +1,7 @@
-use Rattle.std.proofs.Common.{map}
-use Rattle.hls_master.specs.SeenMentions.{mentions_seen}
-use Rattle.hls_master.specs.SeenTracks.{mention_seen}
-use Rattle.hls_master.proofs.Wholes.{few_are, too_many}
 use Rattle.hls_master.proofs.master.few_tracks.Goals as goal
+use Rattle.std.proofs.Common.{map}
+use Rattle.hls_master.specs.{SeenMentions.mentions_seen, SeenTracks.mention_seen}
+use Rattle.hls_master.proofs.Wholes.{few_are, too_many}
 
 pub returns-in_ok-read_tracks-in-Some : goal.returns-in_ok-read_tracks-in-Some
 returns-in_ok-read_tracks-in-Some c =

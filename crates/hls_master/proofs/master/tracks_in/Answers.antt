@@ -1,13 +1,8 @@
-use Rattle.std.proofs.Common.{◌≡◌, Err}
-use Rattle.std.proofs.lemmas.Result.{err_from_is_err_and}
-use Rattle.hls_master.specs.Entries.{entries_of, known_lines}
-use Rattle.hls_master.specs.Faults.{refusal}
-use Rattle.hls_master.specs.Masters.{master_in}
-use Rattle.hls_master.specs.Mentions.{nothing, reading}
-use Rattle.hls_master.specs.SeenMentions.{mentions_seen}
-use Rattle.hls_master.proofs.Answers.{passed_on}
-use Rattle.hls_master.proofs.Wholes.{line_fault, whole_is}
 use Rattle.hls_master.proofs.master.tracks_in.Goals as goal
+use Rattle.std.proofs.{Common.{◌≡◌, Err}, lemmas.Result.err_from_is_err_and}
+use Rattle.hls_master.specs.{Entries.{entries_of, known_lines}, Faults.refusal, Masters.master_in, Mentions.{nothing, reading}}
+use Rattle.hls_master.specs.SeenMentions.{mentions_seen}
+use Rattle.hls_master.proofs.{Answers.passed_on, Wholes.{line_fault, whole_is}}
 
 pub returns-in_err-mentions : goal.returns-in_err-mentions
 returns-in_err-mentions c =

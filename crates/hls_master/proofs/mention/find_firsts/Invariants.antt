@@ -1,7 +1,6 @@
-use Rattle.std.proofs.Common.{◌≡◌, ◌≤◌, [], ◌++◌, length, map, drop}
-use Rattle.hls_master.specs.SeenTracks.{mention_seen}
-use Rattle.hls_master.specs.Tracks.{firsts_behind}
 use Rattle.hls_master.proofs.mention.find_firsts.Given as goal
+use Rattle.std.proofs.Common.{◌≡◌, ◌≤◌, [], ◌++◌, length, map, drop}
+use Rattle.hls_master.specs.{SeenTracks.mention_seen, Tracks.firsts_behind}
 
 abbrev pub invariant-loop-mention : goal.invariant-loop-mention
 invariant-loop-mention l = (length l.firsts.items ≤ 200)

@@ -1,8 +1,6 @@
-use Rattle.std.proofs.Common.{◌≡◌, ◌++◌, map, take}
-use Rattle.hls_master.specs.SeenTags.{rendition_seen, variant_seen}
-use Rattle.hls_master.specs.SeenTracks.{mention_seen}
-use Rattle.hls_master.specs.Tracks.{by_rendition, by_variant}
 use Rattle.hls_master.proofs.mention.mentions_of.Given as goal
+use Rattle.std.proofs.Common.{◌≡◌, ◌++◌, map, take}
+use Rattle.hls_master.specs.{SeenTags.{rendition_seen, variant_seen}, SeenTracks.mention_seen, Tracks.{by_rendition, by_variant}}
 
 abbrev pub invariant-loop-rendition : goal.invariant-loop-rendition
 invariant-loop-rendition l = map mention_seen l.mentions.items ≡ map by_rendition (map rendition_seen (take l.rendition-index l.renditions))

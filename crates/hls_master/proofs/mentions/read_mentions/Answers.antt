@@ -1,13 +1,8 @@
-use Rattle.std.proofs.Common.{◌≡◌, ◌∙◌, Err, [], ◌∷◌}
-use Rattle.std.proofs.lemmas.Result.{err_from_is_err_and}
-use Rattle.hls_master.specs.Entries.{entries_of, known_lines}
-use Rattle.hls_master.specs.Faults.{answer, refusal}
-use Rattle.hls_master.specs.Mentions.{entry_fault, mentions_behind, reading, nothing}
-use Rattle.hls_master.specs.Seen.{entry_seen}
-use Rattle.hls_master.specs.SeenMentions.{mentions_seen}
-use Rattle.hls_master.proofs.Answers.{passed_on}
-use Rattle.hls_master.proofs.Readings.{next_is_read, next_is_told, none_left}
 use Rattle.hls_master.proofs.mentions.read_mentions.Goals as goal
+use Rattle.std.proofs.{Common.{◌≡◌, ◌∙◌, Err, [], ◌∷◌}, lemmas.Result.err_from_is_err_and}
+use Rattle.hls_master.specs.{Entries.{entries_of, known_lines}, Faults.{answer, refusal}, Mentions.{entry_fault, mentions_behind, reading}}
+use Rattle.hls_master.specs.{Mentions.nothing, Seen.entry_seen, SeenMentions.mentions_seen}
+use Rattle.hls_master.proofs.{Answers.passed_on, Readings.{next_is_read, next_is_told, none_left}}
 
 pub loop-entry-preserved : goal.loop-entry-preserved
 loop-entry-preserved c =

@@ -1,9 +1,6 @@
-use Rattle.std.proofs.Common.{◌≡◌, length}
-use Rattle.hls_master.specs.Entries.{entries_of, known_lines}
-use Rattle.hls_master.specs.Mentions.{reading, nothing}
-use Rattle.hls_master.specs.Names.{NamesOf}
-use Rattle.hls_master.specs.SeenMentions.{mentions_seen}
 use Rattle.hls_master.proofs.mentions.read_mentions.Given as goal
+use Rattle.std.proofs.Common.{◌≡◌, length}
+use Rattle.hls_master.specs.{Entries.{entries_of, known_lines}, Mentions.{reading, nothing}, Names.NamesOf, SeenMentions.mentions_seen}
 
 abbrev pub invariant-loop-entry : goal.invariant-loop-entry
 invariant-loop-entry l = NamesOf l.names (mentions_seen l.mentions).renditions

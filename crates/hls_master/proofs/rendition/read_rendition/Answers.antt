@@ -1,11 +1,9 @@
-use Rattle.std.proofs.Common.{◌≡◌, Some, Ok, Err, ◌∙◌, ap}
-use Rattle.std.proofs.lemmas.Result.{err_from_is_err_and}
-use Rattle.bridge_io.specs.Firsts.{first_some}
-use Rattle.hls_master.specs.Faults.{answer, mapped, refusal}
-use Rattle.hls_master.specs.Renditions.{rendition_fault, rendition_faults, rendition_value, rendition_with}
-use Rattle.hls_master.proofs.Answers.{passed_on}
-use Rattle.hls_master.proofs.Renditions.{of_kind}
 use Rattle.hls_master.proofs.rendition.read_rendition.Goals as goal
+use Rattle.std.proofs.{Common.{◌≡◌, Some, Ok, Err, ◌∙◌, ap}, lemmas.Result.err_from_is_err_and}
+use Rattle.bridge_io.specs.Firsts.{first_some}
+use Rattle.hls_master.specs.{Faults.{answer, mapped, refusal}, Renditions.{rendition_fault, rendition_faults, rendition_value}}
+use Rattle.hls_master.specs.Renditions.{rendition_with}
+use Rattle.hls_master.proofs.{Answers.passed_on, Renditions.of_kind}
 
 pub returns-in_err-rendition_of-in-Some : goal.returns-in_err-rendition_of-in-Some
 returns-in_err-rendition_of-in-Some c =

@@ -1,8 +1,6 @@
-use Rattle.std.proofs.Common.{◌≡◌, ◌++◌, map, filter, take}
-use Rattle.hls_master.specs.SeenTags.{variant_seen}
-use Rattle.hls_master.specs.SeenTracks.{mention_seen, track_seen}
-use Rattle.hls_master.specs.Tracks.{same_set, track_of}
 use Rattle.hls_master.proofs.track.add_set.Given as goal
+use Rattle.std.proofs.Common.{◌≡◌, ◌++◌, map, filter, take}
+use Rattle.hls_master.specs.{SeenTags.variant_seen, SeenTracks.{mention_seen, track_seen}, Tracks.{same_set, track_of}}
 
 abbrev pub invariant-loop-mention : goal.invariant-loop-mention
 invariant-loop-mention l = map track_seen l.tracks

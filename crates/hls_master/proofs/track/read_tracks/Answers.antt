@@ -1,8 +1,6 @@
-use Rattle.std.proofs.Common.{◌∙◌, ap, map}
-use Rattle.hls_master.specs.SeenTags.{variant_seen}
-use Rattle.hls_master.specs.SeenTracks.{mention_seen}
-use Rattle.hls_master.specs.Tracks.{tracks_among, tracks_of_sets}
 use Rattle.hls_master.proofs.track.read_tracks.Goals as goal
+use Rattle.std.proofs.Common.{◌∙◌, ap, map}
+use Rattle.hls_master.specs.{SeenTags.variant_seen, SeenTracks.mention_seen, Tracks.{tracks_among, tracks_of_sets}}
 
 pub returns : goal.returns
 unfolding tracks_among

@@ -1,8 +1,6 @@
-use Rattle.std.proofs.Common.{◌≡◌, ◌++◌, map, drop}
-use Rattle.hls_master.specs.SeenTags.{variant_seen}
-use Rattle.hls_master.specs.SeenTracks.{mention_seen, track_seen}
-use Rattle.hls_master.specs.Tracks.{tracks_of_sets}
 use Rattle.hls_master.proofs.track.tracks_of_sets.Given as goal
+use Rattle.std.proofs.Common.{◌≡◌, ◌++◌, map, drop}
+use Rattle.hls_master.specs.{SeenTags.variant_seen, SeenTracks.{mention_seen, track_seen}, Tracks.tracks_of_sets}
 
 abbrev pub invariant-loop-number : goal.invariant-loop-number
 invariant-loop-number l =

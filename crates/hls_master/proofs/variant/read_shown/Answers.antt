@@ -1,7 +1,6 @@
-use Rattle.std.proofs.Common.{sym, refl}
-use Rattle.std.proofs.lemmas.Result.{err_from_is_err_and}
-use Rattle.hls_master.proofs.Answers.{no_fault, fault_is}
 use Rattle.hls_master.proofs.variant.read_shown.Goals as goal
+use Rattle.std.proofs.{Common.{sym, refl}, lemmas.Result.err_from_is_err_and}
+use Rattle.hls_master.proofs.Answers.{no_fault, fault_is}
 
 pub returns-in_err-frame_rate : goal.returns-in_err-frame_rate
 returns-in_err-frame_rate c =

@@ -1,13 +1,9 @@
-use Rattle.std.proofs.Common.{◌≡◌, Err}
-use Rattle.std.proofs.lemmas.Result.{err_from_is_err_and}
-use Rattle.bridge_io.specs.Firsts.{first_some}
-use Rattle.hls_master.specs.Addresses.{address_fault, address_value}
-use Rattle.hls_master.specs.Faults.{answer, refusal}
-use Rattle.hls_master.specs.SeenTags.{shown_seen, variant_seen}
-use Rattle.hls_master.specs.Variants.{variant_faults, variant_with}
-use Rattle.hls_master.proofs.Answers.{told, passed_on}
-use Rattle.hls_master.proofs.Variants.{shown_stops, address_stops, is_read}
 use Rattle.hls_master.proofs.variant.variant_of.Goals as goal
+use Rattle.std.proofs.{Common.{◌≡◌, Err}, lemmas.Result.err_from_is_err_and}
+use Rattle.bridge_io.specs.Firsts.{first_some}
+use Rattle.hls_master.specs.{Addresses.{address_fault, address_value}, Faults.{answer, refusal}, SeenTags.{shown_seen, variant_seen}}
+use Rattle.hls_master.specs.Variants.{variant_faults, variant_with}
+use Rattle.hls_master.proofs.{Answers.{told, passed_on}, Variants.{shown_stops, address_stops, is_read}}
 
 pub returns-in_err-shown : goal.returns-in_err-shown
 returns-in_err-shown c =

@@ -1,7 +1,6 @@
-use Rattle.std.proofs.Common.{map, take}
-use Rattle.hls_master.specs.SeenTags.{rendition_seen}
-use Rattle.hls_master.specs.Texts.{SameTexts}
 use Rattle.hls_master.proofs.whole.addresses_of.Given as goal
+use Rattle.std.proofs.Common.{map, take}
+use Rattle.hls_master.specs.{SeenTags.rendition_seen, Texts.SameTexts}
 
 abbrev pub invariant-loop-rendition : goal.invariant-loop-rendition
 invariant-loop-rendition l = SameTexts l.addresses (map (λ rendition. rendition.address)

@@ -1,10 +1,9 @@
+use Rattle.hls_master.proofs.whole.find_muxed.Goals as goal
 use Rattle.std.proofs.Common.{◌∙◌, not, ◌&&◌, ap}
 use Rattle.std.specs.Option.{is_none}
 use Rattle.bridge_io.specs.declared.media.Kind.TheVariants.{Audio}
-use Rattle.hls_master.specs.Codes.{has_code_in}
-use Rattle.hls_master.specs.Tracks.{is_audio_variant}
+use Rattle.hls_master.specs.{Codes.has_code_in, Tracks.is_audio_variant}
 use Rattle.hls_master.proofs.Loops.{first_place-same}
-use Rattle.hls_master.proofs.whole.find_muxed.Goals as goal
 
 pub returns : goal.returns
 returns c = c.first_muxed.ensures

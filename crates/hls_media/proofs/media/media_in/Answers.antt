@@ -1,12 +1,9 @@
-use Rattle.std.proofs.Common.{Ok, length, sym, ap, ◌∙◌}
-use Rattle.std.specs.List.{list_all}
-use Rattle.std.proofs.lemmas.Result.{err_from_is_err_and}
-use Rattle.bridge_io.specs.Places.{place_of}
-use Rattle.hls_media.specs.Media.{is_short, media_at}
-use Rattle.hls_media.specs.States.{State, nothing}
-use Rattle.hls_media.proofs.Lengths.{none_long}
-use Rattle.hls_media.proofs.Wholes.{line_told, media_in-no_target, media_in-long, media_in-good}
 use Rattle.hls_media.proofs.media.media_in.Goals as goal
+use Rattle.std.proofs.{Common.{Ok, length, sym, ap, ◌∙◌}, lemmas.Result.err_from_is_err_and}
+use Rattle.std.specs.List.{list_all}
+use Rattle.bridge_io.specs.Places.{place_of}
+use Rattle.hls_media.specs.{Media.{is_short, media_at}, States.{State, nothing}}
+use Rattle.hls_media.proofs.{Lengths.none_long, Wholes.{line_told, media_in-no_target, media_in-long, media_in-good}}
 
 pub returns-in_err-reader : goal.returns-in_err-reader
 returns-in_err-reader c =

@@ -1,7 +1,6 @@
-use Rattle.std.proofs.Common.{◌≡◌, ◌≤◌, map, take}
-use Rattle.hls_presentation.specs.Tracks.{left_out}
-use Rattle.hls_presentation.specs.Views.{source_of}
 use Rattle.hls_presentation.proofs.kept.left_out_of.Given as goal
+use Rattle.std.proofs.Common.{◌≡◌, ◌≤◌, map, take}
+use Rattle.hls_presentation.specs.{Tracks.left_out, Views.source_of}
 
 abbrev pub invariant-loop-source : goal.invariant-loop-source
 invariant-loop-source l = record {

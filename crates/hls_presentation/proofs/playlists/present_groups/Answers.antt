@@ -1,10 +1,7 @@
-use Rattle.std.proofs.Common.{map}
-use Rattle.std.proofs.lemmas.Result.{err_from_is_err_and}
-use Rattle.hls_presentation.specs.Views.{source_of}
-use Rattle.hls_presentation.specs.Sections.{rows_of}
-use Rattle.hls_presentation.proofs.Came.{all_ended}
-use Rattle.hls_presentation.proofs.Turns.{filled_by, presented_as, refused_by}
 use Rattle.hls_presentation.proofs.playlists.present_groups.Goals as goal
+use Rattle.std.proofs.{Common.map, lemmas.Result.err_from_is_err_and}
+use Rattle.hls_presentation.specs.{Views.source_of, Sections.rows_of}
+use Rattle.hls_presentation.proofs.{Came.all_ended, Turns.{filled_by, presented_as, refused_by}}
 
 pub from_parts-requires-clause-filled : goal.from_parts-requires-clause-filled
 from_parts-requires-clause-filled c =

@@ -1,9 +1,8 @@
+use Rattle.hls_presentation.proofs.tracks.sections_of.Goals as goal
 use Rattle.std.proofs.Common.{◌<◌, ◌^◌, arith}
 use Rattle.std.specs.List.{sum_by}
 use Rattle.hls_presentation.specs.Sections.{row_length, rows_of, section_count}
-use Rattle.hls_presentation.proofs.Rows.{length_next, within_limit}
-use Rattle.hls_presentation.proofs.Turns.{sections_turn}
-use Rattle.hls_presentation.proofs.tracks.sections_of.Goals as goal
+use Rattle.hls_presentation.proofs.{Rows.{length_next, within_limit}, Turns.sections_turn}
 
 pub section_at-requires : goal.section_at-requires
 section_at-requires c =

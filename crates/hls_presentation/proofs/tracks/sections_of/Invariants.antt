@@ -1,8 +1,7 @@
+use Rattle.hls_presentation.proofs.tracks.sections_of.Given as goal
 use Rattle.std.proofs.Common.{◌≡◌, ◌+◌, ◌-◌, ◌++◌}
 use Rattle.std.specs.List.{sum_by}
-use Rattle.hls_presentation.specs.Presenting.{sections_from}
-use Rattle.hls_presentation.specs.Sections.{row_length, rows_from, rows_of, section_count}
-use Rattle.hls_presentation.proofs.tracks.sections_of.Given as goal
+use Rattle.hls_presentation.specs.{Presenting.sections_from, Sections.{row_length, rows_from, rows_of, section_count}}
 
 abbrev pub invariant-loop-place : goal.invariant-loop-place
 invariant-loop-place l = record {

@@ -1,11 +1,10 @@
+use Rattle.hls_writer.proofs.finished.push_section.Goals as goal
 use Rattle.std.proofs.Common.{ap, ◌^◌}
 use Rattle.presentation.specs.Presented.{content_at, listed_at}
 use Rattle.presentation.proofs.Allowed.{have_addresses, verified_are_counted}
-use Rattle.hls_writer.specs.Lines.{lines_text}
-use Rattle.hls_writer.specs.Playlists.{items_lines}
+use Rattle.hls_writer.specs.{Lines.lines_text, Playlists.items_lines}
 use Rattle.bridge_io.proofs.Adding.{adds_same}
 use Rattle.hls_writer.proofs.Sections.{rest_addressed, rest_items}
-use Rattle.hls_writer.proofs.finished.push_section.Goals as goal
 
 pub segments-segments-requires-clause-reached : goal.segments-segments-requires-clause-reached
 segments-segments-requires-clause-reached g c = let t = c.args.track.now in let v = c.requires.verified in

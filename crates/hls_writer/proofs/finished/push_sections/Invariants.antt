@@ -1,10 +1,8 @@
+use Rattle.hls_writer.proofs.finished.push_sections.Given as goal
 use Rattle.std.proofs.Common.{◌≡◌, ℕ, ◌^◌, ◌-◌, List, ◌++◌, flat_map, length, None, Ok}
 use Rattle.std.specs.List.{range_with_len}
 use Rattle.bridge_io.specs.Adding.{Adds, shown}
-use Rattle.hls_writer.specs.Finished.{section_items, track_items}
-use Rattle.hls_writer.specs.Lines.{lines_text}
-use Rattle.hls_writer.specs.Playlists.{items_lines}
-use Rattle.hls_writer.proofs.finished.push_sections.Given as goal
+use Rattle.hls_writer.specs.{Finished.{section_items, track_items}, Lines.lines_text, Playlists.items_lines}
 
 -- what is added so far goes on to the text of all sections
 abbrev pub invariant-loop-section : goal.invariant-loop-section

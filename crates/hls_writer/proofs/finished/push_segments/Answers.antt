@@ -1,13 +1,10 @@
+use Rattle.hls_writer.proofs.finished.push_segments.Goals as goal
 use Rattle.std.proofs.Common.{◌++◌, ◌∙◌, [], refl, sym}
 use Rattle.presentation.specs.Printing.{IsPassed}
-use Rattle.timeline.specs.Listed.{timing_of}
-use Rattle.timeline.specs.Written.{part_with}
-use Rattle.hls_writer.specs.Finished.{item_of}
-use Rattle.hls_writer.specs.Lines.{lines_text}
-use Rattle.hls_writer.specs.Playlists.{item_lines}
+use Rattle.timeline.specs.{Listed.timing_of, Written.part_with}
+use Rattle.hls_writer.specs.{Finished.item_of, Lines.lines_text, Playlists.item_lines}
 use Rattle.bridge_io.proofs.Adding.{adds_none, adds_same, adds_then, adds_stop_at, adds_wanting}
 use Rattle.hls_writer.proofs.Sections.{first_addressed, next_item, one_more, still_addressed}
-use Rattle.hls_writer.proofs.finished.push_segments.Goals as goal
 
 pub loop-span-init : goal.loop-span-init
 loop-span-init g c = record { timeline = c.in_ok-addresses.ensures; addressed = c.requires; done = ([], refl, adds_none _ _); last = refl }

@@ -1,10 +1,8 @@
+use Rattle.hls_writer.proofs.finished.push_segments.Given as goal
 use Rattle.std.proofs.Common.{◌≡◌, ℕ, List, ◌++◌, length, All, Ok}
 use Rattle.presentation.specs.Laws.{HasAddress}
 use Rattle.bridge_io.specs.Adding.{Adds, shown}
-use Rattle.hls_writer.specs.Finished.{items_at}
-use Rattle.hls_writer.specs.Lines.{lines_text}
-use Rattle.hls_writer.specs.Playlists.{items_lines, last_section}
-use Rattle.hls_writer.proofs.finished.push_segments.Given as goal
+use Rattle.hls_writer.specs.{Finished.items_at, Lines.lines_text, Playlists.{items_lines, last_section}}
 
 -- what is added so far goes on to the text of all segments
 abbrev pub invariant-loop-span : goal.invariant-loop-span

@@ -1,12 +1,9 @@
-use Rattle.std.proofs.Common.{◌≡◌, ℕ, ◌⊎◌, ◌^◌, ◌∙◌, List, ap, sym, subst, OnOk, OnErr, Some}
-use Rattle.std.proofs.lemmas.Option.{slice_get_within}
-use Rattle.bridge_io.specs.Outside.{put, Changes}
-use Rattle.bridge_io.specs.Written.{HasFront}
-use Rattle.presentation.specs.Presented.{Presented}
-use Rattle.presentation.specs.Verifying.{longest_of}
+use Rattle.hls_writer.proofs.finished.write_media.Goals as goal
+use Rattle.std.proofs.{Common.{◌≡◌, ℕ, ◌⊎◌, ◌^◌, ◌∙◌, List, ap, sym, subst, OnOk, OnErr, Some}, lemmas.Option.slice_get_within}
+use Rattle.bridge_io.specs.{Outside.{put, Changes}, Written.HasFront}
+use Rattle.presentation.specs.{Presented.Presented, Verifying.longest_of}
 use Rattle.presentation.proofs.Allowed.{each_has_longest}
 use Rattle.hls_writer.specs.Finished.{media_text, target_of, track_text}
-use Rattle.hls_writer.proofs.finished.write_media.Goals as goal
 
 pub of-requires : goal.of-requires
 of-requires g c = slice_get_within c.args.longest.now c.args.track _

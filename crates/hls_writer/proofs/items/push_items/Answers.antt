@@ -1,11 +1,8 @@
-use Rattle.std.proofs.Common.{◌++◌, ap}
-use Rattle.hls_writer.specs.Items.{item_of}
-use Rattle.hls_writer.specs.Lines.{lines_text}
-use Rattle.hls_writer.specs.Playlists.{item_lines}
-use Rattle.bridge_io.proofs.Adding.{adds_same, adds_then, adds_stop_at}
-use Rattle.hls_writer.proofs.Following.{left_is}
-use Rattle.hls_writer.proofs.Sections.{one_more}
 use Rattle.hls_writer.proofs.items.push_items.Goals as goal
+use Rattle.std.proofs.Common.{◌++◌, ap}
+use Rattle.hls_writer.specs.{Items.item_of, Lines.lines_text, Playlists.item_lines}
+use Rattle.bridge_io.proofs.Adding.{adds_same, adds_then, adds_stop_at}
+use Rattle.hls_writer.proofs.{Following.left_is, Sections.one_more}
 
 pub loop-item-preserved : goal.loop-item-preserved
 loop-item-preserved g c =

@@ -1,9 +1,7 @@
+use Rattle.hls_writer.proofs.items.push_items.Given as goal
 use Rattle.std.proofs.Common.{◌≡◌, ℕ, List, ◌++◌, drop, map, Ok}
 use Rattle.bridge_io.specs.Adding.{Adds, shown}
-use Rattle.hls_writer.specs.Items.{item_of}
-use Rattle.hls_writer.specs.Lines.{lines_text}
-use Rattle.hls_writer.specs.Playlists.{items_lines, last_section}
-use Rattle.hls_writer.proofs.items.push_items.Given as goal
+use Rattle.hls_writer.specs.{Items.item_of, Lines.lines_text, Playlists.{items_lines, last_section}}
 
 -- what is added so far goes on to the text of all items
 abbrev pub invariant-loop-item : goal.invariant-loop-item

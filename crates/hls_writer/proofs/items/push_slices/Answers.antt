@@ -1,8 +1,7 @@
-use Rattle.std.proofs.Common.{None, refl, ◌∙◌}
-use Rattle.std.proofs.lemmas.List.{append-nil}
+use Rattle.hls_writer.proofs.items.push_slices.Goals as goal
+use Rattle.std.proofs.{Common.{None, refl, ◌∙◌}, lemmas.List.append-nil}
 use Rattle.bridge_io.proofs.Adding.{adds_same, adds_answered, adds_then, adds_stop_at}
 use Rattle.hls_writer.proofs.Following.{joined}
-use Rattle.hls_writer.proofs.items.push_slices.Goals as goal
 
 pub returns-in_err-former : goal.returns-in_err-former
 returns-in_err-former g c =

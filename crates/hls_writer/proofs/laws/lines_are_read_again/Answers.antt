@@ -1,9 +1,7 @@
-use Rattle.std.proofs.Common.{◌≡◌, ◌==◌, ℕ, List, [], ◌∷◌, ◌++◌, map, refl, ap, ◌∙◌, append_assoc}
-use Rattle.std.specs.List.{slice_split}
-use Rattle.std.proofs.lemmas.List.Splits.{slice_split_at}
-use Rattle.hls_writer.specs.Lines.{WrittenLine, line_bytes, lines_text}
-use Rattle.hls_writer.specs.Laws.{AreLines}
 use Rattle.hls_writer.proofs.laws.lines_are_read_again.Goals as goal
+use Rattle.std.proofs.{Common.{◌≡◌, ◌==◌, ℕ, List, [], ◌∷◌, ◌++◌, map, refl, ap, ◌∙◌, append_assoc}, lemmas.List.Splits.slice_split_at}
+use Rattle.std.specs.List.{slice_split}
+use Rattle.hls_writer.specs.{Lines.{WrittenLine, line_bytes, lines_text}, Laws.AreLines}
 
 cut : (lines : List WrittenLine) → AreLines lines → slice_split (λ (b : ℕ). b == 10) (lines_text lines) ≡ map line_bytes lines ++ [] ∷ []
 cut [] whole = refl

@@ -1,6 +1,5 @@
-use Rattle.std.proofs.Common.{◌≡◌, ◌+◌, ◌∷◌, drop, add-one}
-use Rattle.std.proofs.Math.Seq.{drop-cons}
 use Rattle.hls_writer.proofs.renditions.places_of.Goals as goal
+use Rattle.std.proofs.{Common.{◌≡◌, ◌+◌, ◌∷◌, drop, add-one}, Math.Seq.drop-cons}
 use Rattle.hls_writer.proofs.renditions.places_of.Goals.{then-is_of+in_ok-push, else-is_of}
 
 pub loop-place-preserved : goal.loop-place-preserved

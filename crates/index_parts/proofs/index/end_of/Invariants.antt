@@ -1,8 +1,7 @@
+use Rattle.index_parts.proofs.index.end_of.Given as goal
 use Rattle.std.proofs.Common.{◌≡◌, ◌<◌, ◌+◌, ◌*◌, ◌^◌, flat_map, length}
 use Rattle.segment_index.specs.Laws.{end_from}
-use Rattle.index_parts.specs.Found.{reference_faults}
-use Rattle.index_parts.specs.Refusals.{unless_any}
-use Rattle.index_parts.proofs.index.end_of.Given as goal
+use Rattle.index_parts.specs.{Found.reference_faults, Refusals.unless_any}
 
 abbrev pub invariant-loop-reference : goal.invariant-loop-reference
 invariant-loop-reference l = record {

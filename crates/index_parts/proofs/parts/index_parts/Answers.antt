@@ -1,12 +1,10 @@
+use Rattle.index_parts.proofs.parts.index_parts.Goals as goal
 use Rattle.std.proofs.Common.{map, sym, ◌∙◌, ap, subst}
 use Rattle.bridge_io.specs.Answer.{Gives}
 use Rattle.mpd_rules.specs.Typed.{period_with}
 use Rattle.presentation.specs.Presented.{Presented}
-use Rattle.index_parts.specs.Presented.{indexed_of, presented_by}
-use Rattle.index_parts.specs.Refusals.{refusal}
-use Rattle.index_parts.specs.Rows.{period_of, shown}
+use Rattle.index_parts.specs.{Presented.{indexed_of, presented_by}, Refusals.refusal, Rows.{period_of, shown}}
 use Rattle.index_parts.proofs.Presented.{as_presented}
-use Rattle.index_parts.proofs.parts.index_parts.Goals as goal
 
 pub returns-in-Some-clause-presented : goal.returns-in-Some-clause-presented
 unfolding indexed_of

@@ -1,10 +1,9 @@
+use Rattle.index_parts.proofs.segments.runs_of.Goals as goal
 use Rattle.std.proofs.Common.{subst}
 use Rattle.bridge_io.specs.Answer.{Gives}
-use Rattle.timeline.specs.Expansions.{SegmentTimeline}
-use Rattle.timeline.specs.Faults.{refusal}
+use Rattle.timeline.specs.{Expansions.SegmentTimeline, Faults.refusal}
 use Rattle.index_parts.specs.Segments.{extents_in, parts_in, runs_of, ticks_of}
 use Rattle.index_parts.proofs.Laid.{spans_told}
-use Rattle.index_parts.proofs.segments.runs_of.Goals as goal
 
 pub returns-clause-runs : goal.returns-clause-runs
 unfolding runs_of

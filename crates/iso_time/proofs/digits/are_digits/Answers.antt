@@ -1,11 +1,7 @@
-use Rattle.std.proofs.Common.{◌∙◌, ◌&&◌, refl, rules, tests}
-use Rattle.std.proofs.lemmas.Iterator.{YieldsList-from_slice}
-use Rattle.std.proofs.lemmas.Iterator.Search.{all_from_yields_List}
-use Rattle.std.proofs.lemmas.List.Recursion.{same_from_clauses}
-use Rattle.std.specs.Char.{is_ascii_digit}
-use Rattle.std.specs.List.{list_all}
-use Rattle.std.specs.Str.{all_ascii_digits}
 use Rattle.iso_time.proofs.digits.are_digits.Goals as goal
+use Rattle.std.proofs.{Common.{◌∙◌, ◌&&◌, refl, rules, tests}, lemmas.Iterator.YieldsList-from_slice}
+use Rattle.std.proofs.{lemmas.Iterator.Search.all_from_yields_List, lemmas.List.Recursion.same_from_clauses}
+use Rattle.std.specs.{Char.is_ascii_digit, List.list_all, Str.all_ascii_digits}
 
 pub returns : goal.returns
 returns c =

@@ -1,11 +1,8 @@
-use Rattle.std.proofs.Common.{◌∙◌, rules, tests}
-use Rattle.std.proofs.lemmas.Iterator.{YieldsList-from_slice}
-use Rattle.std.proofs.lemmas.Iterator.Consumers.{count_from_yields_List}
-use Rattle.std.proofs.lemmas.Iterator.Search.{YieldsList-from_take_while}
-use Rattle.std.proofs.lemmas.List.Folds.{length-prefix_len}
+use Rattle.iso_time.proofs.digits.run_len.Goals as goal
+use Rattle.std.proofs.{Common.{◌∙◌, rules, tests}, lemmas.Iterator.YieldsList-from_slice, lemmas.Iterator.Consumers.count_from_yields_List}
+use Rattle.std.proofs.{lemmas.Iterator.Search.YieldsList-from_take_while, lemmas.List.Folds.length-prefix_len}
 use Rattle.std.specs.Char.{is_ascii_digit}
 use Rattle.iso_time.proofs.DigitLemmas.{ascii_front}
-use Rattle.iso_time.proofs.digits.run_len.Goals as goal
 
 pub returns-clause-len : goal.returns-clause-len
 returns-clause-len c =

@@ -1,8 +1,7 @@
-use Rattle.std.proofs.Common.{◌≡◌, ◌+◌, ◌-◌, ◌∙◌, length-append, arith, ne_eqb}
-use Rattle.std.proofs.Math.Nat.{mod-one}
+use Rattle.iso_time.proofs.duration.push_fraction.Goals as goal
+use Rattle.std.proofs.{Common.{◌≡◌, ◌+◌, ◌-◌, ◌∙◌, length-append, arith, ne_eqb}, Math.Nat.mod-one}
 use Rattle.exact_time.proofs.Decimals.{ten_pow-pos}
 use Rattle.iso_time.proofs.PlaceLemmas.{without_zeros-none, without_zeros-more, written_end, written_more}
-use Rattle.iso_time.proofs.duration.push_fraction.Goals as goal
 
 pub nonzero_rem-nanos : goal.nonzero_rem-nanos
 nonzero_rem-nanos c = omega (arith, ten_pow-pos (c.loop-place.place - 1 + 1))

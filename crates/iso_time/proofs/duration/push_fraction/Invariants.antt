@@ -1,7 +1,6 @@
-use Rattle.std.proofs.Common.{◌≡◌, ◌+◌, ◌≤◌, ◌++◌, ◌∷◌, length}
-use Rattle.iso_time.specs.Digits.{padded_digits}
-use Rattle.iso_time.specs.Duration.{without_zeros}
 use Rattle.iso_time.proofs.duration.push_fraction.Given as goal
+use Rattle.std.proofs.Common.{◌≡◌, ◌+◌, ◌≤◌, ◌++◌, ◌∷◌, length}
+use Rattle.iso_time.specs.{Digits.padded_digits, Duration.without_zeros}
 
 abbrev pub invariant-loop-place : goal.invariant-loop-place
 invariant-loop-place l =

@@ -1,8 +1,7 @@
-use Rattle.std.proofs.Common.{Err, rules}
-use Rattle.iso_time.specs.declared.duration.DurationFault.TheVariants.{Shape}
-use Rattle.iso_time.specs.Duration.{duration_of}
-use Rattle.iso_time.proofs.DurationLemmas.{exactly}
 use Rattle.iso_time.proofs.duration.read_duration.Goals as goal
+use Rattle.std.proofs.Common.{Err, rules}
+use Rattle.iso_time.specs.{declared.duration.DurationFault.TheVariants.Shape, Duration.duration_of}
+use Rattle.iso_time.proofs.DurationLemmas.{exactly}
 
 pub returns-in-Some-clause-exactly : goal.returns-in-Some-clause-exactly
 unfolding duration_of

@@ -1,7 +1,6 @@
-use Rattle.std.proofs.Common.{length, ap, arith}
-use Rattle.std.proofs.lemmas.Str.{encode_ascii}
-use Rattle.iso_time.proofs.PlaceLemmas.{seconds_short}
 use Rattle.iso_time.proofs.duration.write_duration.Goals as goal
+use Rattle.std.proofs.{Common.{length, ap, arith}, lemmas.Str.encode_ascii}
+use Rattle.iso_time.proofs.PlaceLemmas.{seconds_short}
 
 pub push_fraction-requires-clause-room : goal.push_fraction-requires-clause-room
 push_fraction-requires-clause-room c =

@@ -1,8 +1,7 @@
-use Rattle.std.proofs.Common.{Err, rules}
-use Rattle.iso_time.specs.declared.instant.InstantFault.TheVariants.{Shape}
-use Rattle.iso_time.specs.Instant.{instant_of}
-use Rattle.iso_time.proofs.InstantLemmas.{exactly, readable}
 use Rattle.iso_time.proofs.instant.read_instant.Goals as goal
+use Rattle.std.proofs.Common.{Err, rules}
+use Rattle.iso_time.specs.{declared.instant.InstantFault.TheVariants.Shape, Instant.instant_of}
+use Rattle.iso_time.proofs.InstantLemmas.{exactly, readable}
 
 pub returns-in-Some-clause-exactly : goal.returns-in-Some-clause-exactly
 unfolding instant_of

@@ -1,11 +1,9 @@
-use Rattle.std.proofs.Common.{◌∙◌, FitsSigned, sym, ap, arith}
+use Rattle.iso_time.proofs.instant.write_instant_ms.Goals as goal
+use Rattle.std.proofs.{Common.{◌∙◌, FitsSigned, sym, ap, arith}, lemmas.Int.to_z-of_z}
 use Rattle.std.specs.Int.{w128}
-use Rattle.std.proofs.lemmas.Int.{to_z-of_z}
 use Rattle.jiff_core.proofs.SignedLemmas.{signed_arith}
 use Rattle.iso_time.specs.Civil.{instant_text}
-use Rattle.iso_time.proofs.CalendarLemmas.{instant_text-civil, year_from_writable}
-use Rattle.iso_time.proofs.PaddedLemmas.{moment_text-ascii}
-use Rattle.iso_time.proofs.instant.write_instant_ms.Goals as goal
+use Rattle.iso_time.proofs.{CalendarLemmas.{instant_text-civil, year_from_writable}, PaddedLemmas.moment_text-ascii}
 
 pub text_of-requires : goal.text_of-requires
 text_of-requires c =

@@ -1,6 +1,5 @@
-use Rattle.laws_of_playlists.proofs.OriginListed.{static_are_in_pace}
-use Rattle.laws_of_playlists.proofs.OriginPace.{are_short_in_pace}
 use Rattle.laws_of_playlists.proofs.origins.static_segments_are_in_pace.Goals as goal
+use Rattle.laws_of_playlists.proofs.{OriginListed.static_are_in_pace, OriginPace.are_short_in_pace}
 
 pub returns : goal.returns
 returns c = let ends = c.closed_ends.ensures in record {

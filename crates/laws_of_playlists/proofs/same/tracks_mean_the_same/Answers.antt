@@ -1,6 +1,5 @@
-use Rattle.laws_of_playlists.proofs.SameFolders.{folders_hold_files}
-use Rattle.laws_of_playlists.proofs.SameWritten.{tracks_mean_the_same}
 use Rattle.laws_of_playlists.proofs.same.tracks_mean_the_same.Goals as goal
+use Rattle.laws_of_playlists.proofs.{SameFolders.folders_hold_files, SameWritten.tracks_mean_the_same}
 
 pub returns : goal.returns
 returns c = record {

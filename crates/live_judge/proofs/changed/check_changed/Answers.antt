@@ -1,12 +1,10 @@
+use Rattle.live_judge.proofs.changed.check_changed.Goals as goal
 use Rattle.std.proofs.Common.{rules, ◌≡◌, ◌∙◌, Some, false, true, ap, refl}
 use Rattle.bridge_io.specs.Firsts.{first_of}
 use Rattle.mpd_rules.specs.Views.{segments_mpd}
-use Rattle.live_meaning.specs.Known.{ids_of}
-use Rattle.live_meaning.specs.Refusals.{Changed, are_alike, ids_in, lack_ids, starts_otherwise, told_if}
-use Rattle.live_judge.specs.Changed.{place_among}
-use Rattle.live_judge.specs.Shown.{common_shown}
+use Rattle.live_meaning.specs.{Known.ids_of, Refusals.{Changed, are_alike, ids_in, lack_ids, starts_otherwise, told_if}}
+use Rattle.live_judge.specs.{Changed.place_among, Shown.common_shown}
 use Rattle.live_judge.proofs.Changing.{changes_told}
-use Rattle.live_judge.proofs.changed.check_changed.Goals as goal
 
 pub returns-then-have_others-clause-judged : goal.returns-then-have_others-clause-judged
 returns-then-have_others-clause-judged c =

@@ -1,8 +1,7 @@
-use Rattle.std.proofs.Common.{length, arith, ap}
-use Rattle.std.proofs.lemmas.Result.{err_from_is_err_and}
+use Rattle.live_judge.proofs.changed.check_moved.Goals as goal
+use Rattle.std.proofs.{Common.{length, arith, ap}, lemmas.Result.err_from_is_err_and}
 use Rattle.live_judge.specs.Changed.{moved_at}
 use Rattle.live_judge.proofs.Firsts.{first_here, none_at_all, none_here, none_yet}
-use Rattle.live_judge.proofs.changed.check_moved.Goals as goal
 
 pub loop-section-init : goal.loop-section-init
 loop-section-init c = none_yet (moved_at c.args.known.now c.args.force.now c.args.place) (length c.args.force.now.sections)

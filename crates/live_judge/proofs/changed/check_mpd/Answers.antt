@@ -1,12 +1,9 @@
-use Rattle.std.proofs.Common.{rules, ◌≡◌, List, [], ◌∙◌, ◌++◌, sym, subst}
-use Rattle.std.proofs.lemmas.Result.{err_from_is_err_and}
+use Rattle.live_judge.proofs.changed.check_mpd.Goals as goal
+use Rattle.std.proofs.{Common.{rules, ◌≡◌, List, [], ◌∙◌, ◌++◌, sym, subst}, lemmas.Result.err_from_is_err_and}
 use Rattle.mpd_rules.specs.Views.{segments_mpd}
 use Rattle.live_meaning.specs.Refusals.{Changed, Refusal, is_changed, moved_told, older_than, told_if}
-use Rattle.live_judge.specs.Faults.{Tells}
-use Rattle.live_judge.specs.Shown.{common_shown}
-use Rattle.live_judge.proofs.Changing.{moved_is, unmoved}
-use Rattle.live_judge.proofs.Firsts.{none_told, told_behind}
-use Rattle.live_judge.proofs.changed.check_mpd.Goals as goal
+use Rattle.live_judge.specs.{Faults.Tells, Shown.common_shown}
+use Rattle.live_judge.proofs.{Changing.{moved_is, unmoved}, Firsts.{none_told, told_behind}}
 
 pub returns-in_err-check_moved-clause-judged : goal.returns-in_err-check_moved-clause-judged
 returns-in_err-check_moved-clause-judged c =

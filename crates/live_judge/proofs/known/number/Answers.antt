@@ -1,10 +1,9 @@
-use Rattle.std.proofs.lemmas.List.{length-map, nil_from_length}
-use Rattle.std.proofs.Common.{rules, length, ◌∙◌, map, ap, sym, refl, subst, List, ℕ, Option}
+use Rattle.live_judge.proofs.known.number.Goals as goal
+use Rattle.std.proofs.{lemmas.List.{length-map, nil_from_length}, Common.{rules, length, ◌∙◌, map, ap, sym, refl, subst, List, ℕ, Option}}
 use Rattle.std.specs.BTreeMap.{get_by_text}
 use Rattle.live_meaning.specs.Known.{ids_of}
 use Rattle.live_judge.specs.Known.{IsIndex, known_shown}
 use Rattle.live_judge.proofs.Indexing.{numbered_at_end, numbered_first, numbered_known, numbered_next, numbered_rest}
-use Rattle.live_judge.proofs.known.number.Goals as goal
 
 pub loop-period-init : goal.loop-period-init
 loop-period-init c = numbered_first (get_by_text c.args.places.now) (map known_shown c.args.known.now) (map known_shown c.args.new.now)

@@ -1,7 +1,5 @@
-use Rattle.std.proofs.Common.{◌≡◌, string_bytes}
-use Rattle.std.proofs.lemmas.Map.Text.{btree_map_updates_text}
-use Rattle.std.proofs.lemmas.Result.{IfOk-at_ok}
 use Rattle.live_judge.proofs.known.place_at.Goals as goal
+use Rattle.std.proofs.{Common.{◌≡◌, string_bytes}, lemmas.Map.Text.btree_map_updates_text, lemmas.Result.IfOk-at_ok}
 
 pub returns-clause-ok : goal.returns-clause-ok
 returns-clause-ok c =

@@ -1,10 +1,9 @@
+use Rattle.live_judge.proofs.removal.last_place.Goals as goal
 use Rattle.std.proofs.Common.{rules, length, inl, inr, Fits, w64, arith}
 use Rattle.followed.proofs.KeptPlaces.{walked}
 use Rattle.followed.specs.Durations.{durations}
-use Rattle.live_judge.specs.Removal.{kept_in}
-use Rattle.live_judge.specs.Shown.{kept_of}
+use Rattle.live_judge.specs.{Removal.kept_in, Shown.kept_of}
 use Rattle.live_judge.proofs.LastPlaces.{bound_more, durations_long, none_behind, sum_at, summed_more}
-use Rattle.live_judge.proofs.removal.last_place.Goals as goal
 
 pub loop-place-init : goal.loop-place-init
 loop-place-init c =

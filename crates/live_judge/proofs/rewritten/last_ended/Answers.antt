@@ -1,11 +1,9 @@
+use Rattle.live_judge.proofs.rewritten.last_ended.Goals as goal
 use Rattle.std.proofs.Common.{◌≡◌, ◌-◌, List, length, take, drop, ap, sym, ◌∙◌, subst, arith, Fits, w64, rules}
 use Rattle.exact_time.specs.Tick.{time_of}
-use Rattle.timeline.specs.Expansions.{Timing}
-use Rattle.timeline.specs.Listed.{expansion, listed}
-use Rattle.timeline.specs.Steady.{ArePaced}
+use Rattle.timeline.specs.{Expansions.Timing, Listed.{expansion, listed}, Steady.ArePaced}
 use Rattle.live_judge.specs.Rewriting.{ends_by}
 use Rattle.live_judge.proofs.Passing.{all_from, count_is, lengths, taken}
-use Rattle.live_judge.proofs.rewritten.last_ended.Goals as goal
 
 pub place_before-cursor-requires-clause-few : goal.place_before-cursor-requires-clause-few
 place_before-cursor-requires-clause-few c =

@@ -1,12 +1,10 @@
+use Rattle.live_judge.proofs.rewritten.last_other.Goals as goal
 use Rattle.std.proofs.Common.{◌≡◌, ◌-◌, List, [], ◌∷◌, option_map, sym, ◌∙◌, ap, arith, rules}
 use Rattle.exact_time.specs.Tick.{time_of}
-use Rattle.timeline.specs.Expansions.{Timing}
-use Rattle.timeline.specs.Listed.{timing_of}
+use Rattle.timeline.specs.{Expansions.Timing, Listed.timing_of}
 use Rattle.live_meaning.specs.Segments.{times_of}
-use Rattle.live_judge.specs.Blocks.{in_block}
-use Rattle.live_judge.specs.Rewriting.{held, pair_of}
+use Rattle.live_judge.specs.{Blocks.in_block, Rewriting.{held, pair_of}}
 use Rattle.live_judge.proofs.Holding.{held_end, held_next, held_none}
-use Rattle.live_judge.proofs.rewritten.last_other.Goals as goal
 
 pub returns-in_default : goal.returns-in_default
 returns-in_default c =

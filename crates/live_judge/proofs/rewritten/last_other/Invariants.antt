@@ -1,10 +1,9 @@
+use Rattle.live_judge.proofs.rewritten.last_other.Given as goal
 use Rattle.std.proofs.Common.{◌≡◌, None}
 use Rattle.std.specs.Prelude.{option_map}
 use Rattle.exact_time.specs.Tick.{time_of}
 use Rattle.live_meaning.specs.Segments.{times_of}
-use Rattle.live_judge.specs.Blocks.{in_block}
-use Rattle.live_judge.specs.Rewriting.{held, pair_of}
-use Rattle.live_judge.proofs.rewritten.last_other.Given as goal
+use Rattle.live_judge.specs.{Blocks.in_block, Rewriting.{held, pair_of}}
 
 abbrev pub invariant-loop-left : goal.invariant-loop-left
 invariant-loop-left l =

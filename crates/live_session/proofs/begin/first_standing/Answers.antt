@@ -1,12 +1,10 @@
+use Rattle.live_session.proofs.begin.first_standing.Goals as goal
 use Rattle.std.proofs.Common.{◌∙◌, ◌^◌, ap, map, refl}
 use Rattle.mpd_rules.specs.Views.{segments_mpd}
 use Rattle.presentation.specs.Presented.{Presented, looked_at}
-use Rattle.live_meaning.specs.Updates.{Terms}
-use Rattle.live_meaning.specs.Histories.{longest_in}
-use Rattle.live_meaning.specs.Removal.{target_of}
+use Rattle.live_meaning.specs.{Updates.Terms, Histories.longest_in, Removal.target_of}
 use Rattle.live_judge.specs.Known.{known_shown}
 use Rattle.live_session.proofs.FirstTracks.{first_common, first_known, first_once}
-use Rattle.live_session.proofs.begin.first_standing.Goals as goal
 
 pub extend-requires : goal.extend-requires
 extend-requires c =

@@ -1,10 +1,8 @@
+use Rattle.live_session.proofs.begin.first_tracks.Goals as goal
 use Rattle.std.proofs.Common.{◌≡◌, ◌∙◌, All, arith, ap, length, map, refl, replicate, subst, sym}
 use Rattle.live_judge.specs.Shown.{track_shown}
-use Rattle.live_session.specs.declared.maker.Maker.{Maker}
-use Rattle.live_session.specs.Growth.{HaveRoom}
-use Rattle.live_session.specs.Kept.{AreSideBySide, empty_track}
+use Rattle.live_session.specs.{declared.maker.Maker.Maker, Growth.HaveRoom, Kept.{AreSideBySide, empty_track}}
 use Rattle.live_session.proofs.FirstTracks.{empty_makeable, first_are, made_many, same_many, same_paired, same_shown}
-use Rattle.live_session.proofs.begin.first_tracks.Goals as goal
 
 pub make_all-requires-clause-tracks : goal.make_all-requires-clause-tracks
 make_all-requires-clause-tracks g c =

@@ -1,8 +1,7 @@
-use Rattle.std.proofs.Common.{◌∙◌, All, ap, map, subst, sym}
-use Rattle.live_session.specs.Changes.{IsTrimmable}
-use Rattle.live_session.specs.Growth.{trimmed}
-use Rattle.live_session.proofs.Limits.{can_trim_all}
 use Rattle.live_session.proofs.change.go_on.Goals as goal
+use Rattle.std.proofs.Common.{◌∙◌, All, ap, map, subst, sym}
+use Rattle.live_session.specs.{Changes.IsTrimmable, Growth.trimmed}
+use Rattle.live_session.proofs.Limits.{can_trim_all}
 
 pub trim_all-requires-clause-can : goal.trim_all-requires-clause-can
 trim_all-requires-clause-can c = can_trim_all c.grow_all.new.tracks.items c.grow_all.ensures.paired

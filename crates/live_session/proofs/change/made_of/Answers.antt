@@ -1,10 +1,7 @@
-use Rattle.std.proofs.Common.{rules, ◌≡◌, List, false, true, sym, subst}
-use Rattle.std.proofs.lemmas.Result.{err_from_is_err_and}
-use Rattle.live_session.specs.declared.made.MadeTrack.{MadeTrack}
-use Rattle.live_session.specs.Changes.{AreNewOf}
-use Rattle.live_session.proofs.Counting.{none_there, some_there}
-use Rattle.live_session.proofs.NewTracks.{all_made, makeable, none_made, not_made}
 use Rattle.live_session.proofs.change.made_of.Goals as goal
+use Rattle.std.proofs.{Common.{rules, ◌≡◌, List, false, true, sym, subst}, lemmas.Result.err_from_is_err_and}
+use Rattle.live_session.specs.{declared.made.MadeTrack.MadeTrack, Changes.AreNewOf}
+use Rattle.live_session.proofs.{Counting.{none_there, some_there}, NewTracks.{all_made, makeable, none_made, not_made}}
 
 pub returns-then-not-has_new : goal.returns-then-not-has_new
 returns-then-not-has_new g c =

@@ -1,16 +1,11 @@
+use Rattle.live_session.proofs.growth.grow_all.Goals as goal
 use Rattle.std.proofs.Common.{◌≡◌, ◌∷◌, [], ◌∙◌, ap, sym, arith, Some, slice_get, slice_set, length, length-append, map}
-use Rattle.std.specs.Prelude.{option_map}
-use Rattle.std.specs.Vec.Iter.{into_iter_items}
-use Rattle.std.proofs.lemmas.List.{length-map, length-set, map-append, map-set}
-use Rattle.std.proofs.lemmas.Option.{slice_get-get_or, slice_get-map}
+use Rattle.std.proofs.{lemmas.List.{length-map, length-set, map-append, map-set}, lemmas.Option.{slice_get-get_or, slice_get-map}}
+use Rattle.std.specs.{Prelude.option_map, Vec.Iter.into_iter_items}
 use Rattle.live_judge.specs.Shown.{track_shown}
-use Rattle.live_session.specs.declared.made.MadeTrack.{MadeTrack}
-use Rattle.live_session.specs.Growth.{grown}
-use Rattle.live_session.specs.Kept.{AreSideBySide, with_all}
-use Rattle.live_session.specs.Made.{all_made}
+use Rattle.live_session.specs.{declared.made.MadeTrack.MadeTrack, Growth.grown, Kept.{AreSideBySide, with_all}, Made.all_made}
 use Rattle.live_session.specs.Making.{all_kept}
 use Rattle.live_session.proofs.Growing.{all_set, drop_next, get_set_other, grown_push}
-use Rattle.live_session.proofs.growth.grow_all.Goals as goal
 
 pub loop-made-preserved : goal.loop-made-preserved
 loop-made-preserved c =

@@ -1,10 +1,8 @@
+use Rattle.live_session.proofs.growth.grow_all.Given as goal
 use Rattle.std.proofs.Common.{◌≡◌, ◌≤◌, ◌+◌, ℕ, All, length, map, drop, slice_get}
 use Rattle.std.specs.Vec.Iter.{into_iter_items}
 use Rattle.live_judge.specs.Shown.{track_shown}
-use Rattle.live_session.specs.Growth.{grown}
-use Rattle.live_session.specs.Kept.{AreSideBySide}
-use Rattle.live_session.specs.Making.{all_kept}
-use Rattle.live_session.proofs.growth.grow_all.Given as goal
+use Rattle.live_session.specs.{Growth.grown, Kept.AreSideBySide, Making.all_kept}
 
 abbrev pub invariant-loop-made : goal.invariant-loop-made
 invariant-loop-made l = record {

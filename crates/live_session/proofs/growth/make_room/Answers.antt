@@ -1,11 +1,8 @@
-use Rattle.std.proofs.Common.{◌≡◌, ◌∙◌, ap, sym, arith, Some, slice_get, length, rules, subst}
-use Rattle.std.proofs.Math.Seq.{map-set_same}
-use Rattle.std.proofs.lemmas.Option.{slice_get-get_or, slice_get_within}
-use Rattle.std.proofs.lemmas.List.{length-map}
-use Rattle.live_session.specs.Growth.{inside_of}
-use Rattle.live_session.specs.Kept.{HasRoom}
-use Rattle.live_session.proofs.Growing.{room_next, same_inside}
 use Rattle.live_session.proofs.growth.make_room.Goals as goal
+use Rattle.std.proofs.{Common.{◌≡◌, ◌∙◌, ap, sym, arith, Some, slice_get, length, rules, subst}, Math.Seq.map-set_same}
+use Rattle.std.proofs.{lemmas.Option.{slice_get-get_or, slice_get_within}, lemmas.List.length-map}
+use Rattle.live_session.specs.{Growth.inside_of, Kept.HasRoom}
+use Rattle.live_session.proofs.Growing.{room_next, same_inside}
 
 pub returns-in_err-reserve-clause-same : goal.returns-in_err-reserve-clause-same
 returns-in_err-reserve-clause-same c = let l = c.loop-track in let old = c.index_mut.result.now in

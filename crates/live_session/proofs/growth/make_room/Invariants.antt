@@ -1,9 +1,7 @@
+use Rattle.live_session.proofs.growth.make_room.Given as goal
 use Rattle.std.proofs.Common.{◌≡◌, ◌<◌, ℕ, length, map, slice_get, Some}
 use Rattle.live_judge.specs.declared.track.LiveTrack.{LiveTrack}
-use Rattle.live_session.specs.declared.made.MadeTrack.{MadeTrack}
-use Rattle.live_session.specs.Growth.{inside_of}
-use Rattle.live_session.specs.Kept.{HasRoom}
-use Rattle.live_session.proofs.growth.make_room.Given as goal
+use Rattle.live_session.specs.{declared.made.MadeTrack.MadeTrack, Growth.inside_of, Kept.HasRoom}
 
 abbrev pub invariant-loop-track : goal.invariant-loop-track
 invariant-loop-track l = record {

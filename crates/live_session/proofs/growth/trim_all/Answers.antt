@@ -1,17 +1,12 @@
-use Rattle.std.proofs.Common.{rules, ◌≡◌, ◌*◌, ◌^◌, ◌<◌, ◌∙◌, ap, sym, arith, length, map, Some}
-use Rattle.std.specs.Prelude.{option_map, slice_get, slice_set}
-use Rattle.std.proofs.lemmas.List.{length-set, map-set}
+use Rattle.live_session.proofs.growth.trim_all.Goals as goal
+use Rattle.std.proofs.{Common.{rules, ◌≡◌, ◌*◌, ◌^◌, ◌<◌, ◌∙◌, ap, sym, arith, length, map, Some}, lemmas.List.{length-set, map-set}}
 use Rattle.std.proofs.lemmas.Option.{same_Some, slice_get-get_or, slice_get-map}
+use Rattle.std.specs.Prelude.{option_map, slice_get, slice_set}
 use Rattle.presentation.specs.Presented.{Presented, looked_at}
 use Rattle.live_meaning.specs.Removal.{removed_of}
-use Rattle.live_judge.specs.declared.track.LiveTrack.{LiveTrack}
-use Rattle.live_judge.specs.Removal.{kept_in}
-use Rattle.live_judge.specs.Shown.{in_force, track_shown}
-use Rattle.live_session.specs.Growth.{CanTrim, trimmed}
-use Rattle.live_session.specs.Kept.{AreSideBySide, without_front}
-use Rattle.live_session.proofs.Growing.{all_set, changed_to, get_set_other}
-use Rattle.live_session.proofs.Trimming.{all_at, fewer}
-use Rattle.live_session.proofs.growth.trim_all.Goals as goal
+use Rattle.live_judge.specs.{declared.track.LiveTrack.LiveTrack, Removal.kept_in, Shown.{in_force, track_shown}}
+use Rattle.live_session.specs.{Growth.{CanTrim, trimmed}, Kept.{AreSideBySide, without_front}}
+use Rattle.live_session.proofs.{Growing.{all_set, changed_to, get_set_other}, Trimming.{all_at, fewer}}
 
 pub remove-requires-clause-some : goal.remove-requires-clause-some
 remove-requires-clause-some c = let l = c.loop-track in let s = c.args.standing.now in let old = c.index_mut.result.now in

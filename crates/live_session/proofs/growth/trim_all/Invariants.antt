@@ -1,9 +1,8 @@
+use Rattle.live_session.proofs.growth.trim_all.Given as goal
 use Rattle.std.proofs.Common.{◌≡◌, ◌++◌, ◌≤◌, ℕ, All, length, map, take, drop}
 use Rattle.std.specs.Prelude.{slice_get}
 use Rattle.live_judge.specs.Shown.{track_shown}
-use Rattle.live_session.specs.Growth.{trimmed}
-use Rattle.live_session.specs.Kept.{AreSideBySide}
-use Rattle.live_session.proofs.growth.trim_all.Given as goal
+use Rattle.live_session.specs.{Growth.trimmed, Kept.AreSideBySide}
 
 abbrev pub invariant-loop-track : goal.invariant-loop-track
 invariant-loop-track l = let init = map track_shown l.fn.tracks.items in record {

@@ -1,7 +1,6 @@
-use Rattle.std.proofs.Common.{◌≡◌, ◌^◌, max}
-use Rattle.presentation.specs.Presented.{looked_at}
-use Rattle.presentation.specs.Verifying.{longest_at, longest_left}
 use Rattle.live_session.proofs.longest.longest_at.Given as goal
+use Rattle.std.proofs.Common.{◌≡◌, ◌^◌, max}
+use Rattle.presentation.specs.{Presented.looked_at, Verifying.{longest_at, longest_left}}
 
 abbrev pub invariant-loop-timed : goal.invariant-loop-timed
 invariant-loop-timed l = record {

@@ -1,8 +1,7 @@
-use Rattle.std.proofs.Common.{◌^◌, ap, arith, length, map}
-use Rattle.presentation.specs.Presented.{looked_at}
-use Rattle.presentation.specs.Verifying.{greatest, longest_of}
-use Rattle.live_session.proofs.Durations.{range_first}
 use Rattle.live_session.proofs.longest.longest_in.Goals as goal
+use Rattle.std.proofs.Common.{◌^◌, ap, arith, length, map}
+use Rattle.presentation.specs.{Presented.looked_at, Verifying.{greatest, longest_of}}
+use Rattle.live_session.proofs.Durations.{range_first}
 
 pub loop-track-preserved : goal.loop-track-preserved
 loop-track-preserved c =

@@ -1,9 +1,8 @@
+use Rattle.live_session.proofs.longest.longest_in.Given as goal
 use Rattle.std.proofs.Common.{◌≡◌, ◌^◌, ◌-◌, max, map, length}
 use Rattle.std.specs.List.{range_with_len}
-use Rattle.presentation.specs.Presented.{looked_at}
-use Rattle.presentation.specs.Verifying.{greatest, longest_of}
+use Rattle.presentation.specs.{Presented.looked_at, Verifying.{greatest, longest_of}}
 use Rattle.live_meaning.specs.Histories.{longest_in}
-use Rattle.live_session.proofs.longest.longest_in.Given as goal
 
 abbrev pub invariant-loop-track : goal.invariant-loop-track
 invariant-loop-track l = let p = looked_at l.fn.now l.fn.presentation in

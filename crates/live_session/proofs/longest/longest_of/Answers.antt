@@ -1,8 +1,7 @@
-use Rattle.std.proofs.Common.{◌^◌, ap, arith, length, map}
-use Rattle.presentation.specs.Presented.{looked_at}
-use Rattle.presentation.specs.Verifying.{greatest, longest_at}
-use Rattle.live_session.proofs.Durations.{range_first}
 use Rattle.live_session.proofs.longest.longest_of.Goals as goal
+use Rattle.std.proofs.Common.{◌^◌, ap, arith, length, map}
+use Rattle.presentation.specs.{Presented.looked_at, Verifying.{greatest, longest_at}}
+use Rattle.live_session.proofs.Durations.{range_first}
 
 pub loop-section-preserved : goal.loop-section-preserved
 loop-section-preserved c =

@@ -1,8 +1,7 @@
+use Rattle.live_session.proofs.new_segments.begin_at.Goals as goal
 use Rattle.exact_time.specs.Tick.{time_of}
 use Rattle.timeline.specs.Listed.{expansion}
-use Rattle.presentation.proofs.GoingOn.{listed_later}
-use Rattle.presentation.proofs.Printing.{all_listed}
-use Rattle.live_session.proofs.new_segments.begin_at.Goals as goal
+use Rattle.presentation.proofs.{GoingOn.listed_later, Printing.all_listed}
 
 pub returns-in-Some : goal.returns-in-Some
 returns-in-Some c = let window = c.args.window.now in

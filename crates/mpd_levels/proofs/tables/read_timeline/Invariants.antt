@@ -1,10 +1,9 @@
+use Rattle.mpd_levels.proofs.tables.read_timeline.Given as goal
 use Rattle.std.proofs.Common.{◌≡◌, ◌++◌, All, map, filter}
 use Rattle.std.specs.Prelude.{codes}
 use Rattle.mpd_text.specs.Nodes.{element_of, elements_left}
 use Rattle.mpd_profile.specs.Heads.{is_named}
-use Rattle.mpd_levels.specs.Fits.{FitsRun}
-use Rattle.mpd_levels.specs.Segments.{run_of, runs_of}
-use Rattle.mpd_levels.proofs.tables.read_timeline.Given as goal
+use Rattle.mpd_levels.specs.{Fits.FitsRun, Segments.{run_of, runs_of}}
 
 abbrev pub invariant-loop-child : goal.invariant-loop-child
 invariant-loop-child l = record {

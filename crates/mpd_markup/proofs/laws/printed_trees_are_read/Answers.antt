@@ -1,10 +1,8 @@
+use Rattle.mpd_markup.proofs.laws.printed_trees_are_read.Goals as goal
 use Rattle.std.proofs.Common.{Ok, sym}
 use Rattle.mpd_text.specs.Grammar.{Spells}
-use Rattle.mpd_markup.specs.Markup.{document}
-use Rattle.mpd_markup.specs.Placed.{root_read}
-use Rattle.mpd_markup.proofs.Spelled.{document_is}
-use Rattle.mpd_markup.proofs.Cleaned.{document_clean}
-use Rattle.mpd_markup.proofs.laws.printed_trees_are_read.Goals as goal
+use Rattle.mpd_markup.specs.{Markup.document, Placed.root_read}
+use Rattle.mpd_markup.proofs.{Spelled.document_is, Cleaned.document_clean}
 
 pub returns : goal.returns
 returns c = λ tag children legal.

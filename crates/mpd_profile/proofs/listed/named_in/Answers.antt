@@ -1,11 +1,8 @@
-use Rattle.std.proofs.Common.{◌≡◌, ℕ, Bool, true, false, List, [], ◌∷◌, refl, rules, tests}
-use Rattle.std.specs.Prelude.{option_map, map, find, bytes_eq}
-use Rattle.std.specs.Borrow.{Bor}
-use Rattle.std.proofs.lemmas.Iterator.{YieldsList-from_slice}
-use Rattle.std.proofs.lemmas.Iterator.Search.{find_from_yields_List}
-use Rattle.mpd_profile.specs.Elements.{named_in}
-use Rattle.mpd_profile.specs.Rows.{shown}
 use Rattle.mpd_profile.proofs.listed.named_in.Goals as goal
+use Rattle.std.proofs.{Common.{◌≡◌, ℕ, Bool, true, false, List, [], ◌∷◌, refl, rules, tests}, lemmas.Iterator.YieldsList-from_slice}
+use Rattle.std.proofs.lemmas.Iterator.Search.{find_from_yields_List}
+use Rattle.std.specs.{Prelude.{option_map, map, find, bytes_eq}, Borrow.Bor}
+use Rattle.mpd_profile.specs.{Elements.named_in, Rows.shown}
 
 by_bool : {A : Type 0} (b : Bool) → (b ≡ true → A) → (b ≡ false → A) → A
 by_bool true at_true at_false = at_true refl

@@ -1,9 +1,8 @@
+use Rattle.mpd_profile.proofs.refusal.+inside.Given as goal
 use Rattle.std.proofs.Common.{◌+◌, ◌*◌}
-use Rattle.mpd_text.specs.Nodes.{element_of, elements_left}
-use Rattle.mpd_text.specs.Trees.{depth}
+use Rattle.mpd_text.specs.{Nodes.{element_of, elements_left}, Trees.depth}
 use Rattle.mpd_profile.specs.Passes.{parent_shown}
 use Rattle.mpd_profile.proofs.Passing.{IsAt}
-use Rattle.mpd_profile.proofs.refusal.+inside.Given as goal
 
 abbrev pub decreases-check_child : goal.decreases-check_child
 decreases-check_child l = 2 * depth (element_of l.node).children + 1

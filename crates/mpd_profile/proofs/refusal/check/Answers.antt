@@ -1,20 +1,13 @@
-use Rattle.std.proofs.Common.{◌≡◌, ◌++◌, Result, Ok, Err, refl, sym}
-use Rattle.std.specs.Prelude.{OnOk}
-use Rattle.std.proofs.lemmas.Result.{err_from_is_err_and}
-use Rattle.bridge_io.specs.Firsts.{first_fault}
-use Rattle.mpd_text.specs.Nodes.{root_of}
-use Rattle.mpd_text.specs.Trees.{Element}
-use Rattle.mpd_profile.specs.declared.fault.RuleFault.{RuleFault}
-use Rattle.mpd_profile.specs.declared.listed.Addressing.{Addressing}
-use Rattle.mpd_profile.specs.declared.listed.Listed.TheVariants.{Mpd}
-use Rattle.mpd_profile.specs.declared.visit.Pass.TheVariants.{Features, Values}
-use Rattle.mpd_profile.specs.Heads.{is_dynamic}
-use Rattle.mpd_profile.specs.Passes.{refused_in, told_by}
-use Rattle.mpd_profile.specs.Refusals.{feature_refusals, refusals_of, root_refusals, value_refusals}
-use Rattle.mpd_profile.specs.Sound.{IsSound}
-use Rattle.mpd_profile.proofs.Passing.{Tells, is_told, told_before, told_behind}
-use Rattle.mpd_profile.proofs.Sound.{sound_checked}
 use Rattle.mpd_profile.proofs.refusal.check.Goals as goal
+use Rattle.std.proofs.{Common.{◌≡◌, ◌++◌, Result, Ok, Err, refl, sym}, lemmas.Result.err_from_is_err_and}
+use Rattle.std.specs.Prelude.{OnOk}
+use Rattle.bridge_io.specs.Firsts.{first_fault}
+use Rattle.mpd_text.specs.{Nodes.root_of, Trees.Element}
+use Rattle.mpd_profile.specs.{declared.fault.RuleFault.RuleFault, declared.listed.Addressing.Addressing}
+use Rattle.mpd_profile.specs.{declared.listed.Listed.TheVariants.Mpd, declared.visit.Pass.TheVariants.{Features, Values}, Heads.is_dynamic}
+use Rattle.mpd_profile.specs.{Passes.{refused_in, told_by}, Refusals.{feature_refusals, refusals_of, root_refusals, value_refusals}}
+use Rattle.mpd_profile.specs.Sound.{IsSound}
+use Rattle.mpd_profile.proofs.{Passing.{Tells, is_told, told_before, told_behind}, Sound.sound_checked}
 
 features_are : (root : Element) → refused_in Features root ≡ feature_refusals root
 unfolding refused_in feature_refusals told_by

@@ -1,8 +1,7 @@
-use Rattle.std.proofs.Common.{[]}
-use Rattle.std.proofs.lemmas.Result.{err_from_is_err_and}
+use Rattle.mpd_profile.proofs.refusal.check_all.Goals as goal
+use Rattle.std.proofs.{Common.[], lemmas.Result.err_from_is_err_and}
 use Rattle.mpd_text.specs.Nodes.{element_of}
 use Rattle.mpd_profile.proofs.Passing.{root_told, root_untold}
-use Rattle.mpd_profile.proofs.refusal.check_all.Goals as goal
 
 pub returns-in_err-check : goal.returns-in_err-check
 returns-in_err-check c =

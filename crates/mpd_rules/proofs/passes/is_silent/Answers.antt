@@ -1,9 +1,7 @@
-use Rattle.std.proofs.Common.{rules, tests, not, ap, ◌∙◌}
-use Rattle.std.proofs.lemmas.Iterator.{YieldsList-from_slice}
-use Rattle.std.proofs.lemmas.Iterator.Search.{any_from_yields_List}
-use Rattle.mpd_rules.specs.declared.rows.TrackRow.{TrackRow}
-use Rattle.mpd_rules.specs.Rules.{is_played}
 use Rattle.mpd_rules.proofs.passes.is_silent.Goals as goal
+use Rattle.std.proofs.{Common.{rules, tests, not, ap, ◌∙◌}, lemmas.Iterator.YieldsList-from_slice}
+use Rattle.std.proofs.lemmas.Iterator.Search.{any_from_yields_List}
+use Rattle.mpd_rules.specs.{declared.rows.TrackRow.TrackRow, Rules.is_played}
 
 pub returns : goal.returns
 returns g c =

@@ -1,10 +1,8 @@
-use Rattle.std.proofs.Common.{rules, tests}
+use Rattle.mpd_rules.proofs.readings.first_base.Goals as goal
+use Rattle.std.proofs.{Common.{rules, tests}, lemmas.Iterator.Consumers.YieldsList-from_first, lemmas.Iterator.Search.find_from_yields_List}
 use Rattle.std.specs.Prelude.{codes}
-use Rattle.std.proofs.lemmas.Iterator.Consumers.{YieldsList-from_first}
-use Rattle.std.proofs.lemmas.Iterator.Search.{find_from_yields_List}
 use Rattle.mpd_text.specs.Nodes.{element_of, elements_left}
 use Rattle.mpd_profile.specs.Heads.{is_named}
-use Rattle.mpd_rules.proofs.readings.first_base.Goals as goal
 
 pub returns : goal.returns
 returns c =

@@ -1,15 +1,10 @@
+use Rattle.mpd_text.proofs.decode.read_data.Goals as goal
 use Rattle.std.proofs.Common.{◌++◌, Some, refl, sym, ap, ◌∙◌, subst, length, arith}
 use Rattle.std.specs.String.{string_bytes}
-use Rattle.mpd_text.specs.Bounds.{IsBehindAscii}
-use Rattle.mpd_text.specs.Decoded.{IsLineEndRead}
-use Rattle.mpd_text.specs.Faults.{refusal}
-use Rattle.mpd_text.specs.Positions.{IsNoReference}
-use Rattle.mpd_text.specs.Steps.{IsStuck}
-use Rattle.mpd_text.proofs.BoundLemmas.{boundary_behind}
-use Rattle.mpd_text.proofs.Decoding.{appends_nothing, appends_twice, content_reads, data_begun, data_read_to, marked_run, return_left}
-use Rattle.mpd_text.proofs.Decoding.{byte_there, no_byte_there, same_byte, told, told_nothing, refused, memory_tells_nothing, no_reference}
-use Rattle.mpd_text.proofs.Decoding.{reference_read, line_end_read}
-use Rattle.mpd_text.proofs.decode.read_data.Goals as goal
+use Rattle.mpd_text.specs.{Bounds.IsBehindAscii, Decoded.IsLineEndRead, Faults.refusal, Positions.IsNoReference, Steps.IsStuck}
+use Rattle.mpd_text.proofs.{BoundLemmas.boundary_behind, Decoding.{appends_nothing, appends_twice, content_reads, data_begun, data_read_to}}
+use Rattle.mpd_text.proofs.Decoding.{marked_run, return_left, byte_there, no_byte_there, same_byte, told, told_nothing, refused}
+use Rattle.mpd_text.proofs.Decoding.{memory_tells_nothing, no_reference, reference_read, line_end_read}
 
 pub data-init : goal.data-init
 data-init c = record {

@@ -1,11 +1,8 @@
-use Rattle.std.proofs.Common.{List, ◌∷◌, ◌-◌, ◌≤◌, length, false}
-use Rattle.std.specs.Str.{IsCharBoundary}
-use Rattle.std.specs.String.{string_bytes}
-use Rattle.mpd_text.specs.Bounds.{Appends}
-use Rattle.mpd_text.specs.Positions.{IsAt}
-use Rattle.mpd_text.specs.Steps.{Opened, at_content, inside}
-use Rattle.mpd_text.proofs.Decoding.{IsSoFar, content_mode}
 use Rattle.mpd_text.proofs.decode.read_data.Given as goal
+use Rattle.std.proofs.Common.{List, ◌∷◌, ◌-◌, ◌≤◌, length, false}
+use Rattle.std.specs.{Str.IsCharBoundary, String.string_bytes}
+use Rattle.mpd_text.specs.{Bounds.Appends, Positions.IsAt, Steps.{Opened, at_content, inside}}
+use Rattle.mpd_text.proofs.Decoding.{IsSoFar, content_mode}
 
 abbrev pub invariant-data : goal.invariant-data
 invariant-data l = record {

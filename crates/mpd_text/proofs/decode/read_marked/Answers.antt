@@ -1,7 +1,6 @@
-use Rattle.std.proofs.Common.{refl, ap, ◌∙◌, get_or}
-use Rattle.std.proofs.lemmas.Option.{get_or_from_slice_get}
-use Rattle.mpd_text.proofs.Decoding.{memory_tells_nothing, appends_nothing}
 use Rattle.mpd_text.proofs.decode.read_marked.Goals as goal
+use Rattle.std.proofs.{Common.{refl, ap, ◌∙◌, get_or}, lemmas.Option.get_or_from_slice_get}
+use Rattle.mpd_text.proofs.Decoding.{memory_tells_nothing, appends_nothing}
 
 pub returns-in_err-push-clause-appends : goal.returns-in_err-push-clause-appends
 returns-in_err-push-clause-appends c = appends_nothing _ _ c.in_err-push.ensures.bytes

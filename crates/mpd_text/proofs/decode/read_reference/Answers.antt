@@ -1,8 +1,6 @@
-use Rattle.std.proofs.Common.{encode_utf8}
-use Rattle.std.proofs.lemmas.Str.{IsUtf8-encode}
-use Rattle.mpd_text.proofs.Decoding.{memory_tells_nothing, appends_nothing}
-use Rattle.mpd_text.proofs.Referring.{refers_to_scalar}
 use Rattle.mpd_text.proofs.decode.read_reference.Goals as goal
+use Rattle.std.proofs.{Common.encode_utf8, lemmas.Str.IsUtf8-encode}
+use Rattle.mpd_text.proofs.{Decoding.{memory_tells_nothing, appends_nothing}, Referring.refers_to_scalar}
 
 pub returns-in_err-push-clause-appends : goal.returns-in_err-push-clause-appends
 returns-in_err-push-clause-appends c = appends_nothing _ _ c.in_err-push.ensures.bytes

@@ -1,14 +1,12 @@
+use Rattle.mpd_text.proofs.decode.read_rest.Goals as goal
 use Rattle.std.proofs.Common.{◌++◌, ◌<◌, Some, IfSome, slice_index, refl, sym, ap, ◌∙◌, subst, length, arith}
 use Rattle.std.specs.String.{string_bytes}
 use Rattle.byte_scan.specs.ByteSet.{is_member}
 use Rattle.bridge_io.specs.Places.{place_of}
-use Rattle.mpd_text.specs.Faults.{refusal}
-use Rattle.mpd_text.specs.declared.fault.TextFault.TheVariants.{Cut, Syntax}
-use Rattle.mpd_text.proofs.BoundLemmas.{boundary_behind}
-use Rattle.mpd_text.specs.Steps.{IsStuck}
-use Rattle.mpd_text.proofs.Decoding.{appends_nothing, appends_twice, begun, value_mode, value_reads, value_closed, value_stuck, value_cut}
-use Rattle.mpd_text.proofs.Decoding.{marked_run, marked_read, marked_refused, byte_there, refused, memory_tells_nothing}
-use Rattle.mpd_text.proofs.decode.read_rest.Goals as goal
+use Rattle.mpd_text.specs.{Faults.refusal, declared.fault.TextFault.TheVariants.{Cut, Syntax}, Steps.IsStuck}
+use Rattle.mpd_text.proofs.{BoundLemmas.boundary_behind, Decoding.{appends_nothing, appends_twice, begun, value_mode, value_reads}}
+use Rattle.mpd_text.proofs.Decoding.{value_closed, value_stuck, value_cut, marked_run, marked_read, marked_refused, byte_there, refused}
+use Rattle.mpd_text.proofs.Decoding.{memory_tells_nothing}
 
 pub value-init : goal.value-init
 value-init c = record {

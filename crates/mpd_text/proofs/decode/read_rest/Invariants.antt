@@ -1,13 +1,9 @@
-use Rattle.std.proofs.Common.{◌≡◌, List, ◌-◌, ◌≤◌, length}
-use Rattle.std.specs.Str.{IsCharBoundary}
-use Rattle.std.specs.String.{string_bytes}
-use Rattle.bridge_io.specs.declared.place.Place.{Place}
-use Rattle.mpd_text.specs.Bounds.{Appends}
-use Rattle.mpd_text.specs.Decoded.{marked_in_value, quoted}
-use Rattle.mpd_text.specs.Positions.{IsAt}
-use Rattle.mpd_text.specs.Steps.{Opened, Tag, Named, at_value}
-use Rattle.mpd_text.proofs.Decoding.{IsSoFar, IsQuote, value_mode}
 use Rattle.mpd_text.proofs.decode.read_rest.Given as goal
+use Rattle.std.proofs.Common.{◌≡◌, List, ◌-◌, ◌≤◌, length}
+use Rattle.std.specs.{Str.IsCharBoundary, String.string_bytes}
+use Rattle.bridge_io.specs.declared.place.Place.{Place}
+use Rattle.mpd_text.specs.{Bounds.Appends, Decoded.{marked_in_value, quoted}, Positions.IsAt, Steps.{Opened, Tag, Named, at_value}}
+use Rattle.mpd_text.proofs.Decoding.{IsSoFar, IsQuote, value_mode}
 
 abbrev pub invariant-value : goal.invariant-value
 invariant-value l = record {

@@ -1,11 +1,9 @@
-use Rattle.std.proofs.Common.{◌<◌, slice_get, slice_index, get_or, refl, sym, ap, ◌∙◌, subst, length, arith}
-use Rattle.std.specs.String.{string_bytes}
-use Rattle.std.proofs.lemmas.Str.{IsCharBoundary-after_ascii}
-use Rattle.std.proofs.lemmas.Option.{slice_get_within}
-use Rattle.bridge_io.specs.Places.{place_of}
-use Rattle.mpd_text.proofs.Comments.{some_is}
-use Rattle.mpd_text.proofs.Decoding.{appends_nothing, quote_there, value_begun, value_stands, value_added, refused}
 use Rattle.mpd_text.proofs.decode.read_value.Goals as goal
+use Rattle.std.proofs.Common.{◌<◌, slice_get, slice_index, get_or, refl, sym, ap, ◌∙◌, subst, length, arith}
+use Rattle.std.proofs.{lemmas.Str.IsCharBoundary-after_ascii, lemmas.Option.slice_get_within}
+use Rattle.std.specs.String.{string_bytes}
+use Rattle.bridge_io.specs.Places.{place_of}
+use Rattle.mpd_text.proofs.{Comments.some_is, Decoding.{appends_nothing, quote_there, value_begun, value_stands, value_added, refused}}
 
 pub read_rest-requires-clause-place : goal.read_rest-requires-clause-place
 read_rest-requires-clause-place c = IsCharBoundary-after_ascii c.args.text.now c.args.quote_at c.utf8.text c.requires.place c.requires.ascii

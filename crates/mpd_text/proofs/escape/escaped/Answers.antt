@@ -1,10 +1,8 @@
-use Rattle.std.proofs.Common.{◌++◌, sym, ap, ◌∙◌, encode_utf8}
-use Rattle.std.proofs.lemmas.List.{append_assoc}
-use Rattle.std.specs.String.{string_bytes}
-use Rattle.std.specs.Str.Iter.{chars_rest}
+use Rattle.mpd_text.proofs.escape.escaped.Goals as goal
+use Rattle.std.proofs.{Common.{◌++◌, sym, ap, ◌∙◌, encode_utf8}, lemmas.List.append_assoc}
+use Rattle.std.specs.{String.string_bytes, Str.Iter.chars_rest}
 use Rattle.mpd_text.specs.Escapes.{escape_all}
 use Rattle.mpd_text.proofs.EscapeLemmas.{escape-append, nothing_left}
-use Rattle.mpd_text.proofs.escape.escaped.Goals as goal
 
 pub loop-character-preserved : goal.loop-character-preserved
 loop-character-preserved c =

@@ -1,9 +1,7 @@
-use Rattle.std.proofs.Common.{sym, subst, arith, ◌∙◌, ap, Some}
-use Rattle.mpd_text.specs.declared.fault.TextFault.TheVariants.{Instruction}
-use Rattle.mpd_text.specs.Steps.{IsStuck, behind}
-use Rattle.mpd_text.proofs.Comments.{ready_opens}
-use Rattle.mpd_text.proofs.Prolog.{less_than_cut, question_stuck, behind_stuck}
 use Rattle.mpd_text.proofs.markup.behind_root.Goals as goal
+use Rattle.std.proofs.Common.{sym, subst, arith, ◌∙◌, ap, Some}
+use Rattle.mpd_text.specs.{declared.fault.TextFault.TheVariants.Instruction, Steps.{IsStuck, behind}}
+use Rattle.mpd_text.proofs.{Comments.ready_opens, Prolog.{less_than_cut, question_stuck, behind_stuck}}
 
 pub returns-in-None : goal.returns-in-None
 returns-in-None c = λ root ready.

@@ -1,10 +1,8 @@
+use Rattle.mpd_text.proofs.markup.comment_end.Goals as goal
 use Rattle.std.proofs.Common.{◌≡◌, ◌+◌, sym, subst, arith, ◌∙◌, ap, true, false, Some}
 use Rattle.bridge_io.specs.Places.{place_of}
-use Rattle.mpd_text.specs.Steps.{IsStuck, at_bang}
-use Rattle.mpd_text.specs.Positions.{IsAt}
-use Rattle.mpd_text.specs.declared.fault.TextFault.TheVariants.{Doctype, Cdata}
+use Rattle.mpd_text.specs.{Steps.{IsStuck, at_bang}, Positions.IsAt, declared.fault.TextFault.TheVariants.{Doctype, Cdata}}
 use Rattle.mpd_text.proofs.Comments.{bang_opens, bang_cut, bang_stuck, dash_more, other_byte}
-use Rattle.mpd_text.proofs.markup.comment_end.Goals as goal
 
 pub returns-in-None-clause-read : goal.returns-in-None-clause-read
 returns-in-None-clause-read c = λ out ready.

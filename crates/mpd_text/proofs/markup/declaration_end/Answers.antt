@@ -1,9 +1,8 @@
-use Rattle.std.proofs.Common.{sym, subst, arith, ◌∙◌, ◌+◌}
-use Rattle.mpd_text.specs.declared.fault.TextFault.TheVariants.{Instruction}
-use Rattle.bridge_io.specs.Places.{place_of}
-use Rattle.mpd_text.specs.Steps.{IsStuck}
-use Rattle.mpd_text.proofs.Declarations.{word_cut, declaration_opens, declaration_stuck}
 use Rattle.mpd_text.proofs.markup.declaration_end.Goals as goal
+use Rattle.std.proofs.Common.{sym, subst, arith, ◌∙◌, ◌+◌}
+use Rattle.mpd_text.specs.{declared.fault.TextFault.TheVariants.Instruction, Steps.IsStuck}
+use Rattle.bridge_io.specs.Places.{place_of}
+use Rattle.mpd_text.proofs.Declarations.{word_cut, declaration_opens, declaration_stuck}
 
 pub returns-in-None-clause-read : goal.returns-in-None-clause-read
 returns-in-None-clause-read c = subst (IsStuck c.args.bytes.now) (sym c.cut.ensures)

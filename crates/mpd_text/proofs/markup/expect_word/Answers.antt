@@ -1,9 +1,8 @@
-use Rattle.std.proofs.Common.{sym, subst, arith, ◌∙◌, ◌+◌, ap, Some}
-use Rattle.mpd_text.specs.declared.fault.TextFault.TheVariants.{Instruction}
-use Rattle.bridge_io.specs.Places.{place_of}
-use Rattle.mpd_text.specs.Steps.{IsStuck}
-use Rattle.mpd_text.proofs.Declarations.{word_more, word_stuck, word_cut}
 use Rattle.mpd_text.proofs.markup.expect_word.Goals as goal
+use Rattle.std.proofs.Common.{sym, subst, arith, ◌∙◌, ◌+◌, ap, Some}
+use Rattle.mpd_text.specs.{declared.fault.TextFault.TheVariants.Instruction, Steps.IsStuck}
+use Rattle.bridge_io.specs.Places.{place_of}
+use Rattle.mpd_text.proofs.Declarations.{word_more, word_stuck, word_cut}
 
 pub returns-in-None : goal.returns-in-None
 returns-in-None c = subst (IsStuck c.args.bytes.now) (sym c.cut.ensures)

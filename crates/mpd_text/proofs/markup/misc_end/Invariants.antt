@@ -1,9 +1,7 @@
+use Rattle.mpd_text.proofs.markup.misc_end.Given as goal
 use Rattle.std.proofs.Common.{◌≡◌, ℕ, ◌-◌, ◌≤◌, length, false, Some}
 use Rattle.std.specs.List.{slice_get}
-use Rattle.mpd_text.specs.Characters.{is_white}
-use Rattle.mpd_text.specs.Steps.{Outside}
-use Rattle.mpd_text.specs.Positions.{IsOuter, IsReady}
-use Rattle.mpd_text.proofs.markup.misc_end.Given as goal
+use Rattle.mpd_text.specs.{Characters.is_white, Steps.Outside, Positions.{IsOuter, IsReady}}
 
 abbrev pub invariant-loop-at : goal.invariant-loop-at
 invariant-loop-at l = record {

@@ -1,8 +1,7 @@
-use Rattle.std.proofs.Common.{sym, subst, arith, ◌+◌}
-use Rattle.std.proofs.lemmas.Option.{slice_get_within}
+use Rattle.mpd_text.proofs.markup.words_end.Goals as goal
+use Rattle.std.proofs.{Common.{sym, subst, arith, ◌+◌}, lemmas.Option.slice_get_within}
 use Rattle.mpd_text.specs.Steps.{IsStuck}
 use Rattle.mpd_text.proofs.Declarations.{declaration_closes, declaration_cut}
-use Rattle.mpd_text.proofs.markup.words_end.Goals as goal
 
 pub returns-in-None-clause-read : goal.returns-in-None-clause-read
 returns-in-None-clause-read c = λ place is. subst (IsStuck c.args.bytes.now) (sym c.cut.ensures)

@@ -1,9 +1,7 @@
-use Rattle.std.proofs.Common.{◌≡◌, [], false, sym, subst, ◌∙◌, inl}
-use Rattle.mpd_text.specs.Positions.{IsAt, IsPastMisc, IsReady}
-use Rattle.mpd_text.specs.Steps.{at_content, behind, inside}
-use Rattle.mpd_text.proofs.ReaderShows.{told}
-use Rattle.mpd_text.proofs.TreeReading.{ended_with, stopped}
 use Rattle.mpd_text.proofs.read.read_text.Goals as goal
+use Rattle.std.proofs.Common.{◌≡◌, [], false, sym, subst, ◌∙◌, inl}
+use Rattle.mpd_text.specs.{Positions.{IsAt, IsPastMisc, IsReady}, Steps.{at_content, behind, inside}}
+use Rattle.mpd_text.proofs.{ReaderShows.told, TreeReading.{ended_with, stopped}}
 
 pub returns-in_err-beginning : goal.returns-in_err-beginning
 returns-in_err-beginning c =

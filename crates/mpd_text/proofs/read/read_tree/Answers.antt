@@ -1,10 +1,8 @@
+use Rattle.mpd_text.proofs.read.read_tree.Goals as goal
 use Rattle.std.proofs.Common.{subst}
 use Rattle.bridge_io.specs.Answer.{Gives}
-use Rattle.mpd_text.specs.Faults.{refusal}
-use Rattle.mpd_text.specs.Meaning.{reading_of}
-use Rattle.mpd_text.specs.Nodes.{root_of}
+use Rattle.mpd_text.specs.{Faults.refusal, Meaning.reading_of, Nodes.root_of}
 use Rattle.mpd_text.proofs.TreeReading.{given_fault, given_tree, refused_before}
-use Rattle.mpd_text.proofs.read.read_tree.Goals as goal
 
 pub returns-in_err-text : goal.returns-in_err-text
 returns-in_err-text c = let given = refused_before c.args.bytes.now c.from_residual.result c.in_err-text.field-0.0

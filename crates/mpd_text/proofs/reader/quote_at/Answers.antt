@@ -1,13 +1,9 @@
-use Rattle.std.proofs.Common.{◌≡◌, ◌+◌, inl, inr, false, ap, sym, subst, ◌∙◌, Some}
-use Rattle.std.specs.List.{slice_get}
-use Rattle.std.proofs.lemmas.Option.{get_or_from_slice_get}
-use Rattle.mpd_text.specs.Characters.{is_white}
-use Rattle.mpd_text.specs.Positions.{IsAt}
-use Rattle.mpd_text.specs.Steps.{at_quote, IsStuck}
-use Rattle.mpd_text.proofs.ReaderLemmas.{run_stops}
-use Rattle.mpd_text.proofs.TagPositions.{IsBeforeEquals, before_equals, equals_cut, equals_stuck, equals_more, quote_white, quote_cut}
-use Rattle.mpd_text.proofs.TagPositions.{quote_stuck}
 use Rattle.mpd_text.proofs.reader.quote_at.Goals as goal
+use Rattle.std.proofs.{Common.{◌≡◌, ◌+◌, inl, inr, false, ap, sym, subst, ◌∙◌, Some}, lemmas.Option.get_or_from_slice_get}
+use Rattle.std.specs.List.{slice_get}
+use Rattle.mpd_text.specs.{Characters.is_white, Positions.IsAt, Steps.{at_quote, IsStuck}}
+use Rattle.mpd_text.proofs.{ReaderLemmas.run_stops, TagPositions.{IsBeforeEquals, before_equals, equals_cut, equals_stuck, equals_more}}
+use Rattle.mpd_text.proofs.TagPositions.{quote_white, quote_cut, quote_stuck}
 
 pub returns-in-None-clause-read : goal.returns-in-None-clause-read
 returns-in-None-clause-read c os t named is new no_name =

@@ -1,8 +1,7 @@
+use Rattle.mpd_text.proofs.references.number_at.Given as goal
 use Rattle.std.proofs.Common.{◌≡◌, length, drop, take, ◌+◌, ◌-◌, ◌≤◌}
 use Rattle.std.specs.List.{prefix_len}
-use Rattle.mpd_text.specs.References.{number_of}
-use Rattle.mpd_text.specs.Decoded.{base_of, capped, is_digit_of}
-use Rattle.mpd_text.proofs.references.number_at.Given as goal
+use Rattle.mpd_text.specs.{References.number_of, Decoded.{base_of, capped, is_digit_of}}
 
 abbrev pub invariant-loop-at : goal.invariant-loop-at
 invariant-loop-at l = record {

@@ -1,8 +1,6 @@
-use Rattle.std.proofs.Common.{◌≢◌, ◌+◌, Some, sym, ◌∙◌, subst}
-use Rattle.std.proofs.lemmas.List.{take_rest}
-use Rattle.mpd_text.proofs.Comments.{some_is_not}
-use Rattle.mpd_text.proofs.Referring.{name_found, name_unknown, name_cut}
 use Rattle.mpd_text.proofs.references.reference.Goals as goal
+use Rattle.std.proofs.{Common.{◌≢◌, ◌+◌, Some, sym, ◌∙◌, subst}, lemmas.List.take_rest}
+use Rattle.mpd_text.proofs.{Comments.some_is_not, Referring.{name_found, name_unknown, name_cut}}
 
 pub returns-in-Some-clause-bounds : goal.returns-in-Some-clause-bounds
 returns-in-Some-clause-bounds c =

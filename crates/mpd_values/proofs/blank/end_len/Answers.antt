@@ -1,10 +1,8 @@
-use Rattle.std.proofs.Common.{◌∙◌, rules, tests, reverse}
-use Rattle.std.proofs.lemmas.Iterator.Adapters.{YieldsList-from_rev_slice}
-use Rattle.std.proofs.lemmas.Iterator.Consumers.{count_from_yields_List}
-use Rattle.std.proofs.lemmas.Iterator.Search.{YieldsList-from_take_while}
+use Rattle.mpd_values.proofs.blank.end_len.Goals as goal
+use Rattle.std.proofs.{Common.{◌∙◌, rules, tests, reverse}, lemmas.Iterator.Adapters.YieldsList-from_rev_slice}
+use Rattle.std.proofs.{lemmas.Iterator.Consumers.count_from_yields_List, lemmas.Iterator.Search.YieldsList-from_take_while}
 use Rattle.std.proofs.lemmas.List.Folds.{length-prefix_len}
 use Rattle.mpd_values.specs.Blanks.{is_blank}
-use Rattle.mpd_values.proofs.blank.end_len.Goals as goal
 
 pub returns : goal.returns
 returns c =

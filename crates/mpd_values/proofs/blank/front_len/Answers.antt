@@ -1,10 +1,7 @@
-use Rattle.std.proofs.Common.{◌∙◌, rules, tests}
-use Rattle.std.proofs.lemmas.Iterator.{YieldsList-from_slice}
-use Rattle.std.proofs.lemmas.Iterator.Consumers.{count_from_yields_List}
-use Rattle.std.proofs.lemmas.Iterator.Search.{YieldsList-from_take_while}
-use Rattle.std.proofs.lemmas.List.Folds.{length-prefix_len}
-use Rattle.mpd_values.specs.Blanks.{is_blank}
 use Rattle.mpd_values.proofs.blank.front_len.Goals as goal
+use Rattle.std.proofs.{Common.{◌∙◌, rules, tests}, lemmas.Iterator.YieldsList-from_slice, lemmas.Iterator.Consumers.count_from_yields_List}
+use Rattle.std.proofs.{lemmas.Iterator.Search.YieldsList-from_take_while, lemmas.List.Folds.length-prefix_len}
+use Rattle.mpd_values.specs.Blanks.{is_blank}
 
 pub returns : goal.returns
 returns c =

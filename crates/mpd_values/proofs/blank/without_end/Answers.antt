@@ -1,10 +1,8 @@
-use Rattle.std.proofs.Common.{ℕ, zero, suc, ◌-◌, ◌≡◌, arith, length, List, IsCharBoundary, rules}
-use Rattle.std.specs.List.{suffix_len}
-use Rattle.std.proofs.lemmas.List.Sums.{suffix_len-le-length}
-use Rattle.mpd_values.specs.declared.blank.Blank.{Blank}
-use Rattle.mpd_values.specs.Blanks.{is_blank}
-use Rattle.mpd_values.proofs.Boundaries.{before_end}
 use Rattle.mpd_values.proofs.blank.without_end.Goals as goal
+use Rattle.std.proofs.{Common.{ℕ, zero, suc, ◌-◌, ◌≡◌, arith, length, List, IsCharBoundary, rules}, lemmas.List.Sums.suffix_len-le-length}
+use Rattle.std.specs.List.{suffix_len}
+use Rattle.mpd_values.specs.{declared.blank.Blank.Blank, Blanks.is_blank}
+use Rattle.mpd_values.proofs.Boundaries.{before_end}
 
 pub overflow_sub-text : goal.overflow_sub-text
 overflow_sub-text c = omega (arith, suffix_len-le-length (is_blank c.args.blank) c.args.text.now)

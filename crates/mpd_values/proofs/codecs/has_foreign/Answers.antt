@@ -1,11 +1,8 @@
-use Rattle.std.proofs.Common.{◌∙◌, ◌≡◌, ◌==◌, ◌||◌, Bool, List, [], ◌∷◌, map, refl, ap, rules, tests, lit<, sym}
-use Rattle.std.specs.List.{slice_split, list_any}
-use Rattle.std.proofs.lemmas.Iterator.Splits.{YieldsList-from_str_split}
-use Rattle.std.proofs.lemmas.Iterator.Search.{any_from_yields_List}
-use Rattle.mpd_values.specs.declared.blank.Blank.TheVariants.{Space}
-use Rattle.mpd_values.specs.Blanks.{trimmed}
-use Rattle.mpd_values.specs.Codecs.{codes_of, is_foreign}
 use Rattle.mpd_values.proofs.codecs.has_foreign.Goals as goal
+use Rattle.std.proofs.Common.{◌∙◌, ◌≡◌, ◌==◌, ◌||◌, Bool, List, [], ◌∷◌, map, refl, ap, rules, tests, lit<, sym}
+use Rattle.std.proofs.{lemmas.Iterator.Splits.YieldsList-from_str_split, lemmas.Iterator.Search.any_from_yields_List}
+use Rattle.std.specs.List.{slice_split, list_any}
+use Rattle.mpd_values.specs.{declared.blank.Blank.TheVariants.Space, Blanks.trimmed, Codecs.{codes_of, is_foreign}}
 
 list_any-map : {X Y : Type 0} (p : X → Bool) (h : Y → X) (ys : List Y) → list_any p (map h ys) ≡ list_any (λ y. p (h y)) ys
 list_any-map p h [] = refl

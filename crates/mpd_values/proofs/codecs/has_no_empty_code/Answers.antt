@@ -1,12 +1,8 @@
-use Rattle.std.proofs.Common.{◌∙◌, ◌==◌, rules, tests, lit<, sym}
-use Rattle.std.specs.List.{slice_split}
-use Rattle.std.proofs.lemmas.Iterator.Splits.{YieldsList-from_str_split}
-use Rattle.std.proofs.lemmas.Iterator.Search.{all_from_yields_List}
-use Rattle.std.proofs.lemmas.List.Folds.{list_all-map}
-use Rattle.mpd_values.specs.declared.blank.Blank.TheVariants.{Space}
-use Rattle.mpd_values.specs.Blanks.{trimmed}
-use Rattle.mpd_values.specs.Codecs.{codes_of, is_code}
 use Rattle.mpd_values.proofs.codecs.has_no_empty_code.Goals as goal
+use Rattle.std.proofs.{Common.{◌∙◌, ◌==◌, rules, tests, lit<, sym}, lemmas.Iterator.Splits.YieldsList-from_str_split}
+use Rattle.std.proofs.{lemmas.Iterator.Search.all_from_yields_List, lemmas.List.Folds.list_all-map}
+use Rattle.std.specs.List.{slice_split}
+use Rattle.mpd_values.specs.{declared.blank.Blank.TheVariants.Space, Blanks.trimmed, Codecs.{codes_of, is_code}}
 
 pub returns : goal.returns
 unfolding codes_of

@@ -1,8 +1,7 @@
-use Rattle.std.proofs.Common.{◌≡◌, ◌≢◌, ℕ, ◌==◌, Bool, true, false, List, [], ◌∷◌, ◌++◌, refl, lit<, encode_utf8}
-use Rattle.std.proofs.lemmas.Bool.{eqb-true}
+use Rattle.mpd_values.proofs.number.read_signed.Goals as goal
+use Rattle.std.proofs.{Common.{◌≡◌, ◌≢◌, ℕ, ◌==◌, Bool, true, false, List, [], ◌∷◌, ◌++◌, refl, lit<, encode_utf8}, lemmas.Bool.eqb-true}
 use Rattle.std.proofs.lemmas.Str.{encode_ascii}
 use Rattle.mpd_values.specs.Numbers.{has_minus, signed_64_of}
-use Rattle.mpd_values.proofs.number.read_signed.Goals as goal
 
 by_bool : {A : Type 0} (b : Bool) → (b ≡ true → A) → (b ≡ false → A) → A
 by_bool true at_true at_false = at_true refl

@@ -1,7 +1,6 @@
-use Rattle.std.proofs.Common.{◌≡◌, map, flat_map}
-use Rattle.presentation.specs.Rows.{all_left, row_of}
-use Rattle.presentation.specs.Told.{differ_told, differs_told}
 use Rattle.presentation.proofs.checks.check_tracks.Given as goal
+use Rattle.std.proofs.Common.{◌≡◌, map, flat_map}
+use Rattle.presentation.specs.{Rows.{all_left, row_of}, Told.{differ_told, differs_told}}
 
 abbrev pub invariant-loop-period : goal.invariant-loop-period
 invariant-loop-period l = record {

@@ -1,14 +1,10 @@
-use Rattle.std.proofs.Common.{◌≡◌, ◌++◌, ◌∷◌, [], map, ap, ◌∙◌, sym, lit<, rules, true, false, if◌then◌else◌}
+use Rattle.presentation.proofs.described.joined_codes.Goals as goal
+use Rattle.std.proofs.{Common.{◌≡◌, ◌++◌, ◌∷◌, [], map, ap, ◌∙◌, sym, lit<, rules, true, false, if◌then◌else◌}, lemmas.Str.encode_ascii}
+use Rattle.std.proofs.{lemmas.Iterator.Splits.YieldsList-from_str_split, lemmas.Iterator.Consumers.YieldsList-end}
 use Rattle.std.specs.String.{string_bytes}
-use Rattle.std.proofs.lemmas.Str.{encode_ascii}
-use Rattle.std.proofs.lemmas.Iterator.Splits.{YieldsList-from_str_split}
-use Rattle.std.proofs.lemmas.Iterator.Consumers.{YieldsList-end}
-use Rattle.mpd_values.specs.declared.blank.Blank.TheVariants.{Space}
-use Rattle.mpd_values.specs.Blanks.{trimmed}
-use Rattle.mpd_values.specs.Codecs.{codes_of}
+use Rattle.mpd_values.specs.{declared.blank.Blank.TheVariants.Space, Blanks.trimmed, Codecs.codes_of}
 use Rattle.presentation.specs.Rows.{with_commas}
 use Rattle.presentation.proofs.Joining.{code_pushed, is_nil, not_nil, seen_twice}
-use Rattle.presentation.proofs.described.joined_codes.Goals as goal
 use Rattle.presentation.proofs.described.joined_codes.Goals.{then-not-is_first+in_ok-push, else-not-is_first}
 
 pub loop-code-preserved : goal.loop-code-preserved

@@ -1,10 +1,9 @@
+use Rattle.presentation.proofs.described.joined_codes.Given as goal
 use Rattle.std.proofs.Common.{◌≡◌, map}
 use Rattle.std.specs.String.{string_bytes}
-use Rattle.mpd_values.specs.declared.blank.Blank.TheVariants.{Space}
-use Rattle.mpd_values.specs.Blanks.{trimmed}
+use Rattle.mpd_values.specs.{declared.blank.Blank.TheVariants.Space, Blanks.trimmed}
 use Rattle.presentation.specs.Rows.{with_commas}
 use Rattle.presentation.proofs.Joining.{is_nil}
-use Rattle.presentation.proofs.described.joined_codes.Given as goal
 
 abbrev pub invariant-loop-code : goal.invariant-loop-code
 invariant-loop-code l = record {

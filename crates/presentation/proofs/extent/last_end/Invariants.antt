@@ -1,10 +1,7 @@
-use Rattle.std.proofs.Common.{◌≡◌}
-use Rattle.exact_time.specs.Tick.{time_of}
-use Rattle.exact_time.specs.Time.{IsAtMost}
-use Rattle.exact_time.specs.Rounding.{IsRising}
-use Rattle.presentation.specs.Printing.{ends_of}
-use Rattle.presentation.specs.Verifying.{last_end}
 use Rattle.presentation.proofs.extent.last_end.Given as goal
+use Rattle.std.proofs.Common.{◌≡◌}
+use Rattle.exact_time.specs.{Tick.time_of, Time.IsAtMost, Rounding.IsRising}
+use Rattle.presentation.specs.{Printing.ends_of, Verifying.last_end}
 
 -- the segments that are left end last as all of them do
 abbrev pub invariant-loop-span : goal.invariant-loop-span

@@ -1,8 +1,7 @@
+use Rattle.presentation.proofs.from_mpd.by_kind.Given as goal
 use Rattle.std.proofs.Common.{◌≡◌, filter}
 use Rattle.bridge_io.specs.declared.media.Kind.TheVariants.{Video, Audio, Text}
-use Rattle.presentation.specs.declared.told.PeriodContent.{PeriodContent}
-use Rattle.presentation.specs.Rows.{is_of}
-use Rattle.presentation.proofs.from_mpd.by_kind.Given as goal
+use Rattle.presentation.specs.{declared.told.PeriodContent.PeriodContent, Rows.is_of}
 
 abbrev pub invariant-loop-told : goal.invariant-loop-told
 invariant-loop-told l = record {

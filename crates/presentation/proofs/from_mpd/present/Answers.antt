@@ -1,11 +1,9 @@
+use Rattle.presentation.proofs.from_mpd.present.Goals as goal
 use Rattle.std.proofs.Common.{◌≡◌, ◌*◌, Bool, true, false, Some, None, option_map, if◌then◌else◌, length, map, ap, ◌∙◌, sym, refl}
 use Rattle.std.proofs.lemmas.List.{length-map}
 use Rattle.mpd_rules.specs.Typed.{period_with}
-use Rattle.presentation.specs.Groups.{groups_of}
-use Rattle.presentation.specs.Presented.{following_of}
-use Rattle.presentation.specs.Rows.{first_rows, row_of, shown}
+use Rattle.presentation.specs.{Groups.groups_of, Presented.following_of, Rows.{first_rows, row_of, shown}}
 use Rattle.presentation.proofs.Filling.{length_in_order}
-use Rattle.presentation.proofs.from_mpd.present.Goals as goal
 
 not_live : {X : Type 0} (live : Bool) (x : X) → (if live then Some x else None) ≡ None → live ≡ false
 not_live true x is = absurd (cc)

@@ -1,10 +1,8 @@
-use Rattle.std.proofs.Common.{ap, ◌∙◌, sym, subst, map, length, ◌*◌}
-use Rattle.presentation.specs.Shared.{IsShared}
-use Rattle.std.proofs.lemmas.List.{length-map}
-use Rattle.mpd_rules.specs.Typed.{period_with}
-use Rattle.presentation.specs.Rows.{first_rows, shown}
-use Rattle.presentation.proofs.Ending.{all_ended, all_filled, of_all}
 use Rattle.presentation.proofs.from_mpd.present_checked.Goals as goal
+use Rattle.std.proofs.{Common.{ap, ◌∙◌, sym, subst, map, length, ◌*◌}, lemmas.List.length-map}
+use Rattle.presentation.specs.{Shared.IsShared, Rows.{first_rows, shown}}
+use Rattle.mpd_rules.specs.Typed.{period_with}
+use Rattle.presentation.proofs.Ending.{all_ended, all_filled, of_all}
 
 pub all_told-requires : goal.all_told-requires
 all_told-requires c =

@@ -1,6 +1,5 @@
-use Rattle.std.proofs.Common.{◌≡◌, ◌+◌, ◌∷◌, drop, add-one}
-use Rattle.std.proofs.Math.Seq.{drop-cons}
 use Rattle.presentation.proofs.groups.renditions_of.Goals as goal
+use Rattle.std.proofs.{Common.{◌≡◌, ◌+◌, ◌∷◌, drop, add-one}, Math.Seq.drop-cons}
 use Rattle.presentation.proofs.groups.renditions_of.Goals.{then-is_audio+in_ok-push, else-is_audio}
 
 pub loop-place-preserved : goal.loop-place-preserved

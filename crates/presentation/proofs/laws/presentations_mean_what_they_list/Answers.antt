@@ -1,8 +1,6 @@
-use Rattle.presentation.proofs.Meant.{made_are_meant}
-use Rattle.presentation.proofs.MeantParts.{verified_are_meant}
-use Rattle.presentation.proofs.Telling.{presented_are_meant, texts_are_meant}
-use Rattle.presentation.proofs.Whole.{finished_are_whole}
 use Rattle.presentation.proofs.laws.presentations_mean_what_they_list.Goals as goal
+use Rattle.presentation.proofs.{Meant.made_are_meant, MeantParts.verified_are_meant, Telling.{presented_are_meant, texts_are_meant}}
+use Rattle.presentation.proofs.Whole.{finished_are_whole}
 
 pub returns : goal.returns
 returns c = record {

@@ -1,11 +1,8 @@
-use Rattle.std.proofs.Common.{◌∙◌, ap, map, sym}
-use Rattle.std.proofs.lemmas.Result.{IfOk-weaker}
-use Rattle.mpd_rules.specs.Typed.{track_with}
-use Rattle.mpd_rules.specs.Views.{period_in, track_in}
-use Rattle.presentation.specs.Rows.{shown}
-use Rattle.presentation.proofs.Grids.{by_kind_made}
-use Rattle.presentation.proofs.Joining.{seen_twice}
 use Rattle.presentation.proofs.lineup.rows_in_order.Goals as goal
+use Rattle.std.proofs.{Common.{◌∙◌, ap, map, sym}, lemmas.Result.IfOk-weaker}
+use Rattle.mpd_rules.specs.{Typed.track_with, Views.{period_in, track_in}}
+use Rattle.presentation.specs.Rows.{shown}
+use Rattle.presentation.proofs.{Grids.by_kind_made, Joining.seen_twice}
 
 pub returns : goal.returns
 returns c =

@@ -1,7 +1,6 @@
-use Rattle.std.proofs.Common.{◌≡◌, ◌<◌, ◌≤◌, ◌^◌, length, drop}
-use Rattle.std.specs.Str.{all_ascii_digits}
-use Rattle.std.specs.Str.Parse.{digits_value, digits_value_after}
 use Rattle.template_ids.proofs.identifier.width_in.Given as goal
+use Rattle.std.proofs.Common.{◌≡◌, ◌<◌, ◌≤◌, ◌^◌, length, drop}
+use Rattle.std.specs.{Str.all_ascii_digits, Str.Parse.{digits_value, digits_value_after}}
 
 -- the width so far goes on to the value of all digits
 abbrev pub invariant-loop-digit : goal.invariant-loop-digit

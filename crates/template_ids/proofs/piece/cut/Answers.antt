@@ -1,8 +1,7 @@
-use Rattle.std.proofs.Common.{lit<, refl, sym}
-use Rattle.std.proofs.lemmas.Result.{err_from_is_err_and}
-use Rattle.template_ids.proofs.Cutting.{IsCut, first_at_fault, step, finish, never_lone, IsUtf8-cut}
 use Rattle.template_ids.proofs.piece.cut.Goals as goal
-use Rattle.template_ids.proofs.piece.cut.Goals.{In-Some, In-Some-split_once}
+use Rattle.std.proofs.{Common.{lit<, refl, sym}, lemmas.Result.err_from_is_err_and}
+use Rattle.template_ids.proofs.{Cutting.{IsCut, first_at_fault, step, finish, never_lone, IsUtf8-cut}, piece.cut.Goals.In-Some}
+use Rattle.template_ids.proofs.piece.cut.Goals.{In-Some-split_once}
 
 first_cut : (c : In-Some) → IsCut c.loop-literal.rest.now c.in-Some.literal.now c.in-Some.after.now
 first_cut c = let h = c.in-Some.ensures.byte (lit< tt) (λ w o h. h) in record { at = h.2; front_is = h.0; back_is = h.1 }

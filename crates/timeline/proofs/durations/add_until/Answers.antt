@@ -1,8 +1,6 @@
-use Rattle.std.proofs.Common.{◌≡◌, ◌*◌, ◌<◌, ◌^◌, suc, inl, inr, arith}
-use Rattle.std.proofs.lemmas.Bool.{cases_lt}
-use Rattle.timeline.proofs.Laid.{from_fault}
-use Rattle.timeline.proofs.Counted.{cut_none, cut_first, cut_late, cut_end}
 use Rattle.timeline.proofs.durations.add_until.Goals as goal
+use Rattle.std.proofs.{Common.{◌≡◌, ◌*◌, ◌<◌, ◌^◌, suc, inl, inr, arith}, lemmas.Bool.cases_lt}
+use Rattle.timeline.proofs.{Laid.from_fault, Counted.{cut_none, cut_first, cut_late, cut_end}}
 
 pub returns-in_default : goal.returns-in_default
 returns-in_default c =

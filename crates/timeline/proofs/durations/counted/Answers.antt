@@ -1,13 +1,10 @@
-use Rattle.std.proofs.Common.{◌≡◌, ℕ, List, Option, subst, ap, ◌∙◌}
-use Rattle.timeline.specs.declared.{limits.Limits.Limits, entry.End.TheVariants.At, fault.TimeFault.TimeFault}
-use Rattle.std.specs.List.{list_any}
-use Rattle.timeline.specs.Expansions.{Member}
-use Rattle.timeline.specs.Faults.{members_by}
-use Rattle.timeline.specs.Building.{breaks_in}
-use Rattle.timeline.specs.Rows.{AreCounted, IsCountedFault, IsFresh, IsRange, IsRow, cut_fault, row_of}
-use Rattle.timeline.proofs.Laid.{from_fault}
-use Rattle.timeline.proofs.Counted.{IsFresh-new, counted_at, members_at, open_fault, names_done, names_fault}
 use Rattle.timeline.proofs.durations.counted.Goals as goal
+use Rattle.std.proofs.Common.{◌≡◌, ℕ, List, Option, subst, ap, ◌∙◌}
+use Rattle.timeline.specs.{declared.limits.Limits.Limits, declared.entry.End.TheVariants.At, declared.fault.TimeFault.TimeFault}
+use Rattle.timeline.specs.{Expansions.Member, Faults.members_by, Building.breaks_in, Rows.{AreCounted, IsCountedFault, IsFresh, IsRange}}
+use Rattle.timeline.specs.Rows.{IsRow, cut_fault, row_of}
+use Rattle.std.specs.List.{list_any}
+use Rattle.timeline.proofs.{Laid.from_fault, Counted.{IsFresh-new, counted_at, members_at, open_fault, names_done, names_fault}}
 
 pub returns-in_err-go_on-in-None : goal.returns-in_err-go_on-in-None
 returns-in_err-go_on-in-None c =

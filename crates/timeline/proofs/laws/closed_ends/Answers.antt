@@ -1,17 +1,14 @@
-use Rattle.std.proofs.Common.{◌≡◌, ℕ, Bool, true, false, not, ◌&&◌, List, ◌∷◌, length, pos, sym, ap, ◌∙◌, refl, []}
-use Rattle.std.specs.Prelude.{Option, Some, None, is_none, ◌==◌}
-use Rattle.std.proofs.lemmas.Bool.{true≢false, false_from_ne_true}
-use Rattle.timeline.specs.Names.{count_of}
-use Rattle.timeline.specs.declared.{entry.End.End, entry.End.TheVariants.At, entry.End.TheVariants.Unbounded}
-use Rattle.timeline.specs.declared.{fault.TimeFault.TheVariants.NoEnd, fault.TimeFault.TheVariants.ListLength, span.Span.Span}
-use Rattle.exact_time.specs.Time.{in_units, nanoseconds}
-use Rattle.timeline.specs.Ratios.{steps_to_cover}
-use Rattle.timeline.specs.Durations.{extents_by, cut_by, expansion_of_names, expansion_of_list}
-use Rattle.timeline.specs.Expansions.{Member, SegmentTimeline, is_open}
-use Rattle.timeline.specs.Faults.{are_paired, ends_open, is_unbounded, lacks_end, members_by}
-use Rattle.timeline.specs.Timelines.{expansion_of_timeline}
-use Rattle.timeline.proofs.OpenEnds.{closed_not_open, entries_open, no_fault, no_faults, none_reaches, unless}
 use Rattle.timeline.proofs.laws.closed_ends.Goals as goal
+use Rattle.std.proofs.Common.{◌≡◌, ℕ, Bool, true, false, not, ◌&&◌, List, ◌∷◌, length, pos, sym, ap, ◌∙◌, refl, []}
+use Rattle.std.proofs.lemmas.Bool.{true≢false, false_from_ne_true}
+use Rattle.std.specs.Prelude.{Option, Some, None, is_none, ◌==◌}
+use Rattle.timeline.specs.{Names.count_of, declared.entry.End.End, declared.entry.End.TheVariants.{At, Unbounded}}
+use Rattle.timeline.specs.{declared.fault.TimeFault.TheVariants.{NoEnd, ListLength}, declared.span.Span.Span, Ratios.steps_to_cover}
+use Rattle.timeline.specs.{Durations.{extents_by, cut_by, expansion_of_names, expansion_of_list}, Expansions.{Member, SegmentTimeline}}
+use Rattle.timeline.specs.{Expansions.is_open, Faults.{are_paired, ends_open, is_unbounded, lacks_end, members_by}}
+use Rattle.timeline.specs.Timelines.{expansion_of_timeline}
+use Rattle.exact_time.specs.Time.{in_units, nanoseconds}
+use Rattle.timeline.proofs.OpenEnds.{closed_not_open, entries_open, no_fault, no_faults, none_reaches, unless}
 
 both : (live unbounded ends : Bool) (names : Option ℕ) (members : List Member) → (not live && unbounded && ends) ≡ false
     → not (are_paired names members) ≡ false →

@@ -1,14 +1,10 @@
-use Rattle.std.proofs.Common.{sym, ap, not, ◌&&◌, length}
-use Rattle.std.specs.Prelude.{None, ◌==◌}
-use Rattle.std.specs.List.{list_any}
-use Rattle.timeline.specs.declared.fault.TimeFault.TheVariants.{ZeroDuration, NoEnd, ListLength}
-use Rattle.timeline.specs.Expansions.{SegmentTimeline}
-use Rattle.timeline.specs.Faults.{ends_open, fault_if, is_unbounded, segment_fault}
-use Rattle.timeline.specs.Limits.{breaks_limits}
-use Rattle.timeline.specs.Timelines.{expansion_of_timeline}
-use Rattle.timeline.proofs.OpenEnds.{no_fault, no_faults, unless}
-use Rattle.timeline.proofs.OwnParts.{are_given_again, are_numbered, have_parts, names_paired, paired}
 use Rattle.timeline.proofs.laws.own_addresses.Goals as goal
+use Rattle.std.proofs.Common.{sym, ap, not, ◌&&◌, length}
+use Rattle.std.specs.{Prelude.{None, ◌==◌}, List.list_any}
+use Rattle.timeline.specs.{declared.fault.TimeFault.TheVariants.{ZeroDuration, NoEnd, ListLength}, Expansions.SegmentTimeline}
+use Rattle.timeline.specs.{Faults.{ends_open, fault_if, is_unbounded, segment_fault}, Limits.breaks_limits, Timelines.expansion_of_timeline}
+use Rattle.timeline.proofs.{OpenEnds.{no_fault, no_faults, unless}, OwnParts.{are_given_again, are_numbered, have_parts, names_paired}}
+use Rattle.timeline.proofs.OwnParts.{paired}
 
 pub returns-clause-numbered : goal.returns-clause-numbered
 returns-clause-numbered c = are_numbered

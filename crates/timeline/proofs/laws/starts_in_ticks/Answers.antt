@@ -1,14 +1,8 @@
-use Rattle.std.proofs.Common.{subst}
-use Rattle.std.proofs.lemmas.List.Elements.{recursion_from_All}
-use Rattle.timeline.specs.Faults.{members_by}
-use Rattle.timeline.specs.Names.{count_of}
-use Rattle.timeline.specs.SegmentTimelines.{timeline_from}
-use Rattle.timeline.specs.Durations.{expansion_of_list}
-use Rattle.timeline.specs.Starts.{StartInTicks}
-use Rattle.timeline.specs.Timelines.{expansion_of_timeline}
-use Rattle.timeline.proofs.OpenEnds.{no_fault}
-use Rattle.timeline.proofs.OwnParts.{durations_begin, entries_begin, listed_start, lists_begin}
 use Rattle.timeline.proofs.laws.starts_in_ticks.Goals as goal
+use Rattle.std.proofs.{Common.subst, lemmas.List.Elements.recursion_from_All}
+use Rattle.timeline.specs.{Faults.members_by, Names.count_of, SegmentTimelines.timeline_from, Durations.expansion_of_list}
+use Rattle.timeline.specs.{Starts.StartInTicks, Timelines.expansion_of_timeline}
+use Rattle.timeline.proofs.{OpenEnds.no_fault, OwnParts.{durations_begin, entries_begin, listed_start, lists_begin}}
 
 pub returns-clause-timelines : goal.returns-clause-timelines
 returns-clause-timelines c entries end live scale names timeline made =

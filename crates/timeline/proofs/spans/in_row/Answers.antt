@@ -1,6 +1,5 @@
-use Rattle.timeline.proofs.Laid.{from_fault}
-use Rattle.timeline.proofs.Counted.{span_fault, span_more}
 use Rattle.timeline.proofs.spans.in_row.Goals as goal
+use Rattle.timeline.proofs.{Laid.from_fault, Counted.{span_fault, span_more}}
 
 pub returns-in_err-judge : goal.returns-in_err-judge
 returns-in_err-judge c =

@@ -1,8 +1,7 @@
-use Rattle.std.proofs.Common.{◌≡◌, ℕ, ◌*◌, ◌<◌, ◌≤◌, ◌^◌, ◌∙◌, ℤ, sym, ap, rules, arith, mul-le-mul}
-use Rattle.std.specs.Prelude.{unsigned_abs}
-use Rattle.std.proofs.lemmas.Int.{to_z-of_z}
-use Rattle.timeline.proofs.Counted.{is_apart_span, far_apart, short_lasts}
 use Rattle.timeline.proofs.spans.is_apart.Goals as goal
+use Rattle.std.proofs.{Common.{◌≡◌, ℕ, ◌*◌, ◌<◌, ◌≤◌, ◌^◌, ◌∙◌, ℤ, sym, ap, rules, arith, mul-le-mul}, lemmas.Int.to_z-of_z}
+use Rattle.std.specs.Prelude.{unsigned_abs}
+use Rattle.timeline.proofs.Counted.{is_apart_span, far_apart, short_lasts}
 use mir.Val.{Fits, SFits, to_z, of_z}
 use mir.Syntax.{w32, w128}
 

@@ -1,7 +1,6 @@
-use Rattle.std.proofs.Common.{◌≤◌, ◌*◌, ℕ, sym, ap, ◌∙◌, arith}
-use Rattle.std.proofs.lemmas.Int.{ints}
-use Rattle.timeline.proofs.Counted.{breaks_else}
 use Rattle.timeline.proofs.spans.is_broken.Goals as goal
+use Rattle.std.proofs.{Common.{◌≤◌, ◌*◌, ℕ, sym, ap, ◌∙◌, arith}, lemmas.Int.ints}
+use Rattle.timeline.proofs.Counted.{breaks_else}
 
 pub returns : goal.returns
 returns c =

@@ -1,9 +1,7 @@
-use Rattle.std.proofs.Common.{ℕ, ap, ◌∙◌}
-use Rattle.timeline.specs.Timelines.{extent_from}
-use Rattle.timeline.specs.Reaches.{start_of}
-use Rattle.timeline.proofs.Laid.{from_fault}
-use Rattle.timeline.proofs.Reached.{IsFaultOf-short, extent_in-from, members_nowhere}
 use Rattle.timeline.proofs.timelines.add_entry.Goals as goal
+use Rattle.std.proofs.Common.{ℕ, ap, ◌∙◌}
+use Rattle.timeline.specs.{Timelines.extent_from, Reaches.start_of}
+use Rattle.timeline.proofs.{Laid.from_fault, Reached.{IsFaultOf-short, extent_in-from, members_nowhere}}
 
 pub returns-in_err-judge-in-Nowhere-clause-members : goal.returns-in_err-judge-in-Nowhere-clause-members
 returns-in_err-judge-in-Nowhere-clause-members c =

@@ -1,9 +1,8 @@
-use Rattle.std.proofs.Common.{◌≡◌, suc, ◌-◌, ap, ◌∙◌, sym, refl, List, ◌∷◌, length, ℤ, pos, negsuc, rules, arith, []}
-use Rattle.std.specs.Prelude.{slice_get, Some, int_lt}
-use Rattle.std.proofs.lemmas.{Int.to_z-of_z, Bool.le-ltb}
-use Rattle.timeline.specs.declared.entry.SEntry.{SEntry}
-use Rattle.timeline.specs.Faults.{ends_open, is_negative}
 use Rattle.timeline.proofs.timelines.goes_on.Goals as goal
+use Rattle.std.proofs.Common.{◌≡◌, suc, ◌-◌, ap, ◌∙◌, sym, refl, List, ◌∷◌, length, ℤ, pos, negsuc, rules, arith, []}
+use Rattle.std.proofs.{lemmas.Int.to_z-of_z, lemmas.Bool.le-ltb}
+use Rattle.std.specs.Prelude.{slice_get, Some, int_lt}
+use Rattle.timeline.specs.{declared.entry.SEntry.SEntry, Faults.{ends_open, is_negative}}
 use mir.Val.{SFits}
 use mir.Syntax.{w64}
 

@@ -1,6 +1,5 @@
-use Rattle.timeline.proofs.Laid.{from_fault}
-use Rattle.timeline.proofs.Reached.{fault_so_far, so_far_more}
 use Rattle.timeline.proofs.timelines.laid_out.Goals as goal
+use Rattle.timeline.proofs.{Laid.from_fault, Reached.{fault_so_far, so_far_more}}
 
 pub returns-in_err-add_entry : goal.returns-in_err-add_entry
 returns-in_err-add_entry c =

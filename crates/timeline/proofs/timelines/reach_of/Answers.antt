@@ -1,7 +1,6 @@
-use Rattle.std.proofs.Common.{◌≡◌, ◌+◌, ◌*◌, rules}
-use Rattle.std.proofs.lemmas.Int.{to_z-of_z}
-use Rattle.timeline.proofs.Reached.{reach_up_to_media, reach_up_to_end, reach_next, reach_last}
 use Rattle.timeline.proofs.timelines.reach_of.Goals as goal
+use Rattle.std.proofs.{Common.{◌≡◌, ◌+◌, ◌*◌, rules}, lemmas.Int.to_z-of_z}
+use Rattle.timeline.proofs.Reached.{reach_up_to_media, reach_up_to_end, reach_next, reach_last}
 use mir.Val.{SFits}
 use mir.Syntax.{w64}
 

@@ -1,8 +1,7 @@
-use Rattle.std.proofs.Common.{◌≡◌, ◌+◌, ◌-◌, take, Some, None, lit<, sym, ap, ◌∙◌, arith}
-use Rattle.std.proofs.lemmas.Str.Pattern.{rfind_char}
+use Rattle.url_parts.proofs.base.folder_of.Goals as goal
+use Rattle.std.proofs.{Common.{◌≡◌, ◌+◌, ◌-◌, take, Some, None, lit<, sym, ap, ◌∙◌, arith}, lemmas.Str.Pattern.rfind_char}
 use Rattle.url_parts.proofs.Relative.{through_slash_at, through_no_slash}
 use Rattle.url_parts.specs.Addresses.{folder_of, through_last_slash}
-use Rattle.url_parts.proofs.base.folder_of.Goals as goal
 
 pub returns-in-None : goal.returns-in-None
 unfolding folder_of

@@ -1,13 +1,9 @@
+use Rattle.url_parts.proofs.base.local_name.Goals as goal
 use Rattle.std.proofs.Common.{◌≡◌, ◌≢◌, ℕ, List, ◌++◌, length, drop, Some, None, Ok, refl, sym, ap, ◌∙◌, ⊎_elim, arith}
-use Rattle.std.specs.Prelude.{nat_eq}
-use Rattle.std.specs.List.{starts_with}
-use Rattle.std.proofs.lemmas.Bool.{cases_Bool}
-use Rattle.std.proofs.lemmas.Bool.Decides.{Decides-eqb}
-use Rattle.std.proofs.lemmas.List.{drop_at}
-use Rattle.std.proofs.lemmas.Slice.Eq.{starts_is}
+use Rattle.std.proofs.{lemmas.Bool.cases_Bool, lemmas.Bool.Decides.Decides-eqb, lemmas.List.drop_at, lemmas.Slice.Eq.starts_is}
+use Rattle.std.specs.{Prelude.nat_eq, List.starts_with}
 use Rattle.bridge_io.specs.Names.{name_of}
 use Rattle.url_parts.specs.Addresses.{without_tail, local_name_of}
-use Rattle.url_parts.proofs.base.local_name.Goals as goal
 
 -- an address that doesn't begin with the folder's text
 outside : (folder address : List ℕ) → ((rest : List ℕ) → address ≢ folder ++ rest) → None ≡ local_name_of folder address

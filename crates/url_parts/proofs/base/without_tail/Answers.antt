@@ -1,11 +1,8 @@
-use Rattle.std.proofs.Common.{◌≡◌, ℕ, ◌<◌, List, length, Some, arith, IsCharBoundary}
-use Rattle.std.specs.Prelude.{position}
-use Rattle.std.proofs.lemmas.Bool.Decides.{nat_tests}
-use Rattle.std.proofs.lemmas.List.Sums.{passes_at_first}
-use Rattle.std.proofs.lemmas.Str.{IsCharBoundary-before_ascii}
-use Rattle.std.specs.List.{position_or_len}
-use Rattle.url_parts.specs.Addresses.{is_tail}
 use Rattle.url_parts.proofs.base.without_tail.Goals as goal
+use Rattle.std.proofs.{Common.{◌≡◌, ℕ, ◌<◌, List, length, Some, arith, IsCharBoundary}, lemmas.Bool.Decides.nat_tests}
+use Rattle.std.proofs.{lemmas.List.Sums.passes_at_first, lemmas.Str.IsCharBoundary-before_ascii}
+use Rattle.std.specs.{Prelude.position, List.position_or_len}
+use Rattle.url_parts.specs.Addresses.{is_tail}
 
 -- a text can be cut before its tail
 cut_before_tail : (text : List ℕ) (k : ℕ) → Some k ≡ position is_tail text → IsCharBoundary text k

@@ -1,7 +1,6 @@
-use Rattle.std.proofs.Common.{sym, ◌∙◌}
-use Rattle.url_parts.proofs.Parsed.{given_again}
-use Rattle.url_parts.proofs.Relative.{resolve_name, beside_name, beside_is_address}
 use Rattle.url_parts.proofs.laws.name_address.Goals as goal
+use Rattle.std.proofs.Common.{sym, ◌∙◌}
+use Rattle.url_parts.proofs.{Parsed.given_again, Relative.{resolve_name, beside_name, beside_is_address}}
 
 pub returns-clause-reference : goal.returns-clause-reference
 returns-clause-reference c =

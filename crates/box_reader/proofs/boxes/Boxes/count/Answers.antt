@@ -1,9 +1,8 @@
+use Rattle.box_reader.proofs.boxes.Boxes.count.Goals as goal
 use Rattle.std.specs.Prelude.{count_by}
 use Rattle.std.proofs.Common.{◌≡◌, None, Ok, Err, sym, ap, ◌∙◌, arith}
 use Rattle.box_reader.specs.Boxes.{Walk, next_of}
-use Rattle.box_reader.proofs.Counts.{left_behind}
-use Rattle.box_reader.proofs.Walks.{boxes_broken, boxes_end}
-use Rattle.box_reader.proofs.boxes.Boxes.count.Goals as goal
+use Rattle.box_reader.proofs.{Counts.left_behind, Walks.{boxes_broken, boxes_end}}
 
 pub walk-smaller : goal.walk-smaller
 walk-smaller g c =

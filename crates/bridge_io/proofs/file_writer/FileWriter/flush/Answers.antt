@@ -1,8 +1,6 @@
-use Rattle.bridge_io.specs.Outside.{MayExtend}
-use Rattle.bridge_io.specs.Written.{target, held}
-use Rattle.bridge_io.proofs.Files.{on_err}
-use Rattle.bridge_io.proofs.Written.{front_of_append}
 use Rattle.bridge_io.proofs.file_writer.FileWriter.flush.Goals as goal
+use Rattle.bridge_io.specs.{Outside.MayExtend, Written.{target, held}}
+use Rattle.bridge_io.proofs.{Files.on_err, Written.front_of_append}
 
 pub returns-in_err-hand_on-clause-err : goal.returns-in_err-hand_on-clause-err
 returns-in_err-hand_on-clause-err g c = on_err c.from_residual.result (λ text first behind.

@@ -1,8 +1,7 @@
+use Rattle.bridge_io.proofs.file_writer.FileWriter.hold.Goals as goal
 use Rattle.std.proofs.Common.{◌∙◌, ap}
 use Rattle.bridge_io.specs.Written.{target, front_of_more, front_of_all, front_of_behind}
-use Rattle.bridge_io.proofs.Files.{on_err}
-use Rattle.bridge_io.proofs.file_writer.FileWriter.hold.Goals as goal
-use Rattle.bridge_io.proofs.file_writer.FileWriter.hold.Goals.{then-piece-len+in_ok-flush, else-piece-len}
+use Rattle.bridge_io.proofs.{Files.on_err, file_writer.FileWriter.hold.Goals.{then-piece-len+in_ok-flush, else-piece-len}}
 
 pub returns-in_err-flush-clause-err : goal.returns-in_err-flush-clause-err
 returns-in_err-flush-clause-err g c = on_err c.from_residual.result (λ text first behind.

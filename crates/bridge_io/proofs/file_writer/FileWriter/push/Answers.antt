@@ -1,8 +1,7 @@
-use Rattle.std.proofs.Common.{◌≡◌, ℕ, List, ◌++◌, take, drop, append_assoc, ◌∙◌, arith}
-use Rattle.std.proofs.lemmas.List.{take-append-drop}
+use Rattle.bridge_io.proofs.file_writer.FileWriter.push.Goals as goal
+use Rattle.std.proofs.{Common.{◌≡◌, ℕ, List, ◌++◌, take, drop, append_assoc, ◌∙◌, arith}, lemmas.List.take-append-drop}
 use Rattle.bridge_io.specs.Written.{target, front_of_whole}
 use Rattle.bridge_io.proofs.Files.{on_err}
-use Rattle.bridge_io.proofs.file_writer.FileWriter.push.Goals as goal
 
 -- what was taken, with the next part, goes on with what is left behind that
 goes_on : (front rest piece part back : List ℕ) (n : ℕ) → front ++ rest ≡ piece → part ≡ take n rest → back ≡ drop n rest

@@ -1,7 +1,6 @@
-use Rattle.std.proofs.Common.{◌≡◌, ℕ, List, ◌++◌, ◌≤◌, length, Option}
-use Rattle.bridge_io.specs.Outside.{Files}
-use Rattle.bridge_io.specs.Written.{target, IsBehind}
 use Rattle.bridge_io.proofs.file_writer.FileWriter.push.Given as goal
+use Rattle.std.proofs.Common.{◌≡◌, ℕ, List, ◌++◌, ◌≤◌, length, Option}
+use Rattle.bridge_io.specs.{Outside.Files, Written.{target, IsBehind}}
 
 -- the writer stands behind the text with what was taken of the piece
 abbrev pub invariant-loop-rest : goal.invariant-loop-rest

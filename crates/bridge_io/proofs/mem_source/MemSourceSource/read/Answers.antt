@@ -1,7 +1,6 @@
-use Rattle.std.proofs.Common.{◌≡◌, ◌+◌, ◌++◌, ap, sym, ◌∙◌, Some, arith, ℕ, ◌-◌, min, List, [], length, length-drop, take, drop}
-use Rattle.std.proofs.Math.ListN.{drop_of_length-le}
-use Rattle.std.proofs.lemmas.List.{take-append-drop, take_all, drop-drop}
 use Rattle.bridge_io.proofs.mem_source.MemSourceSource.read.Goals as goal
+use Rattle.std.proofs.Common.{◌≡◌, ◌+◌, ◌++◌, ap, sym, ◌∙◌, Some, arith, ℕ, ◌-◌, min, List, [], length, length-drop, take, drop}
+use Rattle.std.proofs.{Math.ListN.drop_of_length-le, lemmas.List.{take-append-drop, take_all, drop-drop}}
 
 -- what is left after a read of n bytes
 left_after : (at n : ℕ) (bytes buf : List ℕ) → take n buf ≡ take n (drop at bytes) → drop at bytes ≡ take n buf ++ drop (at + n) bytes

@@ -1,12 +1,8 @@
-use Rattle.std.proofs.Common.{◌≡◌, ◌∙◌, List, [], ◌∷◌, map, refl, sym, ap, ap₂, arith}
-use Rattle.std.specs.List.{fold}
-use Rattle.std.proofs.lemmas.List.{take_all}
-use Rattle.std.proofs.lemmas.List.Sums.{fold_more}
-use Rattle.clap.specs.Words.{App, new_app, with_rule}
-use Rattle.bridge_jobs.specs.declared.verb.Parameter.{Parameter}
-use Rattle.bridge_jobs.specs.Parameters.{rule_of_parameter, with_parameter}
-use Rattle.bridge_jobs.specs.Verbs.{app_with, word_of}
 use Rattle.bridge_jobs.proofs.verb.Verb.syntax.Goals as goal
+use Rattle.std.proofs.{Common.{◌≡◌, ◌∙◌, List, [], ◌∷◌, map, refl, sym, ap, ap₂, arith}, lemmas.List.take_all, lemmas.List.Sums.fold_more}
+use Rattle.std.specs.List.{fold}
+use Rattle.clap.specs.Words.{App, new_app, with_rule}
+use Rattle.bridge_jobs.specs.{declared.verb.Parameter.Parameter, Parameters.{rule_of_parameter, with_parameter}, Verbs.{app_with, word_of}}
 
 rules_in_turn : (app : App) (parameters : List Parameter) → fold with_parameter app parameters
     ≡ fold with_rule app (map rule_of_parameter parameters)

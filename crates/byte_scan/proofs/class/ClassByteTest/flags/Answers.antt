@@ -1,9 +1,7 @@
-use Rattle.std.proofs.Common.{◌==◌, sym, ap, ◌∙◌}
-use Rattle.byte_scan.specs.Class.{is_low_control, is_outside}
-use Rattle.byte_scan.specs.Lanes.{flags}
-use Rattle.byte_scan.proofs.LaneLemmas.{either}
 use Rattle.byte_scan.proofs.class.ClassByteTest.flags.Goals as goal
-use Rattle.byte_scan.proofs.class.ClassByteTest.flags.Goals.{in-Xml, in-Playlist}
+use Rattle.std.proofs.Common.{◌==◌, sym, ap, ◌∙◌}
+use Rattle.byte_scan.specs.{Class.{is_low_control, is_outside}, Lanes.flags}
+use Rattle.byte_scan.proofs.{LaneLemmas.either, class.ClassByteTest.flags.Goals.{in-Xml, in-Playlist}}
 
 pub returns : goal.returns
 returns c =

@@ -1,9 +1,7 @@
-use Rattle.std.proofs.Common.{◌≡◌, subst}
-use Rattle.byte_scan.proofs.BitLemmas.{HasBits_lem}
-use Rattle.byte_scan.proofs.SetLemmas.{flags-is_member}
-use Rattle.byte_scan.specs.ByteSet.{is_member}
-use Rattle.byte_scan.specs.Lanes.{flags}
 use Rattle.byte_scan.proofs.set.ByteSetByteTest.flags.Goals as goal
+use Rattle.std.proofs.Common.{◌≡◌, subst}
+use Rattle.byte_scan.proofs.{BitLemmas.HasBits_lem, SetLemmas.flags-is_member}
+use Rattle.byte_scan.specs.{ByteSet.is_member, Lanes.flags}
 
 pub returns : goal.returns
 returns c =

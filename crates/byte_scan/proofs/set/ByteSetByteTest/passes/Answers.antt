@@ -1,8 +1,7 @@
-use Rattle.std.proofs.Common.{ap, ◌∙◌}
-use Rattle.byte_scan.proofs.BitLemmas.{HasBits_lem}
-use Rattle.byte_scan.proofs.SetLemmas.{hit-is_member}
-use Rattle.byte_scan.specs.ByteSet.{is_member}
 use Rattle.byte_scan.proofs.set.ByteSetByteTest.passes.Goals as goal
+use Rattle.std.proofs.Common.{ap, ◌∙◌}
+use Rattle.byte_scan.proofs.{BitLemmas.HasBits_lem, SetLemmas.hit-is_member}
+use Rattle.byte_scan.specs.ByteSet.{is_member}
 
 pub returns : goal.returns
 returns c =

@@ -1,10 +1,9 @@
+use Rattle.dash_writer.proofs.listed.ListingFilesSteps.push_urls.Given as goal
 use Rattle.std.proofs.Common.{length, All}
 use Rattle.presentation.specs.Laws.{HasAddress}
 use Rattle.bridge_io.specs.Adding.{shown}
 use Rattle.dash_writer.specs.Written.{elements_text}
-use Rattle.dash_writer.proofs.Progress.{Progress}
-use Rattle.dash_writer.proofs.Urls.{urls_left}
-use Rattle.dash_writer.proofs.listed.ListingFilesSteps.push_urls.Given as goal
+use Rattle.dash_writer.proofs.{Progress.Progress, Urls.urls_left}
 
 abbrev pub invariant-loop-segment : goal.invariant-loop-segment
 invariant-loop-segment g l =

@@ -1,9 +1,8 @@
+use Rattle.dash_writer.proofs.live.LiveMpdTrackListsUnit.push_list.Goals as goal
 use Rattle.std.proofs.Common.{sym, ap, ◌∙◌}
 use Rattle.bridge_io.proofs.Adding.{adds_same}
-use Rattle.dash_writer.specs.declared.live.LivePeriod.{LivePeriod}
-use Rattle.dash_writer.specs.Written.{elements_text}
+use Rattle.dash_writer.specs.{declared.live.LivePeriod.LivePeriod, Written.elements_text}
 use Rattle.dash_writer.proofs.LiveTracks.{list_read}
-use Rattle.dash_writer.proofs.live.LiveMpdTrackListsUnit.push_list.Goals as goal
 
 pub returns : goal.returns
 returns g c = let period = c.index-as_slice-section in

@@ -1,10 +1,7 @@
-use Rattle.std.proofs.Common.{◌+◌, drop, map}
-use Rattle.dash_writer.specs.Live.{part_of}
-use Rattle.dash_writer.specs.Segments.{segment_url}
-use Rattle.dash_writer.specs.Written.{elements_text}
-use Rattle.dash_writer.proofs.LiveTracks.{segments_behind}
-use Rattle.dash_writer.proofs.Progress.{fails, further}
 use Rattle.dash_writer.proofs.live.LiveSegmentsFilesUnit.push_urls.Goals as goal
+use Rattle.std.proofs.Common.{◌+◌, drop, map}
+use Rattle.dash_writer.specs.{Live.part_of, Segments.segment_url, Written.elements_text}
+use Rattle.dash_writer.proofs.{LiveTracks.segments_behind, Progress.{fails, further}}
 
 pub returns-in_err-push_url : goal.returns-in_err-push_url
 returns-in_err-push_url g c = let l = c.loop-segment in let segments = c.args.self.now.left.now in

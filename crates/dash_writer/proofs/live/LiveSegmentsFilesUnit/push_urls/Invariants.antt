@@ -1,11 +1,8 @@
+use Rattle.dash_writer.proofs.live.LiveSegmentsFilesUnit.push_urls.Given as goal
 use Rattle.std.proofs.Common.{List, drop, map}
 use Rattle.bridge_io.specs.Adding.{shown}
-use Rattle.dash_writer.specs.declared.live.LiveSegment.{LiveSegment}
-use Rattle.dash_writer.specs.Live.{part_of}
-use Rattle.dash_writer.specs.Segments.{segment_url}
-use Rattle.dash_writer.specs.Written.{elements_text}
+use Rattle.dash_writer.specs.{declared.live.LiveSegment.LiveSegment, Live.part_of, Segments.segment_url, Written.elements_text}
 use Rattle.dash_writer.proofs.Progress.{Progress}
-use Rattle.dash_writer.proofs.live.LiveSegmentsFilesUnit.push_urls.Given as goal
 
 abbrev pub invariant-loop-segment : goal.invariant-loop-segment
 invariant-loop-segment g l =

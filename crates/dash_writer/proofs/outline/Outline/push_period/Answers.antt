@@ -1,8 +1,7 @@
+use Rattle.dash_writer.proofs.outline.Outline.push_period.Goals as goal
 use Rattle.std.proofs.Common.{codes, sym, ◌∙◌}
 use Rattle.dash_writer.specs.Outline.{sets_of}
-use Rattle.dash_writer.proofs.Nodes.{adds_node, stops_at_children, stops_at_start}
-use Rattle.dash_writer.proofs.Sections.{childless_sets}
-use Rattle.dash_writer.proofs.outline.Outline.push_period.Goals as goal
+use Rattle.dash_writer.proofs.{Nodes.{adds_node, stops_at_children, stops_at_start}, Sections.childless_sets}
 
 pub returns-in_err-push_start : goal.returns-in_err-push_start
 returns-in_err-push_start g c = let o = c.args.self.now in let k = c.args.place in let lists = g.T.TrackLists.lists o.lists.now k in

@@ -1,11 +1,7 @@
-use Rattle.std.proofs.Common.{◌+◌, drop, ap}
-use Rattle.std.proofs.lemmas.List.{drop_all}
-use Rattle.dash_writer.specs.Given.{outline_of}
-use Rattle.dash_writer.specs.Outline.{heads_from, period_elements}
-use Rattle.dash_writer.specs.Written.{elements_text}
-use Rattle.dash_writer.proofs.Progress.{all_added, fails, further, nothing_yet}
-use Rattle.dash_writer.proofs.Sections.{periods_behind}
 use Rattle.dash_writer.proofs.outline.Outline.push_periods.Goals as goal
+use Rattle.std.proofs.{Common.{◌+◌, drop, ap}, lemmas.List.drop_all}
+use Rattle.dash_writer.specs.{Given.outline_of, Outline.{heads_from, period_elements}, Written.elements_text}
+use Rattle.dash_writer.proofs.{Progress.{all_added, fails, further, nothing_yet}, Sections.periods_behind}
 
 pub loop-place-init : goal.loop-place-init
 loop-place-init g c = nothing_yet _ _ _

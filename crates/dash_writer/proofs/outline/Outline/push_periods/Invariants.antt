@@ -1,10 +1,8 @@
+use Rattle.dash_writer.proofs.outline.Outline.push_periods.Given as goal
 use Rattle.std.proofs.Common.{drop}
 use Rattle.bridge_io.specs.Adding.{shown}
-use Rattle.dash_writer.specs.Given.{outline_of}
-use Rattle.dash_writer.specs.Outline.{heads_from, period_elements}
-use Rattle.dash_writer.specs.Written.{elements_text}
+use Rattle.dash_writer.specs.{Given.outline_of, Outline.{heads_from, period_elements}, Written.elements_text}
 use Rattle.dash_writer.proofs.Progress.{Progress}
-use Rattle.dash_writer.proofs.outline.Outline.push_periods.Given as goal
 
 abbrev pub invariant-loop-place : goal.invariant-loop-place
 invariant-loop-place g l =

@@ -1,10 +1,8 @@
+use Rattle.dash_writer.proofs.outline.Outline.push_to.Goals as goal
 use Rattle.std.proofs.Common.{codes, sym, ◌∙◌}
 use Rattle.bridge_io.proofs.Adding.{adds_stop_at, adds_then}
-use Rattle.dash_writer.specs.Given.{outline_of, text_with}
-use Rattle.dash_writer.specs.Outline.{period_elements}
-use Rattle.dash_writer.proofs.Nodes.{adds_node, stops_at_children, stops_at_start}
-use Rattle.dash_writer.proofs.Sections.{childless_periods}
-use Rattle.dash_writer.proofs.outline.Outline.push_to.Goals as goal
+use Rattle.dash_writer.specs.{Given.{outline_of, text_with}, Outline.period_elements}
+use Rattle.dash_writer.proofs.{Nodes.{adds_node, stops_at_children, stops_at_start}, Sections.childless_periods}
 
 pub returns-in_err-push_pieces : goal.returns-in_err-push_pieces
 unfolding text_with

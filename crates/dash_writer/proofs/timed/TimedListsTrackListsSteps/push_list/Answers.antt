@@ -1,12 +1,10 @@
-use Rattle.std.proofs.Common.{◌*◌, ◌+◌, get_or, slice_get, length, refl, sym, ap, ◌∙◌}
-use Rattle.std.proofs.lemmas.Option.{slice_get_read}
+use Rattle.dash_writer.proofs.timed.TimedListsTrackListsSteps.push_list.Goals as goal
+use Rattle.std.proofs.{Common.{◌*◌, ◌+◌, get_or, slice_get, length, refl, sym, ap, ◌∙◌}, lemmas.Option.slice_get_read}
 use Rattle.bridge_io.proofs.Adding.{adds_same}
 use Rattle.presentation.specs.Presented.{content_at, window_of}
 use Rattle.presentation.proofs.OwnListed.{addressed_at}
-use Rattle.dash_writer.specs.Timed.{list_of}
-use Rattle.dash_writer.specs.Written.{element_text, elements_text}
+use Rattle.dash_writer.specs.{Timed.list_of, Written.{element_text, elements_text}}
 use Rattle.dash_writer.proofs.Timing.{timed_is}
-use Rattle.dash_writer.proofs.timed.TimedListsTrackListsSteps.push_list.Goals as goal
 
 pub push_timed-requires : goal.push_timed-requires
 push_timed-requires g c = let p = c.args.self.now.presentation.now in

@@ -1,7 +1,6 @@
-use Rattle.std.proofs.Common.{◌==◌, inl, inr}
-use Rattle.std.proofs.lemmas.Bool.{cases_Bool, eqb-true}
-use Rattle.dash_writer.proofs.Nodes.{adds_fails}
 use Rattle.dash_writer.proofs.times.SegmentRun.go_on.Goals as goal
+use Rattle.std.proofs.{Common.{◌==◌, inl, inr}, lemmas.Bool.{cases_Bool, eqb-true}}
+use Rattle.dash_writer.proofs.Nodes.{adds_fails}
 
 pub returns-in_err-push_to-clause-adds : goal.returns-in_err-push_to-clause-adds
 returns-in_err-push_to-clause-adds g c = let run = c.args.self in elim (cases_Bool (c.args.duration == run.duration)) [

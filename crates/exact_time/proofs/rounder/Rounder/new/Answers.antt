@@ -1,8 +1,7 @@
+use Rattle.exact_time.proofs.rounder.Rounder.new.Goals as goal
 use Rattle.std.proofs.Common.{sym}
 use Rattle.exact_time.specs.Tick.{time_of}
-use Rattle.exact_time.proofs.TimeOrder.{IsAtMost_refl}
-use Rattle.exact_time.proofs.Floors.{floor_in-difference_self}
-use Rattle.exact_time.proofs.rounder.Rounder.new.Goals as goal
+use Rattle.exact_time.proofs.{TimeOrder.IsAtMost_refl, Floors.floor_in-difference_self}
 
 pub invariant_of-result : goal.invariant_of-result
 invariant_of-result c = record {

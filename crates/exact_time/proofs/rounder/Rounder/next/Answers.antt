@@ -1,6 +1,5 @@
-use Rattle.std.proofs.Common.{arith}
-use Rattle.std.proofs.Math.Nat.{mul-le-mul_left}
 use Rattle.exact_time.proofs.rounder.Rounder.next.Goals as goal
+use Rattle.std.proofs.{Common.arith, Math.Nat.mul-le-mul_left}
 
 pub overflow_cast-result : goal.overflow_cast-result
 overflow_cast-result c =

@@ -1,11 +1,8 @@
-use Rattle.std.proofs.Common.{◌≡◌, ◌*◌, ℕ, ap, subst, sym, arith}
-use Rattle.std.proofs.Math.Nat.{mul-le-mul_left}
-use Rattle.exact_time.specs.Time.{Time, IsAtMost}
-use Rattle.exact_time.specs.Rounding.{Rounding}
-use Rattle.exact_time.specs.Equal.{ticks_after}
 use Rattle.exact_time.proofs.EqualSteps as equal
-use Rattle.exact_time.proofs.Roundings.{begun_of}
 use Rattle.exact_time.proofs.rounder.Rounder.next_equal.Goals as goal
+use Rattle.std.proofs.{Common.{◌≡◌, ◌*◌, ℕ, ap, subst, sym, arith}, Math.Nat.mul-le-mul_left}
+use Rattle.exact_time.specs.{Time.{Time, IsAtMost}, Rounding.Rounding, Equal.ticks_after}
+use Rattle.exact_time.proofs.Roundings.{begun_of}
 
 end_of : (end kept former : Time) (count step n m : ℕ) → end ≡ ticks_after kept (n * m) → kept ≡ former → n ≡ count → m ≡ step →
     end ≡ ticks_after former (count * step)

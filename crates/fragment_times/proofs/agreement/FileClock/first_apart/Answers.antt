@@ -1,9 +1,8 @@
-use Rattle.std.proofs.Common.{◌≡◌, [], drop, sym, ap, ◌∙◌, arith}
-use Rattle.std.proofs.lemmas.List.{drop_all}
+use Rattle.fragment_times.proofs.agreement.FileClock.first_apart.Goals as goal
+use Rattle.std.proofs.{Common.{◌≡◌, [], drop, sym, ap, ◌∙◌, arith}, lemmas.List.drop_all}
 use Rattle.exact_time.specs.Tick.{time_of}
 use Rattle.fragment_times.specs.Agreeing.{apart_from}
 use Rattle.fragment_times.proofs.Apart.{no_starts}
-use Rattle.fragment_times.proofs.agreement.FileClock.first_apart.Goals as goal
 
 pub returns : goal.returns
 returns c =

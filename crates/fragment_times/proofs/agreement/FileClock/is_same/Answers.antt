@@ -1,7 +1,6 @@
-use Rattle.std.proofs.Common.{◌∙◌, arith}
-use Rattle.std.proofs.lemmas.Int.{ints}
-use Rattle.fragment_times.proofs.Apart.{same_before, same_from}
 use Rattle.fragment_times.proofs.agreement.FileClock.is_same.Goals as goal
+use Rattle.std.proofs.{Common.{◌∙◌, arith}, lemmas.Int.ints}
+use Rattle.fragment_times.proofs.Apart.{same_before, same_from}
 
 pub returns-then-start-lt0 : goal.returns-then-start-lt0
 returns-then-start-lt0 c =

@@ -1,7 +1,6 @@
-use Rattle.std.proofs.Common.{◌≡◌, ◌≤◌, ◌+◌, drop, length, sum}
-use Rattle.fragment_times.specs.Durations.{ticks_from}
-use Rattle.fragment_times.specs.Times.{behind}
 use Rattle.fragment_times.proofs.lasting.Begun.ticks_up_to.Given as goal
+use Rattle.std.proofs.Common.{◌≡◌, ◌≤◌, ◌+◌, drop, length, sum}
+use Rattle.fragment_times.specs.{Durations.ticks_from, Times.behind}
 
 -- what is told so far, and then of the segments that are left, is told of all
 abbrev pub invariant-loop-start : goal.invariant-loop-start

@@ -1,9 +1,8 @@
+use Rattle.fragment_times.proofs.lasting.Lasting.all.Given as goal
 use Rattle.std.proofs.Common.{◌≡◌, ◌*◌, All, length}
 use Rattle.presentation.specs.Told.{gathered}
 use Rattle.presentation.proofs.Counts.{from_on}
-use Rattle.fragment_times.specs.Durations.{IsShort, all_ticks, section_ticks}
-use Rattle.fragment_times.specs.Times.{behind}
-use Rattle.fragment_times.proofs.lasting.Lasting.all.Given as goal
+use Rattle.fragment_times.specs.{Durations.{IsShort, all_ticks, section_ticks}, Times.behind}
 
 -- what is told so far, and then of the sections that are left, is told of all
 abbrev pub invariant-loop-section : goal.invariant-loop-section

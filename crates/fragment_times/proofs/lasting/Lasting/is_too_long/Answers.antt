@@ -1,9 +1,7 @@
-use Rattle.std.proofs.Common.{◌≡◌, ◌<◌, ◌+◌, ◌-◌, ◌*◌, ◌^◌, length, take, drop, sum, sym, ap, ◌∙◌, arith}
-use Rattle.std.proofs.lemmas.List.Elements.{All-drop}
-use Rattle.fragment_times.specs.Durations.{IsShort, lengths, longest}
-use Rattle.fragment_times.specs.Times.{IsScaled}
-use Rattle.fragment_times.proofs.Periods.{next_length, one_less, reached}
 use Rattle.fragment_times.proofs.lasting.Lasting.is_too_long.Goals as goal
+use Rattle.std.proofs.{Common.{◌≡◌, ◌<◌, ◌+◌, ◌-◌, ◌*◌, ◌^◌, length, take, drop, sum, sym, ap, ◌∙◌, arith}, lemmas.List.Elements.All-drop}
+use Rattle.fragment_times.specs.{Durations.{IsShort, lengths, longest}, Times.IsScaled}
+use Rattle.fragment_times.proofs.Periods.{next_length, one_less, reached}
 
 pub loop-section-init : goal.loop-section-init
 loop-section-init c =

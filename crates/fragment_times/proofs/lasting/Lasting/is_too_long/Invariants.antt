@@ -1,7 +1,6 @@
-use Rattle.std.proofs.Common.{◌≡◌, ◌+◌, ◌-◌, ◌*◌, ◌<◌, ◌^◌, All, length, sum}
-use Rattle.fragment_times.specs.Durations.{IsShort, lengths}
-use Rattle.fragment_times.specs.Times.{IsScaled}
 use Rattle.fragment_times.proofs.lasting.Lasting.is_too_long.Given as goal
+use Rattle.std.proofs.Common.{◌≡◌, ◌+◌, ◌-◌, ◌*◌, ◌<◌, ◌^◌, All, length, sum}
+use Rattle.fragment_times.specs.{Durations.{IsShort, lengths}, Times.IsScaled}
 
 -- the sections so far, and then those that are left, are all
 abbrev pub invariant-loop-section : goal.invariant-loop-section

@@ -1,10 +1,8 @@
-use Rattle.std.proofs.Common.{None, option_map, sym, ap, ◌∙◌}
-use Rattle.std.proofs.lemmas.List.Elements.{All-head, All-tail}
-use Rattle.timeline.specs.Listed.{timing_of}
-use Rattle.timeline.specs.Steady.{IsWithinLimits}
+use Rattle.fragment_times.proofs.lasting.Lasting.last_span.Goals as goal
+use Rattle.std.proofs.{Common.{None, option_map, sym, ap, ◌∙◌}, lemmas.List.Elements.{All-head, All-tail}}
+use Rattle.timeline.specs.{Listed.timing_of, Steady.IsWithinLimits}
 use Rattle.fragment_times.specs.Durations.{last_behind}
 use Rattle.fragment_times.proofs.Listed.{is_reached, listed_whole}
-use Rattle.fragment_times.proofs.lasting.Lasting.last_span.Goals as goal
 
 pub seek-requires-clause-reached : goal.seek-requires-clause-reached
 seek-requires-clause-reached c =

@@ -1,9 +1,8 @@
+use Rattle.fragment_times.proofs.lasting.Lasting.last_span.Given as goal
 use Rattle.std.proofs.Common.{◌≡◌, All, IfSome, option_map}
-use Rattle.timeline.specs.Listed.{timing_of}
-use Rattle.timeline.specs.Steady.{IsWithinLimits}
+use Rattle.timeline.specs.{Listed.timing_of, Steady.IsWithinLimits}
 use Rattle.presentation.specs.Presented.{listed_at}
 use Rattle.fragment_times.specs.Durations.{last_behind, last_of}
-use Rattle.fragment_times.proofs.lasting.Lasting.last_span.Given as goal
 
 -- the last one of those so far, and then of those that are left, is the last one of all
 abbrev pub invariant-loop-span : goal.invariant-loop-span

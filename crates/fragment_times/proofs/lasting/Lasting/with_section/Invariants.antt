@@ -1,8 +1,7 @@
+use Rattle.fragment_times.proofs.lasting.Lasting.with_section.Given as goal
 use Rattle.std.proofs.Common.{◌≡◌, ◌+◌, All, length}
 use Rattle.presentation.proofs.Counts.{from_on}
-use Rattle.fragment_times.specs.Durations.{IsShort, section_ticks, ticks_at}
-use Rattle.fragment_times.specs.Times.{behind, each}
-use Rattle.fragment_times.proofs.lasting.Lasting.with_section.Given as goal
+use Rattle.fragment_times.specs.{Durations.{IsShort, section_ticks, ticks_at}, Times.{behind, each}}
 
 -- what is told so far, and then of the tracks that are left, is told of all
 abbrev pub invariant-loop-track : goal.invariant-loop-track

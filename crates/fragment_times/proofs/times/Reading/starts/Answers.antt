@@ -1,12 +1,9 @@
-use Rattle.std.proofs.Common.{Ok, append-nil, sym, ap, ◌∙◌, arith, rules}
-use Rattle.std.proofs.lemmas.Result.{err_from_is_err_and}
+use Rattle.fragment_times.proofs.times.Reading.starts.Goals as goal
+use Rattle.std.proofs.{Common.{Ok, append-nil, sym, ap, ◌∙◌, arith, rules}, lemmas.Result.err_from_is_err_and}
 use Rattle.presentation.proofs.Gathering.{behind_nothing}
 use Rattle.timeline.specs.Listed.{IsDone, IsMade}
-use Rattle.fragment_times.specs.Parts.{start_at}
-use Rattle.fragment_times.specs.Times.{all_starts, alone, behind, parts_of}
-use Rattle.fragment_times.proofs.Gathered.{next_refused, next_told, one_refused, one_told}
-use Rattle.fragment_times.proofs.Listed.{next_part, no_part, still_addressed}
-use Rattle.fragment_times.proofs.times.Reading.starts.Goals as goal
+use Rattle.fragment_times.specs.{Parts.start_at, Times.{all_starts, alone, behind, parts_of}}
+use Rattle.fragment_times.proofs.{Gathered.{next_refused, next_told, one_refused, one_told}, Listed.{next_part, no_part, still_addressed}}
 
 pub loop-starts-init : goal.loop-starts-init
 loop-starts-init g c = rw c.new-starts.ensures (record {

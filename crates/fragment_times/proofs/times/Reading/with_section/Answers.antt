@@ -1,11 +1,9 @@
-use Rattle.std.proofs.Common.{◌<◌, ◌+◌, length, ap, ◌∙◌, arith, rules}
-use Rattle.std.proofs.lemmas.List.{length_push}
-use Rattle.std.proofs.lemmas.List.Elements.{All-push}
+use Rattle.fragment_times.proofs.times.Reading.with_section.Goals as goal
+use Rattle.std.proofs.{Common.{◌<◌, ◌+◌, length, ap, ◌∙◌, arith, rules}, lemmas.List.length_push, lemmas.List.Elements.All-push}
 use Rattle.std.proofs.lemmas.Result.{err_from_is_err_and}
 use Rattle.presentation.proofs.Counts.{from_on}
 use Rattle.fragment_times.specs.Times.{IsScaled, alone, times_at}
 use Rattle.fragment_times.proofs.Gathered.{from_first, from_last, from_next, next_refused, next_told, one_refused, one_told}
-use Rattle.fragment_times.proofs.times.Reading.with_section.Goals as goal
 
 pub loop-track-init : goal.loop-track-init
 loop-track-init g c =

@@ -1,9 +1,8 @@
-use Rattle.std.proofs.Common.{◌∙◌, ap}
+use Rattle.hls_follow.proofs.follow.Follow.accept.Goals as goal
+use Rattle.std.proofs.{Common.{◌∙◌, ap}, lemmas.Result.err_from_is_err_and}
 use Rattle.std.specs.Option.{option_copied}
-use Rattle.std.proofs.lemmas.Result.{err_from_is_err_and}
 use Rattle.hls_follow.specs.Rounds.{Following}
 use Rattle.hls_follow.proofs.Accepting.{appended_is, next_is, next_refused, sound_of}
-use Rattle.hls_follow.proofs.follow.Follow.accept.Goals as goal
 
 pub follow_round-requires-clause-sound : goal.follow_round-requires-clause-sound
 follow_round-requires-clause-sound c = rw c.as_ref.ensures.value (sound_of c.self.inside.followed c.self.invariant)

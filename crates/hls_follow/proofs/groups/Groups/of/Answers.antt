@@ -1,8 +1,7 @@
-use Rattle.std.proofs.Common.{sym, arith}
-use Rattle.std.proofs.lemmas.List.Sums.{prefix_len-le-length}
+use Rattle.hls_follow.proofs.groups.Groups.of.Goals as goal
+use Rattle.std.proofs.{Common.{sym, arith}, lemmas.List.Sums.prefix_len-le-length}
 use Rattle.hls_follow.specs.Groups.{is_of}
 use Rattle.hls_follow.proofs.Cutting.{cut_off}
-use Rattle.hls_follow.proofs.groups.Groups.of.Goals as goal
 
 pub split_at-requires : goal.split_at-requires
 split_at-requires c = omega (

@@ -1,8 +1,7 @@
-use Rattle.std.proofs.Common.{ap, arith, count_by, rules, zero-add, ◌∙◌}
-use Rattle.std.proofs.lemmas.List.Sums.{count_by-le-length}
+use Rattle.hls_lines.proofs.lines.Lines.count_uris.Goals as goal
+use Rattle.std.proofs.{Common.{ap, arith, count_by, rules, zero-add, ◌∙◌}, lemmas.List.Sums.count_by-le-length}
 use Rattle.hls_lines.specs.Lines.{is_uri, text_lines}
 use Rattle.hls_lines.proofs.ScanLemmas.{few_lines}
-use Rattle.hls_lines.proofs.lines.Lines.count_uris.Goals as goal
 
 pub loop-rest-init : goal.loop-rest-init
 loop-rest-init c = let few = few_lines c.self.inside.place c.self.inside.rest.now in (

@@ -1,9 +1,8 @@
+use Rattle.hls_lines.proofs.lines.Lines.count_uris.Given as goal
 use Rattle.std.proofs.Common.{◌≡◌, ◌+◌, ◌≤◌, ◌^◌, length, count_by}
 use denote.Shadow.{shadow}
 use denote.Text.{Utf8}
-use Rattle.hls_lines.specs.Bounds.{HasRoom}
-use Rattle.hls_lines.specs.Lines.{is_uri, text_lines}
-use Rattle.hls_lines.proofs.lines.Lines.count_uris.Given as goal
+use Rattle.hls_lines.specs.{Bounds.HasRoom, Lines.{is_uri, text_lines}}
 
 abbrev pub invariant-loop-rest : goal.invariant-loop-rest
 invariant-loop-rest l = shadow (Utf8 l.rest)

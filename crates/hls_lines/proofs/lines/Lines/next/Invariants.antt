@@ -1,9 +1,8 @@
+use Rattle.hls_lines.proofs.lines.Lines.next.Given as goal
 use Rattle.std.proofs.Common.{◌≡◌, length}
 use denote.Shadow.{shadow}
 use denote.Text.{Utf8}
-use Rattle.hls_lines.specs.Bounds.{HasRoom}
-use Rattle.hls_lines.specs.Lines.{text_lines}
-use Rattle.hls_lines.proofs.lines.Lines.next.Given as goal
+use Rattle.hls_lines.specs.{Bounds.HasRoom, Lines.text_lines}
 
 abbrev pub invariant-loop-self : goal.invariant-loop-self
 invariant-loop-self l = shadow (Utf8 l.self-inside.rest.now)

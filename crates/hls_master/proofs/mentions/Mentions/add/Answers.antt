@@ -1,7 +1,6 @@
-use Rattle.hls_master.specs.SeenMentions.{mentions_seen}
-use Rattle.hls_master.specs.SeenTags.{rendition_seen}
-use Rattle.hls_master.proofs.Readings.{by_rendition}
 use Rattle.hls_master.proofs.mentions.Mentions.add.Goals as goal
+use Rattle.hls_master.specs.{SeenMentions.mentions_seen, SeenTags.rendition_seen}
+use Rattle.hls_master.proofs.Readings.{by_rendition}
 
 pub returns-in-Some-clause-added : goal.returns-in-Some-clause-added
 returns-in-Some-clause-added c =

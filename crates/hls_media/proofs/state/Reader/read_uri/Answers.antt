@@ -1,8 +1,7 @@
-use Rattle.std.proofs.Common.{◌++◌, [], ◌∷◌, None, refl, ap}
-use Rattle.hls_media.specs.States.{State}
-use Rattle.hls_media.specs.Views.{state_of}
-use Rattle.hls_media.proofs.Meanings.{segment_told}
 use Rattle.hls_media.proofs.state.Reader.read_uri.Goals as goal
+use Rattle.std.proofs.Common.{◌++◌, [], ◌∷◌, None, refl, ap}
+use Rattle.hls_media.specs.{States.State, Views.state_of}
+use Rattle.hls_media.proofs.Meanings.{segment_told}
 
 pub returns : goal.returns
 returns c =

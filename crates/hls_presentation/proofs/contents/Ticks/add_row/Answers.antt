@@ -1,9 +1,7 @@
-use Rattle.std.proofs.Common.{◌≡◌, ◌<◌, ◌+◌, max, length, drop, get_or, sym, ap, ◌∙◌, arith}
-use Rattle.std.proofs.lemmas.List.{drop_more}
-use Rattle.hls_presentation.specs.Presenting.{content_of}
-use Rattle.hls_presentation.specs.Sections.{group_at, length_of, row_at, row_length}
-use Rattle.hls_presentation.proofs.Turns.{row_turn}
 use Rattle.hls_presentation.proofs.contents.Ticks.add_row.Goals as goal
+use Rattle.std.proofs.{Common.{◌≡◌, ◌<◌, ◌+◌, max, length, drop, get_or, sym, ap, ◌∙◌, arith}, lemmas.List.drop_more}
+use Rattle.hls_presentation.specs.{Presenting.content_of, Sections.{group_at, length_of, row_at, row_length}}
+use Rattle.hls_presentation.proofs.Turns.{row_turn}
 
 pub loop-track-preserved : goal.loop-track-preserved
 loop-track-preserved c =

@@ -1,7 +1,6 @@
-use Rattle.std.proofs.Common.{◌≡◌, ◌<◌, ◌^◌, drop}
-use Rattle.hls_presentation.specs.Presenting.{behind, content_of, gathered}
-use Rattle.hls_presentation.specs.Sections.{row_at, row_length}
 use Rattle.hls_presentation.proofs.contents.Ticks.add_row.Given as goal
+use Rattle.std.proofs.Common.{◌≡◌, ◌<◌, ◌^◌, drop}
+use Rattle.hls_presentation.specs.{Presenting.{behind, content_of, gathered}, Sections.{row_at, row_length}}
 
 abbrev pub invariant-loop-track : goal.invariant-loop-track
 invariant-loop-track l = record {

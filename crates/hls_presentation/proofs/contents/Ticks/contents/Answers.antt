@@ -1,10 +1,7 @@
-use Rattle.std.proofs.Common.{sym, ◌∙◌, arith}
-use Rattle.std.proofs.lemmas.Result.{err_from_is_err_and}
-use Rattle.hls_presentation.specs.Presenting.{content_of}
-use Rattle.hls_presentation.specs.Sections.{section_count}
-use Rattle.hls_presentation.proofs.Rows.{short_later}
-use Rattle.hls_presentation.proofs.Turns.{contents_done, contents_stop, rows_turn}
 use Rattle.hls_presentation.proofs.contents.Ticks.contents.Goals as goal
+use Rattle.std.proofs.{Common.{sym, ◌∙◌, arith}, lemmas.Result.err_from_is_err_and}
+use Rattle.hls_presentation.specs.{Presenting.content_of, Sections.section_count}
+use Rattle.hls_presentation.proofs.{Rows.short_later, Turns.{contents_done, contents_stop, rows_turn}}
 
 pub returns-in_err-add_row : goal.returns-in_err-add_row
 returns-in_err-add_row c =

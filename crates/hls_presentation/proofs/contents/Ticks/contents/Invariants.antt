@@ -1,8 +1,7 @@
+use Rattle.hls_presentation.proofs.contents.Ticks.contents.Given as goal
 use Rattle.std.proofs.Common.{◌≡◌, ◌-◌, false}
 use Rattle.std.specs.List.{list_any}
-use Rattle.hls_presentation.specs.Presenting.{behind, contents_of}
-use Rattle.hls_presentation.specs.Sections.{is_too_long, rows_from, rows_of, section_count}
-use Rattle.hls_presentation.proofs.contents.Ticks.contents.Given as goal
+use Rattle.hls_presentation.specs.{Presenting.{behind, contents_of}, Sections.{is_too_long, rows_from, rows_of, section_count}}
 
 abbrev pub invariant-loop-place : goal.invariant-loop-place
 invariant-loop-place l = record {

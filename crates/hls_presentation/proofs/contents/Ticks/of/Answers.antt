@@ -1,8 +1,6 @@
-use Rattle.std.proofs.Common.{cond, ap, sym, ◌∙◌}
-use Rattle.std.proofs.lemmas.List.Folds.{list_all-map}
-use Rattle.hls_presentation.specs.Presenting.{are_micros}
-use Rattle.hls_presentation.specs.Views.{source_of}
 use Rattle.hls_presentation.proofs.contents.Ticks.of.Goals as goal
+use Rattle.std.proofs.{Common.{cond, ap, sym, ◌∙◌}, lemmas.List.Folds.list_all-map}
+use Rattle.hls_presentation.specs.{Presenting.are_micros, Views.source_of}
 
 pub returns-then-are_all_micros : goal.returns-then-are_all_micros
 returns-then-are_all_micros c = ap (λ b. cond b 1000 1) (sym (list_all-map are_micros source_of c.args.tracks.now

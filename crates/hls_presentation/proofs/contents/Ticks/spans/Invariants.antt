@@ -1,10 +1,8 @@
-use Rattle.std.proofs.Common.{◌≡◌, ◌+◌, ◌/◌, ◌++◌, drop, map}
-use Rattle.exact_time.specs.Tick.{time_of}
-use Rattle.exact_time.specs.Time.{in_units}
-use Rattle.timeline.specs.Durations.{extent_of}
-use Rattle.hls_presentation.specs.Presenting.{extents_from, ticks_by_second}
-use Rattle.hls_presentation.specs.Sections.{length_of}
 use Rattle.hls_presentation.proofs.contents.Ticks.spans.Given as goal
+use Rattle.std.proofs.Common.{◌≡◌, ◌+◌, ◌/◌, ◌++◌, drop, map}
+use Rattle.exact_time.specs.{Tick.time_of, Time.in_units}
+use Rattle.timeline.specs.Durations.{extent_of}
+use Rattle.hls_presentation.specs.{Presenting.{extents_from, ticks_by_second}, Sections.length_of}
 
 abbrev pub invariant-loop-segment : goal.invariant-loop-segment
 invariant-loop-segment l = record {

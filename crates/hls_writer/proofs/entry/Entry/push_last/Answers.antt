@@ -1,9 +1,8 @@
+use Rattle.hls_writer.proofs.entry.Entry.push_last.Goals as goal
 use Rattle.std.proofs.Common.{option_map, option_to_list}
 use Rattle.bridge_io.proofs.Adding.{adds_same, adds_then, adds_stop, adds_stop_at}
-use Rattle.hls_writer.specs.Lines.{lines_text, byte_range}
-use Rattle.hls_writer.specs.Rows.{entry_item}
+use Rattle.hls_writer.specs.{Lines.{lines_text, byte_range}, Rows.entry_item}
 use Rattle.hls_writer.proofs.Present.{last_text}
-use Rattle.hls_writer.proofs.entry.Entry.push_last.Goals as goal
 
 pub returns-in_err-push_duration : goal.returns-in_err-push_duration
 returns-in_err-push_duration g c = let range = option_to_list (option_map byte_range c.args.self.now.range) in

@@ -1,10 +1,8 @@
+use Rattle.hls_writer.proofs.entry.Entry.push_to.Goals as goal
 use Rattle.std.proofs.Common.{ap, replicate}
 use Rattle.bridge_io.proofs.Adding.{adds_same, adds_then, adds_stop, adds_stop_at}
-use Rattle.hls_writer.specs.Lines.{lines_text, discontinuity}
-use Rattle.hls_writer.specs.Playlists.{front_lines}
-use Rattle.hls_writer.specs.Rows.{entry_item}
+use Rattle.hls_writer.specs.{Lines.{lines_text, discontinuity}, Playlists.front_lines, Rows.entry_item}
 use Rattle.hls_writer.proofs.Present.{item_text}
-use Rattle.hls_writer.proofs.entry.Entry.push_to.Goals as goal
 
 pub returns-in_err-push_discontinuities : goal.returns-in_err-push_discontinuities
 returns-in_err-push_discontinuities g c = let item = entry_item c.args.self.now in

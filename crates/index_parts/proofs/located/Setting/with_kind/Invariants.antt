@@ -1,9 +1,8 @@
+use Rattle.index_parts.proofs.located.Setting.with_kind.Given as goal
 use Rattle.std.proofs.Common.{◌≡◌, ◌≤◌, All, Some}
 use Rattle.bridge_io.specs.Outside.{Files}
 use Rattle.presentation.specs.Presented.{IsEnded}
-use Rattle.index_parts.specs.Kept.{kind_kept}
-use Rattle.index_parts.specs.Rows.{rows_left}
-use Rattle.index_parts.proofs.located.Setting.with_kind.Given as goal
+use Rattle.index_parts.specs.{Kept.kind_kept, Rows.rows_left}
 
 abbrev pub invariant-loop-view : goal.invariant-loop-view
 invariant-loop-view g l =

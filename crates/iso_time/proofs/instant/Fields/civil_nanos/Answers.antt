@@ -1,10 +1,9 @@
-use Rattle.std.proofs.Common.{◌∙◌, FitsSigned, refl, ap, arith}
+use Rattle.iso_time.proofs.instant.Fields.civil_nanos.Goals as goal
+use Rattle.std.proofs.{Common.{◌∙◌, FitsSigned, refl, ap, arith}, lemmas.Int.{to_z_pos, to_z-of_z}}
 use Rattle.std.specs.Int.{w8, w16, w32, w128}
-use Rattle.std.proofs.lemmas.Int.{to_z_pos, to_z-of_z}
 use Rattle.jiff_core.specs.DateTime.{civil_nanos as jiff_nanos}
 use Rattle.jiff_core.proofs.SignedLemmas.{signed_arith}
 use Rattle.iso_time.proofs.CivilLemmas.{civil_nanos-is}
-use Rattle.iso_time.proofs.instant.Fields.civil_nanos.Goals as goal
 
 pub returns-in-Ok-clause-value : goal.returns-in-Ok-clause-value
 returns-in-Ok-clause-value c =

@@ -1,8 +1,7 @@
+use Rattle.live_judge.proofs.coming.Next.check_each.Goals as goal
 use Rattle.std.proofs.Common.{refl, ◌∙◌, arith}
 use Rattle.live_judge.specs.Coming.{coming_of}
-use Rattle.live_judge.proofs.Firsts.{none_left, none_next}
-use Rattle.live_judge.proofs.Rooms.{count_at, count_for, first_over, over_at, over_each, within_limit}
-use Rattle.live_judge.proofs.coming.Next.check_each.Goals as goal
+use Rattle.live_judge.proofs.{Firsts.{none_left, none_next}, Rooms.{count_at, count_for, first_over, over_at, over_each, within_limit}}
 
 pub returns-then-count-gt-TRACK_LIMIT : goal.returns-then-count-gt-TRACK_LIMIT
 returns-then-count-gt-TRACK_LIMIT c = let n = c.args.self.now in (

@@ -1,9 +1,7 @@
-use Rattle.std.proofs.Common.{rules, ◌≡◌, ◌∙◌, refl, arith}
-use Rattle.std.proofs.lemmas.Option.{slice_get_within}
-use Rattle.live_judge.specs.Shown.{track_shown}
-use Rattle.live_judge.proofs.Firsts.{none_next}
-use Rattle.live_judge.proofs.Joints.{even_all, even_at, even_none, first_even, uneven_first}
 use Rattle.live_judge.proofs.coming.Next.check_even.Goals as goal
+use Rattle.std.proofs.{Common.{rules, ◌≡◌, ◌∙◌, refl, arith}, lemmas.Option.slice_get_within}
+use Rattle.live_judge.specs.Shown.{track_shown}
+use Rattle.live_judge.proofs.{Firsts.none_next, Joints.{even_all, even_at, even_none, first_even, uneven_first}}
 
 pub loop-track-init : goal.loop-track-init
 loop-track-init c = first_even c.args.self.now.tracks.now c.of-one.result.track.now c.last-first.result.place c.of-one.ensures.there

@@ -1,11 +1,8 @@
-use Rattle.std.proofs.Common.{List, ◌∙◌, sym, subst, refl, arith}
-use Rattle.std.proofs.lemmas.Result.{err_from_is_err_and}
-use Rattle.live_meaning.specs.Refusals.{Refusal}
-use Rattle.live_judge.specs.Coming.{coming_of}
-use Rattle.live_judge.specs.Faults.{Tells}
-use Rattle.live_judge.proofs.Firsts.{first_next, none_left, none_next}
-use Rattle.live_judge.proofs.LongRules.{long_at, long_for, long_each}
 use Rattle.live_judge.proofs.coming.Next.check_long.Goals as goal
+use Rattle.std.proofs.{Common.{List, ◌∙◌, sym, subst, refl, arith}, lemmas.Result.err_from_is_err_and}
+use Rattle.live_meaning.specs.Refusals.{Refusal}
+use Rattle.live_judge.specs.{Coming.coming_of, Faults.Tells}
+use Rattle.live_judge.proofs.{Firsts.{first_next, none_left, none_next}, LongRules.{long_at, long_for, long_each}}
 
 pub loop-track-init : goal.loop-track-init
 loop-track-init c = refl

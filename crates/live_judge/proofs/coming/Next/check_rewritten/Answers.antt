@@ -1,12 +1,8 @@
-use Rattle.std.proofs.Common.{List, ◌∙◌, sym, subst, refl, arith}
-use Rattle.std.proofs.lemmas.Result.{err_from_is_err_and}
-use Rattle.live_meaning.specs.Refusals.{Refusal}
-use Rattle.live_judge.specs.Coming.{p_of}
-use Rattle.live_judge.specs.Faults.{Tells}
-use Rattle.live_judge.specs.Shown.{common_shown}
-use Rattle.live_judge.proofs.Firsts.{first_next, none_left, none_next}
-use Rattle.live_judge.proofs.Rewriting.{rewritten_at, rewritten_each, rewritten_for}
 use Rattle.live_judge.proofs.coming.Next.check_rewritten.Goals as goal
+use Rattle.std.proofs.{Common.{List, ◌∙◌, sym, subst, refl, arith}, lemmas.Result.err_from_is_err_and}
+use Rattle.live_meaning.specs.Refusals.{Refusal}
+use Rattle.live_judge.specs.{Coming.p_of, Faults.Tells, Shown.common_shown}
+use Rattle.live_judge.proofs.{Firsts.{first_next, none_left, none_next}, Rewriting.{rewritten_at, rewritten_each, rewritten_for}}
 
 pub loop-track-init : goal.loop-track-init
 loop-track-init c = refl

@@ -1,18 +1,11 @@
-use Rattle.std.proofs.Common.{pos, refl, sym, ◌∙◌, ap, subst, List, Option}
-use Rattle.std.specs.Prelude.{is_some}
-use Rattle.std.proofs.lemmas.Result.{err_from_is_err_and}
-use Rattle.presentation.specs.Counting.{range_faults}
-use Rattle.presentation.specs.Presented.{looked_at}
-use Rattle.live_meaning.specs.Updates.{Values, mpd_of}
-use Rattle.live_meaning.specs.Refusals.{Refusal}
-use Rattle.live_judge.specs.Changed.{listed_told}
-use Rattle.live_judge.specs.Coming.{update_of}
-use Rattle.live_judge.specs.Faults.{Tells, of_presentation}
-use Rattle.live_judge.specs.Shown.{common_shown, state_shown}
-use Rattle.live_judge.proofs.Firsts.{none_told, told_behind}
-use Rattle.live_judge.proofs.Judging.{kept_first, listed_first, next_is, none_before, timed_first, unmoved_there}
-use Rattle.live_judge.proofs.Listing.{far_told, mpd_at, none_far, told_looked}
 use Rattle.live_judge.proofs.coming.Next.judge.Goals as goal
+use Rattle.std.proofs.{Common.{pos, refl, sym, ◌∙◌, ap, subst, List, Option}, lemmas.Result.err_from_is_err_and}
+use Rattle.std.specs.Prelude.{is_some}
+use Rattle.presentation.specs.{Counting.range_faults, Presented.looked_at}
+use Rattle.live_meaning.specs.{Updates.{Values, mpd_of}, Refusals.Refusal}
+use Rattle.live_judge.specs.{Changed.listed_told, Coming.update_of, Faults.{Tells, of_presentation}, Shown.{common_shown, state_shown}}
+use Rattle.live_judge.proofs.{Firsts.{none_told, told_behind}, Judging.{kept_first, listed_first, next_is, none_before, timed_first}}
+use Rattle.live_judge.proofs.{Judging.unmoved_there, Listing.{far_told, mpd_at, none_far, told_looked}}
 
 pub check_kept-requires-clause-next : goal.check_kept-requires-clause-next
 check_kept-requires-clause-next c =

@@ -1,10 +1,9 @@
+use Rattle.live_judge.proofs.known.KnownPeriods.has_id.Goals as goal
 use Rattle.std.proofs.Common.{◌≡◌, ◌∙◌, Option, ap, sym, rules, false, bytes_eq, Some, None}
-use Rattle.std.specs.Prelude.{slice_get}
-use Rattle.std.specs.Option.{option_map_or}
+use Rattle.std.specs.{Prelude.slice_get, Option.option_map_or}
 use Rattle.live_meaning.specs.Known.{Known}
 use Rattle.live_judge.specs.Known.{known_shown}
 use Rattle.live_judge.proofs.Finding.{there_known}
-use Rattle.live_judge.proofs.known.KnownPeriods.has_id.Goals as goal
 
 pub returns-in-Some : goal.returns-in-Some
 returns-in-Some c =

@@ -1,12 +1,10 @@
+use Rattle.live_judge.proofs.times.NewTimes.next_run.Goals as goal
 use Rattle.std.proofs.Common.{◌≡◌, ◌-◌, ◌*◌, ◌++◌, ◌∷◌, ◌∙◌, ap, sym, subst, refl}
-use Rattle.exact_time.specs.Tick.{time_of}
-use Rattle.exact_time.specs.Equal.{equal_durations, summed_up, ticks_after}
-use Rattle.exact_time.specs.Rounding.{Rounding}
+use Rattle.exact_time.specs.{Tick.time_of, Equal.{equal_durations, summed_up, ticks_after}, Rounding.Rounding}
 use Rattle.presentation.specs.Kept.{durations_behind}
 use Rattle.presentation.proofs.NextRun.{others_near, past_all, past_first}
 use Rattle.live_judge.specs.Times.{IsPacedBy}
 use Rattle.live_judge.proofs.RunDurations.{begun_before, paced_next, run_split, second_fits, told_second}
-use Rattle.live_judge.proofs.times.NewTimes.next_run.Goals as goal
 
 pub second_of-second-requires-clause-begun : goal.second_of-second-requires-clause-begun
 second_of-second-requires-clause-begun c = let t = c.args.self.now in

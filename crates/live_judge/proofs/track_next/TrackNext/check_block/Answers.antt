@@ -1,11 +1,10 @@
+use Rattle.live_judge.proofs.track_next.TrackNext.check_block.Goals as goal
 use Rattle.std.proofs.Common.{Option, map, refl, ◌∙◌, ap}
 use Rattle.std.specs.Prelude.{option_map, option_to_list}
 use Rattle.bridge_io.specs.Firsts.{first_of}
 use Rattle.live_meaning.specs.Refusals.{Rewritten}
-use Rattle.live_judge.specs.declared.rewritten.Pair.{Pair}
-use Rattle.live_judge.specs.Rewriting.{pair_of}
+use Rattle.live_judge.specs.{declared.rewritten.Pair.Pair, Rewriting.pair_of}
 use Rattle.live_judge.proofs.Rewriting.{told_in}
-use Rattle.live_judge.proofs.track_next.TrackNext.check_block.Goals as goal
 
 pub returns-in-Some : goal.returns-in-Some
 returns-in-Some c =

@@ -1,11 +1,8 @@
-use Rattle.std.proofs.Common.{length, List, sym, subst, ◌∙◌, arith, ap}
-use Rattle.std.proofs.lemmas.Result.{err_from_is_err_and}
-use Rattle.live_meaning.specs.Refusals.{Refusal}
-use Rattle.live_judge.specs.Coming.{p_of}
-use Rattle.live_judge.specs.Faults.{Tells}
-use Rattle.live_judge.proofs.Firsts.{first_here, none_at_all, none_here}
-use Rattle.live_judge.proofs.LongRules.{long_in, long_there}
 use Rattle.live_judge.proofs.track_next.TrackNext.check_long.Goals as goal
+use Rattle.std.proofs.{Common.{length, List, sym, subst, ◌∙◌, arith, ap}, lemmas.Result.err_from_is_err_and}
+use Rattle.live_meaning.specs.Refusals.{Refusal}
+use Rattle.live_judge.specs.{Coming.p_of, Faults.Tells}
+use Rattle.live_judge.proofs.{Firsts.{first_here, none_at_all, none_here}, LongRules.{long_in, long_there}}
 
 pub loop-section-preserved : goal.loop-section-preserved
 loop-section-preserved c =

@@ -1,9 +1,8 @@
+use Rattle.live_judge.proofs.track_next.TrackNext.check_long_in.Goals as goal
 use Rattle.std.proofs.Common.{rules, refl}
 use Rattle.live_meaning.specs.Updates.{unit_of}
 use Rattle.live_judge.specs.Coming.{c_of}
-use Rattle.live_judge.proofs.LongRules.{first_in_run, none_in_run}
-use Rattle.live_judge.proofs.Totals.{durs}
-use Rattle.live_judge.proofs.track_next.TrackNext.check_long_in.Goals as goal
+use Rattle.live_judge.proofs.{LongRules.{first_in_run, none_in_run}, Totals.durs}
 
 pub returns-in-Some-first_long : goal.returns-in-Some-first_long
 returns-in-Some-first_long c = let l = c.args.self.now in (

@@ -1,10 +1,8 @@
+use Rattle.live_judge.proofs.track_next.TrackNext.check_long_in.Given as goal
 use Rattle.std.proofs.Common.{◌≡◌, length}
 use Rattle.live_meaning.specs.Updates.{unit_of}
-use Rattle.live_judge.specs.Coming.{c_of}
-use Rattle.live_judge.specs.Long.{longs_told}
-use Rattle.live_judge.specs.Times.{IsPaced, left_of}
+use Rattle.live_judge.specs.{Coming.c_of, Long.longs_told, Times.{IsPaced, left_of}}
 use Rattle.live_judge.proofs.Totals.{durs}
-use Rattle.live_judge.proofs.track_next.TrackNext.check_long_in.Given as goal
 
 abbrev pub invariant-loop-run : goal.invariant-loop-run
 invariant-loop-run l = record {

@@ -1,11 +1,8 @@
-use Rattle.std.proofs.Common.{length, arith, ap}
-use Rattle.std.proofs.lemmas.Result.{err_from_is_err_and}
-use Rattle.live_meaning.specs.Refusals.{rewritten_in}
-use Rattle.live_judge.specs.Coming.{p_of, t_of}
-use Rattle.live_judge.specs.Shown.{common_shown}
-use Rattle.live_judge.proofs.Firsts.{first_here, none_here}
-use Rattle.live_judge.proofs.Rewriting.{sound_there}
 use Rattle.live_judge.proofs.track_next.TrackNext.check_rewritten.Goals as goal
+use Rattle.std.proofs.{Common.{length, arith, ap}, lemmas.Result.err_from_is_err_and}
+use Rattle.live_meaning.specs.Refusals.{rewritten_in}
+use Rattle.live_judge.specs.{Coming.{p_of, t_of}, Shown.common_shown}
+use Rattle.live_judge.proofs.{Firsts.{first_here, none_here}, Rewriting.sound_there}
 
 pub latest-block-requires-clause-ordered : goal.latest-block-requires-clause-ordered
 latest-block-requires-clause-ordered c = (sound_there c.args.self.now c.requires.next).ordered

@@ -1,10 +1,8 @@
+use Rattle.live_judge.proofs.track_next.TrackNext.check_rewritten.Given as goal
 use Rattle.std.proofs.Common.{◌≤◌, ◌+◌, length}
 use Rattle.live_meaning.specs.Refusals.{rewritten_in}
-use Rattle.live_judge.specs.Blocks.{StandBefore, segments_in}
-use Rattle.live_judge.specs.Coming.{p_of, t_of}
-use Rattle.live_judge.specs.Shown.{common_shown}
+use Rattle.live_judge.specs.{Blocks.{StandBefore, segments_in}, Coming.{p_of, t_of}, Shown.common_shown}
 use Rattle.live_judge.proofs.Firsts.{IsNoneBefore}
-use Rattle.live_judge.proofs.track_next.TrackNext.check_rewritten.Given as goal
 
 abbrev pub invariant-loop-section : goal.invariant-loop-section
 invariant-loop-section l = record {

@@ -1,8 +1,7 @@
+use Rattle.live_judge.proofs.track_next.TrackNext.new_count.Goals as goal
 use Rattle.std.proofs.Common.{rules, ◌∙◌, sym, ap, length, Fits, w64, arith}
 use Rattle.live_judge.specs.Coming.{p_of}
-use Rattle.live_judge.proofs.Counts.{count_in, count_there}
-use Rattle.live_judge.proofs.Sums.{summed_all, summed_first, summed_next}
-use Rattle.live_judge.proofs.track_next.TrackNext.new_count.Goals as goal
+use Rattle.live_judge.proofs.{Counts.{count_in, count_there}, Sums.{summed_all, summed_first, summed_next}}
 
 pub loop-section-init : goal.loop-section-init
 loop-section-init c = record {

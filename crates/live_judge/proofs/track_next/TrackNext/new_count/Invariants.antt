@@ -1,8 +1,7 @@
+use Rattle.live_judge.proofs.track_next.TrackNext.new_count.Given as goal
 use Rattle.std.proofs.Common.{◌≤◌, ◌*◌, ◌^◌, length}
 use Rattle.live_judge.specs.Coming.{p_of}
-use Rattle.live_judge.proofs.Counts.{count_in}
-use Rattle.live_judge.proofs.Sums.{IsSummed}
-use Rattle.live_judge.proofs.track_next.TrackNext.new_count.Given as goal
+use Rattle.live_judge.proofs.{Counts.count_in, Sums.IsSummed}
 
 abbrev pub invariant-loop-section : goal.invariant-loop-section
 invariant-loop-section l = record {

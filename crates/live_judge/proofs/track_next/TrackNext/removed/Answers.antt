@@ -1,9 +1,8 @@
+use Rattle.live_judge.proofs.track_next.TrackNext.removed.Goals as goal
 use Rattle.std.proofs.Common.{arith, sum}
-use Rattle.live_meaning.specs.Histories.{least_length}
-use Rattle.live_meaning.specs.States.{new_durations}
+use Rattle.live_meaning.specs.{Histories.least_length, States.new_durations}
 use Rattle.live_judge.specs.Coming.{c_of, t_of}
 use Rattle.live_judge.proofs.KeptCounts.{least_left, removed_there}
-use Rattle.live_judge.proofs.track_next.TrackNext.removed.Goals as goal
 
 pub returns : goal.returns
 returns c = let l = c.args.self.now in

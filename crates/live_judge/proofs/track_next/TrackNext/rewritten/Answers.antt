@@ -1,19 +1,12 @@
+use Rattle.live_judge.proofs.track_next.TrackNext.rewritten.Goals as goal
 use Rattle.std.proofs.Common.{◌≡◌, ◌+◌, ◌-◌, ◌<◌, List, None, true, All, length, reverse, refl, sym, ◌∙◌, ap, subst, arith}
 use Rattle.std.specs.Prelude.{slice_get}
 use Rattle.exact_time.specs.Time.{IsTime}
-use Rattle.timeline.specs.declared.window.Window.{Window}
-use Rattle.timeline.specs.Expansions.{Timing}
-use Rattle.timeline.specs.Listed.{expansion, is_until, listed}
-use Rattle.live_meaning.specs.Segments.{times_of, timing_of}
-use Rattle.live_meaning.specs.Refusals.{expansion_at, first_other, rewritten_by}
-use Rattle.live_judge.specs.Blocks.{in_block}
-use Rattle.live_judge.specs.Coming.{p_of}
-use Rattle.live_judge.specs.Removal.{kept_in}
-use Rattle.live_judge.specs.Shown.{kept_of}
-use Rattle.live_judge.proofs.Blocks.{block_long, segment_at, time_at}
-use Rattle.live_judge.proofs.Holding.{held_last, rewritten_is, within_are}
+use Rattle.timeline.specs.{declared.window.Window.Window, Expansions.Timing, Listed.{expansion, is_until, listed}}
+use Rattle.live_meaning.specs.{Segments.{times_of, timing_of}, Refusals.{expansion_at, first_other, rewritten_by}}
+use Rattle.live_judge.specs.{Blocks.in_block, Coming.p_of, Removal.kept_in, Shown.kept_of}
+use Rattle.live_judge.proofs.{Blocks.{block_long, segment_at, time_at}, Holding.{held_last, rewritten_is, within_are}}
 use Rattle.live_judge.proofs.Rewriting.{expansion_is, segment_there, until_there}
-use Rattle.live_judge.proofs.track_next.TrackNext.rewritten.Goals as goal
 
 pub returns : goal.returns
 returns c =

@@ -1,10 +1,9 @@
+use Rattle.live_judge.proofs.track_next.TrackNext.times.Goals as goal
 use Rattle.std.proofs.Common.{◌∙◌, ap, arith}
-use Rattle.exact_time.specs.Tick.{time_of}
-use Rattle.exact_time.specs.Rounding.{rounding_behind}
+use Rattle.exact_time.specs.{Tick.time_of, Rounding.rounding_behind}
 use Rattle.presentation.specs.Kept.{durations_behind}
 use Rattle.timeline.specs.Listed.{timing_of}
 use Rattle.live_judge.proofs.NewDurations.{begun, durations_anew, durations_same, paced_same}
-use Rattle.live_judge.proofs.track_next.TrackNext.times.Goals as goal
 
 pub behind-requires-clause-begun : goal.behind-requires-clause-begun
 behind-requires-clause-begun c = begun c.args.self.now c.requires.next c.args.section c.requires.section c.last-last.result

@@ -1,7 +1,6 @@
-use Rattle.std.proofs.Common.{◌≡◌, ◌∙◌, Some, ap, arith, slice_get, sym}
-use Rattle.std.proofs.lemmas.Option.{slice_get-get_or}
-use Rattle.live_session.proofs.TrackMaking.{track_next, track_refused}
 use Rattle.live_session.proofs.maker.Maker.make_all.Goals as goal
+use Rattle.std.proofs.{Common.{◌≡◌, ◌∙◌, Some, ap, arith, slice_get, sym}, lemmas.Option.slice_get-get_or}
+use Rattle.live_session.proofs.TrackMaking.{track_next, track_refused}
 
 pub make_track-requires-clause-kept : goal.make_track-requires-clause-kept
 make_track-requires-clause-kept g c =

@@ -1,11 +1,8 @@
+use Rattle.live_session.proofs.maker.Maker.make_section.Goals as goal
 use Rattle.std.proofs.Common.{arith}
 use Rattle.presentation.specs.Presented.{content_at}
-use Rattle.live_session.specs.Made.{all_made}
-use Rattle.live_session.specs.Making.{GoesOnIn, IsDone, IsKeptNext}
-use Rattle.live_session.specs.New.{numbers_of, shown_by}
-use Rattle.live_session.proofs.Making.{all_there, begun_there, end_there, next_there, refused_there, with_content}
-use Rattle.live_session.proofs.Sections.{goes_on_there}
-use Rattle.live_session.proofs.maker.Maker.make_section.Goals as goal
+use Rattle.live_session.specs.{Made.all_made, Making.{GoesOnIn, IsDone, IsKeptNext}, New.{numbers_of, shown_by}}
+use Rattle.live_session.proofs.{Making.{all_there, begun_there, end_there, next_there, refused_there, with_content}, Sections.goes_on_there}
 
 pub section-segments-requires-clause-goes_on : goal.section-segments-requires-clause-goes_on
 section-segments-requires-clause-goes_on g c =

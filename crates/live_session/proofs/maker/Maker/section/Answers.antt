@@ -1,11 +1,9 @@
+use Rattle.live_session.proofs.maker.Maker.section.Goals as goal
 use Rattle.std.proofs.Common.{◌≡◌, ◌+◌, ◌^◌, ◌∙◌, ap, sym, subst, length, Option, IfSome, arith, refl}
 use Rattle.timeline.specs.Expansions.{SegmentTimeline}
-use Rattle.presentation.specs.declared.parts.Content.{Content}
-use Rattle.presentation.specs.Presented.{content_at, listed_at, listed_in}
-use Rattle.live_session.specs.Making.{IsSection, behind_in, end_in, number_of}
-use Rattle.live_session.specs.New.{later_listed, left_to_make, shown_by}
+use Rattle.presentation.specs.{declared.parts.Content.Content, Presented.{content_at, listed_at, listed_in}}
+use Rattle.live_session.specs.{Making.{IsSection, behind_in, end_in, number_of}, New.{later_listed, left_to_make, shown_by}}
 use Rattle.live_session.proofs.Making.{counted_there, listed_there, with_content}
-use Rattle.live_session.proofs.maker.Maker.section.Goals as goal
 
 pub of-requires-clause-goes_on : goal.of-requires-clause-goes_on
 of-requires-clause-goes_on c = let m = c.args.self.now in let s = c.args.section in let t = c.args.track in let last = c.args.last in

@@ -1,12 +1,11 @@
-use Rattle.std.proofs.Common.{ap, subst, sym, ◌∙◌}
-use Rattle.exact_time.specs.Rounding.{Rounding}
-use Rattle.exact_time.specs.Time.{Time}
-use Rattle.timeline.specs.Expansions.{Timing}
 use Rattle.presentation.specs.Printing as spec
+use Rattle.live_session.proofs.new_segments.NewSegments.next.Goals as goal
+use Rattle.std.proofs.Common.{ap, subst, sym, ◌∙◌}
+use Rattle.exact_time.specs.{Rounding.Rounding, Time.Time}
+use Rattle.timeline.specs.Expansions.{Timing}
 use Rattle.presentation.specs.Kept.{IsPaced, printed_rest}
 use Rattle.presentation.proofs.Printing.{held, paced_next}
 use Rattle.live_session.proofs.Paced.{datable_first, datable_later}
-use Rattle.live_session.proofs.new_segments.NewSegments.next.Goals as goal
 
 pub returns-in-Err-clause-segment : goal.returns-in-Err-clause-segment
 returns-in-Err-clause-segment g c = let r = c.self.inside.rounder in

@@ -1,9 +1,8 @@
+use Rattle.live_session.proofs.new_segments.NewSegments.of.Goals as goal
 use Rattle.std.proofs.Common.{◌∙◌, ◌^◌, ap}
 use Rattle.timeline.specs.Listed.{expansion}
-use Rattle.presentation.specs.Kept.{rounding_at}
-use Rattle.presentation.specs.Presented.{listed_in}
+use Rattle.presentation.specs.{Kept.rounding_at, Presented.listed_in}
 use Rattle.live_session.proofs.Paced.{datable, paced_as}
-use Rattle.live_session.proofs.new_segments.NewSegments.of.Goals as goal
 
 pub invariant_of-result : goal.invariant_of-result
 invariant_of-result c = let listed = listed_in c.args.window.now c.args.runs.now in

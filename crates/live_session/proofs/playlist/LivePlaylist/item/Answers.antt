@@ -1,10 +1,8 @@
-use Rattle.std.proofs.Common.{◌∙◌, ap, sym, length, arith, slice_get}
+use Rattle.live_session.proofs.playlist.LivePlaylist.item.Goals as goal
+use Rattle.std.proofs.{Common.{◌∙◌, ap, sym, length, arith, slice_get}, lemmas.List.length-map, lemmas.Option.slice_get-map}
 use Rattle.std.specs.Prelude.{option_map}
-use Rattle.std.proofs.lemmas.List.{length-map}
-use Rattle.std.proofs.lemmas.Option.{slice_get-map}
 use Rattle.hls_writer.specs.Items.{item_of}
 use Rattle.live_session.proofs.Listing.{items_are}
-use Rattle.live_session.proofs.playlist.LivePlaylist.item.Goals as goal
 
 pub item_at-requires : goal.item_at-requires
 item_at-requires c = let t = c.self.inside.track.now in

@@ -1,7 +1,6 @@
-use Rattle.std.proofs.Common.{◌∙◌, ap, sym, length}
-use Rattle.std.proofs.lemmas.List.{length-map}
-use Rattle.live_session.proofs.Listing.{items_are}
 use Rattle.live_session.proofs.playlist.LivePlaylist.len.Goals as goal
+use Rattle.std.proofs.{Common.{◌∙◌, ap, sym, length}, lemmas.List.length-map}
+use Rattle.live_session.proofs.Listing.{items_are}
 
 pub returns : goal.returns
 returns c = let t = c.self.inside.track.now in

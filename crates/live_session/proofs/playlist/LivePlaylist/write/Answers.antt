@@ -1,13 +1,10 @@
+use Rattle.live_session.proofs.playlist.LivePlaylist.write.Goals as goal
 use Rattle.std.proofs.Common.{◌≡◌, ◌++◌, ◌∙◌, ap, sym, subst, map, OnErr, OnOk, List, ℕ}
-use Rattle.bridge_io.specs.InOrder.{MayBegin}
-use Rattle.bridge_io.specs.Outside.{put, Changes}
+use Rattle.bridge_io.specs.{InOrder.MayBegin, Outside.{put, Changes}}
 use Rattle.iso_time.specs.Instant.{IsWritable}
-use Rattle.hls_writer.specs.declared.items.MediaItem.{MediaItem}
-use Rattle.hls_writer.specs.Items.{item_of, items_text}
-use Rattle.hls_writer.specs.Playlists.{followed_text}
+use Rattle.hls_writer.specs.{declared.items.MediaItem.MediaItem, Items.{item_of, items_text}, Playlists.followed_text}
 use Rattle.live_meaning.specs.Playlists.{live_text}
 use Rattle.live_session.proofs.Listing.{all_behind, items_are}
-use Rattle.live_session.proofs.playlist.LivePlaylist.write.Goals as goal
 
 pub write_item_slices-requires-clause-back : goal.write_item_slices-requires-clause-back
 write_item_slices-requires-clause-back g c =

@@ -1,13 +1,12 @@
+use Rattle.live_judge.specs.declared.fault.RefreshFault.TheVariants as faults
+use Rattle.live_session.proofs.session.Session.begin.Goals as goal
 use Rattle.std.proofs.Common.{◌≡◌, ◌+◌, arith}
 use Rattle.mpd_rules.specs.Views.{segments_mpd}
-use Rattle.live_meaning.specs.Refusals.{begun_of, first_appended_by}
-use Rattle.live_meaning.specs.Updates.{Terms}
+use Rattle.live_meaning.specs.{Refusals.{begun_of, first_appended_by}, Updates.Terms}
 use Rattle.live_judge.specs.Faults.{of_presentation}
-use Rattle.live_judge.specs.declared.fault.RefreshFault.TheVariants as faults
-use Rattle.live_session.proofs.Beginning.{counted_made, refused_judged, refused_made, refused_presented}
-use Rattle.live_session.proofs.Started.{begun_as, counted_first, counted_now, counts_refused, gives_refused, is_session, looked, not_made}
+use Rattle.live_session.proofs.{Beginning.{counted_made, refused_judged, refused_made, refused_presented}, Started.begun_as}
+use Rattle.live_session.proofs.Started.{counted_first, counted_now, counts_refused, gives_refused, is_session, looked, not_made}
 use Rattle.live_session.proofs.Started.{periods_once, shows}
-use Rattle.live_session.proofs.session.Session.begin.Goals as goal
 
 pub returns-in_err-opened-clause-next : goal.returns-in_err-opened-clause-next
 returns-in_err-opened-clause-next g c =

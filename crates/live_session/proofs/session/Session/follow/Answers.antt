@@ -1,15 +1,9 @@
-use Rattle.std.proofs.Common.{◌∙◌, List, Err, ap, subst, sym, arith}
-use Rattle.std.proofs.lemmas.Result.{err_from_is_err_and}
-use Rattle.live_judge.specs.Coming.{update_of}
-use Rattle.live_judge.specs.declared.fault.RefreshFault.TheVariants.{Memory}
-use Rattle.live_judge.specs.Shown.{state_shown}
-use Rattle.live_meaning.specs.Known.{Known}
-use Rattle.live_meaning.specs.States.{State}
-use Rattle.live_session.specs.Changes.{IsLeft, IsTaken}
-use Rattle.live_session.specs.Growth.{HaveRoom}
-use Rattle.live_session.specs.Sessions.{IsSession}
 use Rattle.live_session.proofs.Following as following
 use Rattle.live_session.proofs.session.Session.follow.Goals as goal
+use Rattle.std.proofs.{Common.{◌∙◌, List, Err, ap, subst, sym, arith}, lemmas.Result.err_from_is_err_and}
+use Rattle.live_judge.specs.{Coming.update_of, declared.fault.RefreshFault.TheVariants.Memory, Shown.state_shown}
+use Rattle.live_meaning.specs.{Known.Known, States.State}
+use Rattle.live_session.specs.{Changes.{IsLeft, IsTaken}, Growth.HaveRoom, Sessions.IsSession}
 
 pub returns-in_err-check_now : goal.returns-in_err-check_now
 returns-in_err-check_now g c =

@@ -1,13 +1,12 @@
+use Rattle.live_session.proofs.session.Session.refresh.Goals as goal
 use Rattle.std.proofs.Common.{sym, subst}
 use Rattle.std.specs.Prelude.{option_map}
 use Rattle.bridge_io.specs.Answer.{Gives}
 use Rattle.mpd_rules.specs.Views.{segments_mpd}
-use Rattle.live_meaning.specs.Refusals.{next_of}
-use Rattle.live_meaning.specs.Updates.{Refresh, Tick}
+use Rattle.live_meaning.specs.{Refusals.next_of, Updates.{Refresh, Tick}}
 use Rattle.live_judge.specs.Faults.{told}
 use Rattle.live_session.specs.Sessions.{refresh_by}
 use Rattle.live_session.proofs.Telling.{next_by}
-use Rattle.live_session.proofs.session.Session.refresh.Goals as goal
 
 pub returns-in-Some-clause-next : goal.returns-in-Some-clause-next
 returns-in-Some-clause-next g c =

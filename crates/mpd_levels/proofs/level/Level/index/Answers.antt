@@ -1,10 +1,8 @@
-use Rattle.std.proofs.Common.{◌≡◌, refl, rules, ◌∙◌, sym, Some, None}
-use Rattle.std.proofs.lemmas.Result.{IfOk-weaker}
 use Rattle.mpd_levels.specs.declared.level.Means.TheVariants as means
-use Rattle.mpd_levels.specs.Indexed.{index_of}
-use Rattle.mpd_levels.specs.Levels.{used}
-use Rattle.mpd_levels.proofs.Showing.{index_is}
 use Rattle.mpd_levels.proofs.level.Level.index.Goals as goal
+use Rattle.std.proofs.{Common.{◌≡◌, refl, rules, ◌∙◌, sym, Some, None}, lemmas.Result.IfOk-weaker}
+use Rattle.mpd_levels.specs.{Indexed.index_of, Levels.used}
+use Rattle.mpd_levels.proofs.Showing.{index_is}
 
 pub returns-in-Some-Base : goal.returns-in-Some-Base
 returns-in-Some-Base c = λ tables levels says.

@@ -1,9 +1,8 @@
-use Rattle.std.proofs.Common.{◌≡◌, refl, rules, true, false, Some, None}
 use Rattle.mpd_levels.specs.declared.level.Means.TheVariants as means
-use Rattle.mpd_levels.specs.Levels.{used, elements_used, list_name, template_name}
-use Rattle.mpd_levels.specs.Segments.{told, values_in}
-use Rattle.mpd_levels.proofs.Showing.{row_tells, segments_is}
 use Rattle.mpd_levels.proofs.level.Level.segments.Goals as goal
+use Rattle.std.proofs.Common.{◌≡◌, refl, rules, true, false, Some, None}
+use Rattle.mpd_levels.specs.{Levels.{used, elements_used, list_name, template_name}, Segments.{told, values_in}}
+use Rattle.mpd_levels.proofs.Showing.{row_tells, segments_is}
 
 pub returns-in_ok-of-in-Some-Template : goal.returns-in_ok-of-in-Some-Template
 returns-in_ok-of-in-Some-Template c = λ tables levels says.

@@ -1,13 +1,9 @@
-use Rattle.std.proofs.Common.{◌≡◌}
-use Rattle.std.specs.List.{cons_option}
-use Rattle.std.specs.Prelude.{option_map}
-use Rattle.std.proofs.lemmas.Result.{IfOk-weaker}
-use Rattle.mpd_text.specs.Nodes.{element_of}
-use Rattle.mpd_levels.specs.Merged.{row_over}
-use Rattle.mpd_levels.specs.Segments.{values_in}
-use Rattle.mpd_levels.specs.Shown.{Shows}
-use Rattle.mpd_levels.proofs.Showing.{Shows-grows, Shows-over}
 use Rattle.mpd_levels.proofs.values.ValueRow.below.Goals as goal
+use Rattle.std.proofs.{Common.◌≡◌, lemmas.Result.IfOk-weaker}
+use Rattle.std.specs.{List.cons_option, Prelude.option_map}
+use Rattle.mpd_text.specs.Nodes.{element_of}
+use Rattle.mpd_levels.specs.{Merged.row_over, Segments.values_in, Shown.Shows}
+use Rattle.mpd_levels.proofs.Showing.{Shows-grows, Shows-over}
 
 pub returns-in_ok-of-in-Some-clause-shows : goal.returns-in_ok-of-in-Some-clause-shows
 returns-in_ok-of-in-Some-clause-shows c = λ above shows.

@@ -1,12 +1,9 @@
+use Rattle.mpd_profile.proofs.visit.Visit.check_attribute_values.Given as goal
 use Rattle.std.proofs.Common.{◌≡◌, List, Some}
-use Rattle.mpd_text.specs.Nodes.{attributes_left}
-use Rattle.mpd_text.specs.Trees.{Head}
+use Rattle.mpd_text.specs.{Nodes.attributes_left, Trees.Head}
 use Rattle.std.specs.Prelude.{flat_map}
 use Rattle.bridge_io.specs.Firsts.{first_fault}
-use Rattle.mpd_profile.specs.Behind.{IsBehind}
-use Rattle.mpd_profile.specs.Passes.{visit_shown}
-use Rattle.mpd_profile.specs.Refusals.{attribute_told, attributes_told}
-use Rattle.mpd_profile.proofs.visit.Visit.check_attribute_values.Given as goal
+use Rattle.mpd_profile.specs.{Behind.IsBehind, Passes.visit_shown, Refusals.{attribute_told, attributes_told}}
 
 abbrev pub invariant-loop-attr : goal.invariant-loop-attr
 invariant-loop-attr l =

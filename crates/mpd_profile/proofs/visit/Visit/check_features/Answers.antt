@@ -1,7 +1,6 @@
-use Rattle.mpd_profile.specs.Features.{attributes_told, codes_feature, parent_feature}
-use Rattle.mpd_profile.specs.Passes.{visit_shown}
-use Rattle.mpd_profile.proofs.Telling.{no_feature, some_feature}
 use Rattle.mpd_profile.proofs.visit.Visit.check_features.Goals as goal
+use Rattle.mpd_profile.specs.{Features.{attributes_told, codes_feature, parent_feature}, Passes.visit_shown}
+use Rattle.mpd_profile.proofs.Telling.{no_feature, some_feature}
 
 pub returns-in-Some : goal.returns-in-Some
 returns-in-Some c = λ before behind.

@@ -1,9 +1,8 @@
+use Rattle.mpd_profile.proofs.visit.Visit.check_values.Goals as goal
 use Rattle.std.proofs.Common.{◌∙◌, ◌||◌, Some, sym}
 use Rattle.std.specs.List.{list_any}
-use Rattle.mpd_profile.specs.Passes.{visit_shown}
-use Rattle.mpd_profile.specs.Refusals.{attributes_told, has_no_type, lacks, required_of}
+use Rattle.mpd_profile.specs.{Passes.visit_shown, Refusals.{attributes_told, has_no_type, lacks, required_of}}
 use Rattle.mpd_profile.proofs.Telling.{none_missing, some_missing}
-use Rattle.mpd_profile.proofs.visit.Visit.check_values.Goals as goal
 
 pub returns-then-is_incomplete : goal.returns-then-is_incomplete
 returns-then-is_incomplete c = λ before behind.

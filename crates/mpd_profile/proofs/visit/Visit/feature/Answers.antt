@@ -1,8 +1,6 @@
-use Rattle.std.proofs.Common.{◌∙◌, ap}
-use Rattle.mpd_profile.specs.Features.{codes_feature}
-use Rattle.mpd_profile.specs.Heads.{or_else}
-use Rattle.mpd_profile.specs.Passes.{visit_shown}
 use Rattle.mpd_profile.proofs.visit.Visit.feature.Goals as goal
+use Rattle.std.proofs.Common.{◌∙◌, ap}
+use Rattle.mpd_profile.specs.{Features.codes_feature, Heads.or_else, Passes.visit_shown}
 
 pub returns-in-Some : goal.returns-in-Some
 returns-in-Some c = λ before behind.

@@ -1,13 +1,10 @@
+use Rattle.mpd_profile.specs.declared.parent.Parent as parents
+use Rattle.mpd_profile.proofs.visit.Visit.feature_by_name.Goals as goal
 use Rattle.std.proofs.Common.{◌≡◌, Option, Some, Bor, ◌∙◌, ap, List, ℕ, Bool}
 use Rattle.std.specs.Prelude.{option_map}
-use Rattle.mpd_profile.specs.declared.feature.Feature.{Feature}
-use Rattle.mpd_profile.specs.declared.parent.Parent as parents
-use Rattle.mpd_profile.specs.Features.{feature_if, is_second, parent_feature}
-use Rattle.mpd_profile.specs.Passes.{parent_shown}
+use Rattle.mpd_profile.specs.{declared.feature.Feature.Feature, Features.{feature_if, is_second, parent_feature}, Passes.parent_shown}
 use Rattle.mpd_profile.proofs.Untold.{short_untold}
-use Rattle.mpd_text.specs.Nodes.{element_of}
-use Rattle.mpd_text.specs.Trees.{Head}
-use Rattle.mpd_profile.proofs.visit.Visit.feature_by_name.Goals as goal
+use Rattle.mpd_text.specs.{Nodes.element_of, Trees.Head}
 
 named : (o : Option (Bor parents.Parent)) (parent : Bor parents.Parent) (before : List Head) (said name : List ℕ) (second : Bool)
     (feature : Option Feature)

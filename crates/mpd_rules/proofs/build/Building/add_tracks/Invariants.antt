@@ -1,12 +1,9 @@
+use Rattle.mpd_rules.proofs.build.Building.add_tracks.Given as goal
 use Rattle.std.proofs.Common.{◌≡◌, ◌++◌, List, map, drop}
 use Rattle.std.specs.Prelude.{flat_map}
-use Rattle.mpd_text.specs.Nodes.{element_of}
-use Rattle.mpd_text.specs.Trees.{Element}
-use Rattle.mpd_levels.specs.declared.tables.Tables.{Tables}
-use Rattle.mpd_levels.specs.Shown.{Grows, Says}
-use Rattle.mpd_rules.specs.Built.{refused_in, tracks_shown}
-use Rattle.mpd_rules.specs.Typed.{track_in}
-use Rattle.mpd_rules.proofs.build.Building.add_tracks.Given as goal
+use Rattle.mpd_text.specs.{Nodes.element_of, Trees.Element}
+use Rattle.mpd_levels.specs.{declared.tables.Tables.Tables, Shown.{Grows, Says}}
+use Rattle.mpd_rules.specs.{Built.{refused_in, tracks_shown}, Typed.track_in}
 
 abbrev pub invariant-loop-representation : goal.invariant-loop-representation
 invariant-loop-representation g l = record {

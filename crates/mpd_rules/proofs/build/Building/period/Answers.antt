@@ -1,9 +1,8 @@
-use Rattle.std.proofs.Common.{All, [], ◌∷◌, map, ap, sym, subst, refl, ◌∙◌}
-use Rattle.std.proofs.lemmas.Result.{err_from_is_err_and}
+use Rattle.mpd_rules.proofs.build.Building.period.Goals as goal
+use Rattle.std.proofs.{Common.{All, [], ◌∷◌, map, ap, sym, subst, refl, ◌∙◌}, lemmas.Result.err_from_is_err_and}
 use Rattle.mpd_text.specs.Nodes.{element_of}
 use Rattle.mpd_levels.proofs.Showing.{Grows-then}
 use Rattle.mpd_rules.specs.Fits.{FitsSet}
-use Rattle.mpd_rules.proofs.build.Building.period.Goals as goal
 
 pub tracks-requires-clause-fits : goal.tracks-requires-clause-fits
 tracks-requires-clause-fits g c = subst (All FitsSet) (sym (ap (map element_of) c.deref.ensures.value

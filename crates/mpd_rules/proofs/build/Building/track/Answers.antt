@@ -1,8 +1,7 @@
-use Rattle.std.proofs.Common.{◌∷◌, refl}
-use Rattle.std.proofs.lemmas.Result.{err_from_is_err_and}
+use Rattle.mpd_rules.proofs.build.Building.track.Goals as goal
+use Rattle.std.proofs.{Common.{◌∷◌, refl}, lemmas.Result.err_from_is_err_and}
 use Rattle.mpd_text.specs.Nodes.{element_of}
 use Rattle.mpd_rules.proofs.Building.{Says-grows}
-use Rattle.mpd_rules.proofs.build.Building.track.Goals as goal
 
 pub told-requires : goal.told-requires
 told-requires g c = let said = c.requires.said in (

@@ -1,16 +1,10 @@
-use Rattle.std.proofs.Common.{◌+◌, ◌++◌, ap, map, drop, sym, ◌∙◌, append_assoc, arith}
-use Rattle.std.proofs.lemmas.List.{append-nil, at_drop_all}
-use Rattle.std.proofs.lemmas.List.Sums.{sum_by-cons}
-use Rattle.std.proofs.lemmas.Result.{err_from_is_err_and}
+use Rattle.mpd_rules.proofs.build.Building.tracks.Goals as goal
+use Rattle.std.proofs.{Common.{◌+◌, ◌++◌, ap, map, drop, sym, ◌∙◌, append_assoc, arith}, lemmas.List.{append-nil, at_drop_all}}
+use Rattle.std.proofs.{lemmas.List.Sums.sum_by-cons, lemmas.Result.err_from_is_err_and}
 use Rattle.mpd_text.specs.Nodes.{element_of}
 use Rattle.mpd_levels.proofs.Showing.{Grows-then}
-use Rattle.mpd_rules.specs.Built.{set_tracks, sets_tracks, tracks_shown}
-use Rattle.mpd_rules.specs.Fits.{FitsSet}
-use Rattle.mpd_rules.specs.Kept.{left_in_set}
-use Rattle.mpd_rules.proofs.Building.{Says-grows}
-use Rattle.mpd_rules.proofs.Refusing.{first_of_more, none_first}
-use Rattle.mpd_rules.proofs.Walking.{all_here, one_left}
-use Rattle.mpd_rules.proofs.build.Building.tracks.Goals as goal
+use Rattle.mpd_rules.specs.{Built.{set_tracks, sets_tracks, tracks_shown}, Fits.FitsSet, Kept.left_in_set}
+use Rattle.mpd_rules.proofs.{Building.Says-grows, Refusing.{first_of_more, none_first}, Walking.{all_here, one_left}}
 
 pub add_set-requires-clause-fits : goal.add_set-requires-clause-fits
 add_set-requires-clause-fits g c =

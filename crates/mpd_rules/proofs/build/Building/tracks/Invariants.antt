@@ -1,12 +1,9 @@
+use Rattle.mpd_rules.proofs.build.Building.tracks.Given as goal
 use Rattle.std.proofs.Common.{◌≡◌, ◌+◌, ◌++◌, List, map, drop, length}
 use Rattle.std.specs.Prelude.{flat_map, sum_by}
-use Rattle.mpd_text.specs.Nodes.{element_of}
-use Rattle.mpd_text.specs.Trees.{Element}
-use Rattle.mpd_levels.specs.declared.tables.Tables.{Tables}
-use Rattle.mpd_levels.specs.Shown.{Grows, Says}
-use Rattle.mpd_rules.specs.Built.{set_refused, sets_tracks, tracks_shown}
-use Rattle.mpd_rules.specs.Kept.{left_in_set}
-use Rattle.mpd_rules.proofs.build.Building.tracks.Given as goal
+use Rattle.mpd_text.specs.{Nodes.element_of, Trees.Element}
+use Rattle.mpd_levels.specs.{declared.tables.Tables.Tables, Shown.{Grows, Says}}
+use Rattle.mpd_rules.specs.{Built.{set_refused, sets_tracks, tracks_shown}, Kept.left_in_set}
 
 abbrev pub invariant-loop-place : goal.invariant-loop-place
 invariant-loop-place g l = record {

@@ -1,9 +1,8 @@
+use Rattle.mpd_rules.proofs.from_levels.FileIndexFromLevels.told.Goals as goal
 use Rattle.std.proofs.Common.{◌≡◌, refl, ap, sym, ◌∙◌, subst, Bool, true, false, IfSome, Option, Some, None}
 use Rattle.std.specs.Prelude.{if◌then◌else◌}
-use Rattle.mpd_levels.specs.Indexed.{lacks_index}
-use Rattle.mpd_levels.specs.declared.indexed.IndexRow.{IndexRow}
+use Rattle.mpd_levels.specs.{Indexed.lacks_index, declared.indexed.IndexRow.IndexRow}
 use Rattle.mpd_rules.proofs.Ranges.{HasBytes, index_bytes}
-use Rattle.mpd_rules.proofs.from_levels.FileIndexFromLevels.told.Goals as goal
 
 lacking : (b : Bool) (row : IndexRow) → None ≡ (if b then None else Some row) → b ≡ true
 lacking true row is = refl

@@ -1,10 +1,8 @@
-use Rattle.std.proofs.Common.{◌≡◌, ◌+◌, ◌-◌, ◌<◌, length, set, ap, subst, ◌∙◌, refl, arith, Some}
-use Rattle.std.proofs.lemmas.Option.{slice_get_read}
-use Rattle.std.specs.List.{slice_get}
-use Rattle.std.specs.Vec.{vec_len}
+use Rattle.mpd_text.proofs.growing.Growing.add_attribute.Goals as goal
+use Rattle.std.proofs.{Common.{◌≡◌, ◌+◌, ◌-◌, ◌<◌, length, set, ap, subst, ◌∙◌, refl, arith, Some}, lemmas.Option.slice_get_read}
+use Rattle.std.specs.{List.slice_get, Vec.vec_len}
 use Rattle.mpd_text.specs.Opening.{with_attributes_end}
 use Rattle.mpd_text.proofs.OpeningLemmas.{followed_set, nested_same, begun_same}
-use Rattle.mpd_text.proofs.growing.Growing.add_attribute.Goals as goal
 
 pub invariant_of-self-2-clause-followed : goal.invariant_of-self-2-clause-followed
 invariant_of-self-2-clause-followed c =

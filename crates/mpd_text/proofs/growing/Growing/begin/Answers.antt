@@ -1,9 +1,7 @@
-use Rattle.std.proofs.Common.{sym, subst, arith}
-use Rattle.mpd_text.specs.Opening.{AreRising, BeginWithRoot}
-use Rattle.mpd_text.specs.Rows.{AreFollowed, AreNested}
-use Rattle.mpd_text.proofs.OpeningLemmas.{followed_pushed, nested_pushed, begun_by, rising_pushed, rooted_pushed}
-use Rattle.mpd_text.proofs.RowLemmas.{pushed_surely}
 use Rattle.mpd_text.proofs.growing.Growing.begin.Goals as goal
+use Rattle.std.proofs.Common.{sym, subst, arith}
+use Rattle.mpd_text.specs.{Opening.{AreRising, BeginWithRoot}, Rows.{AreFollowed, AreNested}}
+use Rattle.mpd_text.proofs.{OpeningLemmas.{followed_pushed, nested_pushed, begun_by, rising_pushed, rooted_pushed}, RowLemmas.pushed_surely}
 
 pub invariant_of-self-2-clause-followed : goal.invariant_of-self-2-clause-followed
 invariant_of-self-2-clause-followed c =

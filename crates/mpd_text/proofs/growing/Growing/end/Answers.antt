@@ -1,10 +1,9 @@
-use Rattle.std.proofs.Common.{◌≡◌, ◌-◌, length, set, sym, ap, subst, ◌∙◌, refl, arith, Some}
-use Rattle.std.proofs.lemmas.Option.{slice_get_read, slice_get-get_or}
-use Rattle.std.specs.List.{slice_get}
-use Rattle.std.specs.Vec.{vec_len}
+use Rattle.mpd_text.proofs.growing.Growing.end.Goals as goal
+use Rattle.std.proofs.{Common.{◌≡◌, ◌-◌, length, set, sym, ap, subst, ◌∙◌, refl, arith, Some}, lemmas.Option.slice_get_read}
+use Rattle.std.proofs.lemmas.Option.{slice_get-get_or}
+use Rattle.std.specs.{List.slice_get, Vec.vec_len}
 use Rattle.mpd_text.specs.Opening.{AreRising, BeginWithRoot, ended_row}
 use Rattle.mpd_text.proofs.OpeningLemmas.{followed_set, nested_set, begun_taken, rising_taken, rooted_taken}
-use Rattle.mpd_text.proofs.growing.Growing.end.Goals as goal
 
 pub invariant_of-self-2-clause-followed : goal.invariant_of-self-2-clause-followed
 invariant_of-self-2-clause-followed c =

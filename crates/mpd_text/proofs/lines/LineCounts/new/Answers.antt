@@ -1,10 +1,9 @@
-use Rattle.std.proofs.Common.{◌≡◌, ◌+◌, ◌*◌, [], ◌∷◌, ◌++◌, refl, subst, sym, ap, ◌∙◌, take, count_by, arith}
-use Rattle.std.proofs.lemmas.List.{length-take}
+use Rattle.mpd_text.proofs.lines.LineCounts.new.Goals as goal
+use Rattle.std.proofs.{Common.{◌≡◌, ◌+◌, ◌*◌, [], ◌∷◌, ◌++◌, refl, subst, sym, ap, ◌∙◌, take, count_by, arith}, lemmas.List.length-take}
 use Rattle.std.proofs.lemmas.List.Sums.{count_by-le-length}
 use Rattle.byte_scan.specs.Lines.{is_line_feed}
 use Rattle.mpd_text.specs.Lines.{AreCounted}
 use Rattle.mpd_text.proofs.LineLemmas.{count_on, none_counted, one_more_block}
-use Rattle.mpd_text.proofs.lines.LineCounts.new.Goals as goal
 
 pub overflow_add-count : goal.overflow_add-count
 overflow_add-count c =

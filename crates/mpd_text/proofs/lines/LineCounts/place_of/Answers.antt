@@ -1,9 +1,8 @@
-use Rattle.std.proofs.Common.{◌≡◌, ◌+◌, ◌*◌, ◌/◌, take, count_by, ap, ◌∙◌, arith}
-use Rattle.std.proofs.lemmas.List.{get_or_read, length-take}
+use Rattle.mpd_text.proofs.lines.LineCounts.place_of.Goals as goal
+use Rattle.std.proofs.{Common.{◌≡◌, ◌+◌, ◌*◌, ◌/◌, take, count_by, ap, ◌∙◌, arith}, lemmas.List.{get_or_read, length-take}}
 use Rattle.std.proofs.lemmas.List.Sums.{count_by-le-length}
 use Rattle.byte_scan.specs.Lines.{is_line_feed}
 use Rattle.mpd_text.proofs.LineLemmas.{count_on}
-use Rattle.mpd_text.proofs.lines.LineCounts.place_of.Goals as goal
 
 pub index-requires : goal.index-requires
 index-requires c = omega (arith, c.requires.counted.as_many, c.args.self.now.before.ok.0)

@@ -1,8 +1,7 @@
+use Rattle.mpd_text.proofs.many_names.ManyNames.add.Goals as goal
 use Rattle.std.proofs.Common.{sym, ◌∙◌, ap, not, ◌||◌}
 use Rattle.std.specs.Str.{bytes_eq}
-use Rattle.bridge_io.proofs.NameSets.{has, has_name, insert_has}
-use Rattle.bridge_io.proofs.Texts.{among_more}
-use Rattle.mpd_text.proofs.many_names.ManyNames.add.Goals as goal
+use Rattle.bridge_io.proofs.{NameSets.{has, has_name, insert_has}, Texts.among_more}
 
 pub returns-clause-name : goal.returns-clause-name
 returns-clause-name c = λ names known. (

@@ -1,10 +1,9 @@
+use Rattle.mpd_text.proofs.many_names.ManyNames.repeats.Goals as goal
 use Rattle.std.proofs.Common.{sym, subst, ap, not, ◌∙◌, arith}
 use Rattle.bridge_io.specs.Texts.{is_among}
-use Rattle.mpd_text.specs.ManyNames.{HasNames}
-use Rattle.mpd_text.specs.Names.{names_in}
+use Rattle.mpd_text.specs.{ManyNames.HasNames, Names.names_in}
 use Rattle.mpd_text.proofs.NameSets.{prepared_many, names_as_many, not_not}
 use Rattle.mpd_text.proofs.many_names.ManyNames.repeats.Goals.{then-before-eq-FEW+in_ok-add_all, else-before-eq-FEW}
-use Rattle.mpd_text.proofs.many_names.ManyNames.repeats.Goals as goal
 
 pub returns-clause-read : goal.returns-clause-read
 returns-clause-read c = λ prepared.

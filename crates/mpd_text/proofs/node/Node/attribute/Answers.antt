@@ -1,10 +1,7 @@
+use Rattle.mpd_text.proofs.node.Node.attribute.Goals as goal
 use Rattle.std.proofs.Common.{◌≡◌, ℕ, ◌+◌, ◌<◌, Bool, true, false, cond, List, ◌∷◌, map, length, drop, get_or, ap, sym, ◌∙◌, Some, bytes_eq}
 use Rattle.std.proofs.lemmas.List.{at_drop_more, at_drop_all, get_or_default}
-use Rattle.mpd_text.specs.declared.tree.AttributeRow.{AttributeRow}
-use Rattle.mpd_text.specs.Trees.{Attribute}
-use Rattle.mpd_text.specs.Nodes.{attribute_in}
-use Rattle.mpd_text.specs.Views.{attribute_named}
-use Rattle.mpd_text.proofs.node.Node.attribute.Goals as goal
+use Rattle.mpd_text.specs.{declared.tree.AttributeRow.AttributeRow, Trees.Attribute, Nodes.attribute_in, Views.attribute_named}
 
 -- the first of some attributes has the name, or it is looked for among the others
 one_more : (show : AttributeRow → Attribute) (name text : List ℕ) (rows : List AttributeRow) (k : ℕ) (row : AttributeRow) (b : Bool)

@@ -1,8 +1,7 @@
-use Rattle.std.proofs.Common.{◌≡◌, ◌+◌, suc, ap, sym, ◌∙◌, arith}
-use Rattle.mpd_text.specs.Nodes.{head_in}
-use Rattle.mpd_text.specs.Views.{forest_of, side_by_side}
-use Rattle.mpd_text.proofs.NodeLemmas.{node_shows}
 use Rattle.mpd_text.proofs.node.Node.children.Goals as goal
+use Rattle.std.proofs.Common.{◌≡◌, ◌+◌, suc, ap, sym, ◌∙◌, arith}
+use Rattle.mpd_text.specs.{Nodes.head_in, Views.{forest_of, side_by_side}}
+use Rattle.mpd_text.proofs.NodeLemmas.{node_shows}
 
 pub returns : goal.returns
 returns c =

@@ -1,8 +1,7 @@
+use Rattle.mpd_text.proofs.reader.Reader.add_data.Goals as goal
 use Rattle.std.proofs.Common.{refl}
 use Rattle.std.specs.String.{string_bytes}
-use Rattle.mpd_text.proofs.AttributePositions.{data_is_shown, read_then}
-use Rattle.mpd_text.proofs.HoldingLemmas.{data_grown}
-use Rattle.mpd_text.proofs.reader.Reader.add_data.Goals as goal
+use Rattle.mpd_text.proofs.{AttributePositions.{data_is_shown, read_then}, HoldingLemmas.data_grown}
 
 pub invariant_of-self-clause-have_data : goal.invariant_of-self-clause-have_data
 invariant_of-self-clause-have_data c =

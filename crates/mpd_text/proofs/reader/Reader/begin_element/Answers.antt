@@ -1,14 +1,10 @@
-use Rattle.std.proofs.Common.{◌++◌, length, sym, subst, arith}
-use Rattle.std.specs.String.{string_bytes}
-use Rattle.std.specs.List.{All}
-use Rattle.std.proofs.lemmas.Str.{IsUtf8-append, IsUtf8-had, IsUtf8-string_bytes}
-use Rattle.mpd_text.specs.Growth.{HasBegun, HasStayed}
-use Rattle.mpd_text.specs.Opening.{HaveData, HaveDataInOrder, IsNameWithin}
-use Rattle.mpd_text.specs.Rows.{IsElementKept, IsAttributeKept}
-use Rattle.mpd_text.proofs.KeptLemmas.{name_kept_more}
-use Rattle.mpd_text.proofs.HoldingLemmas.{by_result, elements_stay, attributes_stay, entries_stay, elements_begun, names_begun, data_begun}
-use Rattle.mpd_text.proofs.HoldingLemmas.{order_begun}
 use Rattle.mpd_text.proofs.reader.Reader.begin_element.Goals as goal
+use Rattle.std.proofs.{Common.{◌++◌, length, sym, subst, arith}, lemmas.Str.{IsUtf8-append, IsUtf8-had, IsUtf8-string_bytes}}
+use Rattle.std.specs.{String.string_bytes, List.All}
+use Rattle.mpd_text.specs.{Growth.{HasBegun, HasStayed}, Opening.{HaveData, HaveDataInOrder, IsNameWithin}, Rows.IsElementKept}
+use Rattle.mpd_text.specs.Rows.{IsAttributeKept}
+use Rattle.mpd_text.proofs.{KeptLemmas.name_kept_more, HoldingLemmas.{by_result, elements_stay, attributes_stay, entries_stay}}
+use Rattle.mpd_text.proofs.HoldingLemmas.{elements_begun, names_begun, data_begun, order_begun}
 
 pub invariant_of-self-clause-elements_kept : goal.invariant_of-self-clause-elements_kept
 invariant_of-self-clause-elements_kept c =

@@ -1,10 +1,7 @@
-use Rattle.std.proofs.Common.{◌≡◌, ◌-◌, length, drop, take, ap, sym, ◌∙◌, arith}
-use Rattle.std.specs.List.{slice_get}
-use Rattle.std.specs.String.{string_bytes}
-use Rattle.std.proofs.lemmas.Option.{same_Some}
-use Rattle.mpd_text.proofs.HoldingLemmas.{on_ok_then}
-use Rattle.mpd_text.proofs.ReaderShows.{end_shows}
 use Rattle.mpd_text.proofs.reader.Reader.end_element.Goals as goal
+use Rattle.std.proofs.{Common.{◌≡◌, ◌-◌, length, drop, take, ap, sym, ◌∙◌, arith}, lemmas.Option.same_Some}
+use Rattle.std.specs.{List.slice_get, String.string_bytes}
+use Rattle.mpd_text.proofs.{HoldingLemmas.on_ok_then, ReaderShows.end_shows}
 
 pub returns-clause-shown : goal.returns-clause-shown
 returns-clause-shown c o os shown =

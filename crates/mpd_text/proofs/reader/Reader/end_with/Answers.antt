@@ -1,12 +1,10 @@
+use Rattle.mpd_text.proofs.reader.Reader.end_with.Goals as goal
 use Rattle.std.proofs.Common.{◌++◌, length, sym, subst}
-use Rattle.std.specs.String.{string_bytes}
-use Rattle.std.specs.List.{All}
-use Rattle.mpd_text.specs.Growth.{HasEnded, HasStayed}
-use Rattle.mpd_text.specs.Opening.{HaveData, HaveDataInOrder, IsNameWithin}
-use Rattle.mpd_text.specs.Rows.{IsElementKept, IsAttributeKept}
+use Rattle.std.specs.{String.string_bytes, List.All}
+use Rattle.mpd_text.specs.{Growth.{HasEnded, HasStayed}, Opening.{HaveData, HaveDataInOrder, IsNameWithin}, Rows.IsElementKept}
+use Rattle.mpd_text.specs.Rows.{IsAttributeKept}
 use Rattle.mpd_text.proofs.HoldingLemmas.{by_result, elements_stay, attributes_stay, entries_stay, elements_ended, names_ended, data_ended}
 use Rattle.mpd_text.proofs.HoldingLemmas.{order_ended}
-use Rattle.mpd_text.proofs.reader.Reader.end_with.Goals as goal
 
 pub invariant_of-self-clause-elements_kept : goal.invariant_of-self-clause-elements_kept
 invariant_of-self-clause-elements_kept c =

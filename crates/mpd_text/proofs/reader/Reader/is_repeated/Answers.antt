@@ -1,11 +1,9 @@
+use Rattle.mpd_text.proofs.reader.Reader.is_repeated.Goals as goal
 use Rattle.std.proofs.Common.{◌≡◌, ◌-◌, ◌++◌, ◌∷◌, [], List, ℕ, subst, false, vec_len, IfOk}
 use Rattle.std.specs.List.{slice_get}
 use Rattle.bridge_io.specs.Texts.{is_among}
-use Rattle.mpd_text.specs.ManyNames.{IsPrepared}
-use Rattle.mpd_text.specs.Names.{names_in}
-use Rattle.mpd_text.specs.declared.tree.AttributeRow.{AttributeRow}
+use Rattle.mpd_text.specs.{ManyNames.IsPrepared, Names.names_in, declared.tree.AttributeRow.AttributeRow}
 use Rattle.mpd_text.proofs.NameSets.{of_row}
-use Rattle.mpd_text.proofs.reader.Reader.is_repeated.Goals as goal
 
 pub returns-clause-read : goal.returns-clause-read
 returns-clause-read c =

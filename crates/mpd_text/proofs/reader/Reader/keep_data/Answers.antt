@@ -1,12 +1,10 @@
-use Rattle.std.proofs.Common.{◌≤◌, ◌++◌, [], sym, subst, ◌∙◌}
-use Rattle.std.proofs.lemmas.Str.{IsUtf8-append, IsUtf8-had, IsUtf8-string_bytes, IsUtf8-nil}
+use Rattle.mpd_text.proofs.reader.Reader.keep_data.Goals as goal
+use Rattle.std.proofs.{Common.{◌≤◌, ◌++◌, [], sym, subst, ◌∙◌}, lemmas.Str.{IsUtf8-append, IsUtf8-had, IsUtf8-string_bytes, IsUtf8-nil}}
 use Rattle.std.proofs.lemmas.List.{append-nil}
-use Rattle.std.specs.Str.{IsCharBoundary}
-use Rattle.std.specs.String.{string_bytes}
+use Rattle.std.specs.{Str.IsCharBoundary, String.string_bytes}
 use Rattle.mpd_text.specs.Opening.{HaveData}
 use Rattle.mpd_text.proofs.HoldingLemmas.{elements_grown, attributes_grown, data_cut, data_before, nothing_kept, last_entry, moved, ok_then}
 use Rattle.mpd_text.proofs.HoldingLemmas.{span_behind, bytes_behind}
-use Rattle.mpd_text.proofs.reader.Reader.keep_data.Goals as goal
 
 pub returns-then-len-from-clause-kept : goal.returns-then-len-from-clause-kept
 returns-then-len-from-clause-kept c =

@@ -1,16 +1,10 @@
-use Rattle.std.proofs.Common.{◌≡◌, ◌+◌, ◌++◌, false, sym, ap, ◌∙◌, subst, arith}
-use Rattle.std.specs.Str.{IsCharBoundary}
-use Rattle.std.specs.String.{string_bytes}
-use Rattle.std.proofs.lemmas.Str.{IsUtf8-string_bytes, IsUtf8-had, IsCharBoundary-after_ascii, IsCharBoundary-before_ascii}
-use Rattle.std.specs.List.{slice_range}
-use Rattle.std.proofs.lemmas.List.{append_cancel_left}
-use Rattle.mpd_text.specs.Positions.{IsAt, IsKeptAs}
-use Rattle.mpd_text.specs.Steps.{at_tag, with_attribute}
-use Rattle.mpd_text.specs.Views.{bytes_of}
-use Rattle.mpd_text.proofs.HoldingLemmas.{elements_grown, attributes_grown, span_behind, bytes_behind}
-use Rattle.mpd_text.proofs.ReaderShows.{err_result}
-use Rattle.mpd_text.proofs.KeptLemmas.{boundary_kept, range_left}
 use Rattle.mpd_text.proofs.reader.Reader.keep_value.Goals as goal
+use Rattle.std.proofs.{Common.{◌≡◌, ◌+◌, ◌++◌, false, sym, ap, ◌∙◌, subst, arith}, lemmas.Str.{IsUtf8-string_bytes, IsUtf8-had}}
+use Rattle.std.proofs.{lemmas.Str.{IsCharBoundary-after_ascii, IsCharBoundary-before_ascii}, lemmas.List.append_cancel_left}
+use Rattle.std.specs.{Str.IsCharBoundary, String.string_bytes, List.slice_range}
+use Rattle.mpd_text.specs.{Positions.{IsAt, IsKeptAs}, Steps.{at_tag, with_attribute}, Views.bytes_of}
+use Rattle.mpd_text.proofs.{HoldingLemmas.{elements_grown, attributes_grown, span_behind, bytes_behind}, ReaderShows.err_result}
+use Rattle.mpd_text.proofs.KeptLemmas.{boundary_kept, range_left}
 
 pub invariant_of-self-clause-elements_kept : goal.invariant_of-self-clause-elements_kept
 invariant_of-self-clause-elements_kept c =

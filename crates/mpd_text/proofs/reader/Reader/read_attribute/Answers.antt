@@ -1,24 +1,13 @@
-use Rattle.std.proofs.Common.{◌≡◌, ◌+◌, ◌≤◌, ◌<◌, ℕ, [], ◌++◌, ◌⊎◌, false, Some, length, drop, get_or, ap, sym, subst, ◌∙◌, arith}
-use Rattle.std.specs.List.{prefix_len, slice_get, slice_range}
-use Rattle.std.proofs.lemmas.Str.{IsUtf8-had}
-use Rattle.std.proofs.lemmas.Option.{slice_get-get_or}
-use Rattle.mpd_text.specs.Characters.{goes_on_name}
-use Rattle.mpd_text.specs.Rows.{IsNameKept}
-use Rattle.mpd_text.proofs.ReaderLemmas.{name_stands}
-use Rattle.std.specs.Option.{IfSome}
-use Rattle.std.specs.String.{string_bytes}
-use Rattle.bridge_io.specs.Places.{place_of}
-use Rattle.mpd_text.specs.Faults.{refusal}
-use Rattle.mpd_text.specs.Positions.{IsAt}
-use Rattle.mpd_text.specs.Steps.{IsStuck, at_attribute_name, at_quote, with_attribute}
-use Rattle.mpd_text.specs.Views.{bytes_of}
-use Rattle.mpd_text.specs.Reading.{view_of}
-use Rattle.mpd_text.specs.Showing.{TagShown}
-use Rattle.mpd_text.proofs.KeptLemmas.{range_left}
-use Rattle.mpd_text.specs.declared.fault.TextFault.TheVariants.{Cut, DoubleAttribute}
-use Rattle.mpd_text.proofs.ReaderShows.{err_result, told, repeated_read, tag_kept, attribute_shows}
-use Rattle.mpd_text.proofs.TagPositions.{name_read, name_cut, name_stuck}
 use Rattle.mpd_text.proofs.reader.Reader.read_attribute.Goals as goal
+use Rattle.std.proofs.Common.{◌≡◌, ◌+◌, ◌≤◌, ◌<◌, ℕ, [], ◌++◌, ◌⊎◌, false, Some, length, drop, get_or, ap, sym, subst, ◌∙◌, arith}
+use Rattle.std.proofs.{lemmas.Str.IsUtf8-had, lemmas.Option.slice_get-get_or}
+use Rattle.std.specs.{List.{prefix_len, slice_get, slice_range}, Option.IfSome, String.string_bytes}
+use Rattle.mpd_text.specs.{Characters.goes_on_name, Rows.IsNameKept, Faults.refusal, Positions.IsAt, Steps.{IsStuck, at_attribute_name}}
+use Rattle.mpd_text.specs.{Steps.{at_quote, with_attribute}, Views.bytes_of, Reading.view_of, Showing.TagShown}
+use Rattle.mpd_text.specs.declared.fault.TextFault.TheVariants.{Cut, DoubleAttribute}
+use Rattle.mpd_text.proofs.{ReaderLemmas.name_stands, KeptLemmas.range_left, ReaderShows.{err_result, told, repeated_read, tag_kept}}
+use Rattle.mpd_text.proofs.{ReaderShows.attribute_shows, TagPositions.{name_read, name_cut, name_stuck}}
+use Rattle.bridge_io.specs.Places.{place_of}
 
 pub add_attribute-requires-clause-name : goal.add_attribute-requires-clause-name
 add_attribute-requires-clause-name c span start_is end_is =

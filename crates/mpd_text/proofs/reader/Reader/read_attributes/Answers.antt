@@ -1,20 +1,12 @@
-use Rattle.std.proofs.Common.{◌≡◌, ◌≤◌, ◌<◌, length, inl, inr, ap, sym, subst, ◌∙◌, arith, refl, Some, true, false}
-use Rattle.std.specs.List.{slice_get}
-use Rattle.std.specs.Option.{IfSome}
-use Rattle.std.proofs.lemmas.Option.{get_or_from_slice_get}
-use Rattle.bridge_io.specs.Places.{place_of}
-use Rattle.mpd_text.specs.declared.fault.TextFault.TheVariants.{Cut, Syntax}
-use Rattle.mpd_text.specs.Bounds.{IsBehindAscii}
-use Rattle.mpd_text.specs.Characters.{is_white, starts_name}
-use Rattle.mpd_text.specs.Faults.{refusal}
-use Rattle.mpd_text.specs.Positions.{IsAt}
-use Rattle.mpd_text.specs.Reading.{IsAttributeRead}
-use Rattle.mpd_text.specs.Steps.{IsStuck, at_tag}
-use Rattle.mpd_text.proofs.ReaderLemmas.{behind_white, run_stops}
-use Rattle.mpd_text.proofs.ReaderShows.{told}
-use Rattle.mpd_text.proofs.Decoding.{refused}
-use Rattle.mpd_text.proofs.AttributePositions.{attribute_is_read, so_far_white, tag_begins, tag_cut, tag_is_read, tag_stuck}
 use Rattle.mpd_text.proofs.reader.Reader.read_attributes.Goals as goal
+use Rattle.std.proofs.Common.{◌≡◌, ◌≤◌, ◌<◌, length, inl, inr, ap, sym, subst, ◌∙◌, arith, refl, Some, true, false}
+use Rattle.std.proofs.lemmas.Option.{get_or_from_slice_get}
+use Rattle.std.specs.{List.slice_get, Option.IfSome}
+use Rattle.bridge_io.specs.Places.{place_of}
+use Rattle.mpd_text.specs.{declared.fault.TextFault.TheVariants.{Cut, Syntax}, Bounds.IsBehindAscii, Characters.{is_white, starts_name}}
+use Rattle.mpd_text.specs.{Faults.refusal, Positions.IsAt, Reading.IsAttributeRead, Steps.{IsStuck, at_tag}}
+use Rattle.mpd_text.proofs.{ReaderLemmas.{behind_white, run_stops}, ReaderShows.told, Decoding.refused}
+use Rattle.mpd_text.proofs.AttributePositions.{attribute_is_read, so_far_white, tag_begins, tag_cut, tag_is_read, tag_stuck}
 use Rattle.mpd_text.proofs.reader.Reader.read_attributes.Goals.{then-at-next+else-starts_name, else-at-next}
 
 pub attributes-init : goal.attributes-init

@@ -1,13 +1,9 @@
+use Rattle.mpd_text.proofs.reader.Reader.read_attributes.Given as goal
 use Rattle.std.proofs.Common.{◌≡◌, ◌-◌, ◌≤◌, ℕ, List, [], Some, false, length, vec_len}
 use Rattle.std.specs.List.{slice_get}
-use Rattle.mpd_text.specs.InTag.{IsInTag}
-use Rattle.mpd_text.specs.Characters.{goes_on_name}
-use Rattle.mpd_text.specs.Positions.{IsAt}
-use Rattle.mpd_text.specs.Reading.{view_of}
-use Rattle.mpd_text.specs.Showing.{TagShown}
-use Rattle.mpd_text.specs.Steps.{Mode, Opened, Tag}
+use Rattle.mpd_text.specs.{InTag.IsInTag, Characters.goes_on_name, Positions.IsAt, Reading.view_of, Showing.TagShown, Steps.{Mode, Opened}}
+use Rattle.mpd_text.specs.Steps.{Tag}
 use Rattle.mpd_text.proofs.AttributePositions.{IsTagSoFar}
-use Rattle.mpd_text.proofs.reader.Reader.read_attributes.Given as goal
 
 abbrev pub invariant-attributes : goal.invariant-attributes
 invariant-attributes l = record {

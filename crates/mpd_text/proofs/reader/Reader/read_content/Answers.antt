@@ -1,17 +1,12 @@
-use Rattle.std.proofs.Common.{◌≡◌, ◌+◌, ◌<◌, ◌∷◌, slice_index, Some, IfSome, MatchResult, sym, subst, ap, ◌∙◌, arith, length, inl}
-use Rattle.std.specs.List.{slice_get}
-use Rattle.std.proofs.lemmas.Option.{slice_get_within}
-use Rattle.bridge_io.specs.Places.{place_of}
-use Rattle.mpd_text.specs.declared.fault.TextFault.TheVariants.{Cut, Instruction, Syntax}
-use Rattle.mpd_text.specs.Characters.{starts_name}
-use Rattle.mpd_text.specs.Faults.{refusal}
-use Rattle.mpd_text.specs.Steps.{IsStuck, inside}
-use Rattle.mpd_text.specs.Reading.{IsRead, IsDataShown}
-use Rattle.mpd_text.proofs.Prolog.{less_than_cut, question_stuck}
-use Rattle.mpd_text.proofs.ContentPositions.{opening, index_is, content_cut, content_stuck, data_opens, comment_read}
-use Rattle.mpd_text.proofs.Decoding.{refused}
-use Rattle.mpd_text.proofs.EndTags.{told_of}
 use Rattle.mpd_text.proofs.reader.Reader.read_content.Goals as goal
+use Rattle.std.proofs.Common.{◌≡◌, ◌+◌, ◌<◌, ◌∷◌, slice_index, Some, IfSome, MatchResult, sym, subst, ap, ◌∙◌, arith, length, inl}
+use Rattle.std.proofs.lemmas.Option.{slice_get_within}
+use Rattle.std.specs.List.{slice_get}
+use Rattle.bridge_io.specs.Places.{place_of}
+use Rattle.mpd_text.specs.{declared.fault.TextFault.TheVariants.{Cut, Instruction, Syntax}, Characters.starts_name, Faults.refusal}
+use Rattle.mpd_text.specs.{Steps.{IsStuck, inside}, Reading.{IsRead, IsDataShown}}
+use Rattle.mpd_text.proofs.{Prolog.{less_than_cut, question_stuck}, ContentPositions.{opening, index_is, content_cut, content_stuck}}
+use Rattle.mpd_text.proofs.{ContentPositions.{data_opens, comment_read}, Decoding.refused, EndTags.told_of}
 
 pub returns-in_err-at-clause-read : goal.returns-in_err-at-clause-read
 returns-in_err-at-clause-read c = λ o os is shown.

@@ -1,16 +1,13 @@
-use Rattle.std.proofs.Common.{◌≡◌, ◌+◌, ◌<◌, ℕ, List, [], ◌∷◌, true, false, length, drop, ap, sym, subst, ◌∙◌, arith, Some}
-use Rattle.std.specs.List.{prefix_len, slice_get}
-use Rattle.std.proofs.lemmas.Option.{get_or_from_slice_get}
-use Rattle.bridge_io.specs.Places.{place_of}
-use Rattle.mpd_text.specs.declared.fault.TextFault.TheVariants.{Cut, Syntax, TagMismatch}
-use Rattle.mpd_text.specs.Bounds.{IsBehindAscii}
-use Rattle.mpd_text.specs.Characters.{is_white, goes_on_name, starts_name}
-use Rattle.mpd_text.specs.Positions.{IsAt, IsReady}
-use Rattle.mpd_text.specs.Steps.{Opened, inside, behind_end, at_content}
-use Rattle.mpd_text.proofs.EndTags.{told_of, IsEndNamed, end_begins, end_name_cut, end_name_stuck, end_named, end_differs, before_close}
-use Rattle.mpd_text.proofs.EndTags.{close_cut, close_stuck, closes, innermost_named}
-use Rattle.mpd_text.proofs.ReaderLemmas.{run_stops, behind_ascii}
 use Rattle.mpd_text.proofs.reader.Reader.read_end_tag.Goals as goal
+use Rattle.std.proofs.Common.{◌≡◌, ◌+◌, ◌<◌, ℕ, List, [], ◌∷◌, true, false, length, drop, ap, sym, subst, ◌∙◌, arith, Some}
+use Rattle.std.proofs.lemmas.Option.{get_or_from_slice_get}
+use Rattle.std.specs.List.{prefix_len, slice_get}
+use Rattle.bridge_io.specs.Places.{place_of}
+use Rattle.mpd_text.specs.{declared.fault.TextFault.TheVariants.{Cut, Syntax, TagMismatch}, Bounds.IsBehindAscii, Characters.is_white}
+use Rattle.mpd_text.specs.{Characters.{goes_on_name, starts_name}, Positions.{IsAt, IsReady}, Steps.{Opened, inside, behind_end}}
+use Rattle.mpd_text.specs.Steps.{at_content}
+use Rattle.mpd_text.proofs.EndTags.{told_of, IsEndNamed, end_begins, end_name_cut, end_name_stuck, end_named, end_differs, before_close}
+use Rattle.mpd_text.proofs.{EndTags.{close_cut, close_stuck, closes, innermost_named}, ReaderLemmas.{run_stops, behind_ascii}}
 
 pub returns-in-None-clause-read : goal.returns-in-None-clause-read
 returns-in-None-clause-read c o os less slash ready shown =

@@ -1,16 +1,9 @@
-use Rattle.std.proofs.Common.{IfSome, false, sym, subst, ◌∙◌, vec_len}
-use Rattle.std.proofs.lemmas.Str.{IsUtf8-had}
-use Rattle.mpd_text.specs.Bounds.{IsBehindAscii}
-use Rattle.mpd_text.specs.Faults.{refusal}
-use Rattle.mpd_text.specs.Trees.{Element}
-use Rattle.mpd_text.specs.Steps.{IsStuck, behind, at_content}
-use Rattle.mpd_text.specs.Positions.{IsAt}
-use Rattle.mpd_text.specs.Reading.{IsRead, view_of}
-use Rattle.mpd_text.specs.Showing.{RootShown}
-use Rattle.mpd_text.proofs.BoundLemmas.{boundary_behind}
-use Rattle.mpd_text.proofs.Decoding.{refused}
-use Rattle.mpd_text.proofs.RootReading.{some_are_open, none_are_open, still_open, root_read}
 use Rattle.mpd_text.proofs.reader.Reader.read_rest.Goals as goal
+use Rattle.std.proofs.{Common.{IfSome, false, sym, subst, ◌∙◌, vec_len}, lemmas.Str.IsUtf8-had}
+use Rattle.mpd_text.specs.{Bounds.IsBehindAscii, Faults.refusal, Trees.Element, Steps.{IsStuck, behind, at_content}, Positions.IsAt}
+use Rattle.mpd_text.specs.{Reading.{IsRead, view_of}, Showing.RootShown}
+use Rattle.mpd_text.proofs.{BoundLemmas.boundary_behind, Decoding.refused, RootReading.{some_are_open, none_are_open, still_open}}
+use Rattle.mpd_text.proofs.RootReading.{root_read}
 
 pub read_content-requires-clause-boundary : goal.read_content-requires-clause-boundary
 read_content-requires-clause-boundary c = boundary_behind c.loop-self.self.text.now c.loop-self.at

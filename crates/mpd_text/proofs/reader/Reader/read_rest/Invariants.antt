@@ -1,7 +1,6 @@
-use Rattle.std.proofs.Common.{◌≡◌, ◌-◌, length}
-use Rattle.mpd_text.specs.Bounds.{IsBehindAscii}
-use Rattle.mpd_text.specs.Reading.{IsRead, IsWholeIfClosed}
 use Rattle.mpd_text.proofs.reader.Reader.read_rest.Given as goal
+use Rattle.std.proofs.Common.{◌≡◌, ◌-◌, length}
+use Rattle.mpd_text.specs.{Bounds.IsBehindAscii, Reading.{IsRead, IsWholeIfClosed}}
 
 abbrev pub invariant-loop-self : goal.invariant-loop-self
 invariant-loop-self l = record {

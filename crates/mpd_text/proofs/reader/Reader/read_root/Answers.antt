@@ -1,22 +1,13 @@
-use Rattle.std.proofs.Common.{◌≡◌, ◌+◌, [], IfSome, MatchResult, Some, slice_index, false, sym, subst, ap, ◌∙◌, arith, length}
-use Rattle.std.specs.List.{slice_get}
-use Rattle.std.proofs.lemmas.Option.{slice_get_within}
-use Rattle.bridge_io.specs.Places.{place_of}
-use Rattle.mpd_text.specs.declared.fault.TextFault.TheVariants.{Cut, Instruction, Syntax}
-use Rattle.mpd_text.specs.Characters.{starts_name}
-use Rattle.mpd_text.specs.Faults.{refusal}
-use Rattle.mpd_text.specs.Trees.{Element}
-use Rattle.mpd_text.specs.Steps.{IsStuck, behind, inside, at_content}
-use Rattle.mpd_text.specs.Positions.{IsAt, IsReady, IsPastMisc}
-use Rattle.mpd_text.specs.Reading.{IsRead, view_of}
-use Rattle.mpd_text.specs.Showing.{RootShown}
-use Rattle.mpd_text.proofs.Comments.{ready_opens}
-use Rattle.mpd_text.proofs.Prolog.{outer_stuck, prolog_cut, less_than_cut, question_stuck}
-use Rattle.mpd_text.proofs.ContentPositions.{index_is, root_stuck}
-use Rattle.mpd_text.proofs.Decoding.{refused}
-use Rattle.mpd_text.proofs.EndTags.{told_of}
-use Rattle.mpd_text.proofs.RootReading.{nothing_shown}
 use Rattle.mpd_text.proofs.reader.Reader.read_root.Goals as goal
+use Rattle.std.proofs.Common.{◌≡◌, ◌+◌, [], IfSome, MatchResult, Some, slice_index, false, sym, subst, ap, ◌∙◌, arith, length}
+use Rattle.std.proofs.lemmas.Option.{slice_get_within}
+use Rattle.std.specs.List.{slice_get}
+use Rattle.bridge_io.specs.Places.{place_of}
+use Rattle.mpd_text.specs.{declared.fault.TextFault.TheVariants.{Cut, Instruction, Syntax}, Characters.starts_name, Faults.refusal}
+use Rattle.mpd_text.specs.{Trees.Element, Steps.{IsStuck, behind, inside, at_content}, Positions.{IsAt, IsReady, IsPastMisc}}
+use Rattle.mpd_text.specs.{Reading.{IsRead, view_of}, Showing.RootShown}
+use Rattle.mpd_text.proofs.{Comments.ready_opens, Prolog.{outer_stuck, prolog_cut, less_than_cut, question_stuck}}
+use Rattle.mpd_text.proofs.{ContentPositions.{index_is, root_stuck}, Decoding.refused, EndTags.told_of, RootReading.nothing_shown}
 
 pub returns-in-None-clause-read : goal.returns-in-None-clause-read
 returns-in-None-clause-read c = λ ready past.

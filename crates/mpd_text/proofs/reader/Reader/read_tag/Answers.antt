@@ -1,24 +1,14 @@
-use Rattle.std.proofs.Common.{◌≡◌, ◌+◌, ◌≤◌, ◌<◌, ℕ, length, drop, get_or, refl, Some, false, ◌≢◌, ◌⊎◌, inl, ◌∷◌, ap, sym, subst, ◌∙◌}
-use Rattle.std.proofs.Common.{arith}
-use Rattle.std.specs.List.{prefix_len, slice_get}
-use Rattle.std.proofs.lemmas.Str.{IsUtf8-had}
-use Rattle.mpd_text.specs.Characters.{goes_on_name}
-use Rattle.std.proofs.lemmas.Option.{slice_get-get_or}
-use Rattle.std.specs.Option.{IfSome}
-use Rattle.bridge_io.specs.Places.{place_of}
-use Rattle.mpd_text.specs.Faults.{refusal}
-use Rattle.mpd_text.specs.Positions.{IsAt}
-use Rattle.mpd_text.specs.Reading.{IsTagRead}
-use Rattle.mpd_text.specs.Steps.{IsStuck, at_content, at_tag_name, inside, behind_end, opened_by}
-use Rattle.mpd_text.specs.InTag.{IsInTag}
-use Rattle.mpd_text.specs.Bounds.{IsBehindAscii}
-use Rattle.mpd_text.proofs.Comments.{some_is, some_is_not}
-use Rattle.mpd_text.specs.declared.fault.TextFault.TheVariants.{Cut, Syntax, Depth}
-use Rattle.mpd_text.proofs.ReaderShows.{err_result}
-use Rattle.mpd_text.proofs.TagOpens.{depth_stuck, tag_closes, slash_read, slash_closes, slash_cut, slash_stuck}
-use Rattle.mpd_text.proofs.TagReads.{below_full, full_is, slash_there, tag_byte, tag_read}
-use Rattle.mpd_text.proofs.ReaderLemmas.{name_stands, behind_ascii}
 use Rattle.mpd_text.proofs.reader.Reader.read_tag.Goals as goal
+use Rattle.std.proofs.Common.{◌≡◌, ◌+◌, ◌≤◌, ◌<◌, ℕ, length, drop, get_or, refl, Some, false, ◌≢◌, ◌⊎◌, inl, ◌∷◌, ap, sym, subst, ◌∙◌}
+use Rattle.std.proofs.{Common.arith, lemmas.Str.IsUtf8-had, lemmas.Option.slice_get-get_or}
+use Rattle.std.specs.{List.{prefix_len, slice_get}, Option.IfSome}
+use Rattle.mpd_text.specs.{Characters.goes_on_name, Faults.refusal, Positions.IsAt, Reading.IsTagRead, Steps.{IsStuck, at_content}}
+use Rattle.mpd_text.specs.{Steps.{at_tag_name, inside, behind_end, opened_by}, InTag.IsInTag, Bounds.IsBehindAscii}
+use Rattle.mpd_text.specs.declared.fault.TextFault.TheVariants.{Cut, Syntax, Depth}
+use Rattle.bridge_io.specs.Places.{place_of}
+use Rattle.mpd_text.proofs.{Comments.{some_is, some_is_not}, ReaderShows.err_result, TagOpens.{depth_stuck, tag_closes, slash_read}}
+use Rattle.mpd_text.proofs.{TagOpens.{slash_closes, slash_cut, slash_stuck}, TagReads.{below_full, full_is, slash_there, tag_byte}}
+use Rattle.mpd_text.proofs.{TagReads.tag_read, ReaderLemmas.{name_stands, behind_ascii}}
 
 pub begin_element-requires-clause-name : goal.begin_element-requires-clause-name
 begin_element-requires-clause-name c span start_is end_is =

@@ -1,11 +1,8 @@
-use Rattle.std.proofs.Common.{◌≡◌, ◌≤◌, ◌<◌, ℕ, ◌-◌, ◌++◌, List, length, ap, sym, subst, ◌∙◌, arith}
-use Rattle.std.specs.List.{slice_range}
-use Rattle.std.specs.Str.{IsCharBoundary}
-use Rattle.std.specs.String.{string_bytes}
-use Rattle.mpd_text.specs.declared.tree.KeptSpan.{KeptSpan}
-use Rattle.mpd_text.specs.Rows.{IsKept}
-use Rattle.mpd_text.proofs.KeptLemmas.{boundary_left, boundary_right, range_left, range_right}
 use Rattle.mpd_text.proofs.tree.Tree.text_of.Goals as goal
+use Rattle.std.proofs.Common.{◌≡◌, ◌≤◌, ◌<◌, ℕ, ◌-◌, ◌++◌, List, length, ap, sym, subst, ◌∙◌, arith}
+use Rattle.std.specs.{List.slice_range, Str.IsCharBoundary, String.string_bytes}
+use Rattle.mpd_text.specs.{declared.tree.KeptSpan.KeptSpan, Rows.IsKept}
+use Rattle.mpd_text.proofs.KeptLemmas.{boundary_left, boundary_right, range_left, range_right}
 
 -- what a range asks of its start and its end
 in_source : (source read text : List ℕ) (span : KeptSpan) → IsKept source (source ++ read) span → span.end ≤ length source → text ≡ source

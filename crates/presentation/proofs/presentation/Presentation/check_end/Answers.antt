@@ -1,9 +1,7 @@
-use Rattle.std.proofs.Common.{◌∙◌, ap, sym}
-use Rattle.presentation.specs.Counting.{range_by}
-use Rattle.presentation.specs.Counting.{unless_any}
-use Rattle.presentation.specs.Presented.{looked_at}
-use Rattle.presentation.proofs.Extents.{answered_at}
 use Rattle.presentation.proofs.presentation.Presentation.check_end.Goals as goal
+use Rattle.std.proofs.Common.{◌∙◌, ap, sym}
+use Rattle.presentation.specs.{Counting.{range_by, unless_any}, Presented.looked_at}
+use Rattle.presentation.proofs.Extents.{answered_at}
 
 pub returns-in-Ok : goal.returns-in-Ok
 returns-in-Ok c = let p = looked_at c.args.now c.args.self.now in let s = c.args.section in let t = c.args.track in

@@ -1,8 +1,7 @@
-use Rattle.std.proofs.Common.{ap, sym, ◌∙◌, length, arith}
-use Rattle.presentation.specs.Counting.{range_faults_of}
-use Rattle.presentation.specs.Presented.{looked_at}
-use Rattle.presentation.proofs.FirstFault.{first_here, none_at_all, none_here, none_yet}
 use Rattle.presentation.proofs.presentation.Presentation.check_ends.Goals as goal
+use Rattle.std.proofs.Common.{ap, sym, ◌∙◌, length, arith}
+use Rattle.presentation.specs.{Counting.range_faults_of, Presented.looked_at}
+use Rattle.presentation.proofs.FirstFault.{first_here, none_at_all, none_here, none_yet}
 
 pub loop-track-init : goal.loop-track-init
 loop-track-init c = none_yet (range_faults_of (looked_at c.args.now c.args.self.now)) (length c.args.self.now.tracks)

@@ -1,8 +1,7 @@
-use Rattle.std.proofs.Common.{ap, sym, ◌∙◌, length, arith}
-use Rattle.presentation.specs.Counting.{range_at}
-use Rattle.presentation.specs.Presented.{looked_at}
-use Rattle.presentation.proofs.FirstFault.{first_here, none_at_all, none_here, none_yet}
 use Rattle.presentation.proofs.presentation.Presentation.check_track_ends.Goals as goal
+use Rattle.std.proofs.Common.{ap, sym, ◌∙◌, length, arith}
+use Rattle.presentation.specs.{Counting.range_at, Presented.looked_at}
+use Rattle.presentation.proofs.FirstFault.{first_here, none_at_all, none_here, none_yet}
 
 pub loop-section-init : goal.loop-section-init
 loop-section-init c = none_yet (range_at (looked_at c.args.now c.args.self.now) c.args.track) (length c.args.self.now.sections)

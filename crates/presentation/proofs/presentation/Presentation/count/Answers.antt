@@ -1,13 +1,11 @@
+use Rattle.presentation.specs.Counting as spec
+use Rattle.presentation.proofs.presentation.Presentation.count.Goals as goal
 use Rattle.std.proofs.Common.{sym, ◌≡◌, ◌+◌, ◌∙◌, ap, length, arith, ◌++◌, ◌||◌, [], zero-add, sum_by, flat_map, Bool, true, false, nat_lt}
 use Rattle.std.proofs.Common.{refl}
 use Rattle.std.specs.List.{list_any}
-use Rattle.presentation.specs.Counting as spec
 use Rattle.presentation.specs.Counting.{unless_any, counted}
-use Rattle.presentation.proofs.Firsts.{none_before, value_of, first_stays}
-use Rattle.presentation.proofs.Verified.{counted_is}
-use Rattle.presentation.proofs.Counts.{from_on, from_on-start, from_on-end, no_fault_here, faults_here, one_more, over_here, long_as}
-use Rattle.presentation.proofs.Counts.{all_told}
-use Rattle.presentation.proofs.presentation.Presentation.count.Goals as goal
+use Rattle.presentation.proofs.{Firsts.{none_before, value_of, first_stays}, Verified.counted_is, Counts.{from_on, from_on-start}}
+use Rattle.presentation.proofs.Counts.{from_on-end, no_fault_here, faults_here, one_more, over_here, long_as, all_told}
 
 or_false : (b : Bool) → (b || false) ≡ b
 or_false true = refl

@@ -1,10 +1,9 @@
-use Rattle.std.proofs.Common.{sym, ◌≡◌, ◌+◌, ◌∙◌, ap, length, arith, ◌++◌, ◌<◌, ◌^◌, ℕ, [], zero-add, sum_by, flat_map}
-use Rattle.presentation.specs.Presented.{Presented}
 use Rattle.presentation.specs.Counting as spec
-use Rattle.presentation.specs.Counting.{unless_any}
-use Rattle.presentation.proofs.Firsts.{none_before, value_of, first_stays}
-use Rattle.presentation.proofs.Counts.{from_on, from_on-start, from_on-end, no_fault_here, faults_here, one_more}
 use Rattle.presentation.proofs.presentation.Presentation.count_track.Goals as goal
+use Rattle.std.proofs.Common.{sym, ◌≡◌, ◌+◌, ◌∙◌, ap, length, arith, ◌++◌, ◌<◌, ◌^◌, ℕ, [], zero-add, sum_by, flat_map}
+use Rattle.presentation.specs.{Presented.Presented, Counting.unless_any}
+use Rattle.presentation.proofs.{Firsts.{none_before, value_of, first_stays}, Counts.{from_on, from_on-start, from_on-end, no_fault_here}}
+use Rattle.presentation.proofs.Counts.{faults_here, one_more}
 
 pub loop-section-init : goal.loop-section-init
 loop-section-init c = let p = c.args.self.now in record {

@@ -1,11 +1,9 @@
-use Rattle.exact_time.specs.Time.{difference}
-use Rattle.exact_time.specs.Floor.{floor_in}
-use Rattle.exact_time.specs.Tick.{time_of}
+use Rattle.presentation.proofs.presentation.Presentation.extent.Goals as goal
+use Rattle.exact_time.specs.{Time.difference, Floor.floor_in, Tick.time_of}
 use Rattle.std.proofs.Common.{◌∙◌, ◌^◌, ap, sym}
 use Rattle.std.specs.Result.{result_unwrap_or}
 use Rattle.presentation.specs.Verifying.{length_of}
 use Rattle.presentation.proofs.Extents.{count_of, listed_behind}
-use Rattle.presentation.proofs.presentation.Presentation.extent.Goals as goal
 
 pub returns-clause-segments : goal.returns-clause-segments
 returns-clause-segments c = let p = c.args.self.now in let s = c.args.section in let t = c.args.track in

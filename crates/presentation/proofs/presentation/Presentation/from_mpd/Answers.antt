@@ -1,10 +1,9 @@
+use Rattle.presentation.proofs.presentation.Presentation.from_mpd.Goals as goal
 use Rattle.std.proofs.Common.{sym, subst}
 use Rattle.bridge_io.specs.Answer.{Gives}
 use Rattle.mpd_rules.specs.Views.{segments_mpd}
 use Rattle.presentation.specs.Counting.{refusal}
-use Rattle.presentation.proofs.Ending.{presented_checked, presented_refused}
-use Rattle.presentation.proofs.Firsts.{none_before}
-use Rattle.presentation.proofs.presentation.Presentation.from_mpd.Goals as goal
+use Rattle.presentation.proofs.{Ending.{presented_checked, presented_refused}, Firsts.none_before}
 
 pub present_checked-requires : goal.present_checked-requires
 present_checked-requires c = none_before _ tt _ (rw c.is_some.ensures at c.in-Ok.ensures)

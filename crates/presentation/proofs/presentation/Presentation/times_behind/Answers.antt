@@ -1,8 +1,7 @@
-use Rattle.std.proofs.Common.{IfSome, subst}
-use Rattle.presentation.specs.Presented.{looked_at}
-use Rattle.presentation.specs.Printing.{GoesOn}
-use Rattle.presentation.proofs.Extents.{listed_there}
 use Rattle.presentation.proofs.presentation.Presentation.times_behind.Goals as goal
+use Rattle.std.proofs.Common.{IfSome, subst}
+use Rattle.presentation.specs.{Presented.looked_at, Printing.GoesOn}
+use Rattle.presentation.proofs.Extents.{listed_there}
 
 pub of-requires-clause-goes_on : goal.of-requires-clause-goes_on
 of-requires-clause-goes_on c = let p = looked_at c.args.now c.args.self.now in

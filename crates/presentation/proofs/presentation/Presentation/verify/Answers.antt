@@ -1,14 +1,11 @@
-use Rattle.std.proofs.Common.{◌≡◌, ◌+◌, ◌^◌, ◌++◌, ◌∷◌, [], append-nil, length-append, ◌<◌, length, flat_map, map, sum_by, IfSome, Ok, Err}
-use Rattle.std.proofs.Common.{sym, subst, ◌∙◌, ap, arith}
-use Rattle.std.proofs.lemmas.List.{append_assoc}
-use Rattle.presentation.specs.Counting.{refusal, unless_any, count_faults, count_of_all, count_of_track, tracks_of}
 use Rattle.presentation.specs.Verifying as spec
-use Rattle.presentation.proofs.Firsts.{none_before, value_of, first_stays, told}
-use Rattle.presentation.proofs.Counts.{from_on, from_on-first, from_on-start, from_on-end, faults_here, no_fault_here}
-use Rattle.presentation.proofs.Tracks.{refused_stays, sum_here}
-use Rattle.presentation.proofs.Verified.{counted_is, verified_is}
-use Rattle.presentation.proofs.Reached.{all_reached}
 use Rattle.presentation.proofs.presentation.Presentation.verify.Goals as goal
+use Rattle.std.proofs.Common.{◌≡◌, ◌+◌, ◌^◌, ◌++◌, ◌∷◌, [], append-nil, length-append, ◌<◌, length, flat_map, map, sum_by, IfSome, Ok, Err}
+use Rattle.std.proofs.{Common.{sym, subst, ◌∙◌, ap, arith}, lemmas.List.append_assoc}
+use Rattle.presentation.specs.Counting.{refusal, unless_any, count_faults, count_of_all, count_of_track, tracks_of}
+use Rattle.presentation.proofs.{Firsts.{none_before, value_of, first_stays, told}, Counts.{from_on, from_on-first, from_on-start}}
+use Rattle.presentation.proofs.{Counts.{from_on-end, faults_here, no_fault_here}, Tracks.{refused_stays, sum_here}, Verified.counted_is}
+use Rattle.presentation.proofs.{Verified.verified_is, Reached.all_reached}
 
 pub returns-in-Err-clause-longest : goal.returns-in-Err-clause-longest
 returns-in-Err-clause-longest g c = let p = c.args.self.now in let unit = 10 ^ c.args.digits in let fault = c.in-Err.fault in

@@ -1,10 +1,9 @@
+use Rattle.presentation.proofs.presentation.Presentation.verify_section.Goals as goal
 use Rattle.std.proofs.Common.{◌≡◌, ◌+◌, ◌^◌, ap, sym, subst, ◌∙◌, OnOk}
 use Rattle.std.specs.Result.{result_unwrap_or}
 use Rattle.bridge_io.specs.Answer.{Gives}
 use Rattle.presentation.specs.Counting.{refusal}
-use Rattle.presentation.proofs.Extents.{count_of}
-use Rattle.presentation.proofs.Verified.{left_as_many, verified_as}
-use Rattle.presentation.proofs.presentation.Presentation.verify_section.Goals as goal
+use Rattle.presentation.proofs.{Extents.count_of, Verified.{left_as_many, verified_as}}
 
 pub longest-requires-clause-listed : goal.longest-requires-clause-listed
 longest-requires-clause-listed g c = let p = c.args.self.now in let s = c.args.section in let t = c.args.track in

@@ -1,10 +1,9 @@
+use Rattle.presentation.specs.Verifying as spec
+use Rattle.presentation.proofs.presentation.Presentation.verify_track.Goals as goal
 use Rattle.std.proofs.Common.{◌≡◌, ◌+◌, ◌^◌, ◌<◌, length, flat_map, IfSome, Err, sym, subst, ◌∙◌, ap, arith}
 use Rattle.presentation.specs.Counting.{refusal, unless_any, listed_count}
-use Rattle.presentation.specs.Verifying as spec
-use Rattle.presentation.proofs.Firsts.{none_before, value_of}
-use Rattle.presentation.proofs.Counts.{from_on, faults_here, no_fault_here}
-use Rattle.presentation.proofs.Tracks.{refused_stays, longest_here, sum_here, all_counted}
-use Rattle.presentation.proofs.presentation.Presentation.verify_track.Goals as goal
+use Rattle.presentation.proofs.{Firsts.{none_before, value_of}, Counts.{from_on, faults_here, no_fault_here}, Tracks.refused_stays}
+use Rattle.presentation.proofs.Tracks.{longest_here, sum_here, all_counted}
 
 pub returns-in-Err-clause-longest : goal.returns-in-Err-clause-longest
 returns-in-Err-clause-longest g c = let p = c.args.self.now in let t = c.args.track in let s = c.loop-section.section in

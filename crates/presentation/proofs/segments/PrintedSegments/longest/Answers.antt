@@ -1,11 +1,10 @@
+use Rattle.presentation.specs.Verifying as spec
+use Rattle.presentation.proofs.segments.PrintedSegments.longest.Goals as goal
 use Rattle.std.proofs.Common.{◌≡◌, sym, IfSome, subst, Err}
 use Rattle.std.specs.Prelude.{slice_get}
-use Rattle.timeline.specs.Names.{list_refusal}
-use Rattle.timeline.specs.Listed.{part_of_timing}
+use Rattle.timeline.specs.{Names.list_refusal, Listed.part_of_timing}
 use Rattle.presentation.specs.Counting.{refusal, unless_any}
-use Rattle.presentation.specs.Verifying as spec
 use Rattle.presentation.proofs.Verified.{fault_first}
-use Rattle.presentation.proofs.segments.PrintedSegments.longest.Goals as goal
 
 pub returns-in-Err-clause-longest : goal.returns-in-Err-clause-longest
 returns-in-Err-clause-longest g c = let old = c.args.self.now in let s = c.args.section in let t = c.args.track in let l = c.loop-segment in

@@ -1,11 +1,9 @@
-use Rattle.std.proofs.Common.{◌≡◌, ◌-◌, ◌*◌, ◌++◌, ◌∷◌, ◌∙◌, ap, sym}
-use Rattle.exact_time.specs.Equal.{equal_durations, summed_up, ticks_after}
-use Rattle.exact_time.specs.Rounding.{Rounding}
-use Rattle.timeline.specs.SpanRuns.{timings_of}
-use Rattle.presentation.specs.Kept.{printed_left}
-use Rattle.presentation.specs.Printing.{with_durations}
-use Rattle.presentation.proofs.NextRun.{others_near, paced_run, past_all, past_first, printed_run}
 use Rattle.presentation.proofs.segments.PrintedTimes.next_run.Goals as goal
+use Rattle.std.proofs.Common.{◌≡◌, ◌-◌, ◌*◌, ◌++◌, ◌∷◌, ◌∙◌, ap, sym}
+use Rattle.exact_time.specs.{Equal.{equal_durations, summed_up, ticks_after}, Rounding.Rounding}
+use Rattle.timeline.specs.SpanRuns.{timings_of}
+use Rattle.presentation.specs.{Kept.printed_left, Printing.with_durations}
+use Rattle.presentation.proofs.NextRun.{others_near, paced_run, past_all, past_first, printed_run}
 
 pub next_equal-others-requires-clause-near : goal.next_equal-others-requires-clause-near
 next_equal-others-requires-clause-near c = let run = c.in_ok-spans.spans in let r = c.self.inside.rounder in

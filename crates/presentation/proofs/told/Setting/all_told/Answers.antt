@@ -1,15 +1,9 @@
-use Rattle.std.proofs.Common.{map, ap, ◌∙◌, sym}
-use Rattle.std.proofs.lemmas.List.Elements.{All-rest}
-use Rattle.mpd_levels.specs.declared.addressing.SegmentRow.{SegmentRow}
-use Rattle.mpd_rules.specs.declared.rows.PeriodRow.{PeriodRow}
-use Rattle.mpd_rules.specs.Held.{Keyed}
-use Rattle.mpd_rules.specs.Typed.{period_with}
-use Rattle.presentation.specs.Shared.{AreOf}
-use Rattle.mpd_rules.specs.Views.{period_in, periods_left}
-use Rattle.presentation.specs.Rows.{all_left, period_of, shown}
-use Rattle.presentation.specs.Told.{gathered, period_told}
-use Rattle.presentation.proofs.Gathering.{behind, goes_on, stops}
 use Rattle.presentation.proofs.told.Setting.all_told.Goals as goal
+use Rattle.std.proofs.{Common.{map, ap, ◌∙◌, sym}, lemmas.List.Elements.All-rest}
+use Rattle.mpd_levels.specs.declared.addressing.SegmentRow.{SegmentRow}
+use Rattle.mpd_rules.specs.{declared.rows.PeriodRow.PeriodRow, Held.Keyed, Typed.period_with, Views.{period_in, periods_left}}
+use Rattle.presentation.specs.{Shared.AreOf, Rows.{all_left, period_of, shown}, Told.{gathered, period_told}}
+use Rattle.presentation.proofs.Gathering.{behind, goes_on, stops}
 
 pub returns-in-Err : goal.returns-in-Err
 returns-in-Err c =

@@ -1,10 +1,8 @@
+use Rattle.presentation.proofs.told.Setting.all_told.Given as goal
 use Rattle.std.proofs.Common.{◌≡◌}
 use Rattle.mpd_rules.specs.Views.{periods_left}
-use Rattle.presentation.specs.Rows.{all_left}
-use Rattle.presentation.specs.Shared.{AreOfAll}
-use Rattle.presentation.specs.Told.{all_told}
+use Rattle.presentation.specs.{Rows.all_left, Shared.AreOfAll, Told.all_told}
 use Rattle.presentation.proofs.Gathering.{behind}
-use Rattle.presentation.proofs.told.Setting.all_told.Given as goal
 
 abbrev pub invariant-loop-period : goal.invariant-loop-period
 invariant-loop-period l = record {

@@ -1,15 +1,9 @@
-use Rattle.std.proofs.Common.{◌≡◌, ◌∷◌, [], Ok, map, ap, ◌∙◌, sym, refl}
-use Rattle.std.proofs.lemmas.List.Elements.{All-rest}
-use Rattle.mpd_levels.specs.declared.addressing.SegmentRow.{SegmentRow}
-use Rattle.mpd_rules.specs.declared.rows.TrackRow.{TrackRow}
-use Rattle.mpd_rules.specs.Held.{Keyed}
-use Rattle.mpd_rules.specs.Typed.{track_with}
-use Rattle.presentation.specs.Shared.{IsShared}
-use Rattle.mpd_rules.specs.Views.{track_in, tracks_left}
-use Rattle.presentation.specs.Rows.{row_of, rows_left, shown}
-use Rattle.presentation.specs.Told.{gathered, one_told, told_of}
-use Rattle.presentation.proofs.Gathering.{behind, behind_nothing, goes_on, step_told, stops}
 use Rattle.presentation.proofs.told.Setting.rows_told.Goals as goal
+use Rattle.std.proofs.{Common.{◌≡◌, ◌∷◌, [], Ok, map, ap, ◌∙◌, sym, refl}, lemmas.List.Elements.All-rest}
+use Rattle.mpd_levels.specs.declared.addressing.SegmentRow.{SegmentRow}
+use Rattle.mpd_rules.specs.{declared.rows.TrackRow.TrackRow, Held.Keyed, Typed.track_with, Views.{track_in, tracks_left}}
+use Rattle.presentation.specs.{Shared.IsShared, Rows.{row_of, rows_left, shown}, Told.{gathered, one_told, told_of}}
+use Rattle.presentation.proofs.Gathering.{behind, behind_nothing, goes_on, step_told, stops}
 
 pub returns-in-Err : goal.returns-in-Err
 returns-in-Err c =

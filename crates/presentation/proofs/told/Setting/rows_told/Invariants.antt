@@ -1,10 +1,8 @@
+use Rattle.presentation.proofs.told.Setting.rows_told.Given as goal
 use Rattle.std.proofs.Common.{◌≡◌}
 use Rattle.mpd_rules.specs.Views.{tracks_left}
-use Rattle.presentation.specs.Rows.{rows_left}
-use Rattle.presentation.specs.Shared.{AreOf}
-use Rattle.presentation.specs.Told.{gathered, one_told}
+use Rattle.presentation.specs.{Rows.rows_left, Shared.AreOf, Told.{gathered, one_told}}
 use Rattle.presentation.proofs.Gathering.{behind}
-use Rattle.presentation.proofs.told.Setting.rows_told.Given as goal
 
 abbrev pub invariant-loop-row : goal.invariant-loop-row
 invariant-loop-row l = record {

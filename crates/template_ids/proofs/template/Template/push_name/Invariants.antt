@@ -1,7 +1,6 @@
-use Rattle.std.proofs.Common.{◌≡◌, ◌++◌, take, string_bytes, flat_map}
-use Rattle.template_ids.specs.Pieces.{piece_text}
-use Rattle.template_ids.specs.Templates.{ids_of}
 use Rattle.template_ids.proofs.template.Template.push_name.Given as goal
+use Rattle.std.proofs.Common.{◌≡◌, ◌++◌, take, string_bytes, flat_map}
+use Rattle.template_ids.specs.{Pieces.piece_text, Templates.ids_of}
 
 -- the text so far ends in what the pieces so far stand for
 abbrev pub invariant-loop-piece : goal.invariant-loop-piece

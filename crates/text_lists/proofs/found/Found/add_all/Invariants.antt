@@ -1,7 +1,6 @@
-use Rattle.std.proofs.Common.{◌≡◌, drop}
-use Rattle.text_lists.specs.Lists.{texts_of, with_texts}
-use Rattle.text_lists.specs.Numbers.{IsMarked, texts_by}
 use Rattle.text_lists.proofs.found.Found.add_all.Given as goal
+use Rattle.std.proofs.Common.{◌≡◌, drop}
+use Rattle.text_lists.specs.{Lists.{texts_of, with_texts}, Numbers.{IsMarked, texts_by}}
 
 abbrev pub invariant-loop-number : goal.invariant-loop-number
 invariant-loop-number l =

@@ -1,8 +1,7 @@
-use Rattle.std.proofs.Common.{◌∙◌, ap, map, get_or}
-use Rattle.text_lists.specs.Lists.{texts_of, with_texts}
-use Rattle.text_lists.specs.Numbers.{texts_by}
-use Rattle.text_lists.proofs.Numbers.{list_by_numbers, numbers_below, merged_more}
 use Rattle.text_lists.proofs.found.Found.add_lists.Goals as goal
+use Rattle.std.proofs.Common.{◌∙◌, ap, map, get_or}
+use Rattle.text_lists.specs.{Lists.{texts_of, with_texts}, Numbers.texts_by}
+use Rattle.text_lists.proofs.Numbers.{list_by_numbers, numbers_below, merged_more}
 
 pub add_all-requires-clause-below : goal.add_all-requires-clause-below
 add_all-requires-clause-below c = rw c.numbers_at.ensures (numbers_below (λ v. v.items) (texts_of c.args.texts.now) c.args.lists.now

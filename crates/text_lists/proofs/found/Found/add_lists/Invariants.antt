@@ -1,7 +1,6 @@
-use Rattle.std.proofs.Common.{◌≡◌, drop, map}
-use Rattle.text_lists.specs.Lists.{texts_of, merged_from}
-use Rattle.text_lists.specs.Numbers.{IsMarked, texts_by}
 use Rattle.text_lists.proofs.found.Found.add_lists.Given as goal
+use Rattle.std.proofs.Common.{◌≡◌, drop, map}
+use Rattle.text_lists.specs.{Lists.{texts_of, merged_from}, Numbers.{IsMarked, texts_by}}
 
 abbrev pub invariant-loop-place : goal.invariant-loop-place
 invariant-loop-place l =

@@ -1,8 +1,6 @@
-use Rattle.std.proofs.Common.{[], sym}
-use Rattle.std.proofs.lemmas.List.{length-map}
-use Rattle.std.proofs.lemmas.Option.{slice_get_within, get_or_from_slice_get}
-use Rattle.text_lists.specs.Lists.{texts_of}
 use Rattle.text_lists.proofs.table.TextTable.number_of.Goals as goal
+use Rattle.std.proofs.{Common.{[], sym}, lemmas.List.length-map, lemmas.Option.{slice_get_within, get_or_from_slice_get}}
+use Rattle.text_lists.specs.Lists.{texts_of}
 
 pub returns-in-Some-clause-below : goal.returns-in-Some-clause-below
 returns-in-Some-clause-below c =

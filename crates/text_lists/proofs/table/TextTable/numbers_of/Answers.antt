@@ -1,12 +1,9 @@
-use Rattle.std.proofs.Common.{◌≡◌, ◌<◌, ◌∙◌, ◌++◌, ◌∷◌, [], ap, lit<, sym, length}
-use Rattle.std.proofs.lemmas.List.{map-append, length-map}
-use Rattle.std.proofs.lemmas.List.Elements.{All-push}
-use Rattle.std.proofs.lemmas.Iterator.Splits.{YieldsList-from_str_split}
-use Rattle.std.proofs.lemmas.Iterator.Consumers.{YieldsList-end}
-use Rattle.text_lists.specs.Lists.{texts_of}
-use Rattle.text_lists.specs.Numbers.{text_by, texts_by}
-use Rattle.text_lists.proofs.Numbers.{grows_then, are_below_more, texts_by_more}
 use Rattle.text_lists.proofs.table.TextTable.numbers_of.Goals as goal
+use Rattle.std.proofs.{Common.{◌≡◌, ◌<◌, ◌∙◌, ◌++◌, ◌∷◌, [], ap, lit<, sym, length}, lemmas.List.{map-append, length-map}}
+use Rattle.std.proofs.{lemmas.List.Elements.All-push, lemmas.Iterator.Splits.YieldsList-from_str_split}
+use Rattle.std.proofs.lemmas.Iterator.Consumers.{YieldsList-end}
+use Rattle.text_lists.specs.{Lists.texts_of, Numbers.{text_by, texts_by}}
+use Rattle.text_lists.proofs.Numbers.{grows_then, are_below_more, texts_by_more}
 
 pub loop-part-preserved : goal.loop-part-preserved
 loop-part-preserved c =

@@ -1,7 +1,6 @@
-use Rattle.std.proofs.Common.{◌≡◌}
-use Rattle.text_lists.specs.Lists.{texts_of}
-use Rattle.text_lists.specs.Numbers.{Grows, AreBelow, texts_by}
 use Rattle.text_lists.proofs.table.TextTable.numbers_of.Given as goal
+use Rattle.std.proofs.Common.{◌≡◌}
+use Rattle.text_lists.specs.{Lists.texts_of, Numbers.{Grows, AreBelow, texts_by}}
 
 abbrev pub invariant-loop-part : goal.invariant-loop-part
 invariant-loop-part l =

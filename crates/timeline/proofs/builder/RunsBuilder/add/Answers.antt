@@ -1,17 +1,14 @@
+use Rattle.timeline.proofs.builder.RunsBuilder.add.Goals as goal
 use Rattle.std.proofs.Common.{◌≡◌, ℕ, ◌+◌, ◌-◌, ◌*◌, ◌<◌, ◌≤◌, ◌^◌, min, Bool, false, Option, pos, ◌+ℤ◌, refl, sym, ◌∙◌, ap, arith}
 use Rattle.std.proofs.Math.Nat.{mul-le-mul_left, mul-le-mul_right}
 use Rattle.exact_time.specs.{Time.Time, Tick.time_of}
-use Rattle.timeline.specs.declared.{limits.Limits.Limits, builder.RunsBuilder.RunsBuilder, run.Run.Run, run_table.RunTable.RunTable}
-use Rattle.timeline.specs.Limits.{breaks_limits, media_extent}
-use Rattle.timeline.specs.Faults.{segment_fault}
-use Rattle.timeline.specs.Ratios.{natural}
-use Rattle.timeline.specs.Expansions.{repeated}
-use Rattle.timeline.specs.RunSegments.{IsRun, extents_of, timed}
-use Rattle.timeline.specs.Building.{former_end, breaks_in, placed_in, extent_in, runs_in}
-use Rattle.timeline.proofs.Judged.{run_breaks, run_passes, former_end-some, fault_of-none}
-use Rattle.timeline.proofs.Laid.{IsFaultOf-run, from_fault, room_before, room_after, capped, none_follows, members_after, extents_after}
-use Rattle.timeline.proofs.Laid.{laid_after, IsRun-in, extents_of-in, timed-in, pushed_own}
-use Rattle.timeline.proofs.builder.RunsBuilder.add.Goals as goal
+use Rattle.timeline.specs.{declared.limits.Limits.Limits, declared.builder.RunsBuilder.RunsBuilder, declared.run.Run.Run}
+use Rattle.timeline.specs.{declared.run_table.RunTable.RunTable, Limits.{breaks_limits, media_extent}, Faults.segment_fault, Ratios.natural}
+use Rattle.timeline.specs.{Expansions.repeated, RunSegments.{IsRun, extents_of, timed}, Building.{former_end, breaks_in, placed_in}}
+use Rattle.timeline.specs.Building.{extent_in, runs_in}
+use Rattle.timeline.proofs.{Judged.{run_breaks, run_passes, former_end-some, fault_of-none}, Laid.{IsFaultOf-run, from_fault, room_before}}
+use Rattle.timeline.proofs.Laid.{room_after, capped, none_follows, members_after, extents_after, laid_after, IsRun-in, extents_of-in}
+use Rattle.timeline.proofs.Laid.{timed-in, pushed_own}
 
 -- what the code computes, where the limits are kept
 exact : (l : Limits) (s m count d : ℕ) (sat most from : ℕ) (broken : Bool) → m ≡ min sat most → sat ≡ min (count * from) (2 ^ 128 - 1)

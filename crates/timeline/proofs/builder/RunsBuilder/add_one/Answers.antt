@@ -1,9 +1,7 @@
-use Rattle.std.proofs.Common.{◌+◌, ◌<◌, ◌^◌, pos, ◌+ℤ◌, refl, arith}
-use Rattle.timeline.specs.declared.run_table.RunTable.{RunTable}
-use Rattle.timeline.specs.Ratios.{natural}
-use Rattle.timeline.specs.RunSegments.{one_extent, timed}
-use Rattle.timeline.proofs.Laid.{with_members, with_laid, with_timed, none_follows, pushed_own}
 use Rattle.timeline.proofs.builder.RunsBuilder.add_one.Goals as goal
+use Rattle.std.proofs.Common.{◌+◌, ◌<◌, ◌^◌, pos, ◌+ℤ◌, refl, arith}
+use Rattle.timeline.specs.{declared.run_table.RunTable.RunTable, Ratios.natural, RunSegments.{one_extent, timed}}
+use Rattle.timeline.proofs.Laid.{with_members, with_laid, with_timed, none_follows, pushed_own}
 
 pub returns-clause-ok : goal.returns-clause-ok
 returns-clause-ok c =

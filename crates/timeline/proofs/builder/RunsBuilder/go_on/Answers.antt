@@ -1,9 +1,8 @@
-use Rattle.std.proofs.Common.{◌≡◌, ◌*◌, ◌+◌, ◌≤◌, pos, ◌+ℤ◌, ◌-ℤ◌, ap, sym, ◌∙◌, refl, arith}
-use Rattle.std.proofs.lemmas.Int.{ints}
+use Rattle.timeline.proofs.builder.RunsBuilder.go_on.Goals as goal
+use Rattle.std.proofs.{Common.{◌≡◌, ◌*◌, ◌+◌, ◌≤◌, pos, ◌+ℤ◌, ◌-ℤ◌, ap, sym, ◌∙◌, refl, arith}, lemmas.Int.ints}
 use Rattle.exact_time.specs.Time.{Time}
 use Rattle.timeline.specs.Ratios.{natural}
 use Rattle.timeline.proofs.Laid.{room_before}
-use Rattle.timeline.proofs.builder.RunsBuilder.go_on.Goals as goal
 
 pub returns-clause-laid : goal.returns-clause-laid
 returns-clause-laid c =

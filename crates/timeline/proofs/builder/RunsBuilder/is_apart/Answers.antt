@@ -1,8 +1,7 @@
-use Rattle.std.proofs.Common.{◌≡◌, ◌+◌, inl, inr, sym, arith}
-use Rattle.std.specs.Prelude.{◌⊎◌}
-use Rattle.std.proofs.lemmas.Bool.{cases_lt}
-use Rattle.timeline.proofs.Judged.{is_apart-in, former_end-some}
 use Rattle.timeline.proofs.builder.RunsBuilder.is_apart.Goals as goal
+use Rattle.std.proofs.{Common.{◌≡◌, ◌+◌, inl, inr, sym, arith}, lemmas.Bool.cases_lt}
+use Rattle.std.specs.Prelude.{◌⊎◌}
+use Rattle.timeline.proofs.Judged.{is_apart-in, former_end-some}
 
 pub returns-then-self-gt0 : goal.returns-then-self-gt0
 returns-then-self-gt0 c =

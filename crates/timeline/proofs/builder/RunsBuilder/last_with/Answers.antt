@@ -1,9 +1,7 @@
-use Rattle.std.proofs.Common.{◌≡◌, ℕ, ◌-◌, List, ◌∷◌, ◌++◌, length, take, refl, sym, ◌∙◌, ap, arith, []}
-use Rattle.timeline.specs.declared.{run_table.RunTable.RunTable, run.Run.Run}
-use Rattle.timeline.specs.Building.{runs_in}
-use Rattle.timeline.specs.RunSegments.{one_extent, timed}
-use Rattle.timeline.proofs.Laid.{at_last, begun, last_is, last_split, lengthened, pushed_own}
 use Rattle.timeline.proofs.builder.RunsBuilder.last_with.Goals as goal
+use Rattle.std.proofs.Common.{◌≡◌, ℕ, ◌-◌, List, ◌∷◌, ◌++◌, length, take, refl, sym, ◌∙◌, ap, arith, []}
+use Rattle.timeline.specs.{declared.run_table.RunTable.RunTable, declared.run.Run.Run, Building.runs_in, RunSegments.{one_extent, timed}}
+use Rattle.timeline.proofs.Laid.{at_last, begun, last_is, last_split, lengthened, pushed_own}
 use Rattle.timeline.proofs.builder.RunsBuilder.last_with.Goals.{in-Some+in_default-longer, in_default}
 
 pub longer-requires : goal.longer-requires

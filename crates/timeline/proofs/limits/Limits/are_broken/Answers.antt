@@ -1,8 +1,6 @@
-use Rattle.std.proofs.Common.{arith}
-use Rattle.std.proofs.lemmas.Bool.Decides.{nat_tests}
-use Rattle.timeline.proofs.LimitLemmas.{breaks_media}
 use Rattle.timeline.proofs.limits.Limits.are_broken.Goals as goal
-use Rattle.timeline.proofs.limits.Limits.are_broken.Goals.{then-end-ge-END, else-end-ge-END}
+use Rattle.std.proofs.{Common.arith, lemmas.Bool.Decides.nat_tests}
+use Rattle.timeline.proofs.{LimitLemmas.breaks_media, limits.Limits.are_broken.Goals.{then-end-ge-END, else-end-ge-END}}
 
 pub returns-then-ticks-from : goal.returns-then-ticks-from
 returns-then-ticks-from c =

@@ -1,10 +1,8 @@
-use Rattle.std.proofs.Common.{◌≡◌, ◌∙◌, sym, true, length, arith, refl}
-use Rattle.std.specs.Prelude.{nat_le}
-use Rattle.std.proofs.lemmas.Bool.Decides.{nat_tests}
-use Rattle.timeline.specs.FileNames.{are_files}
-use Rattle.timeline.specs.declared.names.Names.TheVariants.{Template}
-use Rattle.timeline.proofs.Naming.{in_folder}
 use Rattle.timeline.proofs.names.Names.are_files.Goals as goal
+use Rattle.std.proofs.{Common.{◌≡◌, ◌∙◌, sym, true, length, arith, refl}, lemmas.Bool.Decides.nat_tests}
+use Rattle.std.specs.Prelude.{nat_le}
+use Rattle.timeline.specs.{FileNames.are_files, declared.names.Names.TheVariants.Template}
+use Rattle.timeline.proofs.Naming.{in_folder}
 
 told : (c : goal.Then-as_str-le-MAX_BASE_LEN) → c.in_ok-files-in-Template.files
     ≡ are_files (Template c.in-Template.media c.in-Template.id c.in-Template.bandwidth c.in-Template.base)

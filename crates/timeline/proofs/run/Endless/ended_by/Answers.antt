@@ -1,10 +1,8 @@
-use Rattle.std.proofs.Common.{◌≡◌, ℕ, pos, ◌+ℤ◌, ◌≤ℤ◌, ◌<ℤ◌, ◌/◌, ◌+◌, ◌*◌, ◌<◌, ◌^◌, neg_ℤ, rules, ap, ◌∙◌, sym, arith}
-use Rattle.std.proofs.lemmas.Int.{ints}
-use Rattle.timeline.specs.Bounds.{time_of_bound}
-use Rattle.timeline.proofs.Ratios.{floor_ticks, quotient-low}
-use Rattle.timeline.proofs.Repeats.{ends_by-before, ends_by-start, ended_by-row}
-use Rattle.timeline.proofs.LimitLemmas.{abs-bounds}
 use Rattle.timeline.proofs.run.Endless.ended_by.Goals as goal
+use Rattle.std.proofs.{Common.{◌≡◌, ℕ, pos, ◌+ℤ◌, ◌≤ℤ◌, ◌<ℤ◌, ◌/◌, ◌+◌, ◌*◌, ◌<◌, ◌^◌, neg_ℤ, rules, ap, ◌∙◌, sym, arith}, lemmas.Int.ints}
+use Rattle.timeline.specs.Bounds.{time_of_bound}
+use Rattle.timeline.proofs.{Ratios.{floor_ticks, quotient-low}, Repeats.{ends_by-before, ends_by-start, ended_by-row}}
+use Rattle.timeline.proofs.LimitLemmas.{abs-bounds}
 
 pub returns-then-last-self-clause-count : goal.returns-then-last-self-clause-count
 returns-then-last-self-clause-count c =

@@ -1,9 +1,6 @@
-use Rattle.std.proofs.Common.{◌≡◌, ℕ, ◌+◌, ◌*◌, ◌<◌, ap, sym, refl, arith, []}
-use Rattle.std.proofs.lemmas.Int.{ints}
-use Rattle.timeline.specs.Bounds.{time_of_bound}
-use Rattle.timeline.specs.Expansions.{Extent, repeated}
-use Rattle.timeline.specs.RunSegments.{endless_count, first_of}
 use Rattle.timeline.proofs.run.Endless.until.Goals as goal
+use Rattle.std.proofs.{Common.{◌≡◌, ℕ, ◌+◌, ◌*◌, ◌<◌, ap, sym, refl, arith, []}, lemmas.Int.ints}
+use Rattle.timeline.specs.{Bounds.time_of_bound, Expansions.{Extent, repeated}, RunSegments.{endless_count, first_of}}
 
 none : (n : ℕ) (x : Extent) → n ≡ 0 → [] ≡ repeated n x
 unfolding repeated

@@ -1,9 +1,8 @@
-use Rattle.std.proofs.Common.{arith}
-use Rattle.std.proofs.lemmas.Int.{ints}
+use Rattle.timeline.proofs.run.Run.behind_first.Goals as goal
+use Rattle.std.proofs.{Common.arith, lemmas.Int.ints}
 use Rattle.exact_time.specs.Tick.{time_of}
 use Rattle.timeline.specs.RunSegments.{timed}
 use Rattle.timeline.proofs.Repeats.{moved_to}
-use Rattle.timeline.proofs.run.Run.behind_first.Goals as goal
 
 pub returns : goal.returns
 returns c =

@@ -1,10 +1,7 @@
-use Rattle.std.proofs.Common.{◌≡◌, ℕ, pos, ◌+ℤ◌, ◌≤ℤ◌, ◌<ℤ◌, ◌/◌, ap, arith}
-use Rattle.std.proofs.lemmas.Int.{ints}
-use Rattle.timeline.specs.Bounds.{time_of_bound}
-use Rattle.timeline.proofs.Ratios.{floor_ticks}
-use Rattle.timeline.proofs.Repeats.{ends_by-before, ends_by-at, count_ended-run}
-use Rattle.timeline.specs.RunSegments.{timed}
 use Rattle.timeline.proofs.run.Run.ended_by.Goals as goal
+use Rattle.std.proofs.{Common.{◌≡◌, ℕ, pos, ◌+ℤ◌, ◌≤ℤ◌, ◌<ℤ◌, ◌/◌, ap, arith}, lemmas.Int.ints}
+use Rattle.timeline.specs.{Bounds.time_of_bound, RunSegments.timed}
+use Rattle.timeline.proofs.{Ratios.floor_ticks, Repeats.{ends_by-before, ends_by-at, count_ended-run}}
 
 pub returns-then-last-self : goal.returns-then-last-self
 returns-then-last-self c =

@@ -1,10 +1,9 @@
-use Rattle.std.proofs.Common.{◌≡◌, ◌*◌, refl, sym, ◌∙◌, arith}
-use Rattle.std.proofs.lemmas.Int.{ints}
+use Rattle.timeline.proofs.run.Run.longer.Goals as goal
+use Rattle.std.proofs.{Common.{◌≡◌, ◌*◌, refl, sym, ◌∙◌, arith}, lemmas.Int.ints}
 use Rattle.exact_time.specs.Tick.{time_of}
 use Rattle.timeline.specs.RunSegments.{one_extent, timed}
-use Rattle.timeline.proofs.Repeats.{longer, moved_time}
-use Rattle.timeline.proofs.run.Run.longer.Goals as goal
-use Rattle.timeline.proofs.run.Run.longer.Goals.{then-not-begins-via-then-not-begins, then-not-begins-via-else-not-begins+then-not-ends}
+use Rattle.timeline.proofs.{Repeats.{longer, moved_time}, run.Run.longer.Goals.then-not-begins-via-then-not-begins}
+use Rattle.timeline.proofs.run.Run.longer.Goals.{then-not-begins-via-else-not-begins+then-not-ends}
 use Rattle.timeline.proofs.run.Run.longer.Goals.{then-not-begins-via-else-not-begins+else-not-ends+then-end-step}
 
 pub returns-then-not-begins : goal.returns-then-not-begins

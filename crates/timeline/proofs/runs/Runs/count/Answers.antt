@@ -1,9 +1,8 @@
-use Rattle.std.proofs.Common.{◌≡◌, ℕ, Ok, Err, Result, length, sym, ap, ◌∙◌}
-use Rattle.std.proofs.lemmas.Bool.{cond-false}
-use Rattle.timeline.specs.declared.{fault.TimeFault.TimeFault, fault.TimeFault.TheVariants.Range}
-use Rattle.timeline.specs.Listed.{IsReached, is_out_of_range, listed, expansion}
-use Rattle.timeline.proofs.RunsLemmas.{count_is}
 use Rattle.timeline.proofs.runs.Runs.count.Goals as goal
+use Rattle.std.proofs.{Common.{◌≡◌, ℕ, Ok, Err, Result, length, sym, ap, ◌∙◌}, lemmas.Bool.cond-false}
+use Rattle.timeline.specs.{declared.fault.TimeFault.TimeFault, declared.fault.TimeFault.TheVariants.Range, Listed.IsReached}
+use Rattle.timeline.specs.Listed.{is_out_of_range, listed, expansion}
+use Rattle.timeline.proofs.RunsLemmas.{count_is}
 
 pub returns : goal.returns
 returns c =

@@ -1,9 +1,7 @@
-use Rattle.std.proofs.Common.{◌≡◌, ℕ, ◌*◌, ltb, ◌∙◌, sym, ap, arith}
-use Rattle.std.proofs.lemmas.{Int.ints, Bool.le-ltb, Bool.and_left}
-use Rattle.timeline.specs.Bounds.{time_of_bound}
-use Rattle.timeline.specs.RunSegments.{endless_count}
-use Rattle.timeline.proofs.RunsLemmas.{some_high, none_open_broken, broken_is, last_broken}
 use Rattle.timeline.proofs.runs.Runs.is_broken.Goals as goal
+use Rattle.std.proofs.{Common.{◌≡◌, ℕ, ◌*◌, ltb, ◌∙◌, sym, ap, arith}, lemmas.Int.ints, lemmas.Bool.{le-ltb, and_left}}
+use Rattle.timeline.specs.{Bounds.time_of_bound, RunSegments.endless_count}
+use Rattle.timeline.proofs.RunsLemmas.{some_high, none_open_broken, broken_is, last_broken}
 
 pub returns-in_default-2 : goal.returns-in_default-2
 returns-in_default-2 c = none_open_broken c.self.inside c.self.invariant c.args.self.now c.self.view_is c.args.window.now c.requires

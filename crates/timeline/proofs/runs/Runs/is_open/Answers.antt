@@ -1,7 +1,6 @@
-use Rattle.timeline.specs.Kept.{runs_of}
-use Rattle.timeline.specs.RunSegments.{all_extents}
-use Rattle.timeline.proofs.SegmentTimelineLemmas.{is_open-parts}
 use Rattle.timeline.proofs.runs.Runs.is_open.Goals as goal
+use Rattle.timeline.specs.{Kept.runs_of, RunSegments.all_extents}
+use Rattle.timeline.proofs.SegmentTimelineLemmas.{is_open-parts}
 
 pub returns : goal.returns
 returns c =

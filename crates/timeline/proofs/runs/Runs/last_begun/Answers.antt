@@ -1,8 +1,7 @@
-use Rattle.std.proofs.Common.{◌≡◌, suc, ◌-◌, arith}
-use Rattle.timeline.specs.Bounds.{time_of_bound}
-use Rattle.timeline.specs.RunSegments.{timed}
-use Rattle.timeline.proofs.RunsLemmas.{last_kept, none_kept, sorted_by}
 use Rattle.timeline.proofs.runs.Runs.last_begun.Goals as goal
+use Rattle.std.proofs.Common.{◌≡◌, suc, ◌-◌, arith}
+use Rattle.timeline.specs.{Bounds.time_of_bound, RunSegments.timed}
+use Rattle.timeline.proofs.RunsLemmas.{last_kept, none_kept, sorted_by}
 
 pub count_front-begun-requires : goal.count_front-begun-requires
 count_front-begun-requires c = rw c.as_slice-runs.ensures (sorted_by c.args.bound c.self.inside c.self.invariant)

@@ -1,9 +1,8 @@
+use Rattle.timeline.proofs.runs.Runs.walk.Goals as goal
 use Rattle.std.proofs.Common.{◌≡◌}
 use Rattle.std.specs.Prelude.{option_map}
-use Rattle.timeline.specs.Listed.{listed_from}
-use Rattle.timeline.specs.RunSegments.{timed}
+use Rattle.timeline.specs.{Listed.listed_from, RunSegments.timed}
 use Rattle.timeline.proofs.RunsLemmas.{walk_laid, walk_countable, walk_is, walk_paced, limits_are}
-use Rattle.timeline.proofs.runs.Runs.walk.Goals as goal
 
 pub from-requires-clause-laid : goal.from-requires-clause-laid
 from-requires-clause-laid c = λ some.

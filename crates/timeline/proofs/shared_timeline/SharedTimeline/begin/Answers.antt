@@ -1,18 +1,12 @@
-use Rattle.std.proofs.Common.{◌≡◌, ◌-◌, true, false, List, ◌++◌, map, length, take, drop, ◌∙◌, sym, ap, subst, append-nil}
-use Rattle.std.specs.Prelude.{Option, None, ◌==◌}
-use Rattle.std.specs.List.{list_any}
-use Rattle.std.proofs.lemmas.List.{take_rest}
-use Rattle.timeline.specs.declared.{entry.SEntry.SEntry, limits.Limits.Limits, run.Run.Run, shared_timeline.Laid.Laid}
-use Rattle.timeline.specs.declared.{shared_timeline.LaidTimeline.LaidTimeline}
-use Rattle.timeline.specs.Faults.{segment_fault}
-use Rattle.timeline.specs.Limits.{breaks_limits}
-use Rattle.timeline.specs.MediaTimelines.{are_passed}
-use Rattle.timeline.specs.Reaches.{IsSoFar}
-use Rattle.timeline.specs.RunSegments.{placed_run, timed}
-use Rattle.timeline.specs.RunTables.{media_of, runs_at}
-use Rattle.timeline.specs.Timelines.{expansion_of_timeline}
-use Rattle.timeline.proofs.Reached.{begun_so_far, passed_fault}
 use Rattle.timeline.proofs.shared_timeline.SharedTimeline.begin.Goals as goal
+use Rattle.std.proofs.Common.{◌≡◌, ◌-◌, true, false, List, ◌++◌, map, length, take, drop, ◌∙◌, sym, ap, subst, append-nil}
+use Rattle.std.proofs.lemmas.List.{take_rest}
+use Rattle.std.specs.{Prelude.{Option, None, ◌==◌}, List.list_any}
+use Rattle.timeline.specs.{declared.entry.SEntry.SEntry, declared.limits.Limits.Limits, declared.run.Run.Run}
+use Rattle.timeline.specs.{declared.shared_timeline.Laid.Laid, declared.shared_timeline.LaidTimeline.LaidTimeline, Faults.segment_fault}
+use Rattle.timeline.specs.{Limits.breaks_limits, MediaTimelines.are_passed, Reaches.IsSoFar, RunSegments.{placed_run, timed}}
+use Rattle.timeline.specs.{RunTables.{media_of, runs_at}, Timelines.expansion_of_timeline}
+use Rattle.timeline.proofs.Reached.{begun_so_far, passed_fault}
 
 pub returns-then-are_passed : goal.returns-then-are_passed
 returns-then-are_passed c = λ end.

@@ -1,12 +1,9 @@
-use Rattle.std.proofs.Common.{ℕ, ◌+◌, ◌++◌, take, drop, ◌∙◌, sym, ap, arith}
-use Rattle.timeline.specs.Expansions.{numbered}
-use Rattle.timeline.specs.RunSegments.{all_extents, extents_of, extents_of_some, timed}
-use Rattle.std.specs.Prelude.{Option, option_map}
-use Rattle.timeline.specs.RunTables.{slice_runs}
-use Rattle.timeline.specs.declared.run.Run.{Run}
-use Rattle.timeline.specs.Walks.{place_of}
-use Rattle.timeline.proofs.WalkLemmas.{left_in, stands_in, goes_on_in, goes_on_behind, stands_behind, next_place}
 use Rattle.timeline.proofs.time_walk.TimeWalk.advance.Goals as goal
+use Rattle.std.proofs.Common.{ℕ, ◌+◌, ◌++◌, take, drop, ◌∙◌, sym, ap, arith}
+use Rattle.timeline.specs.{Expansions.numbered, RunSegments.{all_extents, extents_of, extents_of_some, timed}, RunTables.slice_runs}
+use Rattle.timeline.specs.{declared.run.Run.Run, Walks.place_of}
+use Rattle.std.specs.Prelude.{Option, option_map}
+use Rattle.timeline.proofs.WalkLemmas.{left_in, stands_in, goes_on_in, goes_on_behind, stands_behind, next_place}
 
 pub returns-in-Some-behind_first : goal.returns-in-Some-behind_first
 returns-in-Some-behind_first c =

@@ -1,9 +1,8 @@
+use Rattle.timeline.proofs.time_walk.TimeWalk.from.Goals as goal
 use Rattle.std.proofs.Common.{◌+◌, ap, arith}
 use Rattle.std.specs.Prelude.{option_map}
-use Rattle.timeline.specs.RunSegments.{timed}
-use Rattle.timeline.specs.RunTables.{slice_runs}
+use Rattle.timeline.specs.{RunSegments.timed, RunTables.slice_runs}
 use Rattle.timeline.proofs.WalkLemmas.{begins_at, begins_nowhere, part_laid, part_timings, passed_at, sorted_ends}
-use Rattle.timeline.proofs.time_walk.TimeWalk.from.Goals as goal
 
 pub count_front-passed-requires : goal.count_front-passed-requires
 count_front-passed-requires c = let laid = c.requires.laid (omega (arith, c.if-left-eq0.false)) in

@@ -1,9 +1,8 @@
-use Rattle.std.proofs.Common.{◌-◌, refl, arith}
-use Rattle.std.specs.Prelude.{option_map}
-use Rattle.timeline.specs.RunSegments.{timed}
-use Rattle.timeline.specs.RunTables.{slice_runs}
 use Rattle.timeline.proofs.WalkLemmas as runs
 use Rattle.timeline.proofs.time_walk.TimeWalk.next_run.Goals as goal
+use Rattle.std.proofs.Common.{◌-◌, refl, arith}
+use Rattle.std.specs.Prelude.{option_map}
+use Rattle.timeline.specs.{RunSegments.timed, RunTables.slice_runs}
 
 pub returns-then-self-eq0-2 : goal.returns-then-self-eq0-2
 returns-then-self-eq0-2 c =

@@ -1,10 +1,8 @@
+use Rattle.timeline.proofs.time_walk.TimeWalk.peek.Goals as goal
 use Rattle.std.proofs.Common.{List, ◌++◌, ◌∙◌, sym, ap, arith}
 use Rattle.std.specs.Prelude.{slice_get, option_map}
-use Rattle.timeline.specs.RunTables.{slice_runs}
-use Rattle.timeline.specs.Expansions.{Timing}
-use Rattle.timeline.specs.RunSegments.{all_extents, extents_of_some, timed}
+use Rattle.timeline.specs.{RunTables.slice_runs, Expansions.Timing, RunSegments.{all_extents, extents_of_some, timed}}
 use Rattle.timeline.proofs.WalkLemmas.{left_in, stands_in, first_timing}
-use Rattle.timeline.proofs.time_walk.TimeWalk.peek.Goals as goal
 
 pub returns-clause-next : goal.returns-clause-next
 returns-clause-next c =

@@ -1,7 +1,6 @@
-use Rattle.std.proofs.Common.{◌≡◌, ◌≤◌, length, take, drop, length-append, ap, arith}
-use Rattle.std.proofs.lemmas.Str.{IsCharBoundary-from_take}
-use Rattle.url_parts.proofs.Relative.{whole_from_front}
 use Rattle.url_parts.proofs.base.Base.finish.Goals as goal
+use Rattle.std.proofs.{Common.{◌≡◌, ◌≤◌, length, take, drop, length-append, ap, arith}, lemmas.Str.IsCharBoundary-from_take}
+use Rattle.url_parts.proofs.Relative.{whole_from_front}
 
 pub range_from-reference-requires : goal.range_from-reference-requires
 range_from-reference-requires c =

@@ -1,8 +1,7 @@
-use Rattle.std.proofs.Common.{◌≡◌, ◌-◌, length, take, ap, ◌∙◌, arith}
-use Rattle.std.proofs.lemmas.Str.{IsCharBoundary-from_ascii}
+use Rattle.url_parts.proofs.base.Base.folder.Goals as goal
+use Rattle.std.proofs.{Common.{◌≡◌, ◌-◌, length, take, ap, ◌∙◌, arith}, lemmas.Str.IsCharBoundary-from_ascii}
 use Rattle.url_parts.specs.Addresses.{text_of, folder_of}
 use Rattle.url_parts.proofs.Bases.{folder_of-take, length-folder_of}
-use Rattle.url_parts.proofs.base.Base.folder.Goals as goal
 
 pub range-requires-clause-end_boundary : goal.range-requires-clause-end_boundary
 range-requires-clause-end_boundary c =
