@@ -2,8 +2,6 @@
 #![tactic(auto)]
 
 #[cfg(test)]
-mod followed;
-#[cfg(test)]
 mod outside;
 #[cfg(test)]
 mod places;

@@ -101,7 +101,8 @@ impl Template {
     /// Whether the greatest number and time give the name of a file ([`bridge_io::is_name`]); then each number and each
     /// time do (`laws::files_are_named`).
     pub fn names_files(&self, alloc: Global, id: &str, bandwidth: u64) -> Result<bool, NoMemory>
-        ensures { IfOk result (λ names. names ≡ names_files self.now (record { id = id.now; bandwidth = bandwidth; number = 0; time = 0 })) }
+        ensures { IfOk result (λ names. names ≡ names_files self.now
+            (record { id = id.now; bandwidth = bandwidth; number = 0; time = 0 })) }
     {
         let ids = BorrowedIds {
             id,

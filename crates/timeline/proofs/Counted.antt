@@ -1,16 +1,16 @@
 -- The segments of a duration in a row.
-use Rattle.std.proofs.Common.{◌≡◌, ℕ, zero, suc, ◌+◌, ◌-◌, ◌*◌, ◌<◌, ◌≤◌, ◌^◌, Bool, true, false, not, List, ◌∷◌, ◌++◌, map, pos, ◌-ℤ◌, []}
+use Rattle.std.proofs.Common.{◌≡◌, ℕ, zero, suc, ◌+◌, ◌-◌, ◌*◌, ◌<◌, ◌≤◌, ◌^◌, Bool, true, false, List, ◌∷◌, ◌++◌, map, pos, ◌-ℤ◌, []}
 use Rattle.std.proofs.{Common.{Option, Some, None, refl, ◌∙◌, sym, ap, subst, inl, inr, arith, ltb, ◌<ℤ◌}, lemmas.Int.ints}
 use Rattle.std.proofs.{lemmas.Option.IfSome_then, lemmas.List.{append-nil, map-append, append_assoc}, Math.Bool.{or-false, or_assoc}}
 use Rattle.std.proofs.{Math.Nat.{mul-le-mul_right, mul-lt-mul_of_pos_left}, lemmas.Bool.{cases_Bool, cases_lt, cond-true, cond-false}}
-use Rattle.std.proofs.lemmas.Bool.{le-ltb, lt-ltb, or_from, ltb-false, or_parts}
+use Rattle.std.proofs.lemmas.Bool.{le-ltb, lt-ltb, ltb-false, or_parts}
 use Rattle.std.specs.Prelude.{◌||◌, ◌&&◌, nat_lt, IsNone, MatchResult, OnOk, Result, Ok, Err, int_le, unsigned_abs, option_map, length}
 use Rattle.std.specs.List.{list_any}
-use Rattle.exact_time.specs.{Time.{Time, IsAtMost, in_units, seconds, at_most, before, nanoseconds, difference}, Floor.IsCeiling}
+use Rattle.exact_time.specs.{Time.{Time, in_units, seconds, at_most, before, nanoseconds, difference}, Floor.IsCeiling}
 use Rattle.exact_time.specs.{Tick.time_of, declared.tick.Tick.Tick}
 use Rattle.timeline.specs.{declared.entry.End.End, declared.entry.End.TheVariants.{At, Unbounded}, declared.fault.TimeFault.TimeFault}
 use Rattle.timeline.specs.{declared.builder.RunsBuilder.RunsBuilder, declared.limits.Limits.Limits, declared.span.Span.Span}
-use Rattle.timeline.specs.{declared.fault.TimeFault.TheVariants.{Range, Step, ListLength}, Ratios.{earlier, steps_to_cover}}
+use Rattle.timeline.specs.{declared.fault.TimeFault.TheVariants.{Range, ListLength}, Ratios.{earlier, steps_to_cover}}
 use Rattle.timeline.specs.{Expansions.{Extent, Member, Closed, Endless, lasting, repeated}, Durations.{cut_at, extent_at, extents_by}}
 use Rattle.timeline.specs.{Durations.{expansion_of_names, extent_of, expansion_of_list}, Faults.{begins_late, extents_break, fault_if}}
 use Rattle.timeline.specs.{Faults.{is_apart, members_by, or_fault, refusal, segment_fault, lasts_no_time}, Steady.AreKept}
@@ -22,7 +22,7 @@ use Rattle.timeline.proofs.{Ratios.{steps_to_cover-is, ceiling-is, not_int_le-fr
 use Rattle.timeline.proofs.{Judged.{repeat-extent_in, touching, fault_of_two, passes}, Paced.kept_of, ExpansionsRise.durations_row}
 use Rattle.timeline.proofs.{ExpansionsRise.{row_fault, row_lasting, last_covers, spans_last}, OpenEnds.{no_faults, unless}}
 use Rattle.timeline.proofs.{LimitLemmas.{int_le-cancel, ltb-scaled}, Laid.refusal_some}
-use Rattle.exact_time.proofs.TimeOrder.{before-is, at_most-from, not_at_most-from}
+use Rattle.exact_time.proofs.TimeOrder.{at_most-from, not_at_most-from, not_before-from}
 
 pub count_until-is : (length ticks duration n : ℕ) → 0 < duration → IsCeiling (length * ticks) (duration * 1000000000) n
     → n ≡ steps_to_cover (nanoseconds (pos length)) (in_units ticks duration)
@@ -77,17 +77,14 @@ module _ (old new : RunsBuilder) (s d count : ℕ) (at : s ≡ old.former) where
 
 pub row_none : (l : RunsBuilder) (d count : ℕ) → IsFresh l → count ≡ 0 → IsRow l.limits d count l
 unfolding repeated
-row_none l d count fresh none =
-    let nothing : count * d ≡ 0 = ap (λ (n : ℕ). n * d) none ∙ omega arith in
-    let empty : row_of l.limits d count ≡ [] = ap (λ (n : ℕ). repeated n (extent_in l.limits 0 d)) none in
-    record {
-      laid = fresh.laid;
-      closed = fresh.closed;
-      limits_are = refl;
-      former = fresh.former ∙ sym nothing;
-      members = fresh.none ∙ ap (map Closed) (sym empty);
-      kept = ap (list_any (breaks_in l.limits)) empty;
-    }
+row_none l d count fresh none = rw none (record {
+  laid = fresh.laid;
+  closed = fresh.closed;
+  limits_are = refl;
+  former = omega (arith, fresh.former);
+  members = fresh.none;
+  kept = refl;
+})
 
 pub row_added : (old new : RunsBuilder) (d count : ℕ) (r : Result (Unit {0}) TimeFault) → IsFresh old →
     MatchResult r (λ _. AreAdded old (map Closed (row_of old.limits d count)) new)
@@ -114,23 +111,17 @@ module _ (l : Limits) (ticks : ℕ) (scale : l.ticks ≡ ticks) (origin : l.orig
 
   pub whole_last : (length s d : ℕ) → (s + d) * 1000000000 ≤ length * ticks → last_extent ticks length s d ≡ extent_in l s d
   whole_last length s d fits =
-      ap (λ (e : Time). record { start = in_units ticks s; end = e })
-      (cond-false (before (nanoseconds (pos length)) (in_units ticks (s + d))) (nanoseconds (pos length)) (in_units ticks (s + d))
-      (le-ltb (length * ticks) ((s + d) * 1000000000) fits))
-      ∙ ap (λ (e : Time). record { start = e; end = in_units ticks (s + d) }) (sym (placed_at s))
-      ∙ ap (λ (e : Time). record { start = placed_in l s; end = e }) (sym (placed_at (s + d)))
-
-  head_at : (d k : ℕ) → extent_at ticks d k ≡ extent_in l (k * d) d
-  head_at d k =
-      let end : (k + 1) * d ≡ k * d + d = omega arith in
-      cc (placed_at (k * d), placed_at (k * d + d))
+      let bound = nanoseconds (pos length) in
+      let whole = cond-false (before bound (in_units ticks (s + d))) bound (in_units ticks (s + d))
+      (le-ltb (length * ticks) ((s + d) * 1000000000) fits) in
+      cc (placed_at s, placed_at (s + d))
 
   by-run : (d count k : ℕ) → extents_by ticks d k count ≡ repeated count (extent_in l (k * d) d)
   unfolding extents_by repeated
   by-run d zero k = refl
   by-run d (suc count) k =
       let next : (k + 1) * d ≡ k * d + d = omega arith in
-      cc (head_at d k, by-run d count (k + 1), repeat-extent_in l (k * d) d)
+      cc (placed_at (k * d), placed_at (k * d + d), by-run d count (k + 1), repeat-extent_in l (k * d) d)
 
   -- all but the last one are whole
   cut-snoc : (bound : Time) (d whole k : ℕ) → cut_at bound (extents_by ticks d k (suc whole))
@@ -160,7 +151,7 @@ module _ (l : Limits) (ticks : ℕ) (scale : l.ticks ≡ ticks) (origin : l.orig
   pub names_whole : (d count : ℕ) → expansion_of_names ticks Unbounded d count ≡ map Closed (row_of l d count)
   names_whole d count =
       let start : 0 * d ≡ 0 = omega arith in
-      ap (map Closed) (by-run d count 0 ∙ ap (λ (n : ℕ). repeated count (extent_in l n d)) start)
+      cc (by-run d count 0)
 
   -- ---- limits
 
@@ -172,40 +163,29 @@ pub break_row : (p : Extent → Bool) (xs : List Extent) (ys : List Member) → 
 break_row p [] ys = refl
 break_row p (x ∷ xs) ys = cc (break_row p xs ys, or_assoc (p x) (list_any p xs) (extents_break p ys))
 
-single : (p : Extent → Bool) (x : Extent) → list_any p (repeated 1 x) ≡ p x
-unfolding repeated
-single p x = or-false (p x)
-
-one_member : (x : Extent) → map Closed (repeated 1 x) ≡ Closed x ∷ []
-unfolding repeated
-one_member x = refl
-
 pub last_added : (old new : RunsBuilder) (ticks length d start : ℕ) (r : Result (Unit {0}) TimeFault) → old.limits.ticks ≡ ticks →
     old.limits.origin ≡ 0 → start ≡ old.former → (start + d) * 1000000000 ≤ length * ticks →
     MatchResult r (λ _. AreAdded old (map Closed (repeated 1 (extent_in old.limits start d))) new)
     (λ f. IsFaultOf old (map Closed (repeated 1 (extent_in old.limits start d))) f) → new.limits ≡ old.limits → OnOk r (IsInTime new) →
     MatchResult r (λ _. IsLast old (last_extent ticks length old.former d) new)
     (IsRange (breaks_in old.limits (last_extent ticks length old.former d)))
+unfolding repeated
 last_added old new ticks length d start (Ok done) scale origin at fits are limits laid =
     let x = extent_in old.limits start d in
     let last_is = whole_last old.limits ticks scale origin length start d fits in
     rw (← at) (record {
       laid = laid.laid;
       limits_are = limits;
-      members = are.added ∙ ap (λ (ms : List Member). members_so_far old ++ ms) (one_member x)
-          ∙ ap (λ (y : Extent). members_so_far old ++ Closed y ∷ []) (sym last_is);
-      kept = cc (last_is, single (breaks_in old.limits) x, run_kept old new start d 1 at are);
+      members = are.added ∙ ap (λ (y : Extent). members_so_far old ++ Closed y ∷ []) (sym last_is);
+      kept = cc (last_is, or-false (breaks_in old.limits x), run_kept old new start d 1 at are);
     })
 last_added old new ticks length d start (Err f) scale origin at fits is limits laid =
     let x = extent_in old.limits start d in
     let last_is = whole_last old.limits ticks scale origin length start d fits in
-    rw (← at) (subst (λ (b : Bool). IsRange b f) (single (breaks_in old.limits) x ∙ ap (breaks_in old.limits) (sym last_is))
+    rw (← at) (subst (λ (b : Bool). IsRange b f) (or-false (breaks_in old.limits x) ∙ ap (breaks_in old.limits) (sym last_is))
     (run_range old new start d 1 at f is))
 
 -- ---- so many segments, of which the last one is cut
-
-not_before : (x y : Time) → IsAtMost y x → before x y ≡ false
-not_before x y le = before-is x y ∙ ap not (at_most-from y x le)
 
 -- a segment that ends before its start, within the limits
 late_kept : (ticks s length : ℕ) → s < 2 ^ 63 → length < 10 ^ 19 → length * ticks ≤ s * 1000000000
@@ -213,13 +193,13 @@ late_kept : (ticks s length : ℕ) → s < 2 ^ 63 → length < 10 ^ 19 → lengt
 late_kept ticks s length near small late =
     let x : Extent = record { start = in_units ticks s; end = nanoseconds (pos length) } in
     let bound : Time = record { ticks = pos (2 ^ 63) -ℤ pos 0; scale = ticks } in
-    or_from (at_most bound x.end || before (seconds 1000000) (lasting x)) (before (seconds 100000000000) x.end)
-    (or_from (at_most bound x.end) (before (seconds 1000000) (lasting x)) (not_at_most-from bound x.end (omega (arith, ints)))
-    (not_before (seconds 1000000) (lasting x) (omega (arith, ints)))) (not_before (seconds 100000000000) x.end (omega (arith, ints)))
+    let short = not_before-from (seconds 1000000) (lasting x) (omega (arith, ints)) in
+    let near_enough = not_before-from (seconds 100000000000) x.end (omega (arith, ints)) in
+    cc (not_at_most-from bound x.end (omega (arith, ints)))
 
-broken_fault : (b : Bool) (rest : Option TimeFault) (f : TimeFault) → b ≡ true → f ≡ Range → or_fault (fault_if b Range) rest ≡ Some f
-broken_fault true rest f broken is = ap Some (sym is)
-broken_fault false rest f broken is = cc
+range_first : (p b : Bool) (rest : Option TimeFault) (f : TimeFault) → (b ≡ true → p ≡ true) → IsRange b f
+    → IsCountedFault (or_fault (fault_if p Range) rest) f
+range_first p b rest f same is = IfSome_then (refusal f) is (λ g h. cc (same h.1, h.0))
 
 begins_at : (ticks length d whole count : ℕ) → count ≡ suc whole → begins_late ticks (At length) d count
     ≡ at_most (nanoseconds (pos length)) (in_units ticks (whole * d))
@@ -228,7 +208,7 @@ begins_at ticks length d whole count more =
     let before : count - 1 ≡ whole = omega arith in
     cc
 
-module _ (l : Limits) (ticks : ℕ) (scale : l.ticks ≡ ticks) (origin : l.origin ≡ 0) (length d whole count : ℕ)
+module _ (l : Limits) {ticks : ℕ} (scale : l.ticks ≡ ticks) (origin : l.origin ≡ 0) (length d : ℕ) {whole count : ℕ}
     (more : count ≡ suc whole) where
   abbrev last : Extent
   last = last_extent ticks length (whole * d) d
@@ -244,47 +224,48 @@ module _ (l : Limits) (ticks : ℕ) (scale : l.ticks ≡ ticks) (origin : l.orig
 
   pub cut_first : (f : TimeFault) → IsRange (list_any (breaks_in l) (row_of l d whole)) f
       → IsCountedFault (cut_fault ticks length d count) f
-  cut_first f is = IfSome_then (refusal f) is (λ g h. broken_fault broken _ g (cut_broken
-      ∙ ap (λ (b : Bool). b || breaks_in l last) h.1) h.0)
+  cut_first f is = range_first broken _ _ f (λ b. cut_broken ∙ ap (λ (c : Bool). c || breaks_in l last) b) is
 
-  module _ (kept : list_any (breaks_in l) (row_of l d whole) ≡ false) where
-    broken_last : broken ≡ breaks_in l last
-    broken_last = cut_broken ∙ ap (λ (b : Bool). b || breaks_in l last) kept
+  broken_last : list_any (breaks_in l) (row_of l d whole) ≡ false → broken ≡ breaks_in l last
+  broken_last kept = cut_broken ∙ ap (λ (b : Bool). b || breaks_in l last) kept
 
-    pub cut_last : (f : TimeFault) → IsRange (breaks_in l last) f → IsCountedFault (cut_fault ticks length d count) f
-    cut_last f is = IfSome_then (refusal f) is (λ g h. broken_fault broken _ g (broken_last ∙ h.1) h.0)
+  judged_last : (late : Bool) → list_any (breaks_in l) (row_of l d whole) ≡ false → breaks_in l last ≡ false
+      → at_most (nanoseconds (pos length)) (in_units ticks (whole * d)) ≡ late → cut_fault ticks length d count ≡ fault_if late ListLength
+  judged_last late kept fine is = cc (broken_last kept, begins_at ticks length d whole count more)
 
-    pub cut_late : 0 < d → whole * d < 2 ^ 63 → length < 10 ^ 19 → length * ticks ≤ whole * d * 1000000000
-        → cut_fault ticks length d count ≡ Some ListLength
-    cut_late some near small late =
-        let end : last ≡ record { start = in_units ticks (whole * d); end = nanoseconds (pos length) } =
-        ap (λ (e : Time). record { start = in_units ticks (whole * d); end = e })
-        (cond-true (before (nanoseconds (pos length)) (in_units ticks (whole * d + d))) (nanoseconds (pos length))
-        (in_units ticks (whole * d + d)) (lt-ltb (length * ticks) ((whole * d + d) * 1000000000) (omega arith))) in
-        let fine : breaks_in l last ≡ false =
-        cc (late_kept ticks (whole * d) length near small late) in
-        ap (λ (b : Bool). or_fault (fault_if b Range) (fault_if (begins_late ticks (At length) d count) ListLength)) (broken_last ∙ fine)
-        ∙ ap (λ (b : Bool). fault_if b ListLength) (begins_at ticks length d whole count more
-        ∙ at_most-from (nanoseconds (pos length)) (in_units ticks (whole * d)) (omega (arith, ints)))
+  pub cut_late : list_any (breaks_in l) (row_of l d whole) ≡ false → 0 < d → whole * d < 2 ^ 63 → length < 10 ^ 19
+      → length * ticks ≤ whole * d * 1000000000 → cut_fault ticks length d count ≡ Some ListLength
+  cut_late kept some near small late =
+      let end = cond-true (before (nanoseconds (pos length)) (in_units ticks (whole * d + d))) (nanoseconds (pos length))
+      (in_units ticks (whole * d + d)) (lt-ltb (length * ticks) ((whole * d + d) * 1000000000) (omega arith)) in
+      judged_last true kept (cc (late_kept ticks (whole * d) length near small late))
+      (at_most-from (nanoseconds (pos length)) (in_units ticks (whole * d)) (omega (arith, ints)))
 
-    pub cut_kept : breaks_in l last ≡ false → whole * d * 1000000000 < length * ticks → cut_fault ticks length d count ≡ None
-    cut_kept fine early =
-        ap (λ (b : Bool). or_fault (fault_if b Range) (fault_if (begins_late ticks (At length) d count) ListLength)) (broken_last ∙ fine)
-        ∙ ap (λ (b : Bool). fault_if b ListLength) (begins_at ticks length d whole count more
-        ∙ not_at_most-from (nanoseconds (pos length)) (in_units ticks (whole * d)) (omega (arith, ints)))
+  pub cut_end : (mid new : RunsBuilder) (r : Result (Unit {0}) TimeFault) → IsRow l d whole mid → mid.former * 1000000000 < length * ticks →
+      MatchResult r (λ _. IsLast mid (last_extent ticks length mid.former d) new)
+      (IsRange (breaks_in mid.limits (last_extent ticks length mid.former d))) →
+      MatchResult r (λ _. AreCounted ticks (expansion_of_names ticks (At length) d count) (cut_fault ticks length d count) new)
+      (IsCountedFault (cut_fault ticks length d count))
+  cut_end mid new (Ok done) row early is =
+      let same : last_extent ticks length mid.former d ≡ last = ap (λ (n : ℕ). last_extent ticks length n d) row.former in
+      let limits_are : new.limits ≡ l = is.limits_are ∙ row.limits_are in
+      record {
+        scale = rw limits_are scale;
+        origin = rw limits_are origin;
+        laid = is.laid;
+        members_are = cc (is.members, row.members, same, names_cut l ticks scale origin length d whole count more);
+        judged = judged_last false row.kept (cc (is.kept, row.limits_are))
+            (not_at_most-from (nanoseconds (pos length)) (in_units ticks (whole * d))
+            (omega (arith, ints, ap (λ (n : ℕ). n * 1000000000) row.former)));
+      }
+  cut_end mid new (Err f) row early is =
+      range_first broken (breaks_in l last) _ f (λ b. broken_last row.kept ∙ b) (rw (row.former, row.limits_are) at is)
 
 pub cut_none : (l : RunsBuilder) (ticks length d count : ℕ) → IsFresh l → l.limits.ticks ≡ ticks → count ≡ 0
     → AreCounted ticks (expansion_of_names ticks (At length) d count) (cut_fault ticks length d count) l
 unfolding extents_by
 cut_none l ticks length d count fresh scale none =
-    let members : expansion_of_names ticks (At length) d count ≡ [] = ap (expansion_of_names ticks (At length) d) none in
-    record {
-      scale = scale;
-      origin = fresh.origin;
-      laid = fresh.laid.laid;
-      members_are = fresh.none ∙ sym members;
-      judged = ap (cut_fault ticks length d) none;
-    }
+    rw none (record { scale = scale; origin = fresh.origin; laid = fresh.laid.laid; members_are = fresh.none; judged = refl })
 
 -- ---- by the kind of end
 
@@ -301,54 +282,62 @@ never_late ticks length d positive some =
       | inr none ↦ ap (λ (b : Bool). b && at_most (nanoseconds (pos length)) (in_units ticks ((count - 1) * d))) (le-ltb 0 count none)
     ]
 
-names_break : (limits : Limits) (ticks : ℕ) → limits.ticks ≡ ticks → limits.origin ≡ 0 → (d count : ℕ)
-    → extents_break (breaks_limits ticks 0) (members_by ticks Unbounded d (Some count))
-    ≡ list_any (breaks_in limits) (row_of limits d count)
-names_break limits ticks scale origin d count =
-    ap (extents_break (breaks_limits ticks 0)) (names_whole limits ticks scale origin d count
-    ∙ sym (append-nil (map Closed (row_of limits d count))))
-    ∙ break_by limits ticks scale origin (map Closed (row_of limits d count) ++ [])
-    ∙ break_row (breaks_in limits) (row_of limits d count) [] ∙ or-false (list_any (breaks_in limits) (row_of limits d count))
+pub counted_at : (ticks length d n : ℕ) (names : Option ℕ) → n ≡ count_until ticks length d names → 0 < ticks → 0 < d
+    → cut_fault ticks length d n ≡ counted_fault ticks (At length) d names
+counted_at ticks length d n (Some count) is positive some = ap (cut_fault ticks length d) is
+counted_at ticks length d n None is positive some =
+    cc (never_late ticks length d positive some)
 
-pub counted_at : (ticks length d : ℕ) (names : Option ℕ) → 0 < ticks → 0 < d → cut_fault ticks length d (count_until ticks length d names)
-    ≡ counted_fault ticks (At length) d names
-counted_at ticks length d (Some count) positive some = refl
-counted_at ticks length d None positive some =
-    let count = steps_to_cover (nanoseconds (pos length)) (in_units ticks d) in
-    ap (λ (b : Bool). or_fault (fault_if (extents_break (breaks_limits ticks 0) (expansion_of_names ticks (At length) d count)) Range)
-    (fault_if b ListLength)) (never_late ticks length d positive some)
-
-pub members_at : (ticks length d : ℕ) (names : Option ℕ) → expansion_of_names ticks (At length) d (count_until ticks length d names)
+members_at : (ticks length d : ℕ) (names : Option ℕ) → expansion_of_names ticks (At length) d (count_until ticks length d names)
     ≡ members_by ticks (At length) d names
 members_at ticks length d None = refl
 members_at ticks length d (Some count) = refl
 
-pub open_fault : (l : RunsBuilder) (d : ℕ) (f : TimeFault) (meant : Option TimeFault) → IsFresh l
+pub counted_up_to : (ticks length d n : ℕ) (names : Option ℕ) (l : RunsBuilder) → n ≡ count_until ticks length d names → 0 < ticks → 0 < d
+    → AreCounted ticks (expansion_of_names ticks (At length) d n) (cut_fault ticks length d n) l
+    → AreCounted ticks (members_by ticks (At length) d names) (counted_fault ticks (At length) d names) l
+counted_up_to ticks length d n names l is positive some are = record {
+  scale = are.scale;
+  origin = are.origin;
+  laid = are.laid;
+  members_are = are.members_are ∙ ap (expansion_of_names ticks (At length) d) is ∙ members_at ticks length d names;
+  judged = sym (counted_at ticks length d n names is positive some) ∙ are.judged;
+}
+
+pub open_fault : (l : RunsBuilder) (d : ℕ) (f : TimeFault) (meant : Option TimeFault) → former_end l ≡ None
     → IsFaultOf l (Endless (extent_in l.limits 0 d) ∷ []) f → IsCountedFault meant f
-open_fault l d f meant fresh is =
-    let near : is_apart (former_end l) (extent_in l.limits 0 d) ≡ false = ap (λ (t : Option Time). is_apart t (extent_in l.limits 0 d))
-    (former_end-none l fresh.total) in
-    IfSome_then (refusal f) is (λ g holds.
-    let none : None ≡ Some g = sym (cond-false (is_apart (former_end l) (extent_in l.limits 0 d)) (Some Step) None near) ∙ holds [] in
-    cc)
+open_fault l d f meant former is = IfSome_then (refusal f) is (λ g holds. cc (former, holds []))
 
-pub names_done : (limits : Limits) (new : RunsBuilder) (ticks d count : ℕ) → limits.ticks ≡ ticks → limits.origin ≡ 0
-    → IsRow limits d count new →
-    AreCounted ticks (members_by ticks Unbounded d (Some count)) (counted_fault ticks Unbounded d (Some count)) new
-names_done limits new ticks d count scale origin row =
-    record {
-      scale = ap (λ (k : Limits). k.ticks) row.limits_are ∙ scale;
-      origin = ap (λ (k : Limits). k.origin) row.limits_are ∙ origin;
-      laid = row.laid.laid;
-      members_are = row.members ∙ sym (names_whole limits ticks scale origin d count);
-      judged = ap (λ (b : Bool). or_fault (fault_if b Range) None) (names_break limits ticks scale origin d count ∙ row.kept);
-    }
+-- by the number of names
+module _ {limits of : Limits} (limits_are : limits ≡ of) (origin : of.origin ≡ 0) (d n count : ℕ) (is : n ≡ count) where
+  scale_is : limits.ticks ≡ of.ticks
+  scale_is = ap (λ (k : Limits). k.ticks) limits_are
 
-pub names_fault : (limits : Limits) (ticks d count : ℕ) (f : TimeFault) → limits.ticks ≡ ticks → limits.origin ≡ 0
-    → IsRange (list_any (breaks_in limits) (row_of limits d count)) f → IsCountedFault (counted_fault ticks Unbounded d (Some count)) f
-names_fault limits ticks d count f scale origin is =
-    IfSome_then (refusal f) is (λ g h. broken_fault (extents_break (breaks_limits ticks 0)
-    (members_by ticks Unbounded d (Some count))) None g (names_break limits ticks scale origin d count ∙ h.1) h.0)
+  origin_is : limits.origin ≡ 0
+  origin_is = ap (λ (k : Limits). k.origin) limits_are ∙ origin
+
+  row_breaks : extents_break (breaks_limits of.ticks 0) (members_by of.ticks Unbounded d (Some count))
+      ≡ list_any (breaks_in limits) (row_of limits d n)
+  row_breaks =
+      let row = row_of limits d count in
+      let whole = names_whole limits of.ticks scale_is origin_is d count in
+      let by_break_row = break_row (breaks_in limits) row [] in
+      let by_or_false = or-false (list_any (breaks_in limits) row) in
+      cc (append-nil (map Closed row), break_by limits of.ticks scale_is origin_is (map Closed row))
+
+  pub names_done : (new : RunsBuilder) → IsRow limits d n new →
+      AreCounted of.ticks (members_by of.ticks Unbounded d (Some count)) (counted_fault of.ticks Unbounded d (Some count)) new
+  names_done new row = record {
+    scale = ap (λ (k : Limits). k.ticks) row.limits_are ∙ scale_is;
+    origin = ap (λ (k : Limits). k.origin) row.limits_are ∙ origin_is;
+    laid = row.laid.laid;
+    members_are = cc (row.members, names_whole limits of.ticks scale_is origin_is d count);
+    judged = ap (λ (b : Bool). or_fault (fault_if b Range) None) (row_breaks ∙ row.kept);
+  }
+
+  pub names_fault : (f : TimeFault) → IsRange (list_any (breaks_in limits) (row_of limits d n)) f
+      → IsCountedFault (counted_fault of.ticks Unbounded d (Some count)) f
+  names_fault f holds = range_first _ _ None f (λ b. row_breaks ∙ b) holds
 
 -- ---- order
 
@@ -360,40 +349,6 @@ duration_kept ticks d end names l positive some are =
     let row = durations_row ticks d positive some end names (unless _ ListLength none.1) in
     rw are.members_are
     (kept_of (λ x. ticks) 0 members (row_lasting members row) (row_fault (breaks_limits ticks 0) members row (unless _ Range none.0)))
-
--- ---- the parts of the code
-
-pub cut_end : (limits : Limits) (mid new : RunsBuilder) (ticks length d whole count : ℕ) (r : Result (Unit {0}) TimeFault)
-    → limits.ticks ≡ ticks → limits.origin ≡ 0 → count ≡ suc whole → IsRow limits d whole mid → mid.former * 1000000000 < length * ticks →
-    MatchResult r (λ _. IsLast mid (last_extent ticks length mid.former d) new)
-    (IsRange (breaks_in mid.limits (last_extent ticks length mid.former d))) →
-    MatchResult r (λ _. AreCounted ticks (expansion_of_names ticks (At length) d count) (cut_fault ticks length d count) new)
-    (IsCountedFault (cut_fault ticks length d count))
-cut_end limits mid new ticks length d whole count (Ok done) scale origin more row early is =
-    let last = last_extent ticks length (whole * d) d in
-    let same : last_extent ticks length mid.former d ≡ last = ap (λ (n : ℕ). last_extent ticks length n d) row.former in
-    let limits_are : new.limits ≡ limits = is.limits_are ∙ row.limits_are in
-    record {
-      scale = rw limits_are scale;
-      origin = rw limits_are origin;
-      laid = is.laid;
-      members_are = cc (is.members, row.members, same, names_cut limits ticks scale origin length d whole count more);
-      judged = cut_kept limits ticks scale origin length d whole count more row.kept
-          (ap (λ (k : Limits). breaks_in k last) (sym row.limits_are) ∙ ap (breaks_in mid.limits) (sym same) ∙ is.kept)
-          (omega (arith, row.former, ap (λ (n : ℕ). n * 1000000000) row.former));
-    }
-cut_end limits mid new ticks length d whole count (Err f) scale origin more row early is =
-    cut_last limits ticks scale origin length d whole count more row.kept f (rw (row.former, row.limits_are) at is)
-
-pub IsFresh-new : (l : RunsBuilder) → IsInTime l → IsNone l.endless → members_so_far l ≡ [] → l.former ≡ 0 → l.limits.origin ≡ 0 → IsFresh l
-IsFresh-new l laid closed none former origin = record {
-  laid = laid;
-  closed = closed;
-  none = none;
-  total = omega (arith, laid.room);
-  former = former;
-  origin = origin;
-}
 
 -- ---- segments whose times are given one by one
 
@@ -415,12 +370,11 @@ module _ (start end : Tick) (lasts : ℕ) (is_lasting : (lasting (one_extent sta
       let same : lasts * 1 ≡ lasts = omega arith in
       cc
 
-  pub breaks_span : span_breaks_limits (one_extent start end)
-      ≡ (int_le (pos (2 ^ 63)) end.n || ltb (1000000 * (s * e)) lasts || before (seconds 100000000000) (time_of end))
-  breaks_span =
-      ap (λ (b : Bool). b || before (seconds 1000000) (lasting (one_extent start end)) || before (seconds 100000000000)
-      (time_of end)) ends_in_ticks
-      ∙ ap (λ (b : Bool). int_le (pos (2 ^ 63)) end.n || b || before (seconds 100000000000) (time_of end)) lasts_long
+  pub breaks_else : end.n <ℤ pos (2 ^ 63) → lasts ≤ 1000000 * (s * e) → span_breaks_limits (one_extent start end)
+      ≡ before (seconds 100000000000) (time_of end)
+  breaks_else early short =
+      let in_time = ends_in_ticks ∙ not_int_le-from (pos (2 ^ 63)) end.n early in
+      cc (lasts_long ∙ le-ltb (1000000 * (s * e)) lasts short)
 
   pub short_lasts : too_long (one_extent start end) ≡ false → lasts ≤ 1000000 * (s * e)
   short_lasts short = ltb-false (1000000 * (s * e)) lasts (sym lasts_long ∙ short)
@@ -444,14 +398,6 @@ module _ (start end : Tick) (lasts : ℕ) (is_lasting : (lasting (one_extent sta
         mul-lt-mul_of_pos_left far end.positive,
       ))
 
-  pub breaks_else : end.n <ℤ pos (2 ^ 63) → lasts ≤ 1000000 * (s * e) → span_breaks_limits (one_extent start end)
-      ≡ before (seconds 100000000000) (time_of end)
-  breaks_else early short =
-      breaks_span
-      ∙ ap (λ (b : Bool). b || ltb (1000000 * (s * e)) lasts || before (seconds 100000000000) (time_of end))
-      (not_int_le-from (pos (2 ^ 63)) end.n early)
-      ∙ ap (λ (b : Bool). false || b || before (seconds 100000000000) (time_of end)) (le-ltb (1000000 * (s * e)) lasts short)
-
 -- ---- a row of spans
 
 pub span_fault : (ticks : ℕ) (spans : List Span) (l : RunsBuilder) (former : Option Tick) (rest : List Span) (span : Span)
@@ -459,11 +405,11 @@ pub span_fault : (ticks : ℕ) (spans : List Span) (l : RunsBuilder) (former : O
     fault_of_span former span ≡ Some fault → IsTheirFault span_breaks_limits (expansion_of_list spans) fault
 span_fault ticks spans l former rest span later fault so_far at is =
     refusal_some fault (λ f. segment_fault span_breaks_limits None (expansion_of_list spans) ≡ Some f)
-    (
-    so_far.judged ∙ ap (λ (ss : List Span). segment_fault span_breaks_limits (option_map time_of former) (expansion_of_list ss)) at
-    ∙ fault_of_two (span_breaks_limits (extent_of span)) (is_apart (option_map time_of former) (extent_of span)) fault
-    (segment_fault span_breaks_limits (Some (time_of span.end)) (expansion_of_list later)) is
-    )
+    (cc (
+      so_far.judged,
+      fault_of_two (span_breaks_limits (extent_of span)) (is_apart (option_map time_of former) (extent_of span)) fault
+          (segment_fault span_breaks_limits (Some (time_of span.end)) (expansion_of_list later)) is,
+    ))
 
 pub span_more : (ticks : ℕ) (spans : List Span) (l : RunsBuilder) (former : Option Tick) (rest : List Span) (span : Span)
     (later : List Span) (new : RunsBuilder) → IsRowSoFar ticks spans l former rest → rest ≡ span ∷ later →

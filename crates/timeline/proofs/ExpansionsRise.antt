@@ -1,6 +1,6 @@
 -- The ends of each kind of expansion rise.
-use Rattle.std.proofs.Common.{◌≡◌, ℕ, zero, suc, ◌+◌, ◌-◌, ◌*◌, ◌<◌, Bool, true, false, cond, ℤ, pos, negsuc, List, ◌∷◌, ◌++◌, map, Option}
-use Rattle.std.proofs.{Common.{Some, None, refl, ◌∙◌, sym, ap, inl, inr, arith, []}, lemmas.Int.ints, lemmas.Bool.or_parts}
+use Rattle.std.proofs.Common.{◌≡◌, ℕ, zero, suc, ◌+◌, ◌-◌, ◌*◌, ◌<◌, Bool, true, false, cond, ℤ, pos, List, ◌∷◌, ◌++◌, map, Option, Some}
+use Rattle.std.proofs.{Common.{None, refl, ◌∙◌, sym, ap, inl, inr, arith, []}, lemmas.Int.ints, lemmas.Bool.or_parts}
 use Rattle.std.proofs.{lemmas.Bool.Decides.nat_tests, Math.Nat.mul-lt-mul_of_pos_left}
 use Rattle.std.specs.{Prelude.{◌==◌, ◌⊎◌, unwrap_or}, List.list_any}
 use Rattle.exact_time.specs.Time.{Time, IsTime, IsBefore, in_units, before, at_most, nanoseconds}
@@ -10,11 +10,11 @@ use Rattle.timeline.specs.{declared.entry.End.TheVariants.{At, Unbounded}, decla
 use Rattle.timeline.specs.{Expansions.{Extent, Member, Closed, Short, Endless, repeated, repeat_of}, Timelines.{Reach, Counted, UpTo}}
 use Rattle.timeline.specs.Timelines.{Unending, Nowhere, extent_from, reach_of, reach_of_next, count_of, count_up_to, members_of}
 use Rattle.timeline.specs.{Timelines.{members_from, expansion_of_timeline}, Durations.{extent_at, extents_by, cut_at, expansion_of_names}}
-use Rattle.timeline.specs.{Durations.{expansion_of_list, extent_of}, Faults.{lasts_no_time, begins_late, extents_break, is_apart}}
-use Rattle.timeline.specs.{Faults.{is_too_many, members_by, segment_fault}, Limits.too_long, Laws.{TimelinesRise, DurationsRise, ListsRise}}
+use Rattle.timeline.specs.{Durations.{expansion_of_list, extent_of}, Faults.{lasts_no_time, extents_break, is_apart, is_too_many}}
+use Rattle.timeline.specs.{Faults.{members_by, segment_fault}, Limits.too_long, Laws.{TimelinesRise, DurationsRise, ListsRise}}
 use Rattle.timeline.specs.Steady.{Lasts, LastsTicks, AreLasting, IsSteady}
-use Rattle.timeline.proofs.{Ratios.{steps_to_cover-is, ceiling, ceiling-le}, Rises.{Lasts-from_ticks, LastsTicks-repeat, ends_rise}}
-use Rattle.timeline.proofs.{Rises.{steady_from, touching_own}, Judged.{head_passes, passes}}
+use Rattle.timeline.proofs.{Ratios.{steps_to_cover-is, ceiling-le}, Rises.{Lasts-from_ticks, LastsTicks-repeat, ends_rise, steady_from}}
+use Rattle.timeline.proofs.{Rises.touching_own, Judged.{head_passes, passes}}
 
 -- ---- times given one by one
 
@@ -49,24 +49,16 @@ members_last : (reach : Reach) (x : Extent) (later : List Member) → LastsTicks
     → AreLasting (members_of reach x ++ later)
 members_last (Counted count) x later is none last = repeated_last count x later is last
 members_last (UpTo bound) x later is none last =
-    elim (at_most bound x.start) as (λ b. AreLasting (cond b (Short x ∷ []) (map Closed (repeated (count_up_to bound x) x)) ++ later)) [
-      | true ↦ last
-      | false ↦ repeated_last (count_up_to bound x) x later is last
-    ]
+    elim (at_most bound x.start) as (λ b. AreLasting (cond b (Short x ∷ []) (map Closed (repeated (count_up_to bound x) x)) ++ later))
+    [ true ↦ last | false ↦ repeated_last (count_up_to bound x) x later is last ]
 members_last Unending x later is none last = (is, none refl)
 members_last Nowhere x later is none last = last
 
 pub not_unending : (scale : Scale) (t : Option ℕ) → reach_of_next scale t ≡ Unending → ⊥
-not_unending scale None is = cc
-not_unending scale (Some t) is = cc
+not_unending scale t is = grind arith
 
 last_reach : (scale : Scale) (end : End) (r : ℤ) (later : List SEntry) → reach_of scale end r later ≡ Unending → later ≡ []
-last_reach scale end (pos r) later is = cc
-last_reach scale end (negsuc r) [] is = refl
-last_reach scale end (negsuc r) (next ∷ later) is = absurd (not_unending scale next.t is)
-
-not_zero : (d : ℕ) → (d == 0) ≡ false → 0 < d
-not_zero d h = grind (arith, nat_tests)
+last_reach scale end r later is = grind (arith, not_unending)
 
 pub entries_last : (scale : Scale) (end : End) (former : ℕ) (entries : List SEntry) → list_any (λ s. s.d == 0) entries ≡ false
     → AreLasting (members_from scale end former entries)
@@ -77,7 +69,7 @@ entries_last scale end former (s ∷ later) some =
     let x = extent_from scale start s.d in
     let reach = reach_of scale end s.r later in
     let next = start + count_of reach x * s.d in
-    members_last reach x (members_from scale end next later) (LastsTicks-extent scale start s.d (not_zero s.d split.0))
+    members_last reach x (members_from scale end next later) (LastsTicks-extent scale start s.d (grind (arith, nat_tests, split.0)))
     (λ is. ap (members_from scale end next) (last_reach scale end s.r later is)) (entries_last scale end next later split.1)
 
 pub timelines_rise : TimelinesRise
@@ -150,11 +142,8 @@ module _ (ticks duration : ℕ) (positive : 0 < ticks) (some : 0 < duration) whe
 
   module _ (bound : Time) (is_bound : IsTime bound) where
     before_earlier : (former end : Time) → IsBefore former end → IsBefore former bound → IsBefore former (earlier end bound)
-    before_earlier former end first second = elim (before bound end) as (λ b. IsBefore former (cond b bound end)) [
-      | true ↦ second
-      | false ↦
-          first
-    ]
+    before_earlier former end first second =
+        elim (before bound end) as (λ b. IsBefore former (cond b bound end)) [ true ↦ second | false ↦ first ]
 
     IsTime-earlier : (end : Time) → IsTime end → IsTime (earlier end bound)
     IsTime-earlier end is_end = elim (before bound end) as (λ b. IsTime (cond b bound end)) [ true ↦ is_bound | false ↦ is_end ]
@@ -181,10 +170,8 @@ module _ (ticks duration : ℕ) (positive : 0 < ticks) (some : 0 < duration) whe
   last_covers length last is = elim (before_or_at_most (in_units ticks (last * duration)) (nanoseconds (pos length))) [
     | inl early ↦ early
     | inr late ↦
-        let is_ceiling : steps_to_cover (nanoseconds (pos length)) (in_units ticks duration)
-        ≡ ceiling (length * ticks) (1000000000 * duration) =
-        steps_to_cover-is (nanoseconds (pos length)) (in_units ticks duration) (length * ticks) (1000000000 * duration) 1 (omega arith)
-        (omega arith) (omega arith) (omega arith) in
+        let is_ceiling = steps_to_cover-is (nanoseconds (pos length)) (in_units ticks duration) (length * ticks) (1000000000 * duration) 1
+        (omega arith) (omega arith) (omega arith) (omega arith) in
         absurd (omega (arith, ints, ceiling-le (length * ticks) (1000000000 * duration) last (omega arith) (omega (arith, ints))))
   ]
 
@@ -200,23 +187,17 @@ module _ (ticks duration : ℕ) (positive : 0 < ticks) (some : 0 < duration) whe
     refl,
   )
 
-  first_lasts : LastsTicks (extent_at ticks duration 0)
-  first_lasts = record { one_scale = refl; end_is = positive; rises = omega (arith, ints) }
-
-  begins_early : (length count : ℕ) → begins_late ticks (At length) duration count ≡ false → 0 < count
-      → IsBefore (in_units ticks ((count - 1) * duration)) (nanoseconds (pos length))
-  begins_early length count few has = at_most-false (nanoseconds (pos length)) (in_units ticks ((count - 1) * duration))
-      (grind (arith, nat_tests))
-
   -- the segments of a duration
   pub durations_row : (end : End) (names : Option ℕ) → is_too_many ticks end duration names ≡ false
       → IsOneRow (members_by ticks end duration names)
-  durations_row Unbounded None few = inr (extent_at ticks duration 0, first_lasts, refl)
+  durations_row Unbounded None few =
+      inr (extent_at ticks duration 0, record { one_scale = refl; end_is = positive; rises = omega (arith, ints) }, refl)
   durations_row (At length) None few =
       let count = steps_to_cover (nanoseconds (pos length)) (in_units ticks duration) in
       names_row length count (λ has. last_covers length (count - 1) (omega arith))
   durations_row Unbounded (Some count) few = inl (in_units ticks (0 * duration), extents_by ticks duration 0 count, by_joined count 0, refl)
-  durations_row (At length) (Some count) few = names_row length count (begins_early length count few)
+  durations_row (At length) (Some count) few = names_row length count
+      (λ has. at_most-false (nanoseconds (pos length)) (in_units ticks ((count - 1) * duration)) (grind (arith, nat_tests)))
 
 pub durations_rise : DurationsRise
 durations_rise ticks duration end names positive some few =

@@ -1,8 +1,9 @@
 -- Judging segments in ticks of one scale.
 use Rattle.std.proofs.Common.{◌≡◌, ℕ, zero, suc, ◌+◌, ◌-◌, ◌*◌, ◌<◌, ◌≤◌, ◌^◌, Bool, true, false, cond, ltb, List, ◌∷◌, ◌++◌, map, ℤ, pos}
-use Rattle.std.proofs.{Common.{negsuc, ◌+ℤ◌, ◌-ℤ◌, ◌*ℤ◌, Option, Some, None, refl, ◌∙◌, sym, ap, inl, inr, arith}, lemmas.Int.ints}
-use Rattle.std.proofs.{lemmas.Bool.{cases_Bool, cond-true, cond-false, lt-leb, eq-eqb, ne_eqb, or_parts}, Math.Nat.one-le-mul}
-use Rattle.std.specs.Prelude.{unsigned_abs, ◌||◌, ◌⊎◌, ◌==◌}
+use Rattle.std.proofs.{Common.{◌+ℤ◌, ◌-ℤ◌, ◌*ℤ◌, Option, Some, None, ◌∙◌, sym, ap, inl, inr, arith}, lemmas.Int.ints}
+use Rattle.std.proofs.{lemmas.Bool.{cases_Bool, cond-true, cond-false, lt-leb, eq-eqb, ne_eqb}, lemmas.Bool.Decides.nat_tests}
+use Rattle.std.proofs.Math.Nat.{one-le-mul}
+use Rattle.std.specs.Prelude.{unsigned_abs, ◌⊎◌, ◌==◌}
 use Rattle.exact_time.specs.Time.{Time, seconds, before, at_most}
 use Rattle.timeline.specs.{declared.fault.TimeFault.TimeFault, declared.fault.TimeFault.TheVariants.{Step, Range}}
 use Rattle.timeline.specs.{declared.builder.RunsBuilder.RunsBuilder, declared.limits.Limits.Limits, Expansions.{Extent, Member, Closed}}
@@ -14,18 +15,13 @@ use Rattle.timeline.proofs.LimitLemmas.{breaks-later, int_le-cancel, ltb-scaled}
 -- ---- whole numbers
 
 abs_of_negated : (z : ℤ) (n : ℕ) → z +ℤ pos n ≡ pos 0 → unsigned_abs z ≡ n
-abs_of_negated (pos a) n h = omega (arith, ints)
-abs_of_negated (negsuc a) n h = omega (arith, ints)
+abs_of_negated z n h = grind (arith, ints)
 
 -- what keeps the limits keeps each of them
 pub keeps : (ticks origin : ℕ) (x : Extent) → breaks_limits ticks origin x ≡ false →
     (at_most (record { ticks = pos (2 ^ 63) -ℤ pos origin; scale = ticks }) x.end ≡ false) × (too_long x ≡ false)
     × (before (seconds 100000000000) x.end ≡ false)
-keeps ticks origin x kept =
-    let far = at_most (record { ticks = pos (2 ^ 63) -ℤ pos origin; scale = ticks }) x.end in
-    let first = or_parts (far || too_long x) (before (seconds 100000000000) x.end) kept in
-    let others = or_parts far (too_long x) first.0 in
-    (others.0, others.1, first.1)
+keeps ticks origin x kept = grind (arith, nat_tests)
 
 pub not_long : (ticks origin : ℕ) (x : Extent) → breaks_limits ticks origin x ≡ false → too_long x ≡ false
 not_long ticks origin x kept = (keeps ticks origin x kept).1
@@ -34,15 +30,11 @@ not_long ticks origin x kept = (keeps ticks origin x kept).1
 
 pub passes : (a b : Bool) (rest : Option TimeFault) → cond a (Some Range) (cond b (Some Step) rest) ≡ None →
     (a ≡ false) × (b ≡ false) × (rest ≡ None)
-passes true b rest none = cc
-passes false true rest none = cc
-passes false false rest none = (refl, refl, none)
+passes a b rest none = grind (arith, nat_tests)
 
 pub fault_of_two : (a b : Bool) (fault : TimeFault) (rest : Option TimeFault) → cond a (Some Range) (cond b (Some Step) None) ≡ Some fault
     → cond a (Some Range) (cond b (Some Step) rest) ≡ Some fault
-fault_of_two true b fault rest is = is
-fault_of_two false true fault rest is = is
-fault_of_two false false fault rest is = cc
+fault_of_two a b fault rest is = grind (arith, nat_tests)
 
 module _ (breaks : Extent → Bool) where
   pub head_passes : (former : Option Time) (x : Extent) (later : List Member) → breaks x ≡ false → is_apart former x ≡ false →
@@ -69,29 +61,26 @@ module _ (l : Limits) where
   media-add s d = omega (arith, ints)
 
   pub extent_in-row : (s d : ℕ) → extent_in l s d ≡ row t (media s) d
-  extent_in-row s d = ap (λ (z : ℤ). record { start = placed_in l s; end = record { ticks = z; scale = t } }) (media-add s d)
+  extent_in-row s d = cc (media-add s d)
 
   pub repeat-extent_in : (s d : ℕ) → repeat_of (extent_in l s d) ≡ extent_in l (s + d) d
   repeat-extent_in s d = cc (extent_in-row s d, repeat-row t (media s) d, media-add s d, extent_in-row (s + d) d)
 
   -- the time between two of them
   media_times : (s d : ℕ) → media (s + d) *ℤ pos t ≡ media s *ℤ pos t +ℤ pos (d * t)
-  media_times s d = ap (λ (z : ℤ). z *ℤ pos t) (media-add s d) ∙ int_add-mul (media s) d t
+  media_times s d = rw (media-add s d) (int_add-mul (media s) d t)
 
   pub lasting-extent_in : (s d : ℕ) → lasting (extent_in l s d) ≡ record { ticks = pos (d * t); scale = t * t }
   lasting-extent_in s d =
       let times = media_times s d in
-      let same : media (s + d) *ℤ pos t -ℤ media s *ℤ pos t ≡ pos (d * t) = omega (arith, ints) in
-      ap (λ (z : ℤ). record { ticks = z; scale = t * t }) same
+      let same : media (s + d) *ℤ pos t -ℤ media s *ℤ pos t ≡ pos (d * t) = omega (arith, ints) in cc
 
   abs_gap : (s f gap : ℕ) → (s ≡ f + gap) ⊎ (f ≡ s + gap) → unsigned_abs (media s *ℤ pos t -ℤ media f *ℤ pos t) ≡ gap * t
   abs_gap s f gap (inl later) =
-      let times : media s *ℤ pos t ≡ media f *ℤ pos t +ℤ pos (gap * t) = ap (λ (n : ℕ). media n *ℤ pos t) later ∙ media_times f gap in
-      let same : media s *ℤ pos t -ℤ media f *ℤ pos t ≡ pos (gap * t) = omega (arith, ints) in
+      let same : media s *ℤ pos t -ℤ media f *ℤ pos t ≡ pos (gap * t) = rw later (omega (arith, ints, media_times f gap)) in
       ap unsigned_abs same
   abs_gap s f gap (inr earlier) =
-      let times : media f *ℤ pos t ≡ media s *ℤ pos t +ℤ pos (gap * t) = ap (λ (n : ℕ). media n *ℤ pos t) earlier ∙ media_times s gap in
-      abs_of_negated (media s *ℤ pos t -ℤ media f *ℤ pos t) (gap * t) (omega (arith, ints))
+      rw earlier (abs_of_negated (media s *ℤ pos t -ℤ media (s + gap) *ℤ pos t) (gap * t) (omega (arith, ints, media_times s gap)))
 
   -- ---- how far a segment is from the one before it
 
@@ -112,9 +101,7 @@ module _ (l : Limits) where
   breaks s d = breaks_in l (extent_in l s d)
 
   pub media_extent-in : (s d e : ℕ) → e ≡ s + d → media_extent l e d ≡ extent_in l s d
-  media_extent-in s d e is =
-      let start : e - d ≡ s = omega arith in
-      cc
+  media_extent-in s d e is = let start : e - d ≡ s = omega arith in cc
 
   breaks-ticks : (s d : ℕ) → 0 < t → breaks s d ≡ breaks_ticks t o (media s +ℤ pos d) d
   breaks-ticks s d some = ap (breaks_limits t o) (extent_in-row s d) ∙ breaks-row t o (media s) d some
@@ -126,17 +113,14 @@ module _ (l : Limits) where
 
   -- a segment within the limits ends before 2^63 ticks
   pub within-end : (d e : ℕ) → 0 < t → breaks_limits t o (media_extent l e d) ≡ false → e < 2 ^ 63
-  within-end d e some kept =
-      let early = int_le-false (media (2 ^ 63)) (media e) (sym (int_le-cancel (media (2 ^ 63)) (media e) t some)
-      ∙ (keeps t o (media_extent l e d) kept).0) in
-      omega (arith, ints, early)
+  within-end d e some kept = omega (
+    arith,
+    ints,
+    int_le-false (media (2 ^ 63)) (media e) (sym (int_le-cancel (media (2 ^ 63)) (media e) t some)
+        ∙ (keeps t o (media_extent l e d) kept).0),
+  )
 
   -- ---- a run of segments of one duration
-
-  pub head_fault : (former : Option Time) (x : Extent) (later : List Member) (fault : TimeFault) → fault_of l former x ≡ Some fault
-      → segment_fault (breaks_in l) former (Closed x ∷ later) ≡ Some fault
-  head_fault former x later fault is = fault_of_two (breaks_in l x) (is_apart former x) fault
-      (segment_fault (breaks_in l) (Some x.end) later) is
 
   pub fault_of-none : (former : Option Time) (x : Extent) → fault_of l former x ≡ None → (breaks_in l x ≡ false)
       × (is_apart former x ≡ false)
@@ -156,16 +140,14 @@ module _ (l : Limits) where
   run_fault d (suc count) s former later some kept near =
       let last : (s + d) + count * d ≡ s + suc count * d = omega arith in
       let end : (s + d) + suc count * d ≡ s + suc (suc count) * d = omega arith in
-      head_passes (breaks_in l) former (extent_in l s d) (map Closed (repeated (suc count) (repeat_of (extent_in l s d)))
-      ++ later) kept near
+      head_passes (breaks_in l) former (extent_in l s d)
+      (map Closed (repeated (suc count) (repeat_of (extent_in l s d))) ++ later) kept near
       ∙ ap (λ (y : Extent). segment_fault (breaks_in l) (Some (placed_in l (s + d))) (map Closed (repeated (suc count) y) ++ later))
-      (repeat-extent_in s d)
-      ∙ elim (cases_Bool (breaks (s + d) d)) [
+      (repeat-extent_in s d) ∙ elim (cases_Bool (breaks (s + d) d)) [
         | inl broken ↦
             head_breaks (breaks_in l) (Some (placed_in l (s + d))) (extent_in l (s + d) d)
             (map Closed (repeated count (repeat_of (extent_in l (s + d) d))) ++ later) broken
-            ∙ sym (cond-true (breaks (s + suc count * d) d) (Some Range) _
-            (breaks-mono (s + d) (s + suc count * d) d some (omega arith) broken))
+            ∙ sym (cond-true _ (Some Range) _ (breaks-mono (s + d) (s + suc count * d) d some (omega arith) broken))
         | inr fine ↦
             cc (run_fault d count (s + d) (Some (placed_in l (s + d))) later some fine (touching (s + d) d some))
       ]

@@ -1,15 +1,15 @@
 -- What the runs and the open end of a `Runs` have.
-use Rattle.std.proofs.Common.{◌≡◌, ℕ, zero, suc, ◌+◌, ◌-◌, ◌*◌, ◌<◌, ◌≤◌, ◌^◌, Bool, true, false, ◌&&◌, ltb, List, ◌∷◌, ◌++◌, length}
+use Rattle.std.proofs.Common.{◌≡◌, ℕ, zero, suc, ◌+◌, ◌-◌, ◌*◌, ◌<◌, ◌≤◌, ◌^◌, false, List, ◌∷◌, ◌++◌, length}
 use Rattle.std.proofs.Common.{get_or, ℤ, pos, ◌+ℤ◌, ◌≤ℤ◌, ◌<ℤ◌, neg_ℤ, refl, ◌∙◌, sym, ap, subst, inl, inr, arith, length-append, []}
-use Rattle.std.proofs.{lemmas.Int.ints, lemmas.List.Elements.All-from_recursion, lemmas.Bool.Decides.nat_tests, lemmas.Bool.cases_order}
-use Rattle.std.proofs.{lemmas.Bool.{cases_lt, lt-ltb, true≢false}, Math.Nat.mul-le-mul_left}
+use Rattle.std.proofs.{lemmas.Int.ints, lemmas.List.Elements.All-from_recursion, lemmas.Bool.Decides.nat_tests}
+use Rattle.std.proofs.{lemmas.Bool.{cases_lt, lt-ltb}, Math.Nat.mul-le-mul_left}
 use Rattle.std.specs.{Prelude.{Option, Some, None}, List.AllByRecursion}
 use Rattle.exact_time.specs.Time.{Time}
-use Rattle.timeline.specs.{Ratios.natural, Bounds.IsNear, Expansions.{Extent, repeated, repeat_of}, Limits.too_long, Laws.EndsRise}
-use Rattle.timeline.specs.{declared.runs.Runs.TheInside.Inside, declared.run.Endless.Endless, RunSegments.{IsRun, AreLaid, IsEndless}}
+use Rattle.timeline.specs.{Ratios.natural, Bounds.IsNear, Expansions.{Extent, repeated, repeat_of}}
+use Rattle.timeline.specs.{declared.run.Endless.Endless, RunSegments.{IsRun, AreLaid}}
 use Rattle.timeline.specs.{RunSegments.{HasRoom, all_extents, extents_of, endless_count, first_of, TimedRun, head_of}, Kept.Follows}
-use Rattle.timeline.specs.Kept.{FollowsOn, IsKept, timeline_of}
-use Rattle.timeline.proofs.{Rises.{ends_rise, no_step_from}, Repeats.{row, repeat-row, length-repeated, natural-pos, one_extent-row}}
+use Rattle.timeline.specs.Kept.{FollowsOn}
+use Rattle.timeline.proofs.{Repeats.{row, repeat-row, length-repeated, natural-pos, one_extent-row}}
 use Rattle.timeline.proofs.LimitLemmas.{abs-bounds, breaks_ticks, open_breaks, AreAlike, near-from, some_breaks, alike_breaks, alike_count}
 use Rattle.timeline.proofs.SegmentTimelineLemmas.{open_at, open_count, open_breaks_limits, HasScale, LastsSome}
 
@@ -38,28 +38,30 @@ near_rows (suc n) scale start step some low high = (
       (near_rows n scale (start +ℤ pos step) step some (omega (arith, ints)) (omega (arith, ints))),
 )
 
--- ---- the runs
+-- only where there are some
+all_some : (P : Extent → Type 0) (n : ℕ) (x : Extent) → (0 < n → AllByRecursion P (repeated n x)) → AllByRecursion P (repeated n x)
+unfolding repeated
+all_some P zero x some = tt
+all_some P (suc n) x some = some (omega arith)
 
-near_one : (s : TimedRun) → IsRun s → EndsNear (head_of s)
-near_one s is =
-    let bounds = abs-bounds s.end.ticks (2 ^ 64) is.end_near in
-    let scale : 0 < s.end.scale = is.end_is in
-    near-from s.end.ticks s.end.scale is.end_is (omega (arith, ints, bounds.0)) bounds.1
+-- ---- the runs
 
 pub near_run : (s : TimedRun) → IsRun s → AllByRecursion EndsNear (extents_of s)
 unfolding repeated
-near_run s is = elim (cases_order s.count 1) [
-  | inl one ↦ subst (λ (n : ℕ). AllByRecursion EndsNear (repeated n (head_of s))) (sym one) (near_one s is, tt)
-  | inr other ↦ elim other [
-    | inl fewer ↦ let none : 0 ≡ s.count = omega arith in subst (λ (n : ℕ). AllByRecursion EndsNear (repeated n (head_of s))) none tt
-    | inr several ↦
-        let bounds = abs-bounds s.start.ticks (2 ^ 64) is.start_near in
-        let scale : 0 < s.end.scale = is.end_is in
-        let ticks = is.in_ticks several in
-        subst (λ (x : Extent). AllByRecursion EndsNear (repeated s.count x)) (sym (one_extent-row s is several))
-        (near_rows s.count s.end.scale s.start.ticks s.step is.end_is bounds.1 (omega (arith, ints, is.near)))
-  ]
-]
+near_run s is = all_some EndsNear s.count (head_of s) (λ some.
+    let scale : 0 < s.end.scale = is.end_is in
+    elim (cases_lt 1 s.count) [
+      | inl several ↦
+          let bounds = abs-bounds s.start.ticks (2 ^ 64) is.start_near in
+          let ticks = is.in_ticks several in
+          subst (λ (x : Extent). AllByRecursion EndsNear (repeated s.count x)) (sym (one_extent-row s is several))
+          (near_rows s.count s.end.scale s.start.ticks s.step is.end_is bounds.1 (omega (arith, ints, is.near)))
+      | inr few ↦
+          let one : 1 ≡ s.count = omega arith in
+          let bounds = abs-bounds s.end.ticks (2 ^ 64) is.end_near in
+          subst (λ (n : ℕ). AllByRecursion EndsNear (repeated n (head_of s))) one
+          (near-from s.end.ticks s.end.scale is.end_is (omega (arith, ints, bounds.0)) bounds.1, tt)
+    ])
 
 pub length-laid : (before : ℕ) (runs : List TimedRun) (total : ℕ) → AreLaid before runs total → before + length (all_extents runs) ≡ total
 length-laid before [] total laid = omega (arith, laid)
@@ -95,35 +97,6 @@ pub lasts_some : (ticks origin total : ℕ) (e : Option Endless) → FollowsOn t
 lasts_some ticks origin total None follows = tt
 lasts_some ticks origin total (Some e) follows = follows.is.lasting
 
--- no segment reached breaks the limits: where the last one ends
-record Stays (origin count : ℕ) (e : Endless) : Type 0 where
-  media : 0 < count → ((e.start.n +ℤ pos (count * e.step)) +ℤ pos origin) <ℤ pos (2 ^ 63)
-  far : 0 < count → (e.start.n +ℤ pos (count * e.step)) ≤ℤ pos (100000000000 * e.start.scale)
-
-pub open_breaks-some : (ticks origin total : ℕ) (e : Endless) (t : Time) → Follows ticks origin total e →
-    open_breaks_limits ticks origin t (Some e) ≡ some_breaks e.start.scale origin e.start.n e.step (endless_count e t)
-open_breaks-some ticks origin total e t follows =
-    cc (follows.scale, open_breaks e.start.scale origin e.start.n e.step (endless_count e t) e.start.positive)
-
-not_first : (a b : Bool) → a ≡ true → (a && b) ≡ false → b ≡ false
-not_first true b holds fails = fails
-not_first false b holds fails = absurd (true≢false (sym holds))
-
-stays : (ticks origin total : ℕ) (e : Endless) (t : Time) → Follows ticks origin total e
-    → open_breaks_limits ticks origin t (Some e) ≡ false → Stays origin (endless_count e t) e
-stays ticks origin total e t follows keeps =
-    let count = endless_count e t in
-    let none : some_breaks e.start.scale origin e.start.n e.step count ≡ false = sym (open_breaks-some ticks origin total e t follows)
-    ∙ keeps in
-    let of_last : 0 < count → breaks_ticks e.start.scale origin (e.start.n +ℤ pos (count * e.step)) e.step ≡ false =
-    λ some. not_first (ltb 0 count) (breaks_ticks e.start.scale origin (e.start.n +ℤ pos (count * e.step)) e.step)
-    (lt-ltb 0 count some) none in
-    record {
-      media = λ some. let h = of_last some in grind (arith, ints, nat_tests);
-      far = λ some. let h = of_last some in
-          grind (arith, ints, nat_tests);
-    }
-
 -- so many segments, of which the last one ends before the limit
 few_enough : (total origin count step : ℕ) (start : ℤ) → pos 0 ≤ℤ (start +ℤ pos origin)
     → 2 * total ≤ 2 * natural (start +ℤ pos origin) + step → 0 < step → 0 < count →
@@ -136,41 +109,6 @@ few_enough total origin count step start placed room lasts some media =
     let split : count * step ≡ (count - 1) * step + step = let whole : count ≡ (count - 1) + 1 = omega arith in
     omega (arith, ap (λ (n : ℕ). n * step) whole) in
     omega arith
-
-few_of : (ticks origin total : ℕ) (e : Endless) (count : ℕ) → Follows ticks origin total e → Stays origin count e → total ≤ 2 ^ 63
-    → total + count ≤ 2 ^ 63
-few_of ticks origin total e count follows is small = elim (cases_lt 0 count) [
-  | inl some ↦ omega (
-    arith,
-    few_enough total origin count e.step e.start.n follows.placed follows.room follows.is.lasting some
-        (is.media some),
-  )
-  | inr none ↦ omega arith
-]
-
-room_of : (ticks origin total : ℕ) (e : Endless) (count : ℕ) → Follows ticks origin total e → Stays origin count e → total ≤ 2 ^ 63
-    → HasRoom e count
-room_of ticks origin total e count follows is small = record {
-  near = λ some.
-      let more : 1 * e.step ≤ count * e.step = omega (arith, mul-le-mul_left e.step some) in
-      omega (arith, ints, is.media some, follows.placed);
-  countable = omega (arith, few_of ticks origin total e count follows is small, follows.place);
-}
-
-none_repeated : (P : Extent → Type 0) (x : Extent) → AllByRecursion P (repeated 0 x)
-unfolding repeated
-none_repeated P x = tt
-
-near_of : (origin : ℕ) (e : Endless) (count : ℕ) → IsEndless e → Stays origin count e
-    → AllByRecursion EndsNear (repeated count (first_of e))
-near_of origin e count ends is = elim (cases_lt 0 count) [
-  | inl some ↦
-      let bounds = abs-bounds e.start.n (2 ^ 64) e.start.bounded in
-      let scale : 0 < e.start.scale = e.start.positive in
-      near_rows count e.start.scale e.start.n e.step e.start.positive bounds.1 (omega (arith, ints, is.far some))
-  | inr none ↦ let zero_is : 0 ≡ count = omega arith in
-      subst (λ (n : ℕ). AllByRecursion EndsNear (repeated n (first_of e))) zero_is (none_repeated EndsNear (first_of e))
-]
 
 -- ---- media times of starts
 
@@ -189,15 +127,6 @@ timed_rows origin (suc n) scale start step low high =
           (timed_rows origin n scale (start +ℤ pos step) step (omega (arith, ints)) (omega (arith, ints))),
     )
 
-timed_of : (ticks origin total : ℕ) (e : Endless) (count : ℕ) → Follows ticks origin total e → Stays origin count e
-    → AllByRecursion (StartsTimed origin) (repeated count (first_of e))
-timed_of ticks origin total e count follows is = elim (cases_lt 0 count) [
-  | inl some ↦ timed_rows origin count e.start.scale e.start.n e.step follows.placed (omega (arith, ints, is.media some))
-  | inr none ↦ let zero_is : 0 ≡ count = omega arith in
-      subst (λ (n : ℕ). AllByRecursion (StartsTimed origin) (repeated n (first_of e))) zero_is
-      (none_repeated (StartsTimed origin) (first_of e))
-]
-
 -- ---- the whole segments, where no segment that is reached breaks the limits
 
 pub record AreReached (origin total : ℕ) (t : Time) (e : Option Endless) : Type 0 where
@@ -205,21 +134,57 @@ pub record AreReached (origin total : ℕ) (t : Time) (e : Option Endless) : Typ
   pub near : AllByRecursion EndsNear (open_at t e)
   pub timed : AllByRecursion (StartsTimed origin) (open_at t e)
 
+module _ (ticks origin total : ℕ) (e : Endless) (t : Time) (follows : Follows ticks origin total e) where
+  abbrev count : ℕ
+  count = endless_count e t
+
+  abbrev last : ℤ
+  last = e.start.n +ℤ pos (count * e.step)
+
+  open_breaks-some : open_breaks_limits ticks origin t (Some e) ≡ some_breaks e.start.scale origin e.start.n e.step count
+  open_breaks-some = cc (follows.scale, open_breaks e.start.scale origin e.start.n e.step count e.start.positive)
+
+  module _ (small : total ≤ 2 ^ 63) (keeps : open_breaks_limits ticks origin t (Some e) ≡ false) where
+    fine : 0 < count → breaks_ticks e.start.scale origin last e.step ≡ false
+    fine some = cc (lt-ltb 0 count some, open_breaks-some)
+
+    -- where the last one ends
+    media : 0 < count → (last +ℤ pos origin) <ℤ pos (2 ^ 63)
+    media some = let h = fine some in grind (arith, ints, nat_tests)
+
+    far : 0 < count → last ≤ℤ pos (100000000000 * e.start.scale)
+    far some = let h = fine some in grind (arith, ints, nat_tests)
+
+    few : total + count ≤ 2 ^ 63
+    few = elim (cases_lt 0 count) [
+      | inl some ↦
+          omega (arith, few_enough total origin count e.step e.start.n follows.placed follows.room follows.is.lasting some (media some))
+      | inr none ↦ omega arith
+    ]
+
+    pub room_reached : HasRoom e count
+    room_reached = record {
+      near = λ some.
+          let more : 1 * e.step ≤ count * e.step = omega (arith, mul-le-mul_left e.step some) in
+          omega (arith, ints, media some, follows.placed);
+      countable = omega (arith, few, follows.place);
+    }
+
+    reached_some : AreReached origin total t (Some e)
+    reached_some = record {
+      few = few;
+      near = all_some EndsNear count (first_of e) (λ some.
+          let bounds = abs-bounds e.start.n (2 ^ 64) e.start.bounded in
+          let scale : 0 < e.start.scale = e.start.positive in
+          near_rows count e.start.scale e.start.n e.step e.start.positive bounds.1 (omega (arith, ints, far some)));
+      timed = all_some (StartsTimed origin) count (first_of e) (λ some.
+          timed_rows origin count e.start.scale e.start.n e.step follows.placed (omega (arith, ints, media some)));
+    }
+
 pub reached_open : (ticks origin total : ℕ) (e : Option Endless) (t : Time) → FollowsOn ticks origin total e → total ≤ 2 ^ 63
     → open_breaks_limits ticks origin t e ≡ false → AreReached origin total t e
 reached_open ticks origin total None t follows small keeps = record { few = omega arith; near = tt; timed = tt }
-reached_open ticks origin total (Some e) t follows small keeps =
-    let is = stays ticks origin total e t follows keeps in
-    record {
-      few = few_of ticks origin total e (endless_count e t) follows is small;
-      near = near_of origin e (endless_count e t) follows.is is;
-      timed = timed_of ticks origin total e (endless_count e t) follows is;
-    }
-
-pub room_reached : (ticks origin total : ℕ) (e : Endless) (t : Time) → Follows ticks origin total e → total ≤ 2 ^ 63
-    → open_breaks_limits ticks origin t (Some e) ≡ false → HasRoom e (endless_count e t)
-room_reached ticks origin total e t follows small keeps = room_of ticks origin total e (endless_count e t) follows
-    (stays ticks origin total e t follows keeps) small
+reached_open ticks origin total (Some e) t follows small keeps = reached_some ticks origin total e t follows small keeps
 
 -- ---- times that are alike
 
@@ -241,8 +206,3 @@ alike_open_breaks ticks origin total s t e alike positive_s positive_t follows =
     alike_breaks s t alike positive_s positive_t e.start.scale origin e.start.n e.step e.start.positive follows.is.lasting bounds.0
     bounds.1 follows.short
     ∙ sym (open_breaks-some ticks origin total e t follows)
-
--- ---- the ends rise
-
-pub kept_rises : (r : Inside) → IsKept r → EndsRise (timeline_of r).members
-kept_rises r kept = ends_rise (timeline_of r).members kept.lasting (no_step_from too_long None (timeline_of r).members kept.steady)

@@ -1,5 +1,5 @@
 -- Stretches in a row.
-use Rattle.timeline.specs.{declared.shared_timeline.Laid.Laid, declared.run_table.RunTable.RunTable, declared.run.Run.Run}
+use Rattle.timeline.specs.{declared.run_table.RunTable.RunTable, declared.run.Run.Run, declared.media_run.MediaRun.MediaRun}
 use Rattle.timeline.specs.{declared.fault.TimeFault.TimeFault, declared.fault.TimeFault.TheVariants.Memory}
 use Rattle.timeline.specs.{declared.builder.RunsBuilder.RunsBuilder, declared.limits.Limits.Limits, RunTables.{media_of, runs_at}}
 use Rattle.timeline.specs.{declared.run.Endless.Endless as GoesOn, Ratios.natural, Expansions.{Extent, Member, Closed, is_open, repeated}}
@@ -7,52 +7,42 @@ use Rattle.timeline.specs.{Expansions.repeat_of, RunSegments.{AreLaid, IsLonger,
 use Rattle.timeline.specs.{RunSegments.{placed_run, timed}, Kept.{endless_members, FollowsOn}, Limits.{breaks_limits, media_extent}}
 use Rattle.timeline.specs.{Faults.{is_apart, refusal, segment_fault, are_paired}, Building.{placed_in, extent_in, breaks_in, fault_of}}
 use Rattle.timeline.specs.Building.{former_end, IsFaultOf, IsLaidOut, IsLastWith, members_so_far, runs_in}
-use Rattle.std.proofs.Common.{◌≡◌, ℕ, zero, suc, ◌+◌, ◌-◌, ◌*◌, ◌<◌, ◌≤◌, ◌^◌, min, ltb, false, List, ◌∷◌, ◌++◌, map, length, take, drop}
-use Rattle.std.proofs.{Common.{pos, ◌+ℤ◌, ◌-ℤ◌, Option, Some, None, refl, ◌∙◌, sym, ap, subst, inl, inr, arith, []}, lemmas.Bool.cases_lt}
+use Rattle.std.proofs.Common.{◌≡◌, ℕ, zero, suc, ◌+◌, ◌-◌, ◌*◌, ◌<◌, ◌≤◌, ◌^◌, min, ltb, false, List, ◌∷◌, ◌++◌, map, length, take, pos}
+use Rattle.std.proofs.{Common.{◌+ℤ◌, ◌-ℤ◌, Option, Some, None, refl, ◌∙◌, sym, ap, subst, inl, inr, arith, []}, lemmas.Bool.cases_lt}
 use Rattle.std.proofs.{lemmas.Bool.ltb-false, lemmas.Int.ints, lemmas.Grind.flat_map-append, lemmas.Option.get_or_from_slice_get}
 use Rattle.std.proofs.{lemmas.Option.slice_get_within, lemmas.List.{append_assoc, map-append, append-nil, length-map, take-append-drop}}
-use Rattle.std.proofs.{lemmas.List.{drop_more, drop_all}, lemmas.List.Elements.{All-nil, All-cons, All-append}, Math.Nat.mul-le-mul_right}
+use Rattle.std.proofs.{lemmas.List.{drop_more, drop_all}, lemmas.List.Elements.{All-nil, All-cons, All-append}, Math.Nat.mul-le-mul_left}
+use Rattle.std.proofs.Math.Nat.{mul-le-mul_right}
 use Rattle.std.specs.{Prelude.{unsigned_abs, slice_get, All, IsNone, IfSome, MatchResult, Result, Ok, Err, ◌==◌, ◌⊎◌}, Int.abs_diff}
 use Rattle.std.specs.Result.{IsErr, IsErrAnd}
 use Rattle.exact_time.specs.Time.{Time}
-use Rattle.timeline.proofs.{KeptLemmas.length-laid, Judged.{repeat-extent_in, head_fault, is_apart-in, former_end-some, within-end}}
+use Rattle.timeline.proofs.{KeptLemmas.length-laid, Judged.{repeat-extent_in, fault_of_two, is_apart-in, former_end-some, within-end}}
 
 -- ---- one more run
 
 pub laid-push : (before : ℕ) (ss : List TimedRun) (total : ℕ) (s : TimedRun) → AreLaid before ss total → s.before ≡ total → 0 < s.count
     → IsRun s → AreLaid before (ss ++ s ∷ []) (total + s.count)
 laid-push before [] total s laid place some is = (place ∙ sym laid, some, is, ap (λ (n : ℕ). n + s.count) laid)
-laid-push before (x ∷ xs) total s laid place some is = (
-  laid.0,
-  laid.1,
-  laid.2,
-  laid-push (before + x.count) xs total s laid.3 place some is,
-)
+laid-push before (x ∷ xs) total s laid place some is =
+    (laid.0, laid.1, laid.2, laid-push (before + x.count) xs total s laid.3 place some is)
 
 pub extents-push : (ss : List TimedRun) (s : TimedRun) → all_extents (ss ++ s ∷ []) ≡ all_extents ss ++ extents_of s
 extents-push ss s = cc (flat_map-append extents_of ss (s ∷ []), append-nil (extents_of s))
 
 pub none_of : (e : Option GoesOn) → IsNone e → endless_members e ≡ []
-none_of None is = refl
-none_of (Some e) is = cc
-
-pub members-push : (ss : List TimedRun) (s : TimedRun) (e : Option GoesOn) → IsNone e →
-    map Closed (all_extents (ss ++ s ∷ [])) ++ endless_members e ≡ (map Closed (all_extents ss) ++ endless_members e)
-    ++ map Closed (extents_of s)
-members-push ss s e none =
-    rw (none_of e none, append-nil, append-nil, extents-push ss s, map-append)
+none_of e is = grind arith
 
 -- ---- a run behind those of a table
 
-pushed_items : (ticks origin : ℕ) (laid : Option Laid) (items own : List Run) (run : Run) → items ≡ own ++ run ∷ [] →
-    map (placed_run ticks origin) (media_of laid) ++ map timed items ≡ (map (placed_run ticks origin) (media_of laid) ++ map timed own)
+pushed_items : (ticks origin : ℕ) (media : List MediaRun) (items own : List Run) (run : Run) → items ≡ own ++ run ∷ [] →
+    map (placed_run ticks origin) media ++ map timed items ≡ (map (placed_run ticks origin) media ++ map timed own)
     ++ timed run ∷ []
-pushed_items ticks origin laid items own run is =
-    rw (is, map-append) (sym (append_assoc (map (placed_run ticks origin) (media_of laid)) (map timed own) (timed run ∷ [])))
+pushed_items ticks origin media items own run is =
+    rw (is, map-append) (sym (append_assoc (map (placed_run ticks origin) media) (map timed own) (timed run ∷ [])))
 
 pub pushed_own : (ticks origin : ℕ) (old new : RunTable) (run : Run) → new.laid ≡ old.laid → new.own.items ≡ old.own.items ++ run ∷ []
     → runs_at ticks origin new ≡ runs_at ticks origin old ++ timed run ∷ []
-pushed_own ticks origin old new run laid own = rw laid (pushed_items ticks origin old.laid new.own.items old.own.items run own)
+pushed_own ticks origin old new run laid own = rw laid (pushed_items ticks origin (media_of old.laid) new.own.items old.own.items run own)
 
 -- ---- one more segment in the last run, or in one of its own
 
@@ -63,10 +53,12 @@ at_last now items x same is = rw (← same) (sym is)
 pub last_split : {X : Type 0} (xs : List X) (x : X) → slice_get xs (length xs - 1) ≡ Some x → xs ≡ take (length xs - 1) xs ++ x ∷ []
 last_split xs x at =
     let within = slice_get_within xs (length xs - 1) x at in
-    let rest : drop (length xs - 1) xs ≡ x ∷ [] = drop_more xs (length xs - 1) x within
-    ∙ rw (get_or_from_slice_get xs (length xs - 1) x x at)
-    (ap (λ (ys : List _). x ∷ ys) (drop_all (length xs - 1 + 1) xs (omega arith))) in
-    cc (take-append-drop (length xs - 1) xs)
+    cc (
+      take-append-drop (length xs - 1) xs,
+      drop_more xs (length xs - 1) x within,
+      get_or_from_slice_get xs (length xs - 1) x x at,
+      drop_all (length xs - 1 + 1) xs (omega arith),
+    )
 
 pub unlaid : (before : ℕ) (ss : List TimedRun) (s : TimedRun) (total : ℕ) → AreLaid before (ss ++ s ∷ []) total
     → AreLaid before ss s.before × (0 < s.count) × IsRun s × (s.before + s.count ≡ total)
@@ -79,7 +71,7 @@ pub last_is : (l : RunsBuilder) (run : Run) → IsLaidOut l → slice_get l.tabl
     → IsRun (timed run) × (run.before + run.count ≡ l.total)
 last_is l run laid at =
     let front = take (length l.table.own.items - 1) l.table.own.items in
-    let whole = pushed_items l.limits.ticks l.limits.origin l.table.laid l.table.own.items front run
+    let whole = pushed_items l.limits.ticks l.limits.origin (media_of l.table.laid) l.table.own.items front run
     (last_split l.table.own.items run at) in
     let was = unlaid 0 _ (timed run) l.total (rw whole at laid.laid) in
     (was.2, was.3)
@@ -121,23 +113,22 @@ module _ (old mid : RunsBuilder) (x : Extent) (run : TimedRun) (is : IsLastWith 
 module _ (l : Limits) (s d count : ℕ) (x : TimedRun) (start : x.start ≡ placed_in l s) (end : x.end ≡ placed_in l (s + d))
     (lasts : x.step ≡ d) (number : x.count ≡ count) where
   pub extents_of-in : extents_of x ≡ repeated count (extent_in l s d)
-  extents_of-in =
-      cc
+  extents_of-in = cc
 
   pub IsRun-in : 0 < d → 0 < count → s + count * d < 2 ^ 63 → x.before + count < 2 ^ 64 → unsigned_abs x.start.ticks < 2 ^ 64
       → unsigned_abs x.end.ticks < 2 ^ 64 → IsRun x
   IsRun-in some has near countable start_near end_near =
-      let start_ticks : x.start.ticks ≡ pos s -ℤ pos l.origin = ap (λ (a : Time). a.ticks) start in
-      let end_ticks : x.end.ticks ≡ pos (s + d) -ℤ pos l.origin = ap (λ (a : Time). a.ticks) end in
-      let product : x.count * x.step ≡ count * d = ap (λ (n : ℕ). n * x.step) number ∙ ap (λ (n : ℕ). count * n) lasts in
+      let start_ticks = ap (λ (a : Time). a.ticks) start in
+      let end_ticks = ap (λ (a : Time). a.ticks) end in
+      let product : x.count * x.step ≡ count * d = cc in
       let least : 1 * d ≤ count * d = mul-le-mul_right d has in
       record {
-        start_is = subst (λ (a : Time). 0 < a.scale) (sym start) l.positive;
-        end_is = subst (λ (a : Time). 0 < a.scale) (sym end) l.positive;
+        start_is = rw start l.positive;
+        end_is = rw end l.positive;
         start_near = start_near;
         end_near = end_near;
         lasting = omega (arith, lasts);
-        one_scale = λ _. ap (λ (a : Time). a.scale) start ∙ sym (ap (λ (a : Time). a.scale) end);
+        one_scale = λ _. rw (start, end) refl;
         in_ticks = λ _. omega (arith, ints, start_ticks, end_ticks, lasts);
         near = omega (arith, ints, end_ticks, product, least);
         countable = omega (arith, number);
@@ -151,11 +142,8 @@ unfolding repeated
 timed-in l d zero s near = All-nil (λ (x : Extent). natural (x.start.ticks +ℤ pos l.origin) < 2 ^ 64)
 timed-in l d (suc count) s near =
     let start : (pos s -ℤ pos l.origin) +ℤ pos l.origin ≡ pos s = omega (arith, ints) in
-    All-cons (λ (x : Extent). natural (x.start.ticks +ℤ pos l.origin) < 2 ^ 64) (extent_in l s d)
-    (repeated count (repeat_of (extent_in l s d)))
-    (omega (arith, ap natural start))
-    (subst (λ (x : Extent). All (λ (y : Extent). natural (y.start.ticks +ℤ pos l.origin) < 2 ^ 64) (repeated count x))
-    (sym (repeat-extent_in l s d)) (timed-in l d count (s + d) (omega arith)))
+    All-cons (λ (x : Extent). natural (x.start.ticks +ℤ pos l.origin) < 2 ^ 64) (extent_in l s d) _ (omega (arith, ap natural start))
+    (rw (repeat-extent_in l s d) (timed-in l d count (s + d) (omega arith)))
 
 -- ---- faults
 
@@ -171,8 +159,9 @@ IsFaultOf-run old s d zero fault has is = absurd (omega arith)
 IsFaultOf-run old s d (suc count) fault has is =
     refusal_some fault (λ f. (later : List Member) → segment_fault (breaks_in old.limits) (former_end old)
     (map Closed (repeated (suc count) (extent_in old.limits s d)) ++ later) ≡ Some f)
-    (λ later. head_fault old.limits (former_end old) (extent_in old.limits s d)
-    (map Closed (repeated count (repeat_of (extent_in old.limits s d))) ++ later) fault is)
+    (λ later. fault_of_two (breaks_in old.limits (extent_in old.limits s d)) (is_apart (former_end old) (extent_in old.limits s d)) fault
+    (segment_fault (breaks_in old.limits) (Some (placed_in old.limits (s + d)))
+    (map Closed (repeated count (repeat_of (extent_in old.limits s d))) ++ later)) is)
 
 pub from_fault : {X : Type 0} (r : Result X TimeFault) (fault : TimeFault) (Q : X → Type 0) (P : TimeFault → Type 0)
     → IsErr r × IsErrAnd r (λ f. f ≡ fault) → P fault → MatchResult r Q P
@@ -187,30 +176,26 @@ room_before old s d near room = elim (cases_lt 0 old.total) [
   | inr none ↦ omega arith
   | inl some ↦
       let gap = abs_diff s old.former in
-      let between : (s ≡ old.former + gap) ⊎ (old.former ≡ s + gap) = elim (cases_lt old.former s) [
-        | inl late ↦
-            inl (omega arith)
-        | inr early ↦ inr (omega arith)
-      ] in
-      let test : ltb d (2 * gap) ≡ false = sym (is_apart-in old.limits s d old.former gap old.limits.positive between)
-      ∙ ap (λ (f : Option Time). is_apart f (extent_in old.limits s d)) (sym (former_end-some old some)) ∙ near in
+      let between : (s ≡ old.former + gap) ⊎ (old.former ≡ s + gap) = grind arith in
+      let test : ltb d (2 * gap) ≡ false =
+      sym (is_apart-in old.limits s d old.former gap old.limits.positive between) ∙ (rw (former_end-some old some) at near) in
       omega (arith, ltb-false d (2 * gap) test)
 ]
 
 product-least : (a b : ℕ) → 0 < a → 0 < b → a + b ≤ a * b + 1
-product-least zero b some_a some_b = absurd (omega arith)
-product-least (suc a) zero some_a some_b = absurd (omega arith)
-product-least (suc a) (suc b) some_a some_b = omega arith
+product-least a b some_a some_b = grind (arith, mul-le-mul_left)
 
 pub room_after : (total s d count : ℕ) → 0 < d → 0 < count → 2 * total ≤ 2 * s + d → total + count ≤ s + count * d
 room_after total s d count some has room = omega (arith, product-least count d has some)
 
-pub capped : (l : Limits) (s m count d : ℕ) → m ≡ min (min (count * d) (2 ^ 128 - 1)) (2 ^ 64 - 1)
-    → breaks_limits l.ticks l.origin (media_extent l (s + m) d) ≡ false → (m ≡ count * d) × (s + count * d < 2 ^ 63)
-capped l s m count d is kept =
+pub capped : (l : Limits) (s m count d : ℕ) → 0 < d → 0 < count → m ≡ min (min (count * d) (2 ^ 128 - 1)) (2 ^ 64 - 1)
+    → breaks_limits l.ticks l.origin (media_extent l (s + m) d) ≡ false
+    → (m ≡ count * d) × (s + count * d < 2 ^ 63) × (count < 2 ^ 63) × (s + d < 2 ^ 63)
+capped l s m count d has some is kept =
     let near : s + m < 2 ^ 63 = within-end l d (s + m) l.positive kept in
-    let same : m ≡ count * d = omega arith in
-    (same, omega arith)
+    let most = mul-le-mul_left count has in
+    let least = mul-le-mul_right d some in
+    (omega arith, omega arith, omega arith, omega arith)
 
 -- ---- a builder with one more run
 
@@ -221,18 +206,14 @@ none_follows ticks origin total (Some e) none = cc
 module _ (items ss : List TimedRun) (x : TimedRun) (xs : List Extent) (pushed : items ≡ ss ++ x ∷ []) (same : extents_of x ≡ xs) where
   pub members_after : (e : Option GoesOn) → IsNone e → map Closed (all_extents items) ++ endless_members e
       ≡ (map Closed (all_extents ss) ++ endless_members e) ++ map Closed xs
-  members_after e none =
-      cc (members-push ss x e none)
+  members_after e none = rw (none_of e none, append-nil, append-nil, pushed, extents-push ss x, same, map-append) refl
 
   pub extents_after : (P : Extent → Type 0) → All P (all_extents ss) → All P xs → All P (all_extents items)
-  extents_after P first last = subst (λ (ys : List Extent). All P ys) (sym (ap all_extents pushed ∙ extents-push ss x
-      ∙ ap (λ (ys : List Extent). all_extents ss ++ ys) same)) (All-append P (all_extents ss) xs first last)
+  extents_after P first last = rw (pushed, extents-push ss x, same) (All-append P (all_extents ss) xs first last)
 
   pub laid_after : (total count : ℕ) → x.count ≡ count → AreLaid 0 ss total → x.before ≡ total → 0 < count → IsRun x
       → AreLaid 0 items (total + count)
-  laid_after total count number laid place some is =
-      subst (λ (ys : List TimedRun). AreLaid 0 ys (total + count)) (sym pushed)
-      (subst (λ (n : ℕ). AreLaid 0 (ss ++ x ∷ []) (total + n)) number (laid-push 0 ss total x laid place (omega arith) is))
+  laid_after total count number laid place some is = rw (pushed, ← number) (laid-push 0 ss total x laid place (omega arith) is)
 
 -- ---- as many as names
 
@@ -244,10 +225,6 @@ pub paired_closed : (l : RunsBuilder) (count : ℕ) → IsLaidOut l → IsNone l
     → are_paired (Some count) (members_so_far l) ≡ (l.total == count)
 paired_closed l count laid none =
     let all = all_extents (runs_in l) in
-    let number : length (map Closed all) ≡ l.total = omega (
-      arith,
-      length-map {B = Member} all (λ (x : Extent). Closed x),
-      length-laid 0 (runs_in l) l.total laid.laid,
-    ) in
-    rw (none_of l.endless none, append-nil)
-    (cc (append-nil (map Closed all), open_closed all []))
+    let number : length (map Closed all) ≡ l.total =
+    omega (arith, length-map {B = Member} all (λ (x : Extent). Closed x), length-laid 0 (runs_in l) l.total laid.laid) in
+    rw (none_of l.endless none, append-nil) (cc (append-nil (map Closed all), open_closed all []))

@@ -1,12 +1,12 @@
 -- The limits of segments, by ticks.
 use Rattle.std.proofs.Common.{◌≡◌, ℕ, zero, suc, ◌+◌, ◌-◌, ◌*◌, ◌<◌, ◌≤◌, ◌^◌, Bool, true, false, ◌&&◌, ◌||◌, ltb, leb, ℤ, pos, ◌+ℤ◌, ◌-ℤ◌}
-use Rattle.std.proofs.{Common.{◌*ℤ◌, ◌≤ℤ◌, refl, ◌∙◌, sym, ap, inl, inr, arith, ◌⊎◌, negsuc, ◌<ℤ◌, neg_ℤ}, lemmas.Int.{ints, by_lt_z}}
-use Rattle.std.proofs.{lemmas.Int.clamps, Math.Bool.or-false, Math.Nat.mul-le-mul_left, lemmas.Bool.{cases_lt, lt-ltb, le-ltb, cases_order}}
-use Rattle.std.proofs.{lemmas.Bool.{and_from, true≢false}, lemmas.Bool.Decides.nat_tests}
+use Rattle.std.proofs.{Common.{◌*ℤ◌, ◌≤ℤ◌, refl, ◌∙◌, sym, ap, inl, inr, arith, ◌⊎◌, ◌<ℤ◌, neg_ℤ}, lemmas.Int.{ints, by_lt_z, clamps}}
+use Rattle.std.proofs.{Math.Bool.or-false, Math.Nat.mul-le-mul_left, lemmas.Bool.{lt-ltb, cases_order, and_from, true≢false}}
+use Rattle.std.proofs.lemmas.Bool.Decides.{nat_tests}
 use Rattle.std.specs.{Prelude.{int_le, int_lt, unsigned_abs}, List.list_any, Int.{int_max, int_min}}
 use Rattle.exact_time.specs.Time.{seconds, before, Time, at_most, nanoseconds}
-use Rattle.timeline.specs.{Expansions.{Extent, lasting, repeated, repeat_of, ended_by}, Limits.{breaks_limits, media_extent}}
-use Rattle.timeline.specs.{declared.limits.Limits.Limits, Bounds.IsNear}
+use Rattle.timeline.specs.{Expansions.{lasting, repeated, ended_by}, Limits.{breaks_limits, media_extent}, declared.limits.Limits.Limits}
+use Rattle.timeline.specs.Bounds.{IsNear}
 use Rattle.timeline.proofs.{Ratios.{int_le-mul, int_add-mul, int_le-from, not_int_le-from, floor_ticks, at_most-floor}, Repeats.row}
 use Rattle.timeline.proofs.Repeats.{repeat-row, ends_by, ends_by-in, ends_by-out, ended_by-row}
 
@@ -24,10 +24,7 @@ breaks_ticks ticks origin end step =
     int_le (pos (2 ^ 63) -ℤ pos origin) end || ltb (1000000 * ticks) step || int_lt (pos (100000000000 * ticks)) end
 
 pub ltb-scaled : (a b u m n : ℕ) → 0 < u → m ≡ a * u → n ≡ b * u → ltb m n ≡ ltb a b
-ltb-scaled a b u m n some m_is n_is = elim (cases_lt a b) [
-  | inl below ↦ lt-ltb m n (let next : suc a ≤ b = omega arith in omega (arith, mul-le-mul_left u next)) ∙ sym (lt-ltb a b below)
-  | inr above ↦ le-ltb m n (omega (arith, mul-le-mul_left u above)) ∙ sym (le-ltb a b above)
-]
+ltb-scaled a b u m n some m_is n_is = grind (arith, nat_tests, λ (h : suc a ≤ b). mul-le-mul_left u h, λ (h : b ≤ a). mul-le-mul_left u h)
 
 lasts_long : (scale : ℕ) (start : ℤ) (step : ℕ) → 0 < scale → before (seconds 1000000) (lasting (row scale start step))
     ≡ ltb (1000000 * scale) step
@@ -49,34 +46,20 @@ breaks-row ticks origin start step some =
     cc
 
 -- the segment that ends at a media time
-pub media_extent-row : (limits : Limits) (end step : ℕ) → step ≤ end → media_extent limits end step
-    ≡ row limits.ticks (pos (end - step) -ℤ pos limits.origin) step
-media_extent-row limits end step within =
-    let same : pos end -ℤ pos limits.origin ≡ (pos (end - step) -ℤ pos limits.origin) +ℤ pos step = omega (arith, ints) in
-    ap (λ (z : ℤ). record {
-      start = record { ticks = pos (end - step) -ℤ pos limits.origin; scale = limits.ticks };
-      end = record { ticks = z; scale = limits.ticks };
-    }) same
-
-in_media_time : (limits : Limits) (end step : ℕ) → breaks_ticks limits.ticks limits.origin (pos end -ℤ pos limits.origin) step
-    ≡ (leb (2 ^ 63) end || ltb (1000000 * limits.ticks) step || ltb (limits.origin + limits.ticks * 100000000000) end)
-in_media_time limits end step =
-    let a : int_le (pos (2 ^ 63) -ℤ pos limits.origin) (pos end -ℤ pos limits.origin) ≡ leb (2 ^ 63) end = grind (arith, ints, nat_tests) in
-    let d : int_lt (pos (100000000000 * limits.ticks)) (pos end -ℤ pos limits.origin)
-    ≡ ltb (limits.origin + limits.ticks * 100000000000) end = grind (arith, ints, nat_tests) in
-    cc
-
 pub breaks_at : (limits : Limits) (end step : ℕ) → step ≤ end →
     breaks_limits limits.ticks limits.origin (media_extent limits end step) ≡ breaks_ticks limits.ticks limits.origin
     (pos end -ℤ pos limits.origin) step
 breaks_at limits end step within =
     let same : (pos (end - step) -ℤ pos limits.origin) +ℤ pos step ≡ pos end -ℤ pos limits.origin = omega (arith, ints) in
-    let by_breaks_row = breaks-row limits.ticks limits.origin (pos (end - step) -ℤ pos limits.origin) step limits.positive in
-    cc (media_extent-row limits end step within)
+    cc (breaks-row limits.ticks limits.origin (pos (end - step) -ℤ pos limits.origin) step limits.positive)
 
 pub breaks_media : (limits : Limits) (end step : ℕ) → step ≤ end → breaks_limits limits.ticks limits.origin (media_extent limits end step)
     ≡ (leb (2 ^ 63) end || ltb (1000000 * limits.ticks) step || ltb (limits.origin + limits.ticks * 100000000000) end)
-breaks_media limits end step within = breaks_at limits end step within ∙ in_media_time limits end step
+breaks_media limits end step within =
+    let a : int_le (pos (2 ^ 63) -ℤ pos limits.origin) (pos end -ℤ pos limits.origin) ≡ leb (2 ^ 63) end = grind (arith, ints, nat_tests) in
+    let d : int_lt (pos (100000000000 * limits.ticks)) (pos end -ℤ pos limits.origin)
+    ≡ ltb (limits.origin + limits.ticks * 100000000000) end = grind (arith, ints, nat_tests) in
+    cc (breaks_at limits end step within)
 
 -- ---- of segments that are equally long, the last one breaks the limits first
 
@@ -86,8 +69,7 @@ pub breaks-later : (ticks origin : ℕ) (end later : ℤ) (step : ℕ) → end �
 breaks-later ticks origin end later step before h = grind (arith, ints, nat_tests)
 
 absorbed : (a b : Bool) → (a ≡ true → b ≡ true) → (a || b) ≡ b
-absorbed true b later = sym (later refl)
-absorbed false b later = refl
+absorbed a b later = grind (arith, nat_tests)
 
 some_break : (ticks origin : ℕ) (start : ℤ) (step n : ℕ) → 0 < ticks
     → list_any (breaks_limits ticks origin) (repeated (suc n) (row ticks start step))
@@ -99,14 +81,10 @@ some_break ticks origin start step zero some =
     ∙ ap (λ (z : ℤ). breaks_ticks ticks origin z step) end
 some_break ticks origin start step (suc n) some =
     let end : (start +ℤ pos step) +ℤ pos (suc n * step) ≡ start +ℤ pos (suc (suc n) * step) = omega (arith, ints) in
-    let rest : list_any (breaks_limits ticks origin) (repeated (suc n) (repeat_of (row ticks start step)))
-    ≡ breaks_ticks ticks origin (start +ℤ pos (suc (suc n) * step)) step =
-    ap (λ (x : Extent). list_any (breaks_limits ticks origin) (repeated (suc n) x)) (repeat-row ticks start step)
-    ∙ some_break ticks origin (start +ℤ pos step) step n some ∙ ap (λ (z : ℤ). breaks_ticks ticks origin z step) end in
-    ap (λ (b : Bool). b || list_any (breaks_limits ticks origin) (repeated (suc n) (repeat_of (row ticks start step))))
-    (breaks-row ticks origin start step some)
-    ∙ ap (λ (b : Bool). breaks_ticks ticks origin (start +ℤ pos step) step || b) rest
-    ∙ absorbed _ _ (breaks-later ticks origin (start +ℤ pos step) (start +ℤ pos (suc (suc n) * step)) step (omega (arith, ints)))
+    let last = start +ℤ pos (suc (suc n) * step) in
+    let later = absorbed (breaks_ticks ticks origin (start +ℤ pos step) step) (breaks_ticks ticks origin last step)
+    (breaks-later ticks origin (start +ℤ pos step) last step (omega (arith, ints))) in
+    cc (repeat-row ticks start step, breaks-row ticks origin start step some, some_break ticks origin (start +ℤ pos step) step n some)
 
 -- the segments that go on from a start: some breaks the limits where the last one does
 pub open_breaks : (ticks origin : ℕ) (start : ℤ) (step count : ℕ) → 0 < ticks
@@ -114,8 +92,7 @@ pub open_breaks : (ticks origin : ℕ) (start : ℤ) (step count : ℕ) → 0 < 
     ≡ (ltb 0 count && breaks_ticks ticks origin (start +ℤ pos (count * step)) step)
 unfolding repeated
 open_breaks ticks origin start step zero some = refl
-open_breaks ticks origin start step (suc n) some = some_break ticks origin start step n some
-    ∙ ap (λ (b : Bool). b && breaks_ticks ticks origin (start +ℤ pos (suc n * step)) step) (sym (lt-ltb 0 (suc n) (omega arith)))
+open_breaks ticks origin start step (suc n) some = rw (lt-ltb 0 (suc n) (omega arith)) (some_break ticks origin start step n some)
 
 -- ---- the segments that go on to an open end, at a time and at a bound that stands for it
 
@@ -124,8 +101,7 @@ abbrev pub AreAlike : Time → Time → Type 0
 AreAlike s t = (end : Time) → IsNear end → at_most end s ≡ at_most end t
 
 pub abs-lt : (z : ℤ) (n : ℕ) → z <ℤ pos n → neg_ℤ (pos n) <ℤ z → unsigned_abs z < n
-abs-lt (pos a) n h k = omega (arith, ints)
-abs-lt (negsuc a) n h k = omega (arith, ints)
+abs-lt z n h k = grind (arith, ints)
 
 pub near-from : (z : ℤ) (scale : ℕ) → 0 < scale → z <ℤ pos (2 ^ 65 * scale) → neg_ℤ (pos (2 ^ 64)) <ℤ z
     → IsNear (record { ticks = z; scale = scale })
@@ -144,33 +120,6 @@ breaks_before_far : (ticks origin : ℕ) (start : ℤ) (step count : ℕ) → 0 
     breaks_ticks ticks origin (start +ℤ pos (count * step)) step ≡ true
 breaks_before_far ticks origin start step count some far = grind (arith, ints, nat_tests)
 
--- the k-th end at two times that are alike
-module _ (s t : Time) (alike : AreAlike s t) (positive_s : 0 < s.scale) (positive_t : 0 < t.scale)
-    (ticks origin : ℕ) (start : ℤ) (step : ℕ) (some : 0 < ticks) (lasts : 0 < step) (high : start <ℤ pos (2 ^ 64))
-    (low : neg_ℤ (pos (2 ^ 64)) <ℤ start) (short : step < 2 ^ 64) where
-  fewer : ends_by (floor_ticks s ticks) (start +ℤ pos step) step < ends_by (floor_ticks t ticks) (start +ℤ pos step) step
-      → Breaks ticks origin start step (ends_by (floor_ticks s ticks) (start +ℤ pos step) step)
-  fewer less =
-      let c = ends_by (floor_ticks s ticks) (start +ℤ pos step) step in
-      let end = (start +ℤ pos step) +ℤ pos (c * step) in
-      let out = ends_by-out (floor_ticks s ticks) (start +ℤ pos step) step c lasts (omega arith) in
-      let within = ends_by-in (floor_ticks t ticks) (start +ℤ pos step) step c less in
-      let out_s : at_most (record { ticks = end; scale = ticks }) s ≡ false = at_most-floor end ticks s positive_s
-      ∙ not_int_le-from end (floor_ticks s ticks) out in
-      let in_t : at_most (record { ticks = end; scale = ticks }) t ≡ true = at_most-floor end ticks t positive_t
-      ∙ int_le-from end (floor_ticks t ticks) within in
-      by_lt_z end (pos (2 ^ 65 * ticks))
-      (λ below. absurd (true≢false (sym in_t ∙ sym (alike (record { ticks = end; scale = ticks })
-      (near-from end ticks some below (omega (arith, ints)))) ∙ out_s)))
-      (λ far. (
-        elim (cases_order 0 c) [
-          | inl none ↦ absurd (let zero_times : c * step ≡ 0 = omega (arith, ap (λ (n : ℕ). n * step) none) in
-              omega (arith, ints))
-          | inr one ↦ omega arith
-        ],
-        breaks_before_far ticks origin start step c some far,
-      ))
-
 -- whether some of so many segments breaks the limits
 abbrev pub some_breaks : ℕ → ℕ → ℤ → ℕ → ℕ → Bool
 some_breaks ticks origin start step count = ltb 0 count && breaks_ticks ticks origin (start +ℤ pos (count * step)) step
@@ -182,36 +131,55 @@ more_break ticks origin start step c d within (some, breaks) = and_from (ltb 0 d
     (breaks-later ticks origin (start +ℤ pos (c * step)) (start +ℤ pos (d * step)) step
     (omega (arith, ints, mul-le-mul_left step within)) breaks)
 
+-- where two times are alike, the end behind those by the earlier one is far
+module _ (s t : Time) (alike : AreAlike s t) (positive_s : 0 < s.scale) (positive_t : 0 < t.scale)
+    (ticks origin : ℕ) (start : ℤ) (step : ℕ) (some : 0 < ticks) (lasts : 0 < step) (high : start <ℤ pos (2 ^ 64))
+    (low : neg_ℤ (pos (2 ^ 64)) <ℤ start) (short : step < 2 ^ 64) where
+  fewer : ends_by (floor_ticks s ticks) (start +ℤ pos step) step < ends_by (floor_ticks t ticks) (start +ℤ pos step) step
+      → (some_breaks ticks origin start step (ended_by s (row ticks start step)) ≡ true)
+      × (some_breaks ticks origin start step (ended_by t (row ticks start step)) ≡ true)
+  fewer less =
+      let c = ends_by (floor_ticks s ticks) (start +ℤ pos step) step in
+      let d = ends_by (floor_ticks t ticks) (start +ℤ pos step) step in
+      let end = (start +ℤ pos step) +ℤ pos (c * step) in
+      let out = ends_by-out (floor_ticks s ticks) (start +ℤ pos step) step c lasts (omega arith) in
+      let within = ends_by-in (floor_ticks t ticks) (start +ℤ pos step) step c less in
+      let out_s : at_most (record { ticks = end; scale = ticks }) s ≡ false = at_most-floor end ticks s positive_s
+      ∙ not_int_le-from end (floor_ticks s ticks) out in
+      let in_t : at_most (record { ticks = end; scale = ticks }) t ≡ true = at_most-floor end ticks t positive_t
+      ∙ int_le-from end (floor_ticks t ticks) within in
+      by_lt_z end (pos (2 ^ 65 * ticks))
+      (λ below. absurd (true≢false (sym in_t ∙ sym (alike (record { ticks = end; scale = ticks })
+      (near-from end ticks some below (omega (arith, ints)))) ∙ out_s)))
+      (λ far.
+      let has : 0 < c = elim (cases_order 0 c) [
+        | inl none ↦ absurd (omega (arith, ints, ap (λ (n : ℕ). n * step) none))
+        | inr one ↦ omega arith
+      ] in
+      let broken : Breaks ticks origin start step c = (has, breaks_before_far ticks origin start step c some far) in (
+        rw (ended_by-row s ticks start step positive_s some lasts) (more_break ticks origin start step c c (omega arith) broken),
+        rw (ended_by-row t ticks start step positive_t some lasts) (more_break ticks origin start step c d (omega arith) broken),
+      ))
+
 -- the segments up to two times that are alike: as many, or both too many
 module _ (s t : Time) (alike : AreAlike s t) (positive_s : 0 < s.scale) (positive_t : 0 < t.scale)
     (ticks origin : ℕ) (start : ℤ) (step : ℕ) (some : 0 < ticks) (lasts : 0 < step) (high : start <ℤ pos (2 ^ 64))
     (low : neg_ℤ (pos (2 ^ 64)) <ℤ start) (short : step < 2 ^ 64) where
-  both : (n : ℕ) → n ≤ ends_by (floor_ticks s ticks) (start +ℤ pos step) step → n ≤ ends_by (floor_ticks t ticks) (start +ℤ pos step) step →
-      Breaks ticks origin start step n → (some_breaks ticks origin start step (ended_by s (row ticks start step)) ≡ true)
-      × (some_breaks ticks origin start step (ended_by t (row ticks start step)) ≡ true)
-  both n low_s low_t breaks = (
-    rw (ended_by-row s ticks start step positive_s some lasts) (more_break ticks origin start step n _ low_s breaks),
-    rw (ended_by-row t ticks start step positive_t some lasts) (more_break ticks origin start step n _ low_t breaks),
-  )
-
   as_many_or_both : (ended_by s (row ticks start step) ≡ ended_by t (row ticks start step))
       ⊎ ((some_breaks ticks origin start step (ended_by s (row ticks start step)) ≡ true)
       × (some_breaks ticks origin start step (ended_by t (row ticks start step)) ≡ true))
   as_many_or_both =
       let c = ends_by (floor_ticks s ticks) (start +ℤ pos step) step in
       let d = ends_by (floor_ticks t ticks) (start +ℤ pos step) step in
-      let c_is : ended_by s (row ticks start step) ≡ c = ended_by-row s ticks start step positive_s some lasts in
-      let d_is : ended_by t (row ticks start step) ≡ d = ended_by-row t ticks start step positive_t some lasts in
       let alike_t : AreAlike t s = λ end near. sym (alike end near) in
       elim (cases_order c d) [
-        | inl same ↦ inl (c_is ∙ same ∙ sym d_is)
+        | inl same ↦ inl (ended_by-row s ticks start step positive_s some lasts ∙ same
+            ∙ sym (ended_by-row t ticks start step positive_t some lasts))
         | inr apart ↦ elim apart [
-          | inl less ↦
-              let breaks = fewer s t alike positive_s positive_t ticks origin start step some lasts high low short less in
-              inr (both c (omega arith) (omega arith) breaks)
+          | inl less ↦ inr (fewer s t alike positive_s positive_t ticks origin start step some lasts high low short less)
           | inr more ↦
-              let breaks = fewer t s alike_t positive_t positive_s ticks origin start step some lasts high low short more in
-              inr (both d (omega arith) (omega arith) breaks)
+              let broken = fewer t s alike_t positive_t positive_s ticks origin start step some lasts high low short more in
+              inr (broken.1, broken.0)
         ]
       ]
 
@@ -226,15 +194,14 @@ module _ (s t : Time) (alike : AreAlike s t) (positive_s : 0 < s.scale) (positiv
 -- ---- bounds: a time past every segment's end may be brought nearer
 
 pub abs-bounds : (z : ℤ) (n : ℕ) → unsigned_abs z < n → (z <ℤ pos n) × (neg_ℤ (pos n) <ℤ z)
-abs-bounds (pos a) n h = (omega (arith, ints), omega (arith, ints))
-abs-bounds (negsuc a) n h = (omega (arith, ints), omega (arith, ints))
+abs-bounds z n h = grind (arith, ints)
 
 -- every segment ends by a time that is far
 pub at_most-far : (end : Time) (count : ℤ) → IsNear end → pos (2 ^ 95) ≤ℤ count → at_most end (nanoseconds count) ≡ true
 at_most-far end count near far =
     let within = abs-bounds end.ticks (2 ^ 65 * end.scale) near.near in
-    let more = int_le-mul (pos (2 ^ 95)) count end.scale far in
-    int_le-from (end.ticks *ℤ pos 1000000000) (count *ℤ pos end.scale) (omega (arith, ints, within.0, more))
+    int_le-from (end.ticks *ℤ pos 1000000000) (count *ℤ pos end.scale)
+    (omega (arith, ints, within.0, int_le-mul (pos (2 ^ 95)) count end.scale far))
 
 -- no segment ends by a time that is long before
 pub not_at_most-far : (end : Time) (count : ℤ) → IsNear end → count ≤ℤ neg_ℤ (pos (2 ^ 95)) → at_most end (nanoseconds count) ≡ false

@@ -1,6 +1,6 @@
 -- The addresses of segments.
-use Rattle.std.proofs.Common.{◌≡◌, ℕ, List, Option, Result, Ok, Err, ap, sym, subst, ◌≤◌, ◌++◌, true, length, ◌∙◌, arith, length-append}
-use Rattle.std.proofs.{Common.false, lemmas.Bool.Decides.nat_tests, lemmas.List.length-take, lemmas.Bool.{and_parts, cond-false}}
+use Rattle.std.proofs.Common.{◌≡◌, ℕ, List, Option, Result, Ok, Err, ap, sym, ◌≤◌, ◌++◌, true, length, ◌∙◌, arith, length-append, false}
+use Rattle.std.proofs.{lemmas.Bool.Decides.nat_tests, lemmas.List.length-take, lemmas.Bool.{and_parts, cond-false}}
 use Rattle.std.specs.{Prelude.{IfSome, nat_le, nat_lt, None}, Result.{IsErr, IsErrAnd}}
 use Rattle.bridge_io.specs.{Answer.Gives, Names.is_name}
 use Rattle.url_parts.specs.{Addresses.{refusal, resolve, IsAddress, IsBase, folder_of}, declared.address.Part.Part}
@@ -25,8 +25,7 @@ pub gives_refusal : (range : Option Range) (address : Result (List ℕ) UrlFault
     → IsErr r × IsErrAnd r (λ fault. fault ≡ list_fault_of e) →
     IfSome (refusal e) (λ f. address ≡ Err f) → Gives (λ part. part) list_refusal r (part_at range address)
 gives_refusal range address e (Ok part) h k = cc
-gives_refusal range address e (Err fault) h k =
-    subst (λ (f : ListFault). IfSome (list_refusal f) (λ g. part_at range address ≡ Err g)) (sym h.1) (refused range address e k)
+gives_refusal range address e (Err fault) h k = rw h.1 (refused range address e k)
 
 -- ---- names of files in one folder have addresses
 
@@ -38,12 +37,8 @@ pub in_folder : (media id : List ℕ) (bandwidth : ℕ) (base : List ℕ) → Is
 in_folder media id bandwidth base is files place number time low early =
     let both = and_parts _ _ files in
     let name = named media (record { id = id; bandwidth = bandwidth; number = number; time = time }) in
-    let is_file : is_name name ≡ true = each_names media (record {
-      id = id;
-      bandwidth = bandwidth;
-      number = number;
-      time = time;
-    }) low early both.1 in
+    let is_file : is_name name ≡ true =
+    each_names media (record { id = id; bandwidth = bandwidth; number = number; time = time }) low early both.1 in
     let small : nat_le (length name) 255 ≡ true = (and_parts _ _ (and_parts _ _ (and_parts _ _ is_file).0).0).1 in
     let fits : nat_lt 2048 (length (folder_of base ++ name)) ≡ false = let shorter = short base in let room = both.0 in
     let sum = length-append (folder_of base) name in grind (arith, nat_tests) in

@@ -1,8 +1,8 @@
 -- When segments go on to an end that isn't known yet.
-use Rattle.std.proofs.Common.{◌≡◌, ℕ, ◌+◌, ◌*◌, ◌<◌, Bool, true, false, cond, List, ◌∷◌, ◌++◌, map, ℤ, pos, negsuc, ◌+ℤ◌, ◌-ℤ◌, refl, ◌∙◌}
-use Rattle.std.proofs.{Common.{sym, ap, subst, inl, inr, arith, []}, lemmas.Int.ints, lemmas.Bool.{cases_lt, true≢false}}
-use Rattle.std.specs.{Prelude.{Option, Some, None, IfSome, Ok, ◌↔◌, ◌⊎◌, slice_get, unwrap_or}, List.list_any}
-use Rattle.exact_time.specs.Time.{Time, IsAtMost, at_most}
+use Rattle.std.proofs.Common.{◌≡◌, ℕ, ◌+◌, ◌*◌, ◌<◌, Bool, true, false, List, ◌∷◌, ◌++◌, map, ℤ, pos, negsuc, ◌+ℤ◌, ◌-ℤ◌, refl, ◌∙◌, sym}
+use Rattle.std.proofs.{Common.{ap, inl, inr, arith, []}, lemmas.Int.ints, lemmas.Bool.{cases_lt, true≢false}, lemmas.Bool.Decides.nat_tests}
+use Rattle.std.specs.{Prelude.{Option, None, IfSome, Ok, ◌↔◌, ◌⊎◌, slice_get, unwrap_or}, List.list_any}
+use Rattle.exact_time.specs.Time.{Time, IsAtMost}
 use Rattle.exact_time.proofs.TimeOrder.{at_most-true, at_most-from}
 use Rattle.timeline.specs.{declared.entry.SEntry.SEntry, declared.entry.Scale.Scale, declared.entry.End.End}
 use Rattle.timeline.specs.{declared.entry.End.TheVariants.{At, Unbounded}, declared.fault.TimeFault.TimeFault}
@@ -18,16 +18,13 @@ use Rattle.timeline.proofs.Repeats.{ended_by-row, ends_by-in, ends_by-out, natur
 
 pub no_fault : (fault : Option TimeFault) (made timeline : SegmentTimeline) → unless_fault fault made ≡ Ok timeline
     → (fault ≡ None) × (made ≡ timeline)
-no_fault None made timeline is = (refl, cc)
-no_fault (Some fault) made timeline is = cc
+no_fault fault made timeline is = grind arith
 
 pub no_faults : (first later : Option TimeFault) → or_fault first later ≡ None → (first ≡ None) × (later ≡ None)
-no_faults None later none = (refl, none)
-no_faults (Some fault) later none = cc
+no_faults first later none = grind arith
 
 pub unless : (holds : Bool) (fault : TimeFault) → fault_if holds fault ≡ None → holds ≡ false
-unless true fault none = cc
-unless false fault none = refl
+unless holds fault none = grind arith
 
 -- ---- the members
 
@@ -41,14 +38,9 @@ either (Closed x ∷ xs) ys some = either xs ys some
 either (Short x ∷ xs) ys some = either xs ys some
 either (Endless x ∷ xs) ys some = inl refl
 
-up_to : (bound : Time) (x : Extent) (late : Bool) → is_open (cond late (Short x ∷ []) (map Closed (repeated (count_up_to bound x) x)))
-    ≡ true → ⊥
-up_to bound x true is = cc
-up_to bound x false is = true≢false (sym is ∙ closed_not_open (repeated (count_up_to bound x) x))
-
 unending : (reach : Reach) (x : Extent) → is_open (members_of reach x) ≡ true → reach ≡ Unending
 unending (Counted count) x some = absurd (true≢false (sym some ∙ closed_not_open (repeated count x)))
-unending (UpTo bound) x some = absurd (up_to bound x (at_most bound x.start) some)
+unending (UpTo bound) x some = grind (arith, nat_tests, closed_not_open (repeated (count_up_to bound x) x))
 unending Unending x some = refl
 unending Nowhere x some = cc
 
@@ -60,8 +52,7 @@ last_open scale Unbounded s (negsuc r) [] at is = (refl, ap is_negative at)
 last_open scale end s (negsuc r) (next ∷ later) at is = absurd (not_unending scale next.t is)
 
 later_open : (s : SEntry) (later : List SEntry) → ends_open later ≡ true → ends_open (s ∷ later) ≡ true
-later_open s [] is = cc
-later_open s (next ∷ later) is = is
+later_open s later is = grind arith
 
 pub entries_open : (scale : Scale) (end : End) (former : ℕ) (entries : List SEntry)
     → is_open (members_from scale end former entries) ≡ true → (is_unbounded end ≡ true) × (ends_open entries ≡ true)
@@ -93,8 +84,7 @@ steps_row t scale start step n k time whole some within =
     let count = ended_by-row t scale start step time whole some in
     let placed : (start +ℤ pos (k * step)) +ℤ pos step ≡ end +ℤ pos (k * step) = omega (arith, ints) in
     let test = at_most-floor ((start +ℤ pos (k * step)) +ℤ pos step) scale t time in
-    subst (λ (o : Option Extent). IfSome o (λ y. IsAtMost y.end t ↔ (k < ended_by t x)))
-    (sym (slice_get-repeated k n x within ∙ ap (λ (y : Extent). Some y) (again-row k scale start step))) (
+    rw (slice_get-repeated k n x within, again-row k scale start step) (
       λ early. elim (cases_lt k (ended_by t x)) [
         | inl less ↦ less
         | inr more ↦
@@ -114,5 +104,4 @@ steps_are_greatest instant x n k time is within =
     let step = natural (x.end.ticks -ℤ x.start.ticks) in
     let lasts = natural-pos (x.end.ticks -ℤ x.start.ticks) (omega (arith, ints, is.rises)) in
     let same : x ≡ row x.end.scale x.start.ticks step = row-is x step is.one_scale (omega (arith, ints, lasts)) in
-    subst (λ (y : Extent). IfSome (slice_get (repeated n y) k) (λ z. IsAtMost z.end instant ↔ (k < ended_by instant y))) (sym same)
-    (steps_row instant x.end.scale x.start.ticks step n k time is.end_is (omega (arith, ints, lasts, is.rises)) within)
+    rw same (steps_row instant x.end.scale x.start.ticks step n k time is.end_is (omega (arith, ints, lasts, is.rises)) within)

@@ -1,11 +1,11 @@
 -- Segments whose names are addresses already.
-use Rattle.std.proofs.Common.{◌≡◌, ℕ, zero, suc, ◌+◌, ◌-◌, ◌<◌, ◌≤◌, false, not, List, ◌∷◌, get_or, length, pos, refl, ◌∙◌, ap, subst, inl}
-use Rattle.std.proofs.{Common.{[], inr, arith, ◌*◌, Bool, true, cond, map, drop}, lemmas.Bool.Decides.nat_tests, lemmas.List.length-map}
+use Rattle.std.proofs.Common.{◌≡◌, ℕ, zero, suc, ◌+◌, ◌-◌, ◌<◌, ◌≤◌, false, not, List, ◌∷◌, get_or, length, pos, refl, ◌∙◌, ap, inl, []}
+use Rattle.std.proofs.{Common.{inr, arith, ◌*◌, true, cond, map, drop}, lemmas.Bool.Decides.nat_tests, lemmas.List.length-map}
 use Rattle.std.proofs.{lemmas.Option.{slice_get_cases, slice_get-map}, lemmas.List.Elements.{All-nil, All-cons, All-drop, All-filter}}
 use Rattle.std.proofs.lemmas.List.Elements.{All-get_or, All-from_recursion}
 use Rattle.std.specs.Prelude.{All, IfSome, IsSome, MatchOption, Option, Some, None, Result, Ok, Err, slice_get, unwrap_or}
 use Rattle.std.specs.List.{AllByRecursion}
-use Rattle.exact_time.specs.Time.{Time, nanoseconds, at_most, in_units}
+use Rattle.exact_time.specs.Time.{Time, nanoseconds, at_most}
 use Rattle.url_parts.specs.{Addresses.IsAddress, declared.address.Part.Part}
 use Rattle.url_parts.proofs.Parsed.{given_again}
 use Rattle.timeline.specs.{declared.entry.End.End, declared.entry.End.TheVariants.{At, Unbounded}, declared.fault.ListFault.ListFault}
@@ -15,8 +15,8 @@ use Rattle.timeline.specs.{Durations.{extents_by, expansion_of_names, expansion_
 use Rattle.timeline.specs.Expansions.{Endless, SegmentTimeline, Timing, extents, is_open, numbered, ended_by, repeat_of, repeated}
 use Rattle.timeline.specs.{Faults.{are_paired, members_by}, Listed.{expansion, instant_of, is_listed, part_of_timing}, Names.list_refusal}
 use Rattle.timeline.specs.OwnParts.{AreGivenAgain, AreNumbered, HasPart, HaveParts, OnlyMemoryHolds, PartsAreMade, reference_to}
-use Rattle.timeline.specs.{Ratios.steps_to_cover, Starts.StartInTicks, Timelines.{Reach, Counted, UpTo, Unending, Nowhere, count_of}}
-use Rattle.timeline.specs.Timelines.{count_up_to, extent_from, members_from, members_of, reach_of}
+use Rattle.timeline.specs.{Starts.StartInTicks, Timelines.{Reach, Counted, UpTo, Unending, Nowhere, count_of, count_up_to, extent_from}}
+use Rattle.timeline.specs.Timelines.{members_from, members_of, reach_of}
 use Rattle.timeline.proofs.{OpenEnds.closed_not_open, KeptLemmas.all_append}
 
 -- ---- the numbers
@@ -25,8 +25,7 @@ number_at : (first : ℕ) (xs : List Extent) (k : ℕ) → IfSome (slice_get (nu
 number_at first [] k = tt
 number_at first (x ∷ xs) zero = omega arith
 number_at first (x ∷ xs) (suc k) =
-    let next : first + 1 + k ≡ first + suc k = omega arith in
-    subst (λ (n : ℕ). IfSome (slice_get (numbered (first + 1) xs) k) (λ y. y.number ≡ n)) next (number_at (first + 1) xs k)
+    let next : first + suc k ≡ first + 1 + k = omega arith in rw next (number_at (first + 1) xs k)
 
 pub are_numbered : AreNumbered
 are_numbered timeline window k = number_at timeline.first_number (extents (instant_of window) timeline.members) k
@@ -35,8 +34,7 @@ in_range : (low high first : ℕ) (xs : List Extent) → low ≤ first → first
     → All (λ x. (low ≤ x.number) × (x.number < high)) (numbered first xs)
 in_range low high first [] above below = All-nil (λ (x : Timing). (low ≤ x.number) × (x.number < high))
 in_range low high first (x ∷ xs) above below =
-    All-cons (λ (y : Timing). (low ≤ y.number) × (y.number < high)) (record { start = x.start; end = x.end; number = first })
-    (numbered (first + 1) xs)
+    All-cons (λ (y : Timing). (low ≤ y.number) × (y.number < high)) (record { start = x.start; end = x.end; number = first }) _
     (omega arith, omega arith) (in_range low high (first + 1) xs (omega arith) (omega arith))
 
 length-extents : (instant : Time) (members : List Member) → is_open members ≡ false → length (extents instant members) ≤ length members
@@ -98,13 +96,11 @@ names_paired ticks end duration count =
 
 same_part : (own : Option Part) (named : Result Part ListFault) (part : Part) → MatchOption own ⊥ (λ p. named ≡ Ok p) → named ≡ Ok part
     → own ≡ Some part
-same_part None named part has is = absurd has
-same_part (Some p) named part has is = cc
+same_part own named part has is = grind arith
 
 no_refusal : (own : Option Part) (named : Result Part ListFault) (fault : ListFault) → MatchOption own ⊥ (λ p. named ≡ Ok p)
     → named ≡ Err fault → ⊥
-no_refusal None named fault has is = has
-no_refusal (Some p) named fault has is = cc
+no_refusal own named fault has is = grind arith
 
 first_has : (timeline : SegmentTimeline) (parts : List Part) (x : Timing) (xs : List Timing) → All (HasPart timeline parts) (x ∷ xs)
     → HasPart timeline parts x
@@ -129,8 +125,7 @@ only_memory_holds old new parts fault all is = held old.timeline parts old.left 
 pub are_given_again : AreGivenAgain
 are_given_again parts base place number time all within = elim (slice_get_cases parts place).1 [
   | inl there ↦
-      let at : IsAddress (get_or parts place there.0).address =
-      All-get_or (λ (part : Part). IsAddress part.address) parts place there.0 within all in
+      let at = All-get_or (λ (part : Part). IsAddress part.address) parts place there.0 within all in
       let address : IsAddress there.0.address = rw there.3 at at in
       rw (slice_get-map reference_to parts place, there.2, given_again there.0.address address base) refl
   | inr past ↦ absurd (omega (arith, past.0))
@@ -196,14 +191,12 @@ module _ (ticks : ℕ) where
 
   names_begin : (end : End) (duration count : ℕ) → AllByRecursion (Begins ticks) (expansion_of_names ticks end duration count)
   names_begin Unbounded duration count = closed_begin (extents_by ticks duration 0 count) (counted_start duration 0 count)
-  names_begin (At length) duration count =
-      closed_begin (cut_at (nanoseconds (pos length)) (extents_by ticks duration 0 count))
+  names_begin (At length) duration count = closed_begin (cut_at (nanoseconds (pos length)) _)
       (cut_start (nanoseconds (pos length)) (extents_by ticks duration 0 count) (counted_start duration 0 count))
 
   pub durations_begin : (end : End) (duration : ℕ) (names : Option ℕ) → AllByRecursion (Begins ticks) (members_by ticks end duration names)
   durations_begin Unbounded duration None = ((refl, refl), tt)
-  durations_begin (At length) duration None =
-      names_begin (At length) duration (steps_to_cover (nanoseconds (pos length)) (in_units ticks duration))
+  durations_begin (At length) duration None = names_begin (At length) duration _
   durations_begin end duration (Some count) = names_begin end duration count
 
   pub lists_begin : (spans : List Span) → AllByRecursion (λ (span : Span). span.start.scale ≡ ticks) spans →
@@ -211,15 +204,12 @@ module _ (ticks : ℕ) where
   lists_begin [] start = tt
   lists_begin (span ∷ spans) (here, start) = (here, lists_begin spans start)
 
-  up_to : (late : Bool) (x : Extent) (xs : List Extent) → AllByRecursion (Starts ticks) xs →
-      AllByRecursion (Begins ticks) (cond late (Short x ∷ []) (map Closed xs))
-  up_to true x xs start = (tt, tt)
-  up_to false x xs start = closed_begin xs start
-
   reach_begin : (reach : Reach) (x : Extent) → Starts ticks x → x.end.scale ≡ ticks → AllByRecursion (Begins ticks) (members_of reach x)
   reach_begin (Counted count) x start end = closed_begin (repeated count x) (repeated_start ticks count x start end)
   reach_begin (UpTo bound) x start end =
-      up_to (at_most bound x.start) x (repeated (count_up_to bound x) x) (repeated_start ticks (count_up_to bound x) x start end)
+      let xs = repeated (count_up_to bound x) x in
+      elim (at_most bound x.start) as (λ b. AllByRecursion (Begins ticks) (cond b (Short x ∷ []) (map Closed xs)))
+      [ true ↦ (tt, tt) | false ↦ closed_begin _ (repeated_start ticks (count_up_to bound x) x start end) ]
   reach_begin Unending x start end = ((start, end), tt)
   reach_begin Nowhere x start end = (tt, tt)
 

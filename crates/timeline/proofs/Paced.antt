@@ -1,7 +1,7 @@
 -- The ends of listed segments don't fall, and lie near one another.
-use Rattle.std.proofs.Common.{◌≡◌, ℕ, zero, suc, ◌+◌, ◌*◌, false, List, ◌∷◌, map, take, drop, ℤ, pos, negsuc, ◌≤ℤ◌, subst, append-nil, []}
-use Rattle.std.proofs.{Common.{arith, Bool, Option, Some, None}, lemmas.Bool.or_parts, lemmas.Int.ints, lemmas.List.Elements.All-drop}
-use Rattle.std.proofs.lemmas.List.Elements.{All-filter, All-from_recursion}
+use Rattle.std.proofs.Common.{◌≡◌, ℕ, zero, suc, ◌+◌, ◌*◌, false, List, ◌∷◌, map, take, drop, ℤ, pos, ◌≤ℤ◌, append-nil, [], arith, Bool}
+use Rattle.std.proofs.{Common.{Option, Some, None}, lemmas.Bool.or_parts, lemmas.Int.ints, lemmas.List.Elements.{All-drop, All-filter}}
+use Rattle.std.proofs.lemmas.List.Elements.{All-from_recursion}
 use Rattle.std.specs.{Prelude.{Option, Some, None, unsigned_abs, All}, List.{list_any, AllByRecursion}}
 use Rattle.exact_time.specs.{Time.{Time, IsTime, IsAtMost, difference, seconds}, Rounding.{IsRising, AreNear}}
 use Rattle.exact_time.proofs.{TimeOrder.{IsAtMost-trans, IsAtMost-from_before, before-false}, Times.{IsTime-difference, le_units-add}}
@@ -45,13 +45,8 @@ KeepsLimits x = (number : ℕ) → IsWithinLimits (record { start = x.start; end
 
 one_within : (x : Extent) → Lasts x → too_long x ≡ false → IsAtMost x.end (seconds 100000000000) → KeepsLimits x
 one_within x is short near = λ number.
-    record {
-      start_is = is.start_is;
-      end_is = is.end_is;
-      begins = is.ends;
-      lasts = before-false (seconds 1000000) (lasting x) short;
-      near = near;
-    }
+    let lasts = before-false (seconds 1000000) (lasting x) short in
+    record { start_is = is.start_is; end_is = is.end_is; begins = is.ends; lasts = lasts; near = near }
 
 repeated_within : (ticks origin count : ℕ) (x : Extent) → LastsTicks x →
     list_any (breaks_limits ticks origin) (repeated count x) ≡ false → AllByRecursion KeepsLimits (repeated count x)
@@ -60,8 +55,7 @@ repeated_within ticks origin zero x is kept = tt
 repeated_within ticks origin (suc count) x is kept =
     let split = or_parts (breaks_limits ticks origin x) (list_any (breaks_limits ticks origin) (repeated count (repeat_of x))) kept in (
       one_within x (Lasts-from_ticks x is) (not_long ticks origin x split.0) (not_late ticks origin x split.0),
-      repeated_within ticks
-          origin count (repeat_of x) (LastsTicks-repeat x is) split.1,
+      repeated_within ticks origin count (repeat_of x) (LastsTicks-repeat x is) split.1,
     )
 
 numbered_within : (number : ℕ) (xs : List Extent) → AllByRecursion KeepsLimits xs → AllByRecursion IsWithinLimits (numbered number xs)
@@ -69,10 +63,6 @@ numbered_within number [] keep = tt
 numbered_within number (x ∷ xs) (here, keep) = (here number, numbered_within (number + 1) xs keep)
 
 module _ (timeline : SegmentTimeline) (window : Window) where
-  alone : (x : Extent) (later : List Member) → later ≡ [] → AllByRecursion KeepsLimits (repeated (ended_by (instant_of window) x) x) →
-      AllByRecursion KeepsLimits (extents (instant_of window) (Endless x ∷ later))
-  alone x later none keep = rw (none, append-nil) keep
-
   members_within : (former : Option Time) (members : List Member) → AreLasting members → EndInTime members →
       segment_fault too_long former members ≡ None →
       list_any (reaches_fault timeline window) members ≡ false → AllByRecursion KeepsLimits (extents (instant_of window) members)
@@ -85,7 +75,7 @@ module _ (timeline : SegmentTimeline) (window : Window) where
       let reach = repeated (ended_by (instant_of window) x) x in
       let split = or_parts (list_any (breaks_limits timeline.ticks timeline.origin) reach)
       (list_any (reaches_fault timeline window) later) reached in
-      alone x later last (repeated_within timeline.ticks timeline.origin (ended_by (instant_of window) x) x is split.0)
+      rw (last, append-nil) (repeated_within timeline.ticks timeline.origin (ended_by (instant_of window) x) x is split.0)
 
   pub listed_within : (place : ℕ) → AreLasting timeline.members → EndInTime timeline.members →
       segment_fault too_long None timeline.members ≡ None →
@@ -102,8 +92,7 @@ abbrev IsNearBy : Time → Time → Type 0
 IsNearBy former end = IsAtMost former end × IsAtMost (difference end former) (seconds 2000000)
 
 abs-le : (z : ℤ) → z ≤ℤ pos (2 * unsigned_abs z)
-abs-le (pos n) = omega (arith, ints)
-abs-le (negsuc n) = omega (arith, ints)
+abs-le z = grind (arith, ints)
 
 module _ (x : Extent) (is : Lasts x) (short : too_long x ≡ false) where
   lasts : IsAtMost (lasting x) (seconds 1000000)
@@ -112,8 +101,7 @@ module _ (x : Extent) (is : Lasts x) (short : too_long x ≡ false) where
   own_nearby : IsNearBy x.start x.end
   own_nearby = (
     IsAtMost-from_before x.start x.end is.ends,
-    IsAtMost-trans (lasting x) (seconds 1000000) (seconds 2000000)
-        (omega arith) lasts (omega (arith, ints)),
+    IsAtMost-trans (lasting x) (seconds 1000000) (seconds 2000000) (omega arith) lasts (omega (arith, ints)),
   )
 
   nearby : (former : Time) → IsTime former → is_apart (Some former) x ≡ false → IsNearBy former x.end
@@ -122,10 +110,10 @@ module _ (x : Extent) (is : Lasts x) (short : too_long x ≡ false) where
         ticks = pos (2 * unsigned_abs (difference x.start former).ticks);
         scale = (difference x.start former).scale;
       } in
-      let gap_short : IsAtMost gap (seconds 1000000) = IsAtMost-trans gap (lasting x) (seconds 1000000)
+      let gap_short = IsAtMost-trans gap (lasting x) (seconds 1000000)
       (IsTime-difference x.end x.start is.end_is is.start_is) (before-false (lasting x) gap near) lasts in
-      let less = abs-le (difference x.start former).ticks in
-      let late : IsAtMost (difference x.start former) (seconds 1000000) = omega (arith, ints, less, gap_short) in (
+      let late : IsAtMost (difference x.start former) (seconds 1000000) =
+      omega (arith, ints, abs-le (difference x.start former).ticks, gap_short) in (
         IsAtMost-from_before former x.end (ends_after former x is is_former near),
         le_units-add 1 1000000 1000000 x.end x.start former is.start_is lasts late,
       )
@@ -173,17 +161,12 @@ paced_numbered number (x ∷ xs) paced =
 head_paced : (former : Option Time) (x : Extent) (xs : List Extent) → Lasts x → too_long x ≡ false → IsSomeTime former
     → is_apart former x ≡ false → PacedFrom (Some x.end) xs → PacedFrom former (x ∷ xs)
 head_paced None x xs is short is_former near rest = (is.end_is, own_nearby x is short, rest)
-head_paced (Some former) x xs is short is_former near rest = (
-  nearby x is short former is_former near,
-  is.end_is,
-  own_nearby x is short,
-  rest,
-)
+head_paced (Some former) x xs is short is_former near rest =
+    (nearby x is short former is_former near, is.end_is, own_nearby x is short, rest)
 
 module _ (ticks origin : ℕ) where
   repeated_paced : (count : ℕ) (x : Extent) (former : Option Time) → LastsTicks x → IsSomeTime former → is_apart former x ≡ false
-      → list_any (breaks_limits ticks origin) (repeated count x) ≡ false →
-      PacedFrom former (repeated count x)
+      → list_any (breaks_limits ticks origin) (repeated count x) ≡ false → PacedFrom former (repeated count x)
   unfolding repeated
   repeated_paced zero x former is is_former near kept = tt
   repeated_paced (suc count) x former is is_former near kept =
@@ -194,10 +177,6 @@ module _ (ticks origin : ℕ) where
       (touching_own (repeat_of x) (Lasts-from_ticks (repeat_of x) next)) split.1)
 
 module _ (timeline : SegmentTimeline) (window : Window) where
-  alone_paced : (former : Option Time) (x : Extent) (later : List Member) → later ≡ []
-      → PacedFrom former (repeated (ended_by (instant_of window) x) x) → PacedFrom former (extents (instant_of window) (Endless x ∷ later))
-  alone_paced former x later none paced = rw (none, append-nil) paced
-
   members_paced : (members : List Member) (former : Option Time) → AreLasting members → IsSomeTime former
       → segment_fault too_long former members ≡ None → list_any (reaches_fault timeline window) members ≡ false →
       PacedFrom former (extents (instant_of window) members)
@@ -211,13 +190,12 @@ module _ (timeline : SegmentTimeline) (window : Window) where
       let near = no_step (is_apart former x) (segment_fault too_long former later) none in
       let split = or_parts (list_any (breaks_limits timeline.ticks timeline.origin) (repeated (ended_by (instant_of window) x) x))
       (list_any (reaches_fault timeline window) later) reached in
-      alone_paced former x later last (repeated_paced timeline.ticks timeline.origin
-      (ended_by (instant_of window) x) x former is is_former near.0 split.0)
+      let all = repeated_paced timeline.ticks timeline.origin (ended_by (instant_of window) x) x former is is_former near.0 split.0 in
+      rw (last, append-nil) all
 
   pub listed_paced : (all : List Extent) (number left begin : ℕ) → extents (instant_of window) timeline.members ≡ all
       → AreLasting timeline.members → segment_fault too_long None timeline.members ≡ None →
       list_any (reaches_fault timeline window) timeline.members ≡ false → ArePaced (numbered number (take left (drop begin all)))
   listed_paced all number left begin is last steady reached =
-      let paced : PacedFrom None all = subst (λ (xs : List Extent). PacedFrom None xs) is
-      (members_paced timeline.members None last tt steady reached) in
+      let paced : PacedFrom None all = rw (← is) (members_paced timeline.members None last tt steady reached) in
       paced_numbered number (take left (drop begin all)) (paced_take left None (drop begin all) (paced_drop begin all paced))

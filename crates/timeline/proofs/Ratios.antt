@@ -1,8 +1,8 @@
 -- How often one time fits into another: floors and ceilings, by cross products.
 use Rattle.std.proofs.Common.{◌≡◌, ℕ, zero, suc, ◌+◌, ◌-◌, ◌*◌, ◌/◌, ◌<◌, ◌≤◌, true, false, leb, ℤ, pos, negsuc, ◌+ℤ◌, ◌*ℤ◌, ◌≤ℤ◌, ◌<ℤ◌}
-use Rattle.std.proofs.{Common.{neg_ℤ, refl, ◌∙◌, sym, ap, inl, inr, arith}, lemmas.Int.ints, lemmas.Nat.{le-div, div_below}}
-use Rattle.std.proofs.{lemmas.Bool.Decides.nat_tests, lemmas.Bool.{le-leb, lt-leb, cases_lt}, Math.Dec.leb-suc-suc}
-use Rattle.std.proofs.Math.Nat.{div-mul-le_self, mul-le-mul_left, le_of_mul-le-mul_left, le_antisymm, one-le-mul}
+use Rattle.std.proofs.{Common.{neg_ℤ, refl, ◌∙◌, sym, ap, arith}, lemmas.Int.ints, lemmas.Nat.{le-div, div_below}}
+use Rattle.std.proofs.{lemmas.Bool.Decides.nat_tests, Math.Dec.leb-suc-suc, Math.Nat.{div-mul-le_self, mul-le-mul_left}}
+use Rattle.std.proofs.Math.Nat.{le_of_mul-le-mul_left, le_antisymm, one-le-mul}
 use Rattle.std.specs.{Prelude.int_le, Int.int_div_euclid}
 use borrow.Author.Differences.{up, down}
 use Rattle.exact_time.specs.{Time.{Time, at_most}, Floor.IsCeiling}
@@ -12,23 +12,17 @@ use Rattle.timeline.specs.Ratios.{natural, steps_within, steps_to_cover}
 
 -- a quotient is what its two bounds say
 pub quotient-is : (n d q : ℕ) → q * d ≤ n → n < (q + 1) * d → n / d ≡ q
-quotient-is n d q low high = le_antisymm (let h : n / d < q + 1 = div_below n d (q + 1) (omega arith) high in
-    omega arith) (le-div q n d (omega arith) low)
+quotient-is n d q low high = grind (arith, div_below, le-div)
 
 pub quotient-low : (n d : ℕ) → n / d * d ≤ n
 quotient-low n d = div-mul-le_self n d
 
 pub quotient-high : (n d : ℕ) → 0 < d → n < (n / d + 1) * d
-quotient-high n d some = elim (cases_lt n ((n / d + 1) * d)) [
-  | inl below ↦ below
-  | inr above ↦
-      absurd (let h : n / d + 1 ≤ n / d = le-div (n / d + 1) n d some above in omega arith)
-]
+quotient-high n d some = grind (arith, le-div)
 
 -- a factor of both cancels
 pub quotient-cancel : (n d m : ℕ) → 0 < m → 0 < d → (n * m) / (d * m) ≡ n / d
-quotient-cancel n d m some whole = quotient-is (n * m) (d * m) (n / d)
-    (omega (arith, mul-le-mul_left m (quotient-low n d)))
+quotient-cancel n d m some whole = quotient-is (n * m) (d * m) (n / d) (omega (arith, mul-le-mul_left m (quotient-low n d)))
     (let h : n + 1 ≤ (n / d + 1) * d = omega (arith, quotient-high n d whole) in omega (arith, mul-le-mul_left m h))
 
 -- ---- steps within a length
@@ -71,17 +65,10 @@ abbrev pub floor_ticks : Time → ℕ → ℤ
 floor_ticks t scale = int_div_euclid (t.ticks *ℤ pos scale) (pos t.scale)
 
 leb-div : (a b u : ℕ) → 0 < u → leb (a * u) b ≡ leb a (b / u)
-leb-div a b u some = elim (cases_lt b (a * u)) [
-  | inl below ↦ lt-leb (a * u) b below ∙ sym (lt-leb a (b / u) (div_below b u a some below))
-  | inr above ↦ le-leb (a * u) b above ∙ sym (le-leb a (b / u) (le-div a b u some above))
-]
+leb-div a b u some = grind (arith, nat_tests, div_below b u a some, le-div a b u some)
 
 div-leb : (a b u : ℕ) → 0 < u → leb (suc b) (suc a * u) ≡ leb (b / u) a
-div-leb a b u some = elim (cases_lt b (suc a * u)) [
-  | inl below ↦ let h : b / u < suc a = div_below b u (suc a) some below in le-leb (suc b) (suc a * u) below
-      ∙ sym (le-leb (b / u) a (omega arith))
-  | inr above ↦ let h : suc a ≤ b / u = le-div (suc a) b u some above in lt-leb (suc b) (suc a * u) (omega arith) ∙ sym (lt-leb (b / u) a h)
-]
+div-leb a b u some = grind (arith, nat_tests, div_below b u (suc a) some, le-div (suc a) b u some)
 
 -- a negative number
 negated : (n : ℕ) → 0 < n → (m : ℕ) × (neg_ℤ (pos n) ≡ negsuc m)
@@ -131,13 +118,10 @@ int_le-mul a b u h =
 -- ---- the floor is at most the time, and less than a tick below it
 
 pub floor-low : (t : Time) (scale : ℕ) → 0 < t.scale → (floor_ticks t scale *ℤ pos t.scale) ≤ℤ (t.ticks *ℤ pos scale)
-floor-low t scale some =
-    let f = floor_ticks t scale in
-    int_le-true (f *ℤ pos t.scale) (t.ticks *ℤ pos scale) (floor-le f (t.ticks *ℤ pos scale) t.scale some
-    ∙ int_le-from f f (omega (arith, ints)))
+floor-low t scale some = let f = floor_ticks t scale in
+    int_le-true (f *ℤ pos t.scale) (t.ticks *ℤ pos scale) (grind (arith, ints, nat_tests, floor-le f (t.ticks *ℤ pos scale) t.scale some))
 
 pub floor-high : (t : Time) (scale : ℕ) → 0 < t.scale → (t.ticks *ℤ pos scale) <ℤ ((floor_ticks t scale +ℤ pos 1) *ℤ pos t.scale)
-floor-high t scale some =
-    let f = floor_ticks t scale in
-    int_le-false ((f +ℤ pos 1) *ℤ pos t.scale) (t.ticks *ℤ pos scale) (floor-le (f +ℤ pos 1) (t.ticks *ℤ pos scale) t.scale some
-    ∙ not_int_le-from (f +ℤ pos 1) f (omega (arith, ints)))
+floor-high t scale some = let f = floor_ticks t scale in
+    int_le-false ((f +ℤ pos 1) *ℤ pos t.scale) (t.ticks *ℤ pos scale)
+    (floor-le (f +ℤ pos 1) (t.ticks *ℤ pos scale) t.scale some ∙ not_int_le-from (f +ℤ pos 1) f (omega (arith, ints)))

@@ -5,11 +5,11 @@ use Rattle.std.proofs.Common.{◌*ℤ◌, Option, Some, None, refl, ◌∙◌, s
 use Rattle.std.proofs.{lemmas.Int.ints, lemmas.Option.IfSome_then, lemmas.Bool.Decides.nat_tests, lemmas.Bool.{cond-true, cond-false}}
 use Rattle.std.proofs.{lemmas.Bool.{or_parts, cases_Bool, cases_lt, eq-eqb, ne_eqb, le-ltb, lt-leb}, Math.Nat.one-le-mul}
 use Rattle.std.proofs.Math.Nat.{mul-le-mul_right}
-use Rattle.std.specs.{Prelude.{◌⊎◌, slice_get, not, ◌&&◌, ◌==◌, Option, Some, None, All, IsNone, unsigned_abs}, List.list_any}
-use Rattle.std.specs.Int.{FitsUnsignedBits}
+use Rattle.std.specs.{Prelude.{◌⊎◌, slice_get, not, ◌&&◌, ◌==◌, Option, Some, None, IsNone, unsigned_abs}, List.list_any}
+use Rattle.std.specs.Int.{FitsUnsignedBits, abs_diff}
 use mir.Val.{SFits}
 use mir.Syntax.{w64}
-use Rattle.exact_time.specs.{Time.{Time, IsBefore, IsAtMost, difference, at_most, nanoseconds}, Floor.IsCeiling}
+use Rattle.exact_time.specs.{Time.{Time, IsBefore, IsAtMost, difference, nanoseconds}, Floor.IsCeiling}
 use Rattle.timeline.specs.{declared.entry.SEntry.SEntry, declared.entry.Scale.Scale, declared.entry.End.End}
 use Rattle.timeline.specs.{declared.entry.End.TheVariants.{At, Unbounded}, declared.fault.TimeFault.TimeFault}
 use Rattle.timeline.specs.{declared.fault.TimeFault.TheVariants.{Range, Step}, declared.builder.RunsBuilder.RunsBuilder}
@@ -18,13 +18,13 @@ use Rattle.timeline.specs.{declared.media_runs.MediaRuns.MediaRuns, declared.sha
 use Rattle.timeline.specs.{declared.timelines.Reach.Reach as Found, declared.timelines.Reach.TheVariants.{Count, Open, Nowhere}}
 use Rattle.timeline.specs.{declared.timelines.Reach.TheVariants.Nowhere as Without, Ratios.natural, Expansions.{Extent, Member, Closed}}
 use Rattle.timeline.specs.{Expansions.{Short, lasting, repeated, Endless, repeat_of}, Timelines.{UpTo, placed, extent_from, count_up_to}}
-use Rattle.timeline.specs.Timelines.{members_of, reach_of, reach_of_end, members_from, expansion_of_timeline, count_of, reach_of_next}
+use Rattle.timeline.specs.Timelines.{members_of, reach_of, reach_of_end, members_from, expansion_of_timeline, reach_of_next}
 use Rattle.timeline.specs.{SegmentTimelines.{timeline_of_entries, timeline_if_paired}, Steady.AreKept, Limits.breaks_limits}
 use Rattle.timeline.specs.{Faults.{ends_open, is_apart, is_unbounded, refusal, segment_fault}, Building.{AreAdded, IsLaidOut, IsFaultOf}}
 use Rattle.timeline.specs.Building.{breaks_in, extent_in, fault_of, former_end, members_so_far, placed_in, runs_in}
 use Rattle.timeline.specs.Reaches.{GoesOn as MoreFollow, IsUpTo, IsReach, AreLaidOut, AreLimitsOf, IsSoFar, IsTheirFault, members_of_entry}
 use Rattle.timeline.specs.{Reaches.{next_of, start_of}, MediaTimelines.{IsLaidTimeline, IsMedia, IsNextRun, IsPushed, are_passed}}
-use Rattle.timeline.specs.{MediaTimelines.{media_end, rest_of, runs_by}, RunSegments.{AreLaid, IsRun, TimedRun, all_extents, placed_run}}
+use Rattle.timeline.specs.{MediaTimelines.{media_end, rest_of, runs_by}, RunSegments.{IsRun, all_extents, placed_run}}
 use Rattle.timeline.proofs.Ratios.{steps_to_cover-is, ceiling-is, int_le-mul, int_add-mul, ceiling, ceiling-enough, ceiling-le}
 use Rattle.timeline.proofs.Laid.{refusal_some, IsRun-in, extents-push, extents_after, laid-push, none_follows, none_of, room_after}
 use Rattle.timeline.proofs.{Laid.timed-in, Paced.kept_of, ExpansionsRise.entries_last, Judged.{breaks-mono, head_breaks, is_apart-in}}
@@ -32,8 +32,7 @@ use Rattle.timeline.proofs.{Judged.{media_extent-in, run_fault}, LimitLemmas.{br
 use Rattle.exact_time.proofs.TimeOrder.{at_most-from, not_at_most-from}
 
 positive_from : (count length step : ℕ) → IsCeiling length step count → 0 < length → 0 < count
-positive_from zero length step is some = absurd (omega (arith, is.enough))
-positive_from (suc count) length step is some = omega arith
+positive_from count length step is some = grind (arith, is.enough)
 
 -- a segment's start, and how long it lasts, over one scale
 module _ (scale : Scale) (s d : ℕ) (some : 0 < d) where
@@ -51,51 +50,40 @@ module _ (scale : Scale) (s d : ℕ) (some : 0 < d) where
 
   media-add : (t n : ℕ) → media (t + n) *ℤ pos k ≡ media t *ℤ pos k +ℤ pos (n * k)
   media-add t n =
-      let sum : media (t + n) ≡ media t +ℤ pos n = omega (arith, ints) in
-      ap (λ (z : ℤ). z *ℤ pos k) sum ∙ int_add-mul (media t) n k
+      let sum : media (t + n) ≡ media t +ℤ pos n = omega (arith, ints) in cc (int_add-mul (media t) n k)
 
   lasts : natural (media (s + d) *ℤ pos k -ℤ media s *ℤ pos k) ≡ d * k
   lasts =
-      let times = media-add s d in
-      let same : media (s + d) *ℤ pos k -ℤ media s *ℤ pos k ≡ pos (d * k) = omega (arith, ints) in
-      ap natural same
+      let same : media (s + d) *ℤ pos k -ℤ media s *ℤ pos k ≡ pos (d * k) = omega (arith, ints, media-add s d) in ap natural same
 
   -- from its start to a later media time
   later : (t : ℕ) → s < t → media t *ℤ pos k ≡ media s *ℤ pos k +ℤ pos ((t - s) * k)
-  later t early =
-      let sum : s + (t - s) ≡ t = omega arith in
-      ap (λ (n : ℕ). media n *ℤ pos k) (sym sum) ∙ media-add s (t - s)
+  later t early = let sum : s + (t - s) ≡ t = omega arith in cc (media-add s (t - s))
 
   in_nanoseconds : media s *ℤ pos 1000000000 +ℤ pos (o * 1000000000) ≡ pos (s * 1000000000)
   in_nanoseconds =
-      let sum : media s +ℤ pos o ≡ pos s = omega (arith, ints) in
-      cc (int_add-mul (media s) o 1000000000)
+      let sum : media s +ℤ pos o ≡ pos s = omega (arith, ints) in cc (int_add-mul (media s) o 1000000000)
 
   module _ (bound : Time) (before after : ℕ) (unit : ℕ) (positive : 0 < unit) (is_late : (after ≤ before)
       → IsAtMost bound x.start) (is_early : before < after → IsBefore x.start bound)
       (counts : before < after → (n : ℕ) → IsCeiling (after - before) (d * unit) n → count_up_to bound x ≡ n) where
     reach_up_to : (found : Found) → IsUpTo after before (d * unit) found → IsReach (UpTo bound) x found
     reach_up_to (Count count) (early, is) =
-        let same : count ≡ count_up_to bound x = sym (counts early count is) in (
+        let same = counts early count is in (
           positive_from count (after - before) (d * unit) is (omega arith),
-          same,
-          cond-false (at_most bound x.start) (Short x ∷ []) (map Closed (repeated (count_up_to bound x) x))
-              (not_at_most-from bound x.start (is_early early))
-              ∙ ap (λ (n : ℕ). map Closed (repeated n x)) (sym same),
+          sym same,
+          rw (not_at_most-from bound x.start (is_early early), same) refl,
         )
     reach_up_to Open is = absurd is
-    reach_up_to Nowhere late = cond-true (at_most bound x.start) (Short x ∷ []) (map Closed (repeated (count_up_to bound x) x))
-        (at_most-from bound x.start (is_late late))
+    reach_up_to Nowhere late = rw (at_most-from bound x.start (is_late late)) refl
 
   -- up to a media time
   pub reach_up_to_media : (t : ℕ) (found : Found) → IsUpTo t s d found → IsReach (UpTo (placed scale t)) x found
   reach_up_to_media t found is = reach_up_to (placed scale t) s t 1 (omega arith)
       (λ late. int_le-mul (media t) (media s) k (omega (arith, ints)))
-      (λ early. let times = later t early in let some_time : 0 < t - s = omega arith in
-      omega (arith, ints, one-le-mul some_time scale.positive))
+      (λ early. let some_time : 0 < t - s = omega arith in omega (arith, ints, later t early, one-le-mul some_time scale.positive))
       (λ early n is.
-      let times = later t early in
-      let between : media t *ℤ pos k -ℤ media s *ℤ pos k ≡ pos ((t - s) * k) = omega (arith, ints) in
+      let between : media t *ℤ pos k -ℤ media s *ℤ pos k ≡ pos ((t - s) * k) = omega (arith, ints, later t early) in
       let steps : natural (media t *ℤ pos k -ℤ media s *ℤ pos k) ≡ (t - s) * k = ap natural between in
       steps_to_cover-is (difference (placed scale t) x.start) (lasting x) (t - s) (d * 1) (k * (k * k))
       (one-le-mul scale.positive (one-le-mul scale.positive scale.positive)) (omega arith)
@@ -107,13 +95,10 @@ module _ (scale : Scale) (s d : ℕ) (some : 0 < d) where
   pub reach_up_to_end : (length : ℕ) (found : Found) → IsUpTo (length * k + o * 1000000000) (s * 1000000000) (d * 1000000000) found
       → IsReach (UpTo (nanoseconds (pos length))) x found
   reach_up_to_end length found is = reach_up_to (nanoseconds (pos length)) (s * 1000000000) (length * k + o * 1000000000) 1000000000
-      (omega arith)
-      (λ late. let start = in_nanoseconds in omega (arith, ints))
-      (λ early. let start = in_nanoseconds in omega (arith, ints))
+      (omega arith) (λ late. omega (arith, ints, in_nanoseconds)) (λ early. omega (arith, ints, in_nanoseconds))
       (λ early n is.
-      let start = in_nanoseconds in
       let between : pos (length * k) -ℤ media s *ℤ pos 1000000000 ≡ pos (length * k + o * 1000000000 - s * 1000000000) =
-      omega (arith, ints) in
+      omega (arith, ints, in_nanoseconds) in
       let steps : natural (pos (length * k) -ℤ media s *ℤ pos 1000000000) ≡ length * k + o * 1000000000 - s * 1000000000 =
       ap natural between in
       steps_to_cover-is (difference (nanoseconds (pos length)) x.start) (lasting x) (length * k + o * 1000000000 - s * 1000000000)
@@ -125,20 +110,17 @@ module _ (scale : Scale) (s d : ℕ) (some : 0 < d) where
 -- ---- faults
 
 pub extent_in-from : (scale : Scale) (l : Limits) (s d : ℕ) → AreLimitsOf scale l → extent_in l s d ≡ extent_from scale s d
-extent_in-from scale l s d are =
-    cc (are.origin, are.ticks)
+extent_in-from scale l s d are = cc (are.origin, are.ticks)
 
 short_of_two : (a b : Bool) (fault : TimeFault) → cond a (Some Range) (cond b (Some Step) None) ≡ Some fault
     → cond a (Some Range) (Some Step) ≡ Some fault
-short_of_two true b fault is = is
-short_of_two false true fault is = is
-short_of_two false false fault is = cc
+short_of_two a b fault is = grind (arith, nat_tests)
 
 pub IsFaultOf-short : (old : RunsBuilder) (x : Extent) (members : List Member) (fault : TimeFault) → members ≡ Short x ∷ []
     → fault_of old.limits (former_end old) x ≡ Some fault → IsFaultOf old members fault
 IsFaultOf-short old x members fault short is =
-    subst (λ (ms : List Member). IsFaultOf old ms fault) (sym short)
-    (refusal_some fault (λ f. (later : List Member) → segment_fault (breaks_in old.limits) (former_end old) (Short x ∷ later) ≡ Some f)
+    rw short (refusal_some fault
+    (λ f. (later : List Member) → segment_fault (breaks_in old.limits) (former_end old) (Short x ∷ later) ≡ Some f)
     (λ later. short_of_two (breaks_in old.limits x) (is_apart (former_end old) x) fault is))
 
 -- ---- how far an S goes on that has a negative `@r`
@@ -148,9 +130,7 @@ pub reach_next : (scale : Scale) (end : End) (r : ℤ) (later : List SEntry) (ne
     reach_of scale end r later ≡ UpTo (placed scale t)
 reach_next scale end (pos r) later next t fits negative at is = absurd (negative (omega (arith, fits.sfits)))
 reach_next scale end (negsuc r) [] next t fits negative at is = cc
-reach_next scale end (negsuc r) (s ∷ later) next t fits negative at is =
-    let same : next ≡ s = cc in
-    cc
+reach_next scale end (negsuc r) (s ∷ later) next t fits negative at is = let same : next ≡ s = cc in cc
 
 pub reach_last : (scale : Scale) (end : End) (r : ℤ) (later : List SEntry) (length : ℕ) → SFits w64 r → (FitsUnsignedBits 64 r → ⊥)
     → None ≡ slice_get later 0 → end ≡ At length →
@@ -161,9 +141,7 @@ reach_last scale end (negsuc r) (s ∷ later) length fits negative at is = cc
 
 pub fault_in : (scale : Scale) (l : Limits) → AreLimitsOf scale l → (former : Option Time) (members : List Member) →
     segment_fault (breaks_limits scale.ticks scale.offset) former members ≡ segment_fault (breaks_in l) former members
-fault_in scale l are former members =
-    ap (λ (k : ℕ). segment_fault (breaks_limits k scale.offset) former members) (sym are.ticks)
-    ∙ ap (λ (o : ℕ). segment_fault (breaks_limits l.ticks o) former members) (sym are.origin)
+fault_in scale l are former members = rw (← are.ticks, ← are.origin) refl
 
 pub fault_so_far : (scale : Scale) (end : End) (entries : List SEntry) (l : RunsBuilder) (rest : List SEntry) (s : SEntry)
     (later : List SEntry) (fault : TimeFault) → IsSoFar scale end entries l rest → rest ≡ s ∷ later →
@@ -171,9 +149,11 @@ pub fault_so_far : (scale : Scale) (end : End) (entries : List SEntry) (l : Runs
     → IsTheirFault (breaks_limits scale.ticks scale.offset) (expansion_of_timeline scale end entries) fault
 fault_so_far scale end entries l rest s later fault so_far at is =
     IfSome_then (refusal fault) is (λ f holds.
-    fault_in scale l.limits so_far.limits None (expansion_of_timeline scale end entries) ∙ so_far.judged
-    ∙ ap (λ (ss : List SEntry). segment_fault (breaks_in l.limits) (former_end l) (members_from scale end l.former ss)) at
-    ∙ holds (members_from scale end (next_of scale end l.former s later) later))
+    cc (
+      fault_in scale l.limits so_far.limits None (expansion_of_timeline scale end entries),
+      so_far.judged,
+      holds (members_from scale end (next_of scale end l.former s later) later),
+    ))
 
 pub members_nowhere : (scale : Scale) (end : End) (former : ℕ) (s : SEntry) (later : List SEntry) (start : ℕ) → start ≡ start_of former s →
     members_of (reach_of scale end s.r later) (extent_from scale start s.d) ≡ Short (extent_from scale start s.d) ∷ []
@@ -187,21 +167,15 @@ pub so_far_more : (scale : Scale) (end : End) (entries : List SEntry) (l new : R
     → (new.former ≡ next_of scale end l.former s later) ⊎ (later ≡ []) → IsSoFar scale end entries new later
 so_far_more scale end entries l new rest s later so_far at added limits laid goes_on former =
     let members = members_of_entry scale end l.former s later in
-    let behind : members_from scale end (next_of scale end l.former s later) later ≡ members_from scale end new.former later = elim former [
-      | inl same ↦ ap (λ (n : ℕ). members_from scale end n later) (sym same)
-      | inr none ↦ cc
-    ] in
+    let behind : members_from scale end (next_of scale end l.former s later) later ≡ members_from scale end new.former later =
+    elim former [ inl same ↦ cc | inr none ↦ cc ] in
     record {
-      limits = subst (λ (k : Limits). AreLimitsOf scale k) (sym limits) so_far.limits;
+      limits = rw limits so_far.limits;
       laid = laid;
       lasting = (or_parts (s.d == 0) (list_any (λ e. e.d == 0) later) (sym (ap (list_any (λ e. e.d == 0)) at) ∙ so_far.lasting)).1;
       goes_on = goes_on;
-      members =
-          let by_append_assoc = append_assoc (members_so_far l) members (members_from scale end (next_of scale end l.former s later) later
-          ) in
-          cc (so_far.members, added.added);
-      judged =
-          cc (so_far.judged, added.passed (members_from scale end (next_of scale end l.former s later) later));
+      members = cc (so_far.members, added.added, append_assoc (members_so_far l) members (members_from scale end new.former later));
+      judged = cc (so_far.judged, added.passed (members_from scale end (next_of scale end l.former s later) later));
     }
 
 -- ---- a timeline
@@ -224,19 +198,12 @@ pub timeline_built : (entries : List SEntry) (end : End) (live : Bool) (scale : 
 timeline_built entries end live scale names l lasting ended are =
     rw (are.members_are, lasting, ended, judged_by scale l (expansion_of_timeline scale end entries) are) refl
 
--- ---- runs in media time, at every timescale
-
 -- ---- how many segments an S has, whatever the scale
 
-short_closed : (count : ℕ) (x y : Extent) → 0 < count → Short x ∷ [] ≡ map Closed (repeated count y) → ⊥
+alone_closed : (count : ℕ) (m : Member) (y : Extent) → 0 < count → m ∷ [] ≡ map Closed (repeated count y) → m ≡ Closed y
 unfolding repeated
-short_closed zero x y some is = absurd (omega arith)
-short_closed (suc count) x y some is = cc
-
-endless_closed : (count : ℕ) (x y : Extent) → 0 < count → Endless x ∷ [] ≡ map Closed (repeated count y) → ⊥
-unfolding repeated
-endless_closed zero x y some is = absurd (omega arith)
-endless_closed (suc count) x y some is = cc
+alone_closed zero m y some is = absurd (omega arith)
+alone_closed (suc count) m y some is = cc
 
 module _ (s0 scale : Scale) (start d count : ℕ) (some : 0 < d) where
   abbrev x0 : Extent
@@ -249,40 +216,35 @@ module _ (s0 scale : Scale) (start d count : ℕ) (some : 0 < d) where
   up_to_any t found = elim (cases_lt start t) [
     | inl early ↦
         let n = ceiling (t - start) d in
-        let least : IsCeiling (t - start) d n = record {
-          enough = ceiling-enough (t - start) d some;
-          least = λ other h. ceiling-le (t - start) d other some h;
-        } in
+        let least : IsCeiling (t - start) d n =
+        record { enough = ceiling-enough (t - start) d some; least = λ other h. ceiling-le (t - start) d other some h } in
         let first = reach_up_to_media s0 start d some t (Count n) (early, least) in
-        let same : count ≡ n = found.1 ∙ sym first.1 in
-        subst (λ (k : ℕ). IsReach (UpTo (placed scale t)) y (Count k)) (sym same)
+        subst (λ (k : ℕ). IsReach (UpTo (placed scale t)) y (Count k)) (first.1 ∙ sym found.1)
         (reach_up_to_media scale start d some t (Count n) (early, least))
-    | inr late ↦ absurd (short_closed count x0 x0 found.0 (sym (reach_up_to_media s0 start d some t Without late) ∙ found.2))
+    | inr late ↦
+        let no = alone_closed count (Short x0) x0 found.0 (sym (reach_up_to_media s0 start d some t Without late) ∙ found.2) in cc
   ]
 
   next_any : (t : Option ℕ) → IsReach (reach_of_next s0 t) x0 (Count count) → IsReach (reach_of_next scale t) y (Count count)
-  next_any None found = absurd (short_closed count x0 x0 found.0 found.2)
+  next_any None found = let no = alone_closed count (Short x0) x0 found.0 found.2 in cc
   next_any (Some t) found = up_to_any t found
 
   pub any_scale : (end : End) (r : ℤ) (later : List SEntry) → IsReach (reach_of s0 Unbounded r later) x0 (Count count)
       → IsReach (reach_of scale end r later) y (Count count)
   any_scale end (pos r) later found = (found.0, found.1, ap (λ (n : ℕ). map Closed (repeated n y)) (sym found.1))
-  any_scale end (negsuc r) [] found = absurd (endless_closed count x0 x0 found.0 found.2)
+  any_scale end (negsuc r) [] found = let no = alone_closed count (Endless x0) x0 found.0 found.2 in cc
   any_scale end (negsuc r) (next ∷ later) found = next_any next.t found
 
 -- the same where the start is told otherwise
 pub any_scale_at : (s0 scale : Scale) (from start d count : ℕ) → 0 < d → from ≡ start → (end : End) (r : ℤ) (later : List SEntry)
     → IsReach (reach_of s0 Unbounded r later) (extent_from s0 from d) (Count count) →
     IsReach (reach_of scale end r later) (extent_from scale start d) (Count count)
-any_scale_at s0 scale from start d count some same end r later found =
-    any_scale s0 scale start d count some end r later
-    (subst (λ (n : ℕ). IsReach (reach_of s0 Unbounded r later) (extent_from s0 n d) (Count count)) same found)
+any_scale_at s0 scale from start d count some same end r later found = any_scale s0 scale start d count some end r later (rw same at found)
 
 -- ---- the first fault
 
 cond_or : {X : Type 0} (p q : Bool) (a b : X) → cond (p || q) a b ≡ cond p a (cond q a b)
-cond_or true q a b = refl
-cond_or false q a b = refl
+cond_or p q a b = grind (arith, nat_tests)
 
 passed_more : (m far a d f e : ℕ) → f ≤ e → (ltb m (max a d) || ltb far e) ≡ ((ltb m a || ltb far f) || (ltb m d || ltb far e))
 passed_more m far a d f e order = grind (arith, nat_tests)
@@ -290,23 +252,15 @@ passed_more m far a d f e order = grind (arith, nat_tests)
 end_is : (l : Limits) (m : MediaRuns) → 0 < m.total → media_end l m ≡ Some (placed_in l m.former)
 end_is l m some = cond-false (m.total == 0) None _ (ne_eqb m.total 0 (omega arith))
 
-no_end : (l : Limits) (m : MediaRuns) → m.total ≡ 0 → media_end l m ≡ None
-no_end l m none = cond-true (m.total == 0) None _ (eq-eqb m.total 0 none)
-
 near_media : (l : Limits) (m : MediaRuns) (s d : ℕ) → (0 < m.total → 2 * m.former ≤ 2 * s + d) → (0 < m.total → 2 * s ≤ 2 * m.former + d)
     → is_apart (media_end l m) (extent_in l s d) ≡ false
 near_media l m s d late early = elim (cases_lt 0 m.total) [
-  | inr none ↦ ap (λ (f : Option Time). is_apart f (extent_in l s d)) (no_end l m (omega arith))
+  | inr none ↦ rw (cond-true (m.total == 0) None (Some (placed_in l m.former)) (eq-eqb m.total 0 (omega arith))) refl
   | inl some ↦
       let late_enough = late some in
       let early_enough = early some in
-      ap (λ (f : Option Time). is_apart f (extent_in l s d)) (end_is l m some)
-      ∙ elim (cases_lt m.former s) [
-        | inl behind ↦ is_apart-in l s d m.former (s - m.former) l.positive (inl (omega arith))
-            ∙ le-ltb d (2 * (s - m.former)) (omega arith)
-        | inr before ↦ is_apart-in l s d m.former (m.former - s) l.positive (inr (omega arith))
-            ∙ le-ltb d (2 * (m.former - s)) (omega arith)
-      ]
+      let gap = abs_diff s m.former in
+      rw (end_is l m some) (is_apart-in l s d m.former gap l.positive (grind arith) ∙ le-ltb d (2 * gap) (omega arith))
 ]
 
 module _ (l : Limits) (s d count : ℕ) (some : 0 < count) (near : s + count * d < 2 ^ 63) where
@@ -349,14 +303,10 @@ module _ (entries : List SEntry) (m new : MediaRuns) (s : SEntry) (later : List 
   least = omega (arith, mul-le-mul_right run.step next.some)
 
   not_later : m.former ≤ run.start + run.count * run.step
-  not_later = elim (cases_lt 0 m.total) [
-    | inl some ↦ omega (arith, next.late_enough some, least)
-    | inr none ↦ omega (arith, is.begun (omega arith))
-  ]
+  not_later = grind (arith, next.late_enough, is.begun, least)
 
   fits : m.total + run.count ≤ run.start + run.count * run.step
-  fits = room_after m.total run.start run.step run.count step_lasts next.some
-      (elim (cases_lt 0 m.total) [ inl some ↦ omega (arith, next.late_enough some, is.room) | inr none ↦ omega arith ])
+  fits = room_after m.total run.start run.step run.count step_lasts next.some (grind (arith, next.late_enough, is.room))
 
   runs_new : (l : Limits) → runs_by l new ≡ runs_by l m ++ placed_run l.ticks l.origin run ∷ []
   runs_new l = cc (pushed.runs, map-append (placed_run l.ticks l.origin) m.runs.items (run ∷ []))
@@ -364,17 +314,12 @@ module _ (entries : List SEntry) (m new : MediaRuns) (s : SEntry) (later : List 
   abbrev added : Limits → List Extent
   added l = repeated run.count (extent_in l run.start run.step)
 
-  extents_new : (l : Limits) → all_extents (runs_by l new) ≡ all_extents (runs_by l m) ++ added l
-  extents_new l = ap all_extents (runs_new l) ∙ extents-push (runs_by l m) (placed_run l.ticks l.origin run)
-
   members_new : (l : Limits) (more : List Member) → map Closed (all_extents (runs_by l new)) ++ more
       ≡ map Closed (all_extents (runs_by l m)) ++ (map Closed (added l) ++ more)
-  members_new l more =
-      let by_append_assoc = append_assoc (map Closed (all_extents (runs_by l m))) (map Closed (added l)) more in
-      cc (extents_new l, map-append (λ (y : Extent). Closed y) (all_extents (runs_by l m)) (added l))
+  members_new l more = rw (runs_new l, extents-push (runs_by l m) (placed_run l.ticks l.origin run), map-append, append_assoc) refl
 
   shorter : length entries - length m.runs.items ≡ length later + 1
-  shorter = sym (length-drop (length m.runs.items) entries) ∙ ap length rest ∙ omega arith
+  shorter = omega (arith, length-drop (length m.runs.items) entries, ap length rest)
 
   longer : length new.runs.items ≡ length m.runs.items + 1
   longer = ap length pushed.runs ∙ length-append m.runs.items (run ∷ []) ∙ omega arith
@@ -386,47 +331,25 @@ module _ (entries : List SEntry) (m new : MediaRuns) (s : SEntry) (later : List 
       ≡ cond (are_passed l new.longest new.former) (Some Range) (segment_fault (breaks_in l) (media_end l new) more)
   judged_new l more =
       let rest_fault = segment_fault (breaks_in l) (Some (placed_in l (run.start + run.count * run.step))) more in
+      let here = ltb (1000000 * l.ticks) run.step || ltb (l.origin + l.ticks * 100000000000) (run.start + run.count * run.step) in
       let swap : l.ticks * 1000000 ≡ 1000000 * l.ticks = omega arith in
-      let end : media_end l new ≡ Some (placed_in l (run.start + run.count * run.step)) =
-      end_is l new (omega (arith, pushed.total, next.some)) ∙ ap (λ (n : ℕ). Some (placed_in l n)) pushed.former in
-      let passed : are_passed l new.longest new.former
-      ≡ ((ltb (l.ticks * 1000000) m.longest || ltb (l.origin + l.ticks * 100000000000) m.former)
-      || (ltb (1000000 * l.ticks) run.step || ltb (l.origin + l.ticks * 100000000000) (run.start + run.count * run.step))) =
-      ap (λ (n : ℕ). are_passed l n new.former) pushed.longest ∙ ap (λ (n : ℕ). are_passed l (max m.longest run.step) n) pushed.former
-      ∙ passed_more (l.ticks * 1000000) (l.origin + l.ticks * 100000000000) m.longest run.step m.former
-      (run.start + run.count * run.step) not_later
-      ∙ ap (λ (n : ℕ). (ltb (l.ticks * 1000000) m.longest || ltb (l.origin + l.ticks * 100000000000) m.former)
-      || (ltb n run.step || ltb (l.origin + l.ticks * 100000000000) (run.start + run.count * run.step))) swap in
-      ap (segment_fault (breaks_in l) None) (members_new l more)
-      ∙ is.judged l (map Closed (added l) ++ more)
-      ∙ ap (cond (are_passed l m.longest m.former) (Some Range))
-      (run_judged l run.start run.step run.count (media_end l m) more next.some next.near
-      (near_media l m run.start run.step next.late_enough next.early_enough))
-      ∙ sym (cond_or (are_passed l m.longest m.former) _ (Some Range) rest_fault)
-      ∙ ap (λ (b : Bool). cond b (Some Range) rest_fault) (sym passed)
-      ∙ ap (λ (f : Option Time). cond (are_passed l new.longest new.former) (Some Range) (segment_fault (breaks_in l) f more)) (sym end)
+      let end = end_is l new (omega (arith, pushed.total, next.some)) in
+      let before = is.judged l (map Closed (added l) ++ more) in
+      let behind = run_judged l run.start run.step run.count (media_end l m) more next.some next.near
+      (near_media l m run.start run.step next.late_enough next.early_enough) in
+      let passed = passed_more (l.ticks * 1000000) (l.origin + l.ticks * 100000000000) m.longest run.step m.former
+      (run.start + run.count * run.step) not_later in
+      cc (members_new l more, cond_or (are_passed l m.longest m.former) here (Some Range) rest_fault)
 
   expanded_new : (scale : Scale) (end : End) (l : Limits) → l.ticks ≡ scale.ticks → l.origin ≡ scale.offset →
       expansion_of_timeline scale end entries ≡ map Closed (all_extents (runs_by l new)) ++ members_from scale end new.former
       (rest_of entries new)
   expanded_new scale end l ticks origin =
       let reach = next.reach scale end in
-      let meant = reach_of scale end s.r later in
-      let first = extent_from scale run.start s.d in
-      let same : extent_in l run.start run.step ≡ first = extent_in-from scale l run.start run.step
-      (record { ticks = ticks; origin = origin }) ∙ ap (extent_from scale run.start) next.step in
-      let behind : run.start + count_of meant first * s.d ≡ new.former = cc (reach.1, next.step, pushed.former) in
-      is.members scale end l ticks origin
-      ∙ ap (λ (ss : List SEntry). map Closed (all_extents (runs_by l m)) ++ members_from scale end m.former ss) rest
-      ∙ ap (λ (n : ℕ). map Closed (all_extents (runs_by l m)) ++ (members_of meant (extent_from scale n s.d)
-      ++ members_from scale end (n + count_of meant (extent_from scale n s.d) * s.d) later)) (sym next.start)
-      ∙ ap (λ (ms : List Member). map Closed (all_extents (runs_by l m))
-      ++ (ms ++ members_from scale end (run.start + count_of meant first * s.d) later)) (reach.2
-      ∙ ap (λ (y : Extent). map Closed (repeated run.count y)) (sym same))
-      ∙ ap (λ (n : ℕ). map Closed (all_extents (runs_by l m)) ++ (map Closed (added l) ++ members_from scale end n later)) behind
-      ∙ ap (λ (ss : List SEntry). map Closed (all_extents (runs_by l m)) ++ (map Closed (added l) ++ members_from scale end new.former ss))
-      rest_new
-      ∙ sym (members_new l (members_from scale end new.former (rest_of entries new)))
+      let same = extent_in-from scale l run.start run.step (record { ticks = ticks; origin = origin }) in
+      let before = is.members scale end l ticks origin in
+      let front = ap (members_from scale end m.former) rest in
+      cc (reach.1, reach.2, members_new l (members_from scale end new.former (rest_of entries new)), rest_new)
 
   run_is : (l : Limits) → l.origin < 2 ^ 64 → IsRun (placed_run l.ticks l.origin run)
   run_is l small = IsRun-in l run.start run.step run.count
@@ -440,9 +363,8 @@ module _ (entries : List SEntry) (m new : MediaRuns) (s : SEntry) (later : List 
     begun = λ none. absurd (omega (arith, none, pushed.total, next.some));
     room = omega (arith, fits, pushed.total, pushed.former);
     near = omega (arith, next.near, pushed.former);
-    laid = λ l small. subst (λ (n : ℕ). AreLaid 0 (runs_by l new) n) (sym pushed.total)
-        (subst (λ (xs : List TimedRun). AreLaid 0 xs (m.total + run.count)) (sym (runs_new l))
-        (laid-push 0 (runs_by l m) m.total (placed_run l.ticks l.origin run) (is.laid l small) next.before next.some (run_is l small)));
+    laid = λ l small. rw (runs_new l, pushed.total)
+        (laid-push 0 (runs_by l m) m.total (placed_run l.ticks l.origin run) (is.laid l small) next.before next.some (run_is l small));
     timed = λ l. extents_after (runs_by l new) (runs_by l m) (placed_run l.ticks l.origin run) (added l) (runs_new l) refl
         (λ y. natural (y.start.ticks +ℤ pos l.origin) < 2 ^ 64) (is.timed l)
         (timed-in l run.step run.count run.start (omega (arith, next.near)));
@@ -475,35 +397,24 @@ module _ (t : LaidTimeline) (is : IsLaidTimeline t) (scale : Scale) (l : Limits)
       → IsSoFar scale end entries b rest
   begun_so_far b rest limits runs total former none at small lasting kept end =
       let laid : IsLaidOut b = record {
-        laid = subst (λ (n : ℕ). AreLaid 0 (runs_in b) n) (sym total)
-            (subst (λ (xs : List TimedRun). AreLaid 0 xs t.media.total) (sym runs) (is.media.laid l small));
+        laid = rw (runs, total) (is.media.laid l small);
         follows = none_follows b.limits.ticks b.limits.origin b.total b.endless none;
         countable = omega (arith, total, is.media.room, is.media.near);
-        timed = subst (λ (k : Limits). All (λ x. natural (x.start.ticks +ℤ pos k.origin) < 2 ^ 64) (all_extents (runs_in b))) (sym limits)
-            (subst (λ (xs : List TimedRun). All (λ x. natural (x.start.ticks +ℤ pos l.origin) < 2 ^ 64) (all_extents xs)) (sym runs)
-            (is.media.timed l));
+        timed = rw (runs, limits) (is.media.timed l);
       } in
-      let so_far : members_so_far b ≡ map Closed (all_extents (runs_by l t.media)) =
-      cc (none_of b.endless none, append-nil (map Closed (all_extents (runs_in b)))) in
-      let behind : members_from scale end b.former rest ≡ members_from scale end t.media.former (rest_of entries t.media) =
-      cc in
-      let former_is : former_end b ≡ media_end l t.media =
-      cc in
+      let so_far : members_so_far b ≡ map Closed (all_extents (runs_by l t.media)) = rw (none_of b.endless none, append-nil, runs) refl in
+      let behind : members_from scale end b.former rest ≡ members_from scale end t.media.former (rest_of entries t.media) = cc in
+      let former_is : former_end b ≡ media_end l t.media = cc in
       record {
         limits = subst (λ (k : Limits). AreLimitsOf scale k) (sym limits) are;
         laid = laid;
         lasting = cc (any_drop (λ s. s.d == 0) (length t.media.runs.items) entries lasting);
-        goes_on = inl (
-          record {
-            laid = laid;
-            room = omega (arith, total, former, is.media.room);
-            near = omega (arith, former, is.media.near);
-          },
-          none,
-        );
+        goes_on = inl (record { laid = laid; room = omega (arith, is.media.room); near = omega (arith, is.media.near) }, none);
         members = cc (is.media.members scale end l are.ticks are.origin);
         judged =
             let by_judged = is.media.judged l (members_from scale end t.media.former (rest_of entries t.media)) in
-            let by_members = is.media.members scale end l are.ticks are.origin in
-            cc (cond-false (are_passed l t.media.longest t.media.former) (Some Range) _ kept);
+            cc (
+              is.media.members scale end l are.ticks are.origin,
+              cond-false (are_passed l t.media.longest t.media.former) (Some Range) _ kept,
+            );
       }

@@ -64,22 +64,18 @@ row-same scale a b step same = ap (λ (z : ℤ). row scale z step) same
 pub row-is : (x : Extent) (step : ℕ) → x.start.scale ≡ x.end.scale → x.end.ticks ≡ x.start.ticks +ℤ pos step
     → x ≡ row x.end.scale x.start.ticks step
 row-is x step scale ticks =
-    ap (λ (s : ℕ). record { start = record { ticks = x.start.ticks; scale = s }; end = x.end }) scale
-    ∙ ap (λ (z : ℤ). record {
-      start = record { ticks = x.start.ticks; scale = x.end.scale };
-      end = record { ticks = z; scale = x.end.scale };
-    }) ticks
+    let start : Time = record { ticks = x.start.ticks; scale = x.start.scale } in
+    let whole : record { start = start; end = record { ticks = x.end.ticks; scale = x.end.scale } }
+    ≡ row x.end.scale x.start.ticks step = cc in whole
 
 pub repeat-row : (scale : ℕ) (start : ℤ) (step : ℕ) → repeat_of (row scale start step) ≡ row scale (start +ℤ pos step) step
 repeat-row scale start step =
-    let same : (start +ℤ pos step) +ℤ ((start +ℤ pos step) -ℤ start) ≡ (start +ℤ pos step) +ℤ pos step = omega (arith, ints) in
-    ap (λ (z : ℤ). record { start = record { ticks = start +ℤ pos step; scale = scale }; end = record { ticks = z; scale = scale } }) same
+    let same : (start +ℤ pos step) +ℤ ((start +ℤ pos step) -ℤ start) ≡ (start +ℤ pos step) +ℤ pos step = omega (arith, ints) in cc
 
 pub again-row : (k scale : ℕ) (start : ℤ) (step : ℕ) → again k (row scale start step) ≡ row scale (start +ℤ pos (k * step)) step
 unfolding again
 again-row zero scale start step = row-same scale start (start +ℤ pos (0 * step)) step (omega (arith, ints))
-again-row (suc k) scale start step =
-    ap (again k) (repeat-row scale start step) ∙ again-row k scale (start +ℤ pos step) step
+again-row (suc k) scale start step = ap (again k) (repeat-row scale start step) ∙ again-row k scale (start +ℤ pos step) step
     ∙ row-same scale ((start +ℤ pos step) +ℤ pos (k * step)) (start +ℤ pos (suc k * step)) step (omega (arith, ints))
 
 -- ---- how many end at or before a tick
@@ -104,55 +100,13 @@ pub natural-pos : (z : ℤ) → pos 0 ≤ℤ z → z ≡ pos (natural z)
 natural-pos (pos n) h = refl
 natural-pos (negsuc n) h = absurd h.le
 
-pub ends_by-next : (last end : ℤ) (step : ℕ) → 0 < step → int_le end last ≡ true
-    → ends_by last end step ≡ 1 + ends_by last (end +ℤ pos step) step
-ends_by-next last end step some within =
-    let le = int_le-true end last within in
+-- of those, the first one's distance tells the number
+ends_by-early : (last end : ℤ) (step : ℕ) → int_le end last ≡ true → (last ≡ end +ℤ pos (natural (last -ℤ end)))
+    × (ends_by last end step ≡ natural (last -ℤ end) / step + 1)
+ends_by-early last end step early =
+    let le = int_le-true end last early in
     let d = natural-pos (last -ℤ end) (omega (arith, ints)) in
-    let m = natural (last -ℤ end) in
-    cond-true (int_le end last) (m / step + 1) 0 within ∙ elim (cases_Bool (int_le (end +ℤ pos step) last)) [
-      | inl early ↦
-          let le_next = int_le-true (end +ℤ pos step) last early in
-          let d_next = natural-pos (last -ℤ (end +ℤ pos step)) (omega (arith, ints)) in
-          let k = natural (last -ℤ (end +ℤ pos step)) in
-          let more : m ≡ k + step = omega (arith, ints) in
-          let q : m / step ≡ k / step + 1 = quotient-is m step (k / step + 1) (omega (arith, quotient-low k step))
-          (omega (arith, quotient-high k step some)) in
-          let next : ends_by last (end +ℤ pos step) step ≡ k / step + 1 = cond-true (int_le (end +ℤ pos step) last)
-          (k / step + 1) 0 early in
-          omega arith
-      | inr late ↦
-          let lt = int_le-false (end +ℤ pos step) last late in
-          let less : m < step = omega (arith, ints) in
-          let q : m / step ≡ 0 = quotient-is m step 0 (omega arith) (omega arith) in
-          let next : ends_by last (end +ℤ pos step) step ≡ 0 = ends_by-past last (end +ℤ pos step) step late in
-          omega arith
-    ]
-
--- the k-th end after the first is at most `last` exactly where more than k are
-pub ends_by-in : (last end : ℤ) (step k : ℕ) → k < ends_by last end step → (end +ℤ pos (k * step)) ≤ℤ last
-ends_by-in last end step k within = elim (cases_Bool (int_le end last)) [
-  | inl early ↦
-      let le = int_le-true end last early in
-      let d = natural-pos (last -ℤ end) (omega (arith, ints)) in
-      let m = natural (last -ℤ end) in
-      let e : ends_by last end step ≡ m / step + 1 = cond-true (int_le end last) (m / step + 1) 0 early in
-      let most : k ≤ m / step = omega arith in
-      omega (arith, ints, mul-le-mul_left step most, quotient-low m step)
-  | inr late ↦ absurd (let e = ends_by-past last end step late in omega arith)
-]
-
-pub ends_by-out : (last end : ℤ) (step k : ℕ) → 0 < step → ends_by last end step ≤ k → last <ℤ (end +ℤ pos (k * step))
-ends_by-out last end step k some past = elim (cases_Bool (int_le end last)) [
-  | inl early ↦
-      let le = int_le-true end last early in
-      let d = natural-pos (last -ℤ end) (omega (arith, ints)) in
-      let m = natural (last -ℤ end) in
-      let e : ends_by last end step ≡ m / step + 1 = cond-true (int_le end last) (m / step + 1) 0 early in
-      let least : m / step + 1 ≤ k = omega arith in
-      omega (arith, ints, mul-le-mul_left step least, quotient-high m step some)
-  | inr late ↦ let lt = int_le-false end last late in omega (arith, ints)
-]
+    (omega (arith, ints), cond-true (int_le end last) (natural (last -ℤ end) / step + 1) 0 early)
 
 -- the same from the first start
 pub ends_by-start : (last start : ℤ) (step distance : ℕ) → 0 < step → last ≡ start +ℤ pos distance
@@ -164,6 +118,33 @@ ends_by-start last start step distance some at = elim (cases_lt distance step) [
       let k = distance - step in
       ends_by-at last (start +ℤ pos step) step k (omega (arith, ints))
       ∙ sym (quotient-is distance step (k / step + 1) (omega (arith, quotient-low k step)) (omega (arith, quotient-high k step some)))
+]
+
+pub ends_by-next : (last end : ℤ) (step : ℕ) → 0 < step → int_le end last ≡ true
+    → ends_by last end step ≡ 1 + ends_by last (end +ℤ pos step) step
+ends_by-next last end step some within =
+    let here = ends_by-early last end step within in
+    omega (arith, here.1, ends_by-start last end step (natural (last -ℤ end)) some here.0)
+
+-- the k-th end after the first is at most `last` exactly where more than k are
+pub ends_by-in : (last end : ℤ) (step k : ℕ) → k < ends_by last end step → (end +ℤ pos (k * step)) ≤ℤ last
+ends_by-in last end step k within = elim (cases_Bool (int_le end last)) [
+  | inl early ↦
+      let m = natural (last -ℤ end) in
+      let here = ends_by-early last end step early in
+      let most : k ≤ m / step = omega (arith, here.1) in
+      omega (arith, ints, here.0, mul-le-mul_left step most, quotient-low m step)
+  | inr late ↦ absurd (omega (arith, ends_by-past last end step late))
+]
+
+pub ends_by-out : (last end : ℤ) (step k : ℕ) → 0 < step → ends_by last end step ≤ k → last <ℤ (end +ℤ pos (k * step))
+ends_by-out last end step k some past = elim (cases_Bool (int_le end last)) [
+  | inl early ↦
+      let m = natural (last -ℤ end) in
+      let here = ends_by-early last end step early in
+      let least : m / step + 1 ≤ k = omega (arith, here.1) in
+      omega (arith, ints, here.0, mul-le-mul_left step least, quotient-high m step some)
+  | inr late ↦ omega (arith, ints, int_le-false end last late)
 ]
 
 pub count_ended-in : (t : Time) (x : Extent) (xs : List Extent) → at_most x.end t ≡ true → count_ended t (x ∷ xs) ≡ 1 + count_ended t xs
@@ -185,23 +166,19 @@ count_ended-row (suc n) t scale start step time some =
     elim (cases_Bool (int_le (start +ℤ pos step) last)) [
       | inl early ↦
           let one = count_ended-in t (row scale start step) (repeated n (repeat_of (row scale start step))) (here ∙ early) in
-          let e = ends_by-next last (start +ℤ pos step) step some early in
-          omega arith
+          omega (arith, ends_by-next last (start +ℤ pos step) step some early)
       | inr late ↦
           let none = count_ended-out t (row scale start step) (repeated n (repeat_of (row scale start step))) (here ∙ late) in
-          let e = ends_by-past last (start +ℤ pos step) step late in
           let lt = int_le-false (start +ℤ pos step) last late in
-          let e_next = ends_by-past last ((start +ℤ pos step) +ℤ pos step) step
-          (not_int_le-from ((start +ℤ pos step) +ℤ pos step) last (omega (arith, ints))) in
-          omega arith
+          let none_next = ends_by-before last ((start +ℤ pos step) +ℤ pos step) step (omega (arith, ints)) in
+          omega (arith, ends_by-past last (start +ℤ pos step) step late)
     ]
 
 -- ---- the segments of an open end, by ticks
 
 steps_by_ticks : (n u step k : ℕ) → 0 < u → 0 < step → (k + step) * u ≤ n → n < (k + step + 1) * u → n / (u * step) ≡ k / step + 1
 steps_by_ticks n u step k whole some low high = quotient-is n (u * step) (k / step + 1)
-    (omega (arith, mul-le-mul_left u (quotient-low k step)))
-    (let h : k + 1 ≤ (k / step + 1) * step = omega (arith, quotient-high k step some) in omega (arith, mul-le-mul_left u h))
+    (omega (arith, mul-le-mul_left u (quotient-low k step))) (omega (arith, mul-le-mul_left u (quotient-high k step some)))
 
 steps_from_start : (t : Time) (scale : ℕ) (start : ℤ) (step : ℕ) → 0 < t.scale → 0 < scale → 0 < step
     → (start +ℤ pos step) ≤ℤ floor_ticks t scale →
@@ -254,9 +231,6 @@ ended_by-row t scale start step time whole some =
 pub one_extent-row : (s : TimedRun) → IsRun s → 1 < s.count → head_of s ≡ row s.end.scale s.start.ticks s.step
 one_extent-row s is several = row-is (head_of s) s.step (is.one_scale several) (is.in_ticks several)
 
-times_split : (n k step : ℕ) → k ≤ n → (n - k) * step + k * step ≡ n * step
-times_split n k step within = let whole : n ≡ (n - k) + k = omega arith in omega (arith, ap (λ (m : ℕ). m * step) whole)
-
 -- the run from the k-th segment on
 pub moved_to : (s : TimedRun) (place k : ℕ) (start end : Time) → IsRun s → place ≡ s.before + k → 0 < k → k < s.count →
     start.ticks ≡ s.start.ticks +ℤ pos (k * s.step) → start.scale ≡ s.start.scale →
@@ -267,7 +241,8 @@ moved_to s place k start end is at some within start_n start_scale end_n end_sca
     let several : 1 < s.count = omega arith in
     let one_scale : start.scale ≡ end.scale = omega (arith, is.one_scale several) in
     let in_ticks : end.ticks ≡ start.ticks +ℤ pos s.step = omega (arith, ints, is.in_ticks several) in
-    let times : (s.count - k) * s.step + k * s.step ≡ s.count * s.step = times_split s.count k s.step (omega arith) in
+    let whole : s.count ≡ (s.count - k) + k = omega arith in
+    let times : (s.count - k) * s.step + k * s.step ≡ s.count * s.step = omega (arith, ap (λ (m : ℕ). m * s.step) whole) in
     let head : record { start = start; end = end } ≡ row s.end.scale (s.start.ticks +ℤ pos (k * s.step)) s.step =
     row-is (record { start = start; end = end }) s.step one_scale in_ticks ∙ rw (end_scale, start_n) refl in
     let skipped : place - s.before ≡ k = omega arith in
@@ -301,12 +276,8 @@ pub longer : (s : TimedRun) (x : Extent) → IsRun s → s.before + s.count ≤ 
 unfolding repeated again
 longer s x is room on =
     let head : head_of s ≡ row s.end.scale s.start.ticks s.step = row-is (head_of s) s.step on.one_scale on.in_ticks in
-    let next : again s.count (head_of s) ≡ x =
-    ap (again s.count) head ∙ again-row s.count s.end.scale s.start.ticks s.step
-    ∙ sym (rw (on.start_is, on.end_is) (row-is (record {
-      start = record { ticks = s.start.ticks +ℤ pos (s.count * s.step); scale = s.start.scale };
-      end = record { ticks = s.end.ticks +ℤ pos (s.count * s.step); scale = s.end.scale };
-    }) s.step on.one_scale (omega (arith, ints, on.in_ticks)))) in
+    let next : again s.count (head_of s) ≡ x = ap (again s.count) head ∙ again-row s.count s.end.scale s.start.ticks s.step
+    ∙ sym (rw (on.start_is, on.end_is) (row-is _ s.step on.one_scale (omega (arith, ints, on.in_ticks)))) in
     record {
       is = record {
         start_is = is.start_is;
@@ -332,13 +303,8 @@ count_of_one t x step time =
     let last = floor_ticks t x.end.scale in
     let here = at_most-floor x.end.ticks x.end.scale t time in
     elim (cases_Bool (int_le x.end.ticks last)) [
-      | inl early ↦
-          let e : ends_by last x.end.ticks step ≡ natural (last -ℤ x.end.ticks) / step + 1 =
-          cond-true (int_le x.end.ticks last) (natural (last -ℤ x.end.ticks) / step + 1) 0 early in
-          omega (arith, count_ended-in t x [] (here ∙ early))
-      | inr late ↦
-          let e = ends_by-past last x.end.ticks step late in
-          omega (arith, count_ended-out t x [] (here ∙ late))
+      | inl early ↦ omega (arith, (ends_by-early last x.end.ticks step early).1, count_ended-in t x [] (here ∙ early))
+      | inr late ↦ omega (arith, ends_by-past last x.end.ticks step late, count_ended-out t x [] (here ∙ late))
     ]
 
 pub count_ended-run : (t : Time) (s : TimedRun) → 0 < t.scale → IsRun s → count_ended t (extents_of s)

@@ -1,9 +1,9 @@
 -- The calls of a `Runs`, by its fields: the listed segments are those behind the first ones that end by the one bound, among
 -- those that end by the other.
 use Rattle.std.proofs.Common.{◌≡◌, ℕ, zero, suc, ◌+◌, ◌-◌, ◌*◌, ◌<◌, ◌≤◌, ◌^◌, min, max, Bool, true, false, not, ◌&&◌, List, ◌∷◌, ◌++◌, []}
-use Rattle.std.proofs.Common.{length, take, drop, ℤ, pos, negsuc, ◌+ℤ◌, ◌-ℤ◌, ◌≤ℤ◌, ◌*ℤ◌, refl, ◌∙◌, sym, ap, subst, inl, inr, arith}
+use Rattle.std.proofs.Common.{length, take, drop, ℤ, pos, negsuc, ◌+ℤ◌, ◌-ℤ◌, ◌≤ℤ◌, ◌*ℤ◌, ltb, refl, ◌∙◌, sym, ap, subst, inl, inr, arith}
 use Rattle.std.proofs.{Common.{length-append, length-take, length-drop, get_or}, lemmas.Int.ints, lemmas.Bool.Decides.nat_tests}
-use Rattle.std.proofs.{lemmas.List.Sums.sum_by-cons, lemmas.Bool.{cases_lt, false≢true, lt-ltb, cases_Bool}}
+use Rattle.std.proofs.{lemmas.List.Sums.sum_by-cons, lemmas.Bool.{cases_lt, false≢true, lt-ltb, le-ltb, cases_Bool}}
 use Rattle.std.proofs.lemmas.List.Elements.{filter_agree, All-filter, All-weaker, All-drop, All-from_recursion, recursion_from_All}
 use Rattle.std.proofs.Math.Nat.{mul-le-mul_left}
 use Rattle.std.specs.Prelude.{Option, Some, None, option_map, IsSome, is_some, count_by, sum_by, cond, filter, unwrap_or, All}
@@ -12,7 +12,8 @@ use Rattle.exact_time.specs.Time.{Time, seconds, before, at_most, nanoseconds, A
 use Rattle.exact_time.proofs.TimeOrder.{before-is}
 use Rattle.timeline.specs.{Bounds.{StandsFor, StandsForSome, time_of_bound, low_of}, Expansions.{SegmentTimeline, Extent, Timing, extents}}
 use Rattle.timeline.specs.{Expansions.{is_open, numbered, repeated, repeat_of}, Kept.{Follows, FollowsOn, IsKept, timeline_of, runs_of}}
-use Rattle.timeline.specs.{Limits.{breaks_limits, media_extent}, Listed.{expansion, is_after, is_until, is_listed, listed, listed_from}}
+use Rattle.timeline.specs.{Limits.{breaks_limits, media_extent, too_long}, Listed.{expansion, is_after, is_until, is_listed, listed}}
+use Rattle.timeline.specs.Listed.{listed_from}
 use Rattle.timeline.specs.Listed.{instant_of, is_out_of_range, IsWindowOf, IsReached, IsFirstListed, IsPlaceAfter, IsWithin, CanBeNamed}
 use Rattle.timeline.specs.Places.{closed_total, reached_count, reached_by, count_until, open_extents, IsLastBegun, closed_count}
 use Rattle.timeline.specs.RunSegments.{AreLaidFrom, HasRoom, IsTail, TimedRun, all_extents, count_ended, endless_count, endless_extents}
@@ -20,8 +21,9 @@ use Rattle.timeline.specs.{RunSegments.{extents_of_some, first_of, AreLaid, exte
 use Rattle.timeline.specs.{Steady.{IsSteady, IsWithinLimits}, declared.bound.Bound.Bound, declared.limits.Limits.Limits}
 use Rattle.timeline.specs.{declared.run.Endless.Endless, declared.runs.Runs.TheInside.Inside, declared.window.Window.Window}
 use Rattle.timeline.specs.{declared.run_slice.Test.TheVariants.BeginsBy, RunTables.passes}
-use Rattle.timeline.proofs.KeptLemmas.{AreReached, EndsNear, StartsTimed, alike_open, alike_open_breaks, all_append, kept_rises, lasts_some}
+use Rattle.timeline.proofs.KeptLemmas.{AreReached, EndsNear, StartsTimed, alike_open, alike_open_breaks, all_append, lasts_some}
 use Rattle.timeline.proofs.KeptLemmas.{all_laid, length-laid, near_run, reached_open, room_reached, scales_open, scales_run, run_at}
+use Rattle.timeline.proofs.Rises.{ends_rise, no_step_from}
 use Rattle.timeline.proofs.{LimitLemmas.{breaks_at, AreAlike, some_breaks}, Paced.{listed_within, listed_paced}}
 use Rattle.timeline.proofs.NumberedLemmas.{count-numbered, count_all, drop-numbered, length-numbered, splits-numbered, take-numbered}
 use Rattle.timeline.proofs.SegmentTimelineLemmas.{HasScale, LastsSome, count_ended-append, count_ended-le, count_ended-open, ends_of}
@@ -29,22 +31,22 @@ use Rattle.timeline.proofs.SegmentTimelineLemmas.{place_of-parts, splits_rising,
 use Rattle.timeline.proofs.SegmentTimelineLemmas.{open_breaks_limits, members_of_parts, extents-parts, is_open-parts, open_extents-parts}
 use Rattle.timeline.proofs.{SegmentTimelineLemmas.{out_of_range-parts, reached-parts, total-parts, closed-parts}, Ratios.int_le-mul}
 use Rattle.timeline.proofs.{Repeats.{length-repeated, count_ended-in}, Splits.{SplitsAt, IsPlaceOf, between, drop-place, filter-before}}
-use Rattle.timeline.proofs.Splits.{filter-between, first-between, left-place, splits_after, splits_all, splits_before, splits_within}
+use Rattle.timeline.proofs.Splits.{filter-between, first-between, splits_after, splits_all, splits_before, splits_within}
 use Rattle.timeline.proofs.{Splits.{take-place, splits_front, splits_rest}, WalkLemmas.length-extents}
 
 -- ---- the bounds of a window
 
 -- what a window's upper bound says of its `until`
-pub record HasUntil (until : Option ℤ) (bound : Bound) : Type 0 where
-  pub count : ℤ
-  pub is : until ≡ Some count
-  pub stands : StandsFor bound (nanoseconds count)
+record HasUntil (until : Option ℤ) (bound : Bound) : Type 0 where
+  count : ℤ
+  is : until ≡ Some count
+  stands : StandsFor bound (nanoseconds count)
 
-pub some_high : (until : Option ℤ) (bound : Bound) → StandsForSome (Some bound) (option_map nanoseconds until) → HasUntil until bound
+some_high : (until : Option ℤ) (bound : Bound) → StandsForSome (Some bound) (option_map nanoseconds until) → HasUntil until bound
 some_high None bound stands = absurd stands
 some_high (Some u) bound stands = record { count = u; is = refl; stands = stands }
 
-pub none_high : (until : Option ℤ) → StandsForSome None (option_map nanoseconds until) → until ≡ None
+none_high : (until : Option ℤ) → StandsForSome None (option_map nanoseconds until) → until ≡ None
 none_high None stands = refl
 none_high (Some u) stands = absurd stands
 
@@ -76,10 +78,10 @@ alike_ended s t alike (y ∷ ys) near =
     let by_sum_by_cons = sum_by-cons (λ (x : Extent). cond (at_most x.end s) 1 0) y ys in
     cc (alike y.end near.0, alike_ended s t alike ys near.1, sum_by-cons (λ (x : Extent). cond (at_most x.end t) 1 0) y ys)
 
-splits_until : (until : Option ℤ) (ys : List Extent) → AllByRecursion HasScale ys → AreRising (ends_of ys) →
+splits_until : (until : Option ℤ) (ys : List Extent) → ((t : Time) → SplitsAt (ends_by_time t) (count_ended t ys) ys) →
     SplitsAt (λ (x : Extent). is_until until x.end) (count_by (λ (x : Extent). is_until until x.end) ys) ys
-splits_until None ys scales rising = rw (count_all ys) (splits_all (λ (x : Extent). true) (λ _. refl) ys)
-splits_until (Some u) ys scales rising = splits_rising (nanoseconds u) ys scales rising
+splits_until None ys splits = rw (count_all ys) (splits_all (λ (x : Extent). true) (λ _. refl) ys)
+splits_until (Some u) ys splits = splits (nanoseconds u)
 
 -- without an upper bound no segments go on to an open end
 none_open : (until : Option ℤ) (t : Time) (e : Option Endless) → until ≡ None → (is_some e ≡ true → IsSome until) → open_count t e ≡ 0
@@ -90,13 +92,16 @@ ended_open : (t : Time) (e : Option Endless) → 0 < t.scale → LastsSome e →
 ended_open t None time lasts = refl
 ended_open t (Some e) time lasts = count_ended-open t t e time lasts ∙ (omega arith)
 
--- the last one of so many segments breaks the limits
-last_breaks : (limits : Limits) (e : Endless) (origin end count : ℕ) → limits.ticks ≡ e.start.scale → limits.origin ≡ origin → 0 < count →
-    e.step ≤ end → pos end ≡ (e.start.n +ℤ pos limits.origin) +ℤ pos (count * e.step) →
-    breaks_limits limits.ticks limits.origin (media_extent limits end e.step) ≡ some_breaks e.start.scale origin e.start.n e.step count
-last_breaks limits e origin end count ticks origins some within end_is =
-    let at : pos end -ℤ pos limits.origin ≡ e.start.n +ℤ pos (count * e.step) = omega (arith, ints) in
-    cc (breaks_at limits end e.step within, lt-ltb 0 count some)
+-- ends rise
+splits_kept : (r : Inside) → IsKept r → (instant t : Time) → SplitsAt (ends_by_time t)
+    (count_ended t (all_extents (runs_of r) ++ open_at instant r.endless)) (all_extents (runs_of r) ++ open_at instant r.endless)
+splits_kept r kept instant t =
+    let xs = all_extents (runs_of r) in
+    let ends = open_at instant r.endless in
+    let rises = ends_rise (timeline_of r).members kept.lasting (no_step_from too_long None (timeline_of r).members kept.steady) instant in
+    splits_rising t (xs ++ ends)
+    (all_append HasScale xs ends (all_laid HasScale scales_run 0 (runs_of r) r.total kept.laid) (scales_open instant r.endless))
+    (subst (λ (ys : List Extent). AreRising (ends_of ys)) (extents-parts instant xs r.endless) rises)
 
 -- segments whose starts have media times, and whose numbers are not below the first one
 named_all : (timeline : SegmentTimeline) (number : ℕ) (xs : List Extent) → timeline.first_number ≤ number →
@@ -107,7 +112,7 @@ named_all timeline number (x ∷ xs) above timed =
 
 -- ---- a `Runs` at a window
 
-module _ (r : Inside) (kept : IsKept r) (timeline : SegmentTimeline) (view : timeline_of r ≡ timeline)
+module _ {r : Inside} (kept : IsKept r) {timeline : SegmentTimeline} (view : timeline_of r ≡ timeline)
     (window : Window) (is_window : IsWindowOf timeline window) where
   abbrev xs : List Extent
   xs = all_extents (runs_of r)
@@ -140,7 +145,11 @@ module _ (r : Inside) (kept : IsKept r) (timeline : SegmentTimeline) (view : tim
   none_open_tail is = sym (open_extents_is ∙ ap (open_at (instant_of window)) is)
 
   -- the segments that go on to an open end, up to a bound
-  module _ (e : Endless) (bound : Bound) (is : r.endless ≡ Some e) (has : HasUntil window.until bound) where
+  module _ {e : Endless} (is : r.endless ≡ Some e) (bound : Bound)
+      (high : StandsForSome (Some bound) (option_map nanoseconds window.until)) where
+    has : HasUntil window.until bound
+    has = some_high window.until bound high
+
     follows : Follows timeline.ticks timeline.origin r.total e
     follows = subst (λ (o : Option Endless). FollowsOn timeline.ticks timeline.origin r.total o) is follows_on
 
@@ -148,26 +157,29 @@ module _ (r : Inside) (kept : IsKept r) (timeline : SegmentTimeline) (view : tim
     instant = ap (λ (o : Option ℤ). nanoseconds (unwrap_or o (pos 0))) has.is
 
     out_of_range_some : is_out_of_range timeline window ≡ open_breaks_limits timeline.ticks timeline.origin (nanoseconds has.count) (Some e)
-    out_of_range_some = out_of_range_is ∙ ap (open_breaks_limits timeline.ticks timeline.origin (instant_of window)) is
-        ∙ ap (λ (t : Time). open_breaks_limits timeline.ticks timeline.origin t (Some e)) instant
-
-    pub broken_is : some_breaks e.start.scale timeline.origin e.start.n e.step (endless_count e (time_of_bound bound))
-        ≡ is_out_of_range timeline window
-    broken_is = alike_open_breaks timeline.ticks timeline.origin r.total (time_of_bound bound) (nanoseconds has.count) e has.stands
-        bound.positive (omega arith) follows ∙ sym out_of_range_some
+    out_of_range_some = cc (out_of_range_is, instant)
 
     -- what the last segment tells
-    pub last_broken : (limits : Limits) (end : ℕ) → limits.ticks ≡ r.scale.ticks → limits.origin ≡ r.origin →
-        0 < endless_count e (time_of_bound bound) →
-        pos end ≡ (e.start.n +ℤ pos limits.origin) +ℤ pos (endless_count e (time_of_bound bound) * e.step) →
-        breaks_limits limits.ticks limits.origin (media_extent limits end e.step) ≡ is_out_of_range timeline window
-    last_broken limits end ticks origins some end_is =
-        let origin = ap (λ (c : SegmentTimeline). c.origin) view in
-        let ticks_are = ap (λ (c : SegmentTimeline). c.ticks) view in
-        let placed : pos 0 ≤ℤ (e.start.n +ℤ pos timeline.origin) = follows.placed in
-        let once : 1 * e.step ≤ endless_count e (time_of_bound bound) * e.step = omega (arith, mul-le-mul_left e.step some) in
-        last_breaks limits e timeline.origin end (endless_count e (time_of_bound bound)) (ticks ∙ ticks_are ∙ sym follows.scale)
-        (origins ∙ origin) some (omega (arith, ints, once, end_is, placed, origins, origin)) end_is ∙ broken_is
+    module _ (count : ℕ) (count_is : count ≡ endless_count e (time_of_bound bound)) where
+      broken_is : some_breaks e.start.scale timeline.origin e.start.n e.step count ≡ is_out_of_range timeline window
+      broken_is = cc (
+        alike_open_breaks timeline.ticks timeline.origin r.total (time_of_bound bound) (nanoseconds has.count) e has.stands
+            bound.positive (omega arith) follows,
+        out_of_range_some,
+      )
+
+      pub none_broken : count ≤ 0 → ltb 0 count ≡ is_out_of_range timeline window
+      none_broken none = cc (le-ltb 0 count none, broken_is)
+
+      pub last_broken : (limits : Limits) (end : ℕ) → limits.ticks ≡ r.scale.ticks → limits.origin ≡ r.origin → 0 < count →
+          pos end ≡ (e.start.n +ℤ pos limits.origin) +ℤ pos (count * e.step) →
+          breaks_limits limits.ticks limits.origin (media_extent limits end e.step) ≡ is_out_of_range timeline window
+      last_broken limits end ticks origins some end_is =
+          let origin : limits.origin ≡ timeline.origin = origins ∙ ap (λ (c : SegmentTimeline). c.origin) view in
+          let scale : limits.ticks ≡ e.start.scale = ticks ∙ ap (λ (c : SegmentTimeline). c.ticks) view ∙ sym follows.scale in
+          let once : 1 * e.step ≤ count * e.step = omega (arith, mul-le-mul_left e.step some) in
+          let at : pos end -ℤ pos limits.origin ≡ e.start.n +ℤ pos (count * e.step) = omega (arith, ints) in
+          cc (breaks_at limits end e.step (omega (arith, ints, follows.placed)), lt-ltb 0 count some, broken_is)
 
     module _ (is_reached : IsReached timeline window) where
       keeps_some : open_breaks_limits timeline.ticks timeline.origin (nanoseconds has.count) (Some e) ≡ false
@@ -182,8 +194,7 @@ module _ (r : Inside) (kept : IsKept r) (timeline : SegmentTimeline) (view : tim
           (room_reached timeline.ticks timeline.origin r.total e (nanoseconds has.count) follows kept.countable keeps_some)
 
       pub tail_extents : endless_extents e (time_of_bound bound) ≡ open_extents timeline window
-      tail_extents = ap (λ (n : ℕ). repeated n (first_of e)) same_count
-          ∙ sym (open_extents_is ∙ ap (open_at (instant_of window)) is ∙ ap (λ (t : Time). endless_extents e t) instant)
+      tail_extents = cc (same_count, open_extents_is, instant)
 
       pub tail_before : e.before ≡ closed_total timeline
       tail_before = follows.place ∙ sym closed_total_is
@@ -226,12 +237,6 @@ module _ (r : Inside) (kept : IsKept r) (timeline : SegmentTimeline) (view : tim
     near_xs : AllByRecursion EndsNear xs
     near_xs = all_laid EndsNear near_run 0 (runs_of r) r.total kept.laid
 
-    scales_at : (t : Time) → AllByRecursion HasScale (xs ++ opened t)
-    scales_at t = all_append HasScale xs (opened t) (all_laid HasScale scales_run 0 (runs_of r) r.total kept.laid) (scales_open t r.endless)
-
-    rising_at : (t : Time) → AreRising (ends_of (xs ++ opened t))
-    rising_at t = subst (λ (ys : List Extent). AreRising (ends_of ys)) (extents-parts t xs r.endless) (kept_rises r kept t)
-
     long_all : length whole ≡ r.total + open_count (instant_of window) r.endless
     long_all =
         let by_length_append = length-append xs (opened (instant_of window)) in
@@ -239,14 +244,14 @@ module _ (r : Inside) (kept : IsKept r) (timeline : SegmentTimeline) (view : tim
 
     splits_whole : (t : Time) → SplitsAt (λ (x : Timing). at_most x.end t) (count_ended t all) whole
     splits_whole t = splits-numbered (λ (end : Time). at_most end t) (count_ended t all) timeline.first_number all
-        (splits_rising t all (scales_at (instant_of window)) (rising_at (instant_of window)))
+        (splits_kept r kept (instant_of window) t)
 
     finish_is : finish ≡ count_by (λ (x : Extent). is_until window.until x.end) all
     finish_is = ap (count_by high) whole_is ∙ count-numbered (is_until window.until) timeline.first_number all
 
     high_splits : SplitsAt high finish whole
     high_splits = rw finish_is (splits-numbered (is_until window.until) _ timeline.first_number all
-        (splits_until window.until all (scales_at (instant_of window)) (rising_at (instant_of window))))
+        (splits_until window.until all (splits_kept r kept (instant_of window))))
 
     finish_within : finish ≤ length whole
     finish_within = splits_within high finish whole high_splits
@@ -264,8 +269,8 @@ module _ (r : Inside) (kept : IsKept r) (timeline : SegmentTimeline) (view : tim
     placed : (bound : Bound) (t : Time) → StandsFor bound t → IsPlaceOf (place bound) (count_ended t all) whole
     placed bound t stands =
         let s = time_of_bound bound in
-        let at = place_of-parts s (instant_of window) xs r.endless (2 ^ 64 - 1) bound.positive lasts (scales_at s) (rising_at s)
-        (omega (arith, long, reached.few)) in
+        let at = place_of-parts s (instant_of window) xs r.endless (2 ^ 64 - 1) bound.positive lasts
+        (splits_kept r kept s s) (omega (arith, long, reached.few)) in
         let same = alike_ended s t stands all (all_append EndsNear xs (opened (instant_of window)) near_xs reached.near) in
         let counted = reached_is s in
         let number = length-numbered timeline.first_number all in
@@ -280,15 +285,17 @@ module _ (r : Inside) (kept : IsKept r) (timeline : SegmentTimeline) (view : tim
 
     -- ---- the number of segments by the window's `until`
 
-    pub finish_none : window.until ≡ None → r.total ≡ finish
-    finish_none no_until =
+    pub finish_none : StandsForSome None (option_map nanoseconds window.until) → r.total ≡ finish
+    finish_none unbound =
+        let no_until = none_high window.until unbound in
         let open_none = none_open window.until (instant_of window) r.endless no_until
         (λ some. is_window (ap is_open members_are ∙ is_open-parts xs r.endless ∙ some)) in
         let counted = ap (λ (u : Option ℤ). count_by (λ (x : Extent). is_until u x.end) all) no_until ∙ count_all all in
         omega (arith, long_all, open_none, counted, finish_is, length-numbered timeline.first_number all)
 
-    pub finish_some : (bound : Bound) → HasUntil window.until bound → place bound ≡ finish
-    finish_some bound has =
+    pub finish_some : (bound : Bound) → StandsForSome (Some bound) (option_map nanoseconds window.until) → place bound ≡ finish
+    finish_some bound upper =
+        let has = some_high window.until bound upper in
         let s = time_of_bound bound in
         let t = nanoseconds has.count in
         let instant : instant_of window ≡ t = ap (λ (o : Option ℤ). nanoseconds (unwrap_or o (pos 0))) has.is in
@@ -302,17 +309,6 @@ module _ (r : Inside) (kept : IsKept r) (timeline : SegmentTimeline) (view : tim
         let few : r.total + open_count t r.endless ≤ 2 ^ 63 = rw instant at reached.few in
         omega (arith, reached_is s, closed, opens, counted, count_ended-append t xs (opened t), whole, count_ended-le t xs, long, few)
 
-    -- ---- `count`
-
-    pub count_is : (bound : Bound) → StandsFor bound (low_of window)
-        → finish - place bound ≡ length (listed window (expansion timeline window))
-    count_is bound stands =
-        let left = left-place (place bound) first finish whole (placed bound (low_of window) stands) finish_within in
-        let within = finish_within in
-        let listed = ap length (listed_whole 0) ∙ length-take (finish - max 0 first) (drop (max 0 first) whole)
-        ∙ ap (min (finish - max 0 first)) (length-drop (max 0 first) whole) in
-        omega (arith, left, within, listed)
-
     -- ---- `seek`
 
     pub seek_is : (bound : Bound) → StandsFor bound (low_of window) → IsFirstListed window (expansion timeline window) (place bound)
@@ -325,12 +321,8 @@ module _ (r : Inside) (kept : IsKept r) (timeline : SegmentTimeline) (view : tim
           stands = elim (cases_lt first finish) [
             | inl less ↦
                 let one = first-between low high first finish whole low_splits high_splits less in
-                let same : filter (is_listed window) (take 1 (drop (place bound) whole))
-                ≡ filter (between low high) (take 1 (drop first whole)) =
-                let by_filter_agree = filter_agree (is_listed window) (between low high) (listed_between window)
-                (take 1 (drop (place bound) whole)) in
-                cc (drop-place (place bound) first whole here) in
-                inr (rw same one)
+                let same = filter_agree (is_listed window) (between low high) (listed_between window) (take 1 (drop first whole)) in
+                inr (rw (drop-place (place bound) first whole here, same) one)
             | inr none ↦
                 let zero_left : finish - max 0 first ≡ 0 = omega arith in
                 inl (ap (listed window) (sym whole_is) ∙ listed_whole 0 ∙ ap (λ (n : ℕ). take n (drop (max 0 first) whole)) zero_left)
@@ -351,40 +343,36 @@ module _ (r : Inside) (kept : IsKept r) (timeline : SegmentTimeline) (view : tim
               (drop (count_ended t all) whole) (splits_after ends (count_ended t all) whole splits));
         })
 
-    -- ---- `walk` and `count_from`
+    -- ---- `count`, `count_from` and `walk`
 
-    from_place : (p from : ℕ) → IsPlaceOf p first whole →
-        take (finish - max from p) (drop (max from p) whole) ≡ take (finish - max from first) (drop (max from first) whole)
-    from_place p from is = elim is [
-      | inl same ↦ ap (λ (n : ℕ). take (finish - max from n) (drop (max from n) whole)) same
+    listed_at : (bound : Bound) → StandsFor bound (low_of window) → (from : ℕ) → listed_from from timeline window
+        ≡ take (finish - max from (place bound)) (drop (max from (place bound)) whole)
+    listed_at bound stands from = listed_whole from ∙ elim (placed bound (low_of window) stands) [
+      | inl same ↦ ap (λ (n : ℕ). take (finish - max from n) (drop (max from n) whole)) (sym same)
       | inr past ↦
           let within = finish_within in
-          let none : finish - max from p ≡ 0 = omega (arith, past.1) in
+          let none : finish - max from (place bound) ≡ 0 = omega (arith, past.1) in
           let none_first : finish - max from first ≡ 0 = omega (arith, past.0) in
           cc
     ]
 
-    walk_at : (bound : Bound) → StandsFor bound (low_of window) → (from begin left : ℕ) → begin ≡ max from (place bound) →
-        left ≡ finish - begin → numbered (timeline.first_number + begin) (take left (drop begin all)) ≡ listed_from from timeline window
-    walk_at bound stands from begin left begin_is left_is =
-        let by_take_numbered = take-numbered left (timeline.first_number + begin) (drop begin all) in
-        let by_from_place = from_place (place bound) from (placed bound (low_of window) stands) in
-        cc (drop-numbered begin timeline.first_number all, listed_whole from)
+    taken_is : (begin left : ℕ) → take left (drop begin whole) ≡ numbered (timeline.first_number + begin) (take left (drop begin all))
+    taken_is begin left =
+        cc (drop-numbered begin timeline.first_number all, take-numbered left (timeline.first_number + begin) (drop begin all))
 
     pub walk_is : (bound : Bound) → StandsFor bound (low_of window) → (from begin left : ℕ) (tail : Option TimedRun) →
         extents_of_some tail ≡ open_extents timeline window → begin ≡ max from (place bound) → left ≡ finish - begin →
         numbered (r.scale.start_number + begin) (take left (drop begin (xs ++ extents_of_some tail))) ≡ listed_from from timeline window
     walk_is bound stands from begin left tail extents begin_is left_is =
         let number = ap (λ (c : SegmentTimeline). c.first_number) view in
-        rw (number, extents, open_extents_is) (walk_at bound stands from begin left begin_is left_is)
+        rw (number, extents, open_extents_is) (cc (listed_at bound stands from, taken_is begin left))
 
     pub count_from_is : (bound : Bound) → StandsFor bound (low_of window) → (from begin left : ℕ) → begin ≡ max from (place bound) →
         left ≡ finish - begin → left ≡ length (listed_from from timeline window)
     count_from_is bound stands from begin left begin_is left_is =
-        let by_ap = ap length (walk_at bound stands from begin left begin_is left_is) in
-        let by_length_numbered = length-numbered timeline.first_number all in
-        let by_length_numbered_2 = length-numbered (timeline.first_number + begin) (take left (drop begin all)) in
-        omega (arith, finish_within, left_is, length-take left (drop begin all), length-drop begin all)
+        let listed = ap length (listed_at bound stands from) in
+        let first = max from (place bound) in
+        omega (arith, listed, finish_within, length-take (finish - first) (drop first whole), length-drop first whole)
 
     -- what a walk asks for
     pub walk_laid : (tail : Option TimedRun) (begin left : ℕ) → IsTail (closed_total timeline) tail →
@@ -393,12 +381,11 @@ module _ (r : Inside) (kept : IsKept r) (timeline : SegmentTimeline) (view : tim
     walk_laid tail begin left is_tail extents left_is some =
         let laid : 0 + length xs ≡ r.total = omega (arith, long) in
         let tails : length (extents_of_some tail) ≡ length (opened (instant_of window)) = ap length (extents ∙ open_extents_is) in
+        let both = length-append xs (opened (instant_of window)) in
         record {
           laid = rw laid kept.laid;
           tail_is = rw (laid, ← closed_total_is) is_tail;
-          enough =
-              let by_length_append = length-append xs (opened (instant_of window)) in
-              omega (arith, finish_within, length-numbered timeline.first_number all, left_is, some, tails);
+          enough = omega (arith, finish_within, length-numbered timeline.first_number all, left_is, some, tails);
         }
 
     pub walk_countable : (begin left : ℕ) → left ≡ finish - begin → 0 < left → r.scale.start_number + (begin + left) < 2 ^ 64
@@ -413,10 +400,7 @@ module _ (r : Inside) (kept : IsKept r) (timeline : SegmentTimeline) (view : tim
     pub walk_paced : (from : ℕ) → ArePaced (listed_from from timeline window)
     walk_paced from =
         let begin = max from first in
-        let walked : listed_from from timeline window ≡ numbered (timeline.first_number + begin) (take (finish - begin) (drop begin all)) =
-        let by_take_numbered = take-numbered (finish - begin) (timeline.first_number + begin) (drop begin all) in
-        cc (listed_whole from, drop-numbered begin timeline.first_number all) in
-        rw walked
+        rw (listed_whole from, taken_is begin (finish - begin))
         (listed_paced timeline window all (timeline.first_number + begin) (finish - begin) begin all_are lasting steady is_reached)
 
     pub limits_are : (from : ℕ) → All IsWithinLimits (listed_from from timeline window)
@@ -441,7 +425,7 @@ module _ (r : Inside) (kept : IsKept r) (timeline : SegmentTimeline) (view : tim
 -- ---- where ends rise, the last run of which a segment has ended tells how many segments have
 
 -- the first of its segments ends by the time
-abbrev pub begun : Time → TimedRun → Bool
+abbrev begun : Time → TimedRun → Bool
 begun t s = at_most s.end t
 
 some_repeated : (t : Time) (count : ℕ) (x : Extent) → 0 < count → at_most x.end t ≡ true → 0 < count_ended t (repeated count x)
@@ -469,14 +453,8 @@ some_begun t before total (s ∷ later) (suc j) d (at, some, is, laid) within ea
       some_begun t (before + s.count) total later j d laid (omega arith) early,
     )
 
-none_begun : (t : Time) (k before total : ℕ) (s : TimedRun) (later : List TimedRun) → AreLaid before (s ∷ later) total
-    → SplitsAt (ends_by_time t) k (all_extents (s ∷ later)) → begun t s ≡ false →
-    count_ended t (all_extents (s ∷ later)) ≡ 0
-none_begun t k before total s later (at, some, is, laid) splits late = none_repeated t k s.count (head_of s)
-    (all_extents later) some late splits
-
 -- what a binary search asks
-pub begun_before : (t : Time) (k before total : ℕ) (xs : List TimedRun) → AreLaid before xs total
+begun_before : (t : Time) (k before total : ℕ) (xs : List TimedRun) → AreLaid before xs total
     → SplitsAt (ends_by_time t) k (all_extents xs) → IsPartitionedBy (begun t) xs
 begun_before t k before total [] laid splits i j d order within early = absurd (omega arith)
 begun_before t k before total (s ∷ later) laid splits zero zero d order within early = early
@@ -485,7 +463,7 @@ begun_before t k before total (s ∷ later) laid splits zero (suc j) d order wit
   | inl is ↦ is
   | inr late ↦ absurd (omega (
     arith,
-    none_begun t k before total s later laid splits late,
+    none_repeated t k s.count (head_of s) (all_extents later) laid.1 late splits,
     some_begun t before total (s ∷ later) (suc j) d laid within early,
   ))
 ]
@@ -494,7 +472,7 @@ begun_before t k before total (s ∷ later) laid splits (suc i) (suc j) d order 
     (splits_rest (ends_by_time t) k (extents_of s) (all_extents later) splits) i j d (omega arith) (omega arith) early
 
 -- what it gives
-abbrev pub BeginsAt : Time → List TimedRun → ℕ → Type 0
+abbrev BeginsAt : Time → List TimedRun → ℕ → Type 0
 BeginsAt t xs i = IsPartitionPoint (λ s. begun t s ≡ true) (λ s. begun t s ≡ false) xs i
 
 tail_begins : (t : Time) (s : TimedRun) (later : List TimedRun) (i : ℕ) → BeginsAt t (s ∷ later) (suc i) → BeginsAt t later i
@@ -503,13 +481,13 @@ tail_begins t s later i (early, late) = (
   λ m d low high. late (suc m) d (omega arith) (omega arith),
 )
 
-pub none_by : (t : Time) (k before total : ℕ) (xs : List TimedRun) → AreLaid before xs total → SplitsAt (ends_by_time t) k (all_extents xs)
+none_by : (t : Time) (k before total : ℕ) (xs : List TimedRun) → AreLaid before xs total → SplitsAt (ends_by_time t) k (all_extents xs)
     → BeginsAt t xs 0 → count_ended t (all_extents xs) ≡ 0
 none_by t k before total [] laid splits point = refl
-none_by t k before total (s ∷ later) laid splits point = none_begun t k before total s later laid splits
-    (point.1 0 s (omega arith) (omega arith))
+none_by t k before total (s ∷ later) laid splits point =
+    none_repeated t k s.count (head_of s) (all_extents later) laid.1 (point.1 0 s (omega arith) (omega arith)) splits
 
-pub counted_by : (t : Time) (k before total : ℕ) (xs : List TimedRun) (i : ℕ) (d : TimedRun) → AreLaid before xs total
+counted_by : (t : Time) (k before total : ℕ) (xs : List TimedRun) (i : ℕ) (d : TimedRun) → AreLaid before xs total
     → SplitsAt (ends_by_time t) k (all_extents xs) → i < length xs → BeginsAt t xs (suc i) →
     before + count_ended t (all_extents xs) ≡ (get_or xs i d).before + count_ended t (extents_of (get_or xs i d))
 counted_by t k before total [] i d laid splits within point = absurd (omega arith)
@@ -533,21 +511,13 @@ counted_by t k before total (s ∷ later) (suc i) d laid splits within point =
 
 -- ---- what a `Runs` keeps
 
-pub splits_closed : (t : Time) (r : Inside) → IsKept r → (k : ℕ) × SplitsAt (ends_by_time t) k (all_extents (runs_of r))
+splits_closed : (t : Time) (r : Inside) → IsKept r → (k : ℕ) × SplitsAt (ends_by_time t) k (all_extents (runs_of r))
 splits_closed t r kept =
     let xs = all_extents (runs_of r) in
-    let ends = open_at t r.endless in
-    let scales = all_append HasScale xs ends (all_laid HasScale scales_run 0 (runs_of r) r.total kept.laid) (scales_open t r.endless) in
-    let rising = subst (λ (ys : List Extent). AreRising (ends_of ys)) (extents-parts t xs r.endless) (kept_rises r kept t) in (
-      min (count_ended t (xs ++ ends)) (length xs),
-      splits_front (ends_by_time t) (count_ended t (xs ++ ends)) xs ends
-          (splits_rising t (xs ++ ends) scales rising),
+    let all = xs ++ open_at t r.endless in (
+      min (count_ended t all) (length xs),
+      splits_front (ends_by_time t) (count_ended t all) xs (open_at t r.endless) (splits_kept r kept t t),
     )
-
-pub sorted_begun : (t : Time) (r : Inside) → IsKept r → IsPartitionedBy (begun t) (runs_of r)
-sorted_begun t r kept =
-    let splits = splits_closed t r kept in
-    begun_before t splits.0 0 r.total (runs_of r) kept.laid splits.1
 
 -- how many segments of the runs have ended
 closed_kept : (t : Time) (r : Inside) → closed_count (timeline_of r) t ≡ count_ended t (all_extents (runs_of r))
@@ -555,7 +525,9 @@ closed_kept t r = closed-parts t (all_extents (runs_of r)) r.endless
 
 -- what a search by a bound asks and finds
 pub sorted_by : (bound : Bound) (r : Inside) → IsKept r → IsPartitionedBy (passes (BeginsBy bound)) (runs_of r)
-sorted_by bound r kept = sorted_begun (time_of_bound bound) r kept
+sorted_by bound r kept =
+    let splits = splits_closed (time_of_bound bound) r kept in
+    begun_before (time_of_bound bound) splits.0 0 r.total (runs_of r) kept.laid splits.1
 
 pub last_kept : (t : Time) (r : Inside) (i : ℕ) (s : TimedRun) → IsKept r → i < length (runs_of r) → BeginsAt t (runs_of r) (suc i)
     → s ≡ get_or (runs_of r) i s → IsLastBegun (timeline_of r) t s

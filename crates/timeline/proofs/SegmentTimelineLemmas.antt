@@ -1,7 +1,7 @@
 -- The members of a timeline: segments, and perhaps those that go on to an open end.
-use Rattle.std.proofs.Common.{◌≡◌, ℕ, ◌+◌, Bool, true, false, not, cond, List, ◌∷◌, ◌++◌, map, length, refl, ◌∙◌, ap, append-nil, [], arith}
+use Rattle.std.proofs.Common.{◌≡◌, ℕ, ◌+◌, Bool, false, not, cond, List, ◌∷◌, ◌++◌, map, length, refl, ◌∙◌, ap, append-nil, [], arith}
 use Rattle.std.proofs.{Common.{zero, suc, ◌<◌, ◌≤◌, min, sym, inl, inr, length-append}, lemmas.List.Sums.{sum_by-cons, sum_by-append}}
-use Rattle.std.proofs.{lemmas.List.Sums.count_by-le-length, lemmas.Grind.flat_map-append, lemmas.Bool.{cases_Bool, cases_lt}}
+use Rattle.std.proofs.{lemmas.List.Sums.count_by-le-length, lemmas.Bool.{cases_Bool, cases_lt}}
 use Rattle.std.proofs.Math.Bool.{or-false}
 use Rattle.std.specs.{Prelude.{Option, Some, None, is_some, filter, flat_map, sum_by, count_by, cond}, List.{list_any, AllByRecursion}}
 use Rattle.exact_time.specs.Time.{Time, at_most, IsBefore, AreRising}
@@ -10,8 +10,8 @@ use Rattle.timeline.specs.{Limits.breaks_limits, Places.{closed_by, reached_by},
 use Rattle.timeline.specs.{RunSegments.first_of, Kept.endless_members, Listed.{reaches_fault, instant_of}, declared.run.Endless.Endless}
 use Rattle.timeline.specs.declared.window.Window.{Window}
 use Rattle.exact_time.proofs.TimeOrder.{before_then_at_most, IsAtMost-from_before, at_most-false, not_at_most-from}
-use Rattle.timeline.proofs.{NumberedLemmas.count_all, Repeats.{length-repeated, count_ended-in, count_ended-out, count_ended-row}}
-use Rattle.timeline.proofs.{Repeats.ended_by-row, Splits.{SplitsAt, splits_same, IsPlaceOf}}
+use Rattle.timeline.proofs.{Repeats.{length-repeated, count_ended-in, count_ended-out, count_ended-row}}
+use Rattle.timeline.proofs.{Repeats.ended_by-row, Splits.{SplitsAt, IsPlaceOf}}
 
 -- the segments that go on to an open end, up to a time
 abbrev pub open_at : Time → Option Endless → List Extent
@@ -31,94 +31,57 @@ members_of_parts xs e = map Closed xs ++ endless_members e
 
 -- ---- the segments
 
-extents-closed : (t : Time) (xs : List Extent) → extents t (map Closed xs) ≡ xs
-extents-closed t [] = refl
-extents-closed t (x ∷ xs) = ap (λ (ys : List Extent). x ∷ ys) (extents-closed t xs)
-
-extents-endless : (t : Time) (e : Option Endless) → extents t (endless_members e) ≡ open_at t e
-extents-endless t None = refl
-extents-endless t (Some e) = append-nil (endless_extents e t)
-
 pub extents-parts : (t : Time) (xs : List Extent) (e : Option Endless) → extents t (members_of_parts xs e) ≡ xs ++ open_at t e
-extents-parts t xs e =
-    cc (flat_map-append (extents_at t) (map Closed xs) (endless_members e), extents-closed t xs, extents-endless t e)
+extents-parts t [] None = refl
+extents-parts t [] (Some e) = append-nil (endless_extents e t)
+extents-parts t (x ∷ xs) e = ap (λ (ys : List Extent). x ∷ ys) (extents-parts t xs e)
 
 -- ---- their numbers
 
-sum-closed : (test : Member → ℕ) (p : Extent → Bool) → ((x : Extent) → test (Closed x) ≡ cond (p x) 1 0) → (xs : List Extent) →
-    sum_by test (map Closed xs) ≡ count_by p xs
-sum-closed test p same [] = refl
-sum-closed test p same (x ∷ xs) =
-    let by_sum_by_cons = sum_by-cons (λ (y : Extent). cond (p y) 1 0) x xs in
-    cc (sum_by-cons test (Closed x) (map Closed xs), same x, sum-closed test p same xs)
-
-closed-endless : (t : Time) (e : Option Endless) → sum_by (closed_by t) (endless_members e) ≡ 0
-closed-endless t None = refl
-closed-endless t (Some e) = refl
-
-reached-endless : (t : Time) (e : Option Endless) → sum_by (reached_by t) (endless_members e) ≡ open_count t e
-reached-endless t None = refl
-reached-endless t (Some e) = omega arith
-
 pub closed-parts : (t : Time) (xs : List Extent) (e : Option Endless) → sum_by (closed_by t) (members_of_parts xs e) ≡ count_ended t xs
-closed-parts t xs e = omega (
-  arith,
-  sum_by-append (closed_by t) (map Closed xs) (endless_members e),
-  sum-closed (closed_by t) (λ x. at_most x.end t) (λ _. refl) xs,
-  closed-endless t e,
-)
+closed-parts t [] None = refl
+closed-parts t [] (Some e) = refl
+closed-parts t (x ∷ xs) e =
+    let by_sum_by_cons = sum_by-cons (closed_by t) (Closed x) (members_of_parts xs e) in
+    cc (closed-parts t xs e, sum_by-cons (λ (y : Extent). cond (at_most y.end t) 1 0) x xs)
 
 pub reached-parts : (t : Time) (xs : List Extent) (e : Option Endless) → sum_by (reached_by t) (members_of_parts xs e)
     ≡ count_ended t xs + open_count t e
-reached-parts t xs e = omega (
-  arith,
-  sum_by-append (reached_by t) (map Closed xs) (endless_members e),
-  sum-closed (reached_by t) (λ x. at_most x.end t) (λ _. refl) xs,
-  reached-endless t e,
-)
-
-total-endless : (e : Option Endless) → count_by (λ (m : Member). not (goes_on m)) (endless_members e) ≡ 0
-total-endless None = refl
-total-endless (Some e) = refl
+reached-parts t [] None = refl
+reached-parts t [] (Some e) = omega arith
+reached-parts t (x ∷ xs) e =
+    let by_sum_by_cons = sum_by-cons (reached_by t) (Closed x) (members_of_parts xs e) in
+    omega (arith, reached-parts t xs e, sum_by-cons (λ (y : Extent). cond (at_most y.end t) 1 0) x xs)
 
 pub total-parts : (xs : List Extent) (e : Option Endless) → count_by (λ (m : Member). not (goes_on m)) (members_of_parts xs e) ≡ length xs
-total-parts xs e = omega (
+total-parts [] None = refl
+total-parts [] (Some e) = refl
+total-parts (x ∷ xs) e = omega (
   arith,
-  sum_by-append (λ (m : Member). cond (not (goes_on m)) 1 0) (map Closed xs) (endless_members e),
-  sum-closed (λ m. cond (not (goes_on m)) 1 0) (λ _. true) (λ _. refl) xs,
-  count_all xs,
-  total-endless e,
+  sum_by-cons (λ (m : Member). cond (not (goes_on m)) 1 0) (Closed x) (members_of_parts xs e),
+  total-parts xs e,
 )
 
 -- ---- the open end
 
-any-closed : (test : Member → Bool) → ((x : Extent) → test (Closed x) ≡ false) → (xs : List Extent) (later : List Member)
-    → list_any test (map Closed xs ++ later) ≡ list_any test later
-any-closed test none [] later = refl
-any-closed test none (x ∷ xs) later = cc (none x, any-closed test none xs later)
-
 pub is_open-parts : (xs : List Extent) (e : Option Endless) → is_open (members_of_parts xs e) ≡ is_some e
-is_open-parts xs None = any-closed goes_on (λ _. refl) xs (endless_members None)
-is_open-parts xs (Some e) = any-closed goes_on (λ _. refl) xs (endless_members (Some e))
+is_open-parts [] None = refl
+is_open-parts [] (Some e) = refl
+is_open-parts (x ∷ xs) e = is_open-parts xs e
 
 pub out_of_range-parts : (timeline : SegmentTimeline) (window : Window) (xs : List Extent) (e : Option Endless) →
     list_any (reaches_fault timeline window) (members_of_parts xs e) ≡ open_breaks_limits timeline.ticks timeline.origin
     (instant_of window) e
-out_of_range-parts timeline window xs None = any-closed (reaches_fault timeline window) (λ _. refl) xs (endless_members None)
-out_of_range-parts timeline window xs (Some e) = any-closed (reaches_fault timeline window) (λ _. refl) xs (endless_members (Some e))
-    ∙ or-false (list_any (breaks_limits timeline.ticks timeline.origin) (endless_extents e (instant_of window)))
-
-filter-closed : (xs : List Extent) (later : List Member) → filter goes_on (map Closed xs ++ later) ≡ filter goes_on later
-filter-closed [] later = refl
-filter-closed (x ∷ xs) later = filter-closed xs later
-
-filter-endless : (e : Option Endless) → filter goes_on (endless_members e) ≡ endless_members e
-filter-endless None = refl
-filter-endless (Some e) = refl
+out_of_range-parts timeline window [] None = refl
+out_of_range-parts timeline window [] (Some e) =
+    or-false (list_any (breaks_limits timeline.ticks timeline.origin) (endless_extents e (instant_of window)))
+out_of_range-parts timeline window (x ∷ xs) e = out_of_range-parts timeline window xs e
 
 pub open_extents-parts : (t : Time) (xs : List Extent) (e : Option Endless)
     → flat_map (extents_at t) (filter goes_on (members_of_parts xs e)) ≡ open_at t e
-open_extents-parts t xs e = cc (filter-closed xs (endless_members e), filter-endless e, extents-endless t e)
+open_extents-parts t [] None = refl
+open_extents-parts t [] (Some e) = append-nil (endless_extents e t)
+open_extents-parts t (x ∷ xs) e = open_extents-parts t xs e
 
 -- ---- ends that rise: the segments that end by a time are the first ones
 
@@ -151,15 +114,12 @@ pub splits_rising : (t : Time) (xs : List Extent) → AllByRecursion HasScale xs
     → SplitsAt (ends_by_time t) (count_ended t xs) xs
 splits_rising t [] scales rising = tt
 splits_rising t (x ∷ xs) scales rising = elim (cases_Bool (at_most x.end t)) [
-  | inl early ↦ splits_same (ends_by_time t) (suc (count_ended t xs)) (count_ended t (x ∷ xs)) (x ∷ xs)
-      (omega (arith, count_ended-in t x xs early))
-      (early, splits_rising t xs scales.1 (rising_tail x xs rising))
+  | inl early ↦
+      let one_more : count_ended t (x ∷ xs) ≡ suc (count_ended t xs) = omega (arith, count_ended-in t x xs early) in
+      rw one_more (early, splits_rising t xs scales.1 (rising_tail x xs rising))
   | inr late ↦
       let rest = after_it t x xs (at_most-false x.end t late) scales.1 rising in
-      splits_same (ends_by_time t) 0 (count_ended t (x ∷ xs)) (x ∷ xs) (sym (count_ended-out t x xs late ∙ none_ended t xs rest)) (
-        late,
-        rest,
-      )
+      rw (count_ended-out t x xs late, none_ended t xs rest) (late, rest)
 ]
 
 pub count_ended-append : (t : Time) (xs ys : List Extent) → count_ended t (xs ++ ys) ≡ count_ended t xs + count_ended t ys
@@ -190,23 +150,19 @@ count_ended-open t instant e time lasts =
 
 -- the place by a time: the number of the segments that end by it, or behind them all
 pub place_of-parts : (t instant : Time) (xs : List Extent) (e : Option Endless) (cap : ℕ) → 0 < t.scale → LastsSome e →
-    AllByRecursion HasScale (xs ++ open_at t e) → AreRising (ends_of (xs ++ open_at t e)) → length xs + open_count instant e ≤ cap →
+    SplitsAt (ends_by_time t) (count_ended t (xs ++ open_at t e)) (xs ++ open_at t e) → length xs + open_count instant e ≤ cap →
     IsPlaceOf (min cap (count_ended t xs + open_count t e)) (count_ended t (xs ++ open_at instant e)) (xs ++ open_at instant e)
-place_of-parts t instant xs None cap time lasts scales rising room =
+place_of-parts t instant xs None cap time lasts splits room =
     inl (omega (arith, count_ended-le t xs, count_ended-append t xs []))
-place_of-parts t instant xs (Some e) cap time lasts scales rising room =
-    let closed = count_ended t xs in
-    let count = endless_count e instant in
-    let some = endless_count e t in
-    let whole : count_ended t (xs ++ endless_extents e instant) ≡ closed + min count some =
-    count_ended-append t xs (endless_extents e instant) ∙ ap (λ (n : ℕ). closed + n) (count_ended-open t instant e time lasts) in
-    let long : length (xs ++ endless_extents e instant) ≡ length xs + count =
-    length-append xs (endless_extents e instant) ∙ ap (λ (n : ℕ). length xs + n) (length-repeated count (first_of e)) in
-    elim (cases_lt count some) [
+place_of-parts t instant xs (Some e) cap time lasts splits room =
+    let opened = count_ended-open t instant e time lasts in
+    let both = count_ended-append t xs (endless_extents e instant) in
+    let long = length-append xs (endless_extents e instant) in
+    let as_many = length-repeated (endless_count e instant) (first_of e) in
+    elim (cases_lt (endless_count e instant) (endless_count e t)) [
       | inl past ↦
-          let here : count_ended t (endless_extents e t) ≡ min some some = count_ended-open t t e time lasts in
-          let all : closed ≡ length xs = front_ended t (count_ended t (xs ++ endless_extents e t)) xs (endless_extents e t)
-          (splits_rising t (xs ++ endless_extents e t) scales rising) (omega arith) in
+          let here = count_ended-open t t e time lasts in
+          let all = front_ended t (count_ended t (xs ++ endless_extents e t)) xs (endless_extents e t) splits (omega arith) in
           inr (omega arith, omega arith)
       | inr within ↦ inl (omega (arith, count_ended-le t xs))
     ]

@@ -1,8 +1,7 @@
 -- Lists of which the first ones pass a test and the others don't.
 use Rattle.std.proofs.Common.{◌≡◌, ℕ, zero, suc, ◌+◌, ◌-◌, ◌<◌, ◌≤◌, ◌⊎◌, min, max, Bool, true, false, not, ◌&&◌, List, ◌∷◌, ◌++◌, length}
 use Rattle.std.proofs.{Common.{take, drop, refl, ◌∙◌, sym, ap, subst, inl, inr, arith, []}, lemmas.List.Elements.{All-nil, All-cons}}
-use Rattle.std.proofs.{lemmas.List.{drop-drop, drop_all, take_all}, lemmas.Bool.{cond-true, cond-false, and_left, and_right, and_from}}
-use Rattle.std.proofs.lemmas.Bool.{not_from_true, not_from_false}
+use Rattle.std.proofs.lemmas.List.{drop-drop, drop_all, take_all}
 use Rattle.std.specs.Prelude.{slice_get, IsSome, All, filter}
 
 -- the first k pass the test, and the others don't
@@ -44,28 +43,18 @@ nothing {X} (suc n) (suc k) = refl
 taken : {X : Type 0} (m n : ℕ) (xs : List X) → m ≡ n → take m xs ≡ take n xs
 taken m n xs same = ap (λ (k : ℕ). take k xs) same
 
-filter-one : {X : Type 0} (test : X → Bool) (x : X) (xs : List X) → test x ≡ true → filter test (x ∷ xs) ≡ x ∷ filter test xs
-filter-one test x xs passes = cond-true (test x) (x ∷ filter test xs) (filter test xs) passes
-
-filter-skip : {X : Type 0} (test : X → Bool) (x : X) (xs : List X) → test x ≡ false → filter test (x ∷ xs) ≡ filter test xs
-filter-skip test x xs fails = cond-false (test x) (x ∷ filter test xs) (filter test xs) fails
-
 -- the elements behind the first `l` and among the first `h`
 filter-all : {X : Type 0} (low high : X → Bool) (l h : ℕ) (xs : List X) → SplitsAt low l xs → SplitsAt high h xs
     → filter (between low high) xs ≡ take (h - l) (drop l xs)
 filter-all low high l h [] is_low is_high = nothing (h - l) l
-filter-all low high zero zero (x ∷ xs) is_low is_high =
-    filter-skip (between low high) x xs (and_right (not (low x)) (high x) is_high.0) ∙ filter-all low high zero zero xs is_low.1 is_high.1
+filter-all low high zero zero (x ∷ xs) is_low is_high = rw (is_low.0, is_high.0) (filter-all low high zero zero xs is_low.1 is_high.1)
 filter-all low high zero (suc h) (x ∷ xs) is_low is_high =
-    let by_filter_one = filter-one (between low high) x xs (and_from (not (low x)) (high x) (not_from_false (low x) is_low.0) is_high.0) in
-    let by_filter_all = filter-all low high zero h xs is_low.1 is_high.1 in
-    cc (taken (h - 0) h xs (omega arith), taken (suc h) (suc h - 0) (x ∷ xs) (omega arith))
+    let rest = filter-all low high zero h xs is_low.1 is_high.1 in
+    rw (is_low.0, is_high.0) (cc (taken (h - 0) h xs (omega arith), taken (suc h) (suc h - 0) (x ∷ xs) (omega arith)))
 filter-all low high (suc l) zero (x ∷ xs) is_low is_high =
-    filter-skip (between low high) x xs (and_left (not (low x)) (high x) (not_from_true (low x) is_low.0))
-    ∙ filter-all low high l zero xs is_low.1 is_high.1 ∙ taken (0 - l) (0 - suc l) (drop l xs) (omega arith)
+    rw is_low.0 (filter-all low high l zero xs is_low.1 is_high.1 ∙ taken (0 - l) (0 - suc l) (drop l xs) (omega arith))
 filter-all low high (suc l) (suc h) (x ∷ xs) is_low is_high =
-    filter-skip (between low high) x xs (and_left (not (low x)) (high x) (not_from_true (low x) is_low.0))
-    ∙ filter-all low high l h xs is_low.1 is_high.1 ∙ taken (h - l) (suc h - suc l) (drop l xs) (omega arith)
+    rw is_low.0 (filter-all low high l h xs is_low.1 is_high.1 ∙ taken (h - l) (suc h - suc l) (drop l xs) (omega arith))
 
 pub splits_same : {X : Type 0} (test : X → Bool) (m n : ℕ) (xs : List X) → m ≡ n → SplitsAt test m xs → SplitsAt test n xs
 splits_same test m n xs same is = subst (λ (k : ℕ). SplitsAt test k xs) same is
@@ -99,8 +88,7 @@ pub filter-between : {X : Type 0} (low high : X → Bool) (l h f : ℕ) (xs : Li
     filter (between low high) (drop f xs) ≡ take (h - max f l) (drop (max f l) xs)
 filter-between low high l h f xs is_low is_high =
     filter-all low high (l - f) (h - f) (drop f xs) (splits_drop low f l xs is_low) (splits_drop high f h xs is_high)
-    ∙ ap (take (h - f - (l - f))) (drop-drop (l - f) f xs)
-    ∙ taken (h - f - (l - f)) (h - max f l) (drop (f + (l - f)) xs) (omega arith)
+    ∙ ap (take (h - f - (l - f))) (drop-drop (l - f) f xs) ∙ taken (h - f - (l - f)) (h - max f l) (drop (f + (l - f)) xs) (omega arith)
     ∙ ap (λ (n : ℕ). take (h - max f l) (drop n xs)) (omega arith)
 
 -- the first ones are no such elements
@@ -108,18 +96,14 @@ pub filter-before : {X : Type 0} (low high : X → Bool) (l : ℕ) (xs : List X)
     → filter (between low high) (take l xs) ≡ []
 filter-before low high zero xs is = refl
 filter-before low high (suc l) [] is = absurd is
-filter-before low high (suc l) (x ∷ xs) is =
-    filter-skip (between low high) x (take l xs) (and_left (not (low x)) (high x) (not_from_true (low x) is.0))
-    ∙ filter-before low high l xs is.1
+filter-before low high (suc l) (x ∷ xs) is = rw is.0 (filter-before low high l xs is.1)
 
 -- the element behind them is the first one
 pub first-between : {X : Type 0} (low high : X → Bool) (l h : ℕ) (xs : List X) → SplitsAt low l xs → SplitsAt high h xs → l < h →
     IsSome (slice_get (filter (between low high) (take 1 (drop l xs))) 0)
 first-between low high l zero xs is_low is_high less = absurd (omega arith)
 first-between low high zero (suc h) [] is_low is_high less = absurd is_high
-first-between low high zero (suc h) (x ∷ xs) is_low is_high less =
-    subst (λ (ys : List _). IsSome (slice_get ys 0))
-    (sym (filter-one (between low high) x [] (and_from (not (low x)) (high x) (not_from_false (low x) is_low.0) is_high.0))) refl
+first-between low high zero (suc h) (x ∷ xs) is_low is_high less = rw (is_low.0, is_high.0) refl
 first-between low high (suc l) (suc h) [] is_low is_high less = absurd is_low
 first-between low high (suc l) (suc h) (x ∷ xs) is_low is_high less = first-between low high l h xs is_low.1 is_high.1 (omega arith)
 
@@ -139,7 +123,3 @@ drop-place place k xs is = elim is [
   | inl same ↦ ap (λ (n : ℕ). drop n xs) same
   | inr past ↦ drop_all place xs past.1 ∙ sym (drop_all k xs (omega (arith, past.0)))
 ]
-
--- what is left up to another place
-pub left-place : {X : Type 0} (place k h : ℕ) (xs : List X) → IsPlaceOf place k xs → h ≤ length xs → h - place ≡ h - k
-left-place place k h xs is within = elim is [ inl same ↦ omega (arith, same) | inr past ↦ omega (arith, past.0, past.1) ]

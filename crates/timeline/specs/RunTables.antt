@@ -1,13 +1,14 @@
 -- The runs of a table, and of what is left of one.
 use Rattle.std.specs.Prelude.{◌≡◌, ℕ, ◌+◌, ◌<◌, ◌≤◌, Bool, true, false, min, leb, length, get_or, List, [], ◌++◌, map, Option, Some, None}
+use Rattle.std.specs.declared.rc.Rc.{Rc}
 use Rattle.exact_time.specs.Time.{at_most}
 use Rattle.timeline.specs.{Bounds.time_of_bound, RunSegments.{TimedRun, placed_run, timed}, declared.media_run.MediaRun.MediaRun}
-use Rattle.timeline.specs.{declared.run_slice.Test.Test, declared.run_slice.Test.TheVariants.{EndsBy, BeginsBy}}
-use Rattle.timeline.specs.{declared.run_slice.RunSlice.RunSlice, declared.run_table.RunTable.RunTable, declared.shared_timeline.Laid.Laid}
+use Rattle.timeline.specs.declared.{run_slice.Test.Test, run_slice.Test.TheVariants.{EndsBy, BeginsBy}, run_slice.RunSlice.RunSlice}
+use Rattle.timeline.specs.declared.{run_table.RunTable.RunTable, shared_timeline.LaidTimeline.LaidTimeline}
 
-abbrev pub media_of : Option Laid → List MediaRun
+abbrev pub media_of : {Z : Type 0} → Option (Rc LaidTimeline Z) → List MediaRun
 media_of None = []
-media_of (Some laid) = laid.timeline.value.media.runs.items
+media_of (Some laid) = laid.value.media.runs.items
 
 abbrev pub runs_at : ℕ → ℕ → RunTable → List TimedRun
 runs_at ticks origin table = map (placed_run ticks origin) (media_of table.laid) ++ map timed table.own.items

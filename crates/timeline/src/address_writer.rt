@@ -10,7 +10,7 @@ use crate::{ListFault, Runs, Span};
 use bridge_io::NoMemory;
 use std::alloc::Global;
 use std::marker::Model;
-use url_parts::Range;
+use url_parts::{Range, Resolver};
 
 /// Writes the addresses of a Representation's segments, each in the place of the one before.
 ///
@@ -21,6 +21,7 @@ pub struct AddressWriter<'a> {
     /// The folder of all names, where each is that of a file.
     folder: Option<String>,
     text: String,
+    resolver: Resolver,
 }
 
 impl<'a> Model for AddressWriter<'a> {
@@ -41,6 +42,7 @@ impl<'a> AddressWriter<'a> {
             runs,
             folder: runs.names.folder(alloc)?,
             text: String::new(alloc),
+            resolver: Resolver::new(),
         })
     }
 
@@ -60,7 +62,7 @@ impl<'a> AddressWriter<'a> {
                 Ok(None)
             }
             None => {
-                let part = part_of(runs, alloc, span)?;
+                let part = part_of(runs, alloc, &mut self.resolver, span)?;
                 write_text(&mut self.text, part.address.as_str())?;
                 Ok(part.range)
             }

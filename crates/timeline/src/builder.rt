@@ -9,9 +9,10 @@ use crate::TimeFault;
 use crate::limits::Limits;
 use crate::run::{Endless, Run};
 use crate::run_table::RunTable;
-use crate::shared_timeline::Laid;
+use crate::shared_timeline::LaidTimeline;
 use exact_time::Tick;
 use std::alloc::Global;
+use std::rc::Rc;
 
 /// The segments so far.
 #[derive(Drop)]
@@ -54,16 +55,16 @@ impl RunsBuilder {
     }
 
     /// Upon the runs of a timeline.
-    pub fn upon(alloc: Global, laid: Laid, limits: Limits) -> RunsBuilder
+    pub fn upon(alloc: Global, laid: Rc<LaidTimeline>, limits: Limits) -> RunsBuilder
         ensures laid { result.table.laid ≡ Some laid }
         ensures none { result.table.own.items ≡ [] }
         ensures closed { IsNone result.endless }
-        ensures total { result.total ≡ laid.timeline.value.media.total }
+        ensures total { result.total ≡ laid.value.media.total }
         ensures limits { result.limits ≡ limits }
-        ensures former { result.former ≡ laid.timeline.value.media.former }
+        ensures former { result.former ≡ laid.value.media.former }
     {
-        let total = laid.timeline.media.total;
-        let former = u128::from(laid.timeline.media.former);
+        let total = laid.media.total;
+        let former = u128::from(laid.media.former);
         RunsBuilder {
             table: RunTable {
                 laid: Some(laid),
@@ -84,6 +85,7 @@ impl RunsBuilder {
     }
 
     /// Whether names, where they are listed, are as many as the segments.
+    #[tactic(auto, using(crate::proofs::Laid::paired_closed))]
     pub fn is_paired(&self, names: Option<u64>) -> bool
         requires { IsLaidOut self.now }
         ensures { result ≡ are_paired names (members_so_far self.now) }

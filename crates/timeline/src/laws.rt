@@ -33,6 +33,7 @@ pub fn starts_in_ticks()
 {}
 
 /// Of the segments that go on to an open end, as many are there by an instant as end by it.
+#[tactic(auto, using(crate::proofs::OpenEnds::steps_are_greatest))]
 pub fn open_ends()
     ensures { StepsAreGreatest }
 {}
@@ -48,6 +49,7 @@ pub fn own_addresses()
 {}
 
 /// `Listing::next` makes a segment that has its own address with that one, and refuses it for want of memory alone.
+#[tactic(auto, using(crate::proofs::OwnParts::parts_are_made, crate::proofs::OwnParts::only_memory_holds))]
 pub fn own_addresses_made()
     ensures made { PartsAreMade }
     ensures refused { OnlyMemoryHolds }

@@ -8,7 +8,7 @@ use crate::{AddressWriter, ListFault, Runs, Span, TimeWalk};
 use bridge_io::{Ledger, NoMemory, Steps};
 use std::alloc::Global;
 use std::marker::Model;
-use url_parts::{Address, Part, Range};
+use url_parts::{Address, Part, Range, Resolver};
 
 /// A segment: its address, its range and its times. Only a `Listing` makes one.
 #[derive(Debug, Drop)]
@@ -65,6 +65,7 @@ impl Segment {
 pub struct Listing<'a> {
     runs: &'a Runs,
     walk: TimeWalk<'a>,
+    resolver: Resolver,
 }
 
 impl<'a> Model for Listing<'a> {
@@ -89,7 +90,11 @@ impl<'a> Listing<'a> {
         ensures timeline { result.timeline ≡ runs.now }
         ensures left { result.left ≡ walk.entry }
     {
-        Listing { runs, walk }
+        Listing {
+            runs,
+            walk,
+            resolver: Resolver::new(),
+        }
     }
 
     /// Makes the next segment, and counts it. There is none exactly at the end. After a refusal the listing stands
@@ -108,7 +113,7 @@ impl<'a> Listing<'a> {
         let Some(span) = self.walk.peek() else {
             return Ok(None);
         };
-        let part = part_of(self.runs, alloc, &span)?;
+        let part = part_of(self.runs, alloc, &mut self.resolver, &span)?;
         self.walk.advance();
         steps.tick();
         Ok(Some(Segment { part, span }))
@@ -145,11 +150,21 @@ impl<'a> Listing<'a> {
 
 /// The address and range of a segment.
 #[inline(always)]
-pub(crate) fn part_of(runs: &Runs, alloc: Global, span: &Span) -> Result<Part, ListFault>
+pub(crate) fn part_of(
+    runs: &Runs,
+    alloc: Global,
+    resolver: &mut Resolver,
+    span: &Span,
+) -> Result<Part, ListFault>
     requires { CanBeNamed runs.now (timing_of span.now) }
     ensures { Gives (λ part. part) list_refusal result (part_of_timing runs.now (timing_of span.now)) }
 {
     let place = span.number - runs.scale.start_number;
-    runs.names
-        .part(alloc, place, span.number, runs.media_time(span.start))
+    runs.names.part(
+        alloc,
+        resolver,
+        place,
+        span.number,
+        runs.media_time(span.start),
+    )
 }

@@ -11,7 +11,7 @@ use crate::{ListFault, PartList, RefList, SharedNames};
 use bridge_io::{NoMemory, Text};
 use std::alloc::Global;
 use template_ids::{BorrowedIds, Template};
-use url_parts::{Base, Part, Range, UrlFault};
+use url_parts::{Base, Part, Range, Resolver, UrlFault};
 
 /// The most bytes that a base has of which each file in its folder has an address: the longest name of a file has 255, and
 /// the longest address 2,048.
@@ -173,9 +173,12 @@ impl Names {
     }
 
     /// The address and range of the segment at a place, which begins at a media time.
+    ///
+    /// The resolver keeps the folder of an absolute name before, so that one in it isn't parsed.
     pub(crate) fn part(
         &self,
         alloc: Global,
+        resolver: &mut Resolver,
         place: u64,
         number: u64,
         time: u64,
@@ -197,9 +200,14 @@ impl Names {
                 };
                 named_part(alloc, media, &ids, base)
             }
-            Names::List { parts, base } => listed_part(alloc, parts.get(place as usize), base),
+            Names::List { parts, base } => listed_part(
+                alloc,
+                resolver,
+                parts.get(place as usize),
+                base,
+            ),
             Names::Shared { parts, base } => {
-                listed_part(alloc, parts.parts().get(place as usize), base)
+                listed_part(alloc, resolver, parts.parts().get(place as usize), base)
             }
             Names::Addresses { parts } => own_part(alloc, parts.get(place as usize)),
         }
@@ -226,14 +234,19 @@ fn named_part(
 
 /// The address and range of a segment by its name.
 #[tactic(auto, using(crate::proofs::Naming::resolve_own))]
-fn listed_part(alloc: Global, part: Option<&RefPart>, base: &Base) -> Result<Part, ListFault>
+fn listed_part(
+    alloc: Global,
+    resolver: &mut Resolver,
+    part: Option<&RefPart>,
+    base: &Base,
+) -> Result<Part, ListFault>
     ensures { Gives (λ part. part) list_refusal result (listed_part base.now (option_copied part.entry)) }
 {
     match part {
-        None => joined(alloc, base, base.as_str(), None),
+        None => joined(alloc, resolver, base, base.as_str(), None),
         Some(RefPart { reference, range }) => match reference {
-            None => joined(alloc, base, base.as_str(), *range),
-            Some(reference) => joined(alloc, base, reference.as_str(), *range),
+            None => joined(alloc, resolver, base, base.as_str(), *range),
+            Some(reference) => joined(alloc, resolver, base, reference.as_str(), *range),
         },
     }
 }
@@ -249,14 +262,16 @@ fn own_part(alloc: Global, part: Option<&Part>) -> Result<Part, ListFault>
 }
 
 /// The address that a reference gives against a base, with a range.
+#[tactic(auto, using(crate::proofs::Naming::gives_refusal))]
 fn joined(
     alloc: Global,
+    resolver: &mut Resolver,
     base: &Base,
     reference: &str,
     range: Option<Range>,
 ) -> Result<Part, ListFault>
     ensures { Gives (λ part. part) list_refusal result (part_at range (resolve base.now reference.now)) }
 {
-    let address = base.join(alloc, reference)?;
+    let address = resolver.join(alloc, base, reference)?;
     Ok(Part { address, range })
 }

@@ -71,6 +71,7 @@ impl<'a> RunSlice<'a> {
 
     /// The runs behind the first ones.
     #[inline(always)]
+    #[tactic(auto, using(crate::proofs::WalkLemmas::skip_front, crate::proofs::WalkLemmas::skip_all))]
     pub fn skip(&self, count: usize) -> RunSlice<'a>
         requires { count ≤ length (slice_runs self.now) }
         ensures { slice_runs result ≡ drop count (slice_runs self.now) }

@@ -2,12 +2,13 @@
 use crate::Scale;
 use crate::run::Run;
 use crate::run_slice::RunSlice;
-use crate::shared_timeline::Laid;
+use crate::shared_timeline::LaidTimeline;
+use std::rc::Rc;
 
 /// The runs of a Representation: those of a timeline that it shares with others, and behind them its own.
 #[derive(Debug, Drop)]
 pub struct RunTable {
-    pub laid: Option<Laid>,
+    pub laid: Option<Rc<LaidTimeline>>,
     pub own: Vec<Run>,
 }
 

@@ -22,24 +22,11 @@ pub struct LaidTimeline {
     pub no_time: bool,
 }
 
-/// A timeline that was laid out, in the hands of many.
-#[derive(Debug, Drop)]
-pub struct Laid {
-    pub timeline: Rc<LaidTimeline>,
-}
-
-impl Laid {
+impl LaidTimeline {
     pub fn runs(&self) -> &[MediaRun]
-        ensures { result.now ≡ self.now.timeline.value.media.runs.items }
+        ensures { result.now ≡ self.now.media.runs.items }
     {
-        self.timeline.media.runs.as_slice()
-    }
-
-    fn share(&self) -> Result<Laid, NoMemory>
-        ensures { IfOk result (λ laid. laid.timeline.value ≡ self.now.timeline.value) }
-    {
-        let timeline = self.timeline.clone()?;
-        Ok(Laid { timeline })
+        self.media.runs.as_slice()
     }
 }
 
@@ -50,7 +37,7 @@ impl Laid {
 /// In a contract it is the list of S elements.
 #[derive(Debug, Drop)]
 pub struct SharedTimeline {
-    laid: Laid,
+    laid: Rc<LaidTimeline>,
 }
 
 impl Model for SharedTimeline {
@@ -61,9 +48,9 @@ impl Model for SharedTimeline {
 
     ghost use Rattle.timeline.specs.MediaTimelines.{IsLaidTimeline};
 
-    ghost view = { λ t. t.laid.timeline.value.entries };
+    ghost view = { λ t. t.laid.value.entries };
 
-    ghost invariant = { λ t. IsLaidTimeline t.laid.timeline.value };
+    ghost invariant = { λ t. IsLaidTimeline t.laid.value };
 }
 
 impl SharedTimeline {
@@ -83,8 +70,7 @@ impl SharedTimeline {
             media,
             no_time,
         };
-        let timeline = Rc::new(alloc, laid)?;
-        let laid = Laid { timeline };
+        let laid = Rc::new(alloc, laid)?;
         Ok(SharedTimeline { laid })
     }
 
@@ -92,14 +78,14 @@ impl SharedTimeline {
     pub(crate) fn entries(&self) -> &[SEntry]
         ensures { result.now ≡ self.now }
     {
-        self.laid.timeline.entries.as_slice()
+        self.laid.entries.as_slice()
     }
 
     /// Whether some S lasts no time.
     pub(crate) fn has_no_time(&self) -> bool
         ensures { result ≡ list_any (λ s. s.d == 0) self.now }
     {
-        self.laid.timeline.no_time
+        self.laid.no_time
     }
 
     /// The runs that were laid out, counted by a scale, and the S elements that are left; or the fault of a segment of
@@ -116,11 +102,11 @@ impl SharedTimeline {
             (expansion_of_timeline scale end self.now) fault) }
     {
         let limits = scale.limits(scale.offset);
-        if self.laid.timeline.media.are_passed(limits) {
+        if self.laid.media.are_passed(limits) {
             return Err(TimeFault::Range);
         }
-        let laid = self.laid.share()?;
-        let rest = &self.laid.timeline.entries.as_slice()[self.laid.runs().len()..];
+        let laid = self.laid.clone()?;
+        let rest = &self.laid.entries.as_slice()[self.laid.runs().len()..];
         Ok((RunsBuilder::upon(alloc, laid, limits), rest))
     }
 }

@@ -1,5 +1,5 @@
 use Rattle.timeline.proofs.durations.add_until.Goals as goal
-use Rattle.std.proofs.{Common.{◌≡◌, ◌*◌, ◌<◌, ◌^◌, suc, inl, inr, arith}, lemmas.Bool.cases_lt}
+use Rattle.std.proofs.{Common.{◌≡◌, ◌*◌, suc, inl, inr, arith}, lemmas.Bool.cases_lt}
 use Rattle.timeline.proofs.{Laid.from_fault, Counted.{cut_none, cut_first, cut_late, cut_end}}
 
 pub returns-in_default : goal.returns-in_default
@@ -9,28 +9,24 @@ returns-in_default c =
 
 pub returns-in_err-add_some : goal.returns-in_err-add_some
 returns-in_err-add_some c =
-    let limits = c.args.builder.now.limits in
     let more : c.args.count ≡ suc c.in-Some.whole = omega (arith, c.in-Some.ensures.0, c.in-Some.ensures.1) in
     from_fault c.from_residual.result c.in_err-add_some.field-0.0 _ _ c.from_residual.ensures
-    (cut_first limits c.args.ticks c.requires.scale c.requires.fresh.origin c.args.length c.args.duration c.in-Some.whole c.args.count more
+    (cut_first c.args.builder.now.limits c.requires.scale c.requires.fresh.origin c.args.length c.args.duration more
     c.in_err-add_some.field-0.0 c.in_err-add_some.ensures)
 
 pub returns-then-from-former : goal.returns-then-from-former
 returns-then-from-former c =
-    let limits = c.args.builder.now.limits in
     let more : c.args.count ≡ suc c.in-Some.whole = omega (arith, c.in-Some.ensures.0, c.in-Some.ensures.1) in
     let bound : c.from.result * c.from-2.result ≡ c.args.length * c.args.ticks = cc (c.from.ensures, c.length.view_is, c.from-2.ensures) in
     let row = c.in_ok-add_some.ensures in
-    let small : c.args.length < 10 ^ 19 = omega (arith, c.length.view_is, c.length.invariant) in
-    cut_late limits c.args.ticks c.requires.scale c.requires.fresh.origin c.args.length c.args.duration c.in-Some.whole c.args.count more
-    row.kept c.requires.lasting (omega (arith, row.laid.near, row.former)) small
+    cut_late c.args.builder.now.limits c.requires.scale c.requires.fresh.origin c.args.length c.args.duration more row.kept
+    c.requires.lasting (omega (arith, row.laid.near, row.former)) (omega (arith, c.length.view_is, c.length.invariant))
     (omega (arith, bound, c.if-from-former.true, c.former.ensures, row.former))
 
 pub returns : goal.returns
 returns c =
-    let limits = c.args.builder.now.limits in
     let more : c.args.count ≡ suc c.in-Some.whole = omega (arith, c.in-Some.ensures.0, c.in-Some.ensures.1) in
     let bound : c.from.result * c.from-2.result ≡ c.args.length * c.args.ticks = cc (c.from.ensures, c.length.view_is, c.from-2.ensures) in
-    cut_end limits c.add_some.new.builder c.add_last.new.builder c.args.ticks c.args.length c.args.duration c.in-Some.whole c.args.count
-    c.add_last.result c.requires.scale c.requires.fresh.origin more c.in_ok-add_some.ensures
+    cut_end c.args.builder.now.limits c.requires.scale c.requires.fresh.origin c.args.length c.args.duration more
+    c.add_some.new.builder c.add_last.new.builder c.add_last.result c.in_ok-add_some.ensures
     (omega (arith, bound, c.if-from-former.false, c.former.ensures)) c.add_last.ensures

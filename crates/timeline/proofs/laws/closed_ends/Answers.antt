@@ -1,30 +1,23 @@
 use Rattle.timeline.proofs.laws.closed_ends.Goals as goal
-use Rattle.std.proofs.Common.{◌≡◌, ℕ, Bool, true, false, not, ◌&&◌, List, ◌∷◌, length, pos, sym, ap, ◌∙◌, refl, []}
-use Rattle.std.proofs.lemmas.Bool.{true≢false, false_from_ne_true}
-use Rattle.std.specs.Prelude.{Option, Some, None, is_none, ◌==◌}
+use Rattle.std.proofs.{Common.{◌≡◌, ℕ, Bool, true, false, not, ◌&&◌, List, ◌∷◌, pos, sym, ap, ◌∙◌, refl, [], arith}, lemmas.Bool.true≢false}
+use Rattle.std.proofs.{lemmas.Bool.false_from_ne_true, lemmas.Bool.Decides.nat_tests}
+use Rattle.std.specs.Prelude.{Option, Some, None, is_none}
 use Rattle.timeline.specs.{Names.count_of, declared.entry.End.End, declared.entry.End.TheVariants.{At, Unbounded}}
 use Rattle.timeline.specs.{declared.fault.TimeFault.TheVariants.{NoEnd, ListLength}, declared.span.Span.Span, Ratios.steps_to_cover}
-use Rattle.timeline.specs.{Durations.{extents_by, cut_by, expansion_of_names, expansion_of_list}, Expansions.{Member, SegmentTimeline}}
-use Rattle.timeline.specs.{Expansions.is_open, Faults.{are_paired, ends_open, is_unbounded, lacks_end, members_by}}
-use Rattle.timeline.specs.Timelines.{expansion_of_timeline}
+use Rattle.timeline.specs.{Durations.{extents_by, cut_by, expansion_of_list}, Expansions.{Member, SegmentTimeline, is_open}}
+use Rattle.timeline.specs.{Faults.{are_paired, ends_open, is_unbounded, lacks_end, members_by}, Timelines.expansion_of_timeline}
 use Rattle.exact_time.specs.Time.{in_units, nanoseconds}
 use Rattle.timeline.proofs.OpenEnds.{closed_not_open, entries_open, no_fault, no_faults, none_reaches, unless}
 
 both : (live unbounded ends : Bool) (names : Option ℕ) (members : List Member) → (not live && unbounded && ends) ≡ false
     → not (are_paired names members) ≡ false →
     (live && unbounded && is_none names) ≡ false → unbounded ≡ true → ends ≡ true → is_open members ≡ true → ⊥
-both live false ends names members ended paired few is_unbounded is_ends some = cc
-both live true false names members ended paired few is_unbounded is_ends some = cc
-both false true true names members ended paired few is_unbounded is_ends some = cc
-both true true true None members ended paired few is_unbounded is_ends some = cc
-both true true true (Some count) members ended paired few is_unbounded is_ends some =
-    true≢false (ap (λ (b : Bool). not (not b && (length members == count))) (sym some) ∙ paired)
+both live unbounded ends names members ended paired few is_unbounded is_ends some = grind (arith, nat_tests)
 
 pub returns-clause-timelines : goal.returns-clause-timelines
 returns-clause-timelines c entries end live scale names timeline made few =
     let split = no_fault _ _ timeline made in
-    let zero = no_faults _ _ split.0 in
-    let ended = no_faults _ _ zero.1 in
+    let ended = no_faults _ _ (no_faults _ _ split.0).1 in
     let judged = no_faults _ _ ended.1 in
     let members : expansion_of_timeline scale end entries ≡ timeline.members = ap (λ (t : SegmentTimeline). t.members) split.1 in
     false_from_ne_true (is_open timeline.members) (λ some.
@@ -32,23 +25,17 @@ returns-clause-timelines c entries end live scale names timeline made few =
     both live (is_unbounded end) (ends_open entries) (count_of names) (expansion_of_timeline scale end entries) (unless _ NoEnd ended.0)
     (unless _ ListLength judged.1) few opened.0 opened.1 (ap is_open members ∙ some))
 
-names_end : (ticks : ℕ) (end : End) (duration count : ℕ) → is_open (expansion_of_names ticks end duration count) ≡ false
-names_end ticks end duration count = closed_not_open (cut_by end (extents_by ticks duration 0 count))
-
 durations_end : (ticks duration : ℕ) (end : End) (live : Bool) (names : Option ℕ) → lacks_end live end names ≡ false
     → (live && is_unbounded end && is_none names) ≡ false → is_open (members_by ticks end duration names) ≡ false
-durations_end ticks duration Unbounded true None lacks few = cc
-durations_end ticks duration Unbounded false None lacks few = cc
-durations_end ticks duration (At length) live None lacks few = names_end ticks (At length) duration
-    (steps_to_cover (nanoseconds (pos length)) (in_units ticks duration))
-durations_end ticks duration end live (Some count) lacks few = names_end ticks end duration count
+durations_end ticks duration Unbounded live None lacks few = grind (arith, nat_tests)
+durations_end ticks duration (At length) live None lacks few =
+    closed_not_open (cut_by (At length) (extents_by ticks duration 0 (steps_to_cover (nanoseconds (pos length)) (in_units ticks duration))))
+durations_end ticks duration end live (Some count) lacks few = closed_not_open (cut_by end (extents_by ticks duration 0 count))
 
 pub returns-clause-durations : goal.returns-clause-durations
 returns-clause-durations c duration end live scale names timeline made few =
     let split = no_fault _ _ timeline made in
-    let time = no_faults _ _ split.0 in
-    let zero = no_faults _ _ time.1 in
-    let ended = no_faults _ _ zero.1 in
+    let ended = no_faults _ _ (no_faults _ _ (no_faults _ _ split.0).1).1 in
     cc (split.1, durations_end scale.ticks duration end live (count_of names) (unless _ NoEnd ended.0) few)
 
 lists_end : (spans : List Span) → is_open (expansion_of_list spans) ≡ false

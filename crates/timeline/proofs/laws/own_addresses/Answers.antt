@@ -28,8 +28,7 @@ returns-clause-durations c duration end live scale parts timeline made =
 pub returns-clause-lists : goal.returns-clause-lists
 returns-clause-lists c spans scale parts timeline made =
     let split = no_fault _ _ timeline made in
-    let zero = no_faults _ _ split.0 in
-    let judged = no_faults _ _ zero.1 in
+    let judged = no_faults _ _ (no_faults _ _ split.0).1 in
     have_parts timeline parts (ap (λ (t : SegmentTimeline). t.names) (sym split.1))
     (rw (← split.1) (paired (length parts) _ (unless _ ListLength judged.1)))
 

@@ -2,8 +2,7 @@ use Rattle.timeline.proofs.spans.in_row.Goals as goal
 use Rattle.timeline.proofs.{Laid.from_fault, Counted.{span_fault, span_more}}
 
 pub returns-in_err-judge : goal.returns-in_err-judge
-returns-in_err-judge c =
-    from_fault c.from_residual.result c.in_err-judge.field-0.0 _ _ c.from_residual.ensures
+returns-in_err-judge c = from_fault c.from_residual.result c.in_err-judge.field-0.0 _ _ c.from_residual.ensures
     (span_fault c.args.ticks c.args.spans.now c.loop-span.builder c.loop-span.former c.loop-span.rest.now c.in-Some.span.now
     c.in-Some.later.now c.in_err-judge.field-0.0 c.loop-span.invariant c.in-Some.ensures.cases.0 c.in_err-judge.ensures)
 

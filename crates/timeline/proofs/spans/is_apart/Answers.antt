@@ -9,12 +9,12 @@ gap_is : (r d : ℤ) (gap : ℕ) → SFits w128 r → r ≡ d → gap ≡ unsign
 gap_is r d gap fits same is = cc (to_z-of_z w128 r fits)
 
 -- no product is out of range where neither time is far
-small : (lasts gap s e f : ℕ) → lasts ≤ 1000000 * (s * e) → gap ≤ 1000000 * (f * s) → s < 2 ^ 32 → e < 2 ^ 32 → f < 2 ^ 32
+small : (lasts gap s e f : ℕ) → lasts ≤ 1000000 * (s * e) → gap ≤ 1000000 * (f * s) → Fits w32 s → Fits w32 e → Fits w32 f
     → (lasts * f < 2 ^ 128) × (2 * gap * e < 2 ^ 128)
 small lasts gap s e f short near s_fits e_fits f_fits =
-    let s_le : s ≤ 2 ^ 32 = omega arith in
-    let e_le : e ≤ 2 ^ 32 = omega arith in
-    let f_le : f ≤ 2 ^ 32 = omega arith in
+    let s_le : s ≤ 2 ^ 32 = omega (arith, s_fits.fits) in
+    let e_le : e ≤ 2 ^ 32 = omega (arith, e_fits.fits) in
+    let f_le : f ≤ 2 ^ 32 = omega (arith, f_fits.fits) in
     let scales : s * e ≤ 2 ^ 32 * 2 ^ 32 = mul-le-mul s_le e_le in
     let others : f * s ≤ 2 ^ 32 * 2 ^ 32 = mul-le-mul f_le s_le in
     let lasts_le : lasts ≤ 1000000 * (2 ^ 32 * 2 ^ 32) = omega arith in
@@ -25,52 +25,33 @@ small lasts gap s e f short near s_fits e_fits f_fits =
 
 pub overflow_mul-result : goal.overflow_mul-result
 overflow_mul-result c =
-    let s_fits : Fits w32 c.args.start.scale = search rules in
-    let e_fits : Fits w32 c.args.end.scale = search rules in
-    let f_fits : Fits w32 c.args.former.scale = search rules in
     let short = short_lasts c.args.start c.args.end c.lasting-lasts.result c.lasting-lasts.ensures.value c.requires.short in
-    record {
-      fits = omega (
-        arith,
-        c.from-2.ensures,
-        (small c.lasting-lasts.result 0 c.args.start.scale c.args.end.scale c.args.former.scale short
-            (omega arith) s_fits.fits e_fits.fits f_fits.fits).0,
-        ap (λ (n : ℕ). c.lasting-lasts.result * n) c.from-2.ensures,
-      );
-    }
+    let both = small c.lasting-lasts.result 0 c.args.start.scale c.args.end.scale c.args.former.scale short
+    (omega arith) (search rules) (search rules) (search rules) in
+    record { fits = omega (arith, both.0, ap (λ (n : ℕ). c.lasting-lasts.result * n) c.from-2.ensures) }
 
 pub overflow_mul-result-3 : goal.overflow_mul-result-3
 overflow_mul-result-3 c =
-    let s_fits : Fits w32 c.args.start.scale = search rules in
-    let e_fits : Fits w32 c.args.end.scale = search rules in
-    let f_fits : Fits w32 c.args.former.scale = search rules in
     let short = short_lasts c.args.start c.args.end c.lasting-lasts.result c.lasting-lasts.ensures.value c.requires.short in
     let near : c.unsigned_abs-gap.result ≤ 1000000 * (c.args.former.scale * c.args.start.scale) =
     omega (arith, c.if-from-scales.false, ap (λ (n : ℕ). n * c.scales.result) c.from.ensures, c.scales.ensures.value) in
-    record {
-      fits = omega (
-        arith,
-        (small c.lasting-lasts.result c.unsigned_abs-gap.result c.args.start.scale c.args.end.scale
-            c.args.former.scale short near s_fits.fits e_fits.fits f_fits.fits).1,
-        ap (λ (n : ℕ). 2 * c.unsigned_abs-gap.result * n) c.from-3.ensures,
-      );
-    }
+    let both = small c.lasting-lasts.result c.unsigned_abs-gap.result c.args.start.scale c.args.end.scale c.args.former.scale short near
+    (search rules) (search rules) (search rules) in
+    record { fits = omega (arith, both.1, ap (λ (n : ℕ). 2 * c.unsigned_abs-gap.result * n) c.from-3.ensures) }
 
 pub returns : goal.returns
 returns c =
     let fits : SFits w128 c.between.result = search rules in
     let is = gap_is c.between.result _ c.unsigned_abs-gap.result fits c.between.ensures.value c.unsigned_abs-gap.ensures.value in
-    rw (c.from-2.ensures, c.from-3.ensures) (sym
-    (is_apart_span c.args.start c.args.end c.lasting-lasts.result c.lasting-lasts.ensures.value c.args.former c.unsigned_abs-gap.result
-    is))
+    rw (c.from-2.ensures, c.from-3.ensures) (sym (is_apart_span c.args.start c.args.end c.lasting-lasts.result
+    c.lasting-lasts.ensures.value c.args.former c.unsigned_abs-gap.result is))
 
 pub returns-then-from-scales : goal.returns-then-from-scales
 returns-then-from-scales c =
     let fits : SFits w128 c.between.result = search rules in
     let is = gap_is c.between.result _ c.unsigned_abs-gap.result fits c.between.ensures.value c.unsigned_abs-gap.ensures.value in
-    let far : 1000000 * (c.args.former.scale * c.args.start.scale) < c.unsigned_abs-gap.result =
-    omega (arith, c.if-from-scales.true, ap (λ (n : ℕ). n * c.scales.result) c.from.ensures, c.scales.ensures.value) in
-    sym (is_apart_span c.args.start c.args.end c.lasting-lasts.result c.lasting-lasts.ensures.value c.args.former c.unsigned_abs-gap.result
-    is
-    ∙ far_apart c.args.start c.args.end c.lasting-lasts.result c.lasting-lasts.ensures.value c.args.former c.unsigned_abs-gap.result
-    (short_lasts c.args.start c.args.end c.lasting-lasts.result c.lasting-lasts.ensures.value c.requires.short) far)
+    let lasts = c.lasting-lasts.ensures.value in
+    sym (is_apart_span c.args.start c.args.end c.lasting-lasts.result lasts c.args.former c.unsigned_abs-gap.result is
+    ∙ far_apart c.args.start c.args.end c.lasting-lasts.result lasts c.args.former c.unsigned_abs-gap.result
+    (short_lasts c.args.start c.args.end c.lasting-lasts.result lasts c.requires.short)
+    (omega (arith, c.if-from-scales.true, ap (λ (n : ℕ). n * c.scales.result) c.from.ensures, c.scales.ensures.value)))

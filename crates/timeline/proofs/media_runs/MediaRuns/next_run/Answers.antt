@@ -5,9 +5,8 @@ use Rattle.timeline.proofs.media_runs.MediaRuns.next_run.Goals as goal
 pub returns : goal.returns
 returns c =
     let some : 0 < c.args.entry.now.d = omega (arith, c.if-entry-eq0.false) in
-    let product : c.in-Count.count * c.from-2.result ≡ c.in-Count.count * c.args.entry.now.d =
-    ap (λ (n : ℕ). c.in-Count.count * n) c.from-2.ensures in
-    let lasts : c.in_ok-lasts.lasts ≡ c.in-Count.count * c.args.entry.now.d = omega (arith, c.in_ok-lasts.ensures, product) in
+    let lasts : c.in_ok-lasts.lasts ≡ c.in-Count.count * c.args.entry.now.d =
+    omega (arith, c.in_ok-lasts.ensures, ap (λ (n : ℕ). c.in-Count.count * n) c.from-2.ensures) in
     let late = c.ends_late.ensures c.if-ends_late.false in
     let joined = c.is_apart.ensures c.if-is_apart.false in
     let found = c.in-Count.ensures in

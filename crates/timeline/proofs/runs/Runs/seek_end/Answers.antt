@@ -4,8 +4,6 @@ use Rattle.timeline.proofs.RunsLemmas.{seek_end_is}
 use Rattle.timeline.proofs.runs.Runs.seek_end.Goals as goal
 
 pub returns : goal.returns
-returns c = λ window is_window is_reached.
-    rw (c.at.ensures, c.place.ensures)
-    (seek_end_is c.self.inside c.self.invariant c.args.self.now c.self.view_is window is_window is_reached c.tick.result
-    (time_of c.args.end)
+returns c = λ window is_window is_reached. rw (c.at.ensures, c.place.ensures)
+    (seek_end_is c.self.invariant c.self.view_is window is_window is_reached c.tick.result (time_of c.args.end)
     (λ end near. ap (λ (t : Time). at_most end t) c.tick.ensures))
