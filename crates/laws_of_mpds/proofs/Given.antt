@@ -1,6 +1,7 @@
 -- What the tracks of a finished presentation have in its sections.
-use Rattle.std.proofs.Common.{◌≡◌, ℕ, ◌+◌, ◌*◌, ◌<◌, List, [], ◌∷◌, length, map, Option, Some, None, option_map, refl, sym, ◌∙◌, ap, ap₂}
-use Rattle.std.proofs.{Common.{arith, inl, inr}, Math.Nat.mul-le-mul_left, lemmas.Option.slice_get_cases}
+use Rattle.std.proofs.Common.{◌≡◌, ℕ, ◌+◌, ◌*◌, ◌^◌, ◌<◌, ◌&&◌, nat_lt, true, List, [], ◌∷◌, length, map, Option, Some, None, option_map}
+use Rattle.std.proofs.{Common.{refl, sym, ◌∙◌, ap, ap₂, arith, inl, inr}, Math.Nat.mul-le-mul_left, lemmas.Bool.Decides.nat_tests}
+use Rattle.std.proofs.lemmas.Option.{slice_get_cases}
 use Rattle.std.specs.{Prelude.option_to_list, List.AllByRecursion, Option.option_map_or}
 use Rattle.url_parts.specs.declared.address.Part.{Part}
 use Rattle.mpd_text.proofs.HoldingLemmas.{All-at}
@@ -84,6 +85,9 @@ has_list p s k finished has =
           ∙ ap Some (told_is c plain);
     }
 
+pub ticks_counted : (ticks first : ℕ) → 0 < ticks → first < 2 ^ 63 → (nat_lt 0 ticks && nat_lt first (2 ^ 63)) ≡ true
+ticks_counted ticks first some few = grind (arith, nat_tests)
+
 means : (p : Presented) (s k : ℕ) → p.following ≡ None → HasPlain p s k → Means p (segment_lists p) (told_at p) s k
 means p s k finished has =
     let c = has.0 in
@@ -91,6 +95,7 @@ means p s k finished has =
     record {
       segments = told_of c.runs c.initialization (listed_in whole_window c.runs);
       tells = ap (option_map (λ (c : Content). told_of c.runs c.initialization (listed_in whole_window c.runs))) has.1;
+      counted = ticks_counted c.runs.ticks 1 has.2.positive (omega arith);
       has = has_list p s k finished has;
       entry = λ url end d bases. contents_are_meant c url end d has.2 bases ∙ sym entry_is;
     }

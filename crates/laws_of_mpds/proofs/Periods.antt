@@ -2,8 +2,8 @@
 use Rattle.mpd_profile.specs.declared.listed.Listed.TheVariants as listed
 use Rattle.presentation.specs.Rows as row
 use Rattle.std.proofs.Common.{◌≡◌, ℕ, ◌+◌, ◌<◌, ◌≤◌, ℤ, true, false, List, [], ◌∷◌, ◌++◌, length, map, filter, codes, Option, Some, None}
-use Rattle.std.proofs.Common.{unwrap_or, refl, sym, ◌∙◌, ap, ap₂, arith}
-use Rattle.std.specs.{List.range_with_len, Option.option_map_or}
+use Rattle.std.proofs.{Common.{◌&&◌, Bool, unwrap_or, refl, sym, ◌∙◌, ap, ap₂, arith}, lemmas.Bool.cond-true}
+use Rattle.std.specs.{List.{list_all, range_with_len}, Option.option_map_or}
 use Rattle.bridge_io.specs.declared.place.Place.{Place}
 use Rattle.timeline.specs.{declared.entry.End.End, declared.entry.End.TheVariants.Unbounded}
 use Rattle.mpd_text.specs.{Trees.Element, Grammar.past, Views.side_by_side}
@@ -15,7 +15,7 @@ use Rattle.mpd_rules.specs.{Rules.dash_values, Typed.{facts_of, period_of, track
 use Rattle.presentation.specs.{declared.track.Track.Track, declared.track.Section.Section, Presented.{Presented, whole_window, window_at}}
 use Rattle.presentation.specs.{Rows.{Row, first_rows}, Told.{end_of, following_of, untold}, Meanings.{content_meant, content_of_row}}
 use Rattle.presentation.specs.Meanings.{entry_at, entry_of, head_of, head_of_row, head_with, meaning_of, meaning_with, mpd_meaning, row_at}
-use Rattle.presentation.specs.Meanings.{row_meant}
+use Rattle.presentation.specs.Meanings.{are_counted, is_counted, meaning_if_counted, period_counted, row_counted, row_meant}
 use Rattle.mpd_markup.specs.{Markup.opening, Placed.{placed, root_place}}
 use Rattle.dash_writer.specs.{Elements.{Element as Written, in_order, tag_of}, Manifest.{all_period_attributes, period_attributes}}
 use Rattle.dash_writer.specs.{Manifest.root_attributes, Outline.{Outline, period_element, period_elements, root_element}}
@@ -24,6 +24,9 @@ use Rattle.laws_of_mpds.proofs.{Orders.in_order_already, Representations.{Has, H
 use Rattle.laws_of_mpds.proofs.Views.{no_base, value_read}
 
 -- ---- what is told by what counts of Representations
+
+both : (a b : Bool) → a ≡ true → b ≡ true → (a && b) ≡ true
+both a b first second = cc
 
 map_map : {X Y Z : Type 0} (f : Y → Z) (g : X → Y) (xs : List X) → map f (map g xs) ≡ map (λ x. f (g x)) xs
 map_map f g [] = refl
@@ -66,6 +69,7 @@ pub record Means (p : Presented) (lists : (section track : ℕ) → List Written
     → Option Segments) (s k : ℕ) : Type 0 where
   pub segments : Segments
   pub tells : told s k ≡ Some segments
+  pub counted : is_counted segments ≡ true
   pub has : Has (lists s) (told s) k
   pub entry : (url : List ℕ) (end : End) (d : Description) → d.bases ≡ []
       → entry_of whole_window (content_meant url end d segments) ≡ entry_at p s k
@@ -91,6 +95,21 @@ module _ (p : Presented) (lists : (section track : ℕ) → List Written) (told 
       ap₂ (λ k l. record { kind = k; language = l; entry = entry_of whole_window (content_of_row url end r) })
       (ap (λ (x : ShownTrack). x.kind) shown) (ap (λ (x : ShownTrack). x.language) shown)
       ∙ ap (λ e. record { kind = track.kind; language = track.language; entry = e }) entry
+
+  row_is_counted : (r : Row) (s k : ℕ) (track : Track) → Means p lists told s k
+      → shown_row r ≡ record { kind = track.kind; language = track.language; bases = []; segments = told s k } → row_counted r ≡ true
+  row_is_counted r s k track m shown =
+      ap (λ t. is_counted (unwrap_or t untold)) (ap (λ (x : ShownTrack). x.segments) shown ∙ m.tells) ∙ m.counted
+
+  rows_counted : (rows : List Row) (s k : ℕ) (tracks : List Track) → s < length p.sections → k + length tracks ≤ length p.tracks
+      → map shown_row rows ≡ shown_tracks (told s) k tracks → list_all row_counted rows ≡ true
+  rows_counted [] s k tracks within few shown = refl
+  rows_counted (r ∷ rows) s k [] within few shown = absurd (cc)
+  rows_counted (r ∷ rows) s k (track ∷ tracks) within few shown =
+      let here : shown_row r ≡ record { kind = track.kind; language = track.language; bases = []; segments = told s k } = cc in
+      let later : map shown_row rows ≡ shown_tracks (told s) (k + 1) tracks = cc in
+      let first = row_is_counted r s k track (w.each s k within (omega (arith, few))) here in
+      rw (first, rows_counted rows s (k + 1) tracks within (omega (arith, few)) later) refl
 
   rows_seen : (url : List ℕ) (end : End) (rows : List Row) (s k : ℕ) (tracks : List Track) → s < length p.sections
       → k + length tracks ≤ length p.tracks → map shown_row rows ≡ shown_tracks (told s) k tracks
@@ -135,6 +154,13 @@ module _ (p : Presented) (lists : (section track : ℕ) → List Written) (told 
       means_section url end s rows (rows_seen url end rows s 0 p.tracks within (omega arith)
       (period_tracks (lists s) (told s) p.tracks (period_attributes s section) mpd here bare has))
 
+  period_is_counted : (s : ℕ) (section : Section) (mpd : Element) (here : Place) → s < length p.sections → base_reference mpd ≡ None
+      → list_all row_counted (map (track_of segments_of) (paths_of mpd (read_at here (period_at s section)))) ≡ true
+  period_is_counted s section mpd here within bare =
+      let has : HasAll (lists s) (told s) 0 (length p.tracks) = λ i from below. (w.each s i within (omega (arith, below))).has in
+      rows_counted (map (track_of segments_of) (paths_of mpd (read_at here (period_at s section)))) s 0 p.tracks within (omega arith)
+      (period_tracks (lists s) (told s) p.tracks (period_attributes s section) mpd here bare has)
+
   -- no window is looked through where the MPD isn't dynamic
   window_whole : (facts : Facts) (now : Option ℤ) (start : ℕ) → facts.live ≡ false
       → option_map_or (λ f. window_at f start) (following_of facts now) whole_window ≡ whole_window
@@ -167,6 +193,15 @@ module _ (p : Presented) (lists : (section track : ℕ) → List Written) (told 
       (row_means url facts now s section mpd (past here (codes "\n")) _ still (omega (arith, within)) bare)
       (rows_mean url facts now (s + 1) sections mpd (behind here (period_at s section)) total _ still (omega (arith, within)) bare)
 
+  all_counted : (s : ℕ) (sections : List Section) (mpd : Element) (here : Place) (total default : Option ℕ)
+      → s + length sections ≤ length p.sections → base_reference mpd ≡ None
+      → list_all period_counted (map (period_of segments_of mpd) (map timed_of (bounds_from total default
+      (filter (is_kept listed.Period (codes "Period") mpd.head) (side_by_side (placed here (in_order (periods_at s sections)))))))) ≡ true
+  all_counted s [] mpd here total default within bare = refl
+  all_counted s (section ∷ sections) mpd here total default within bare =
+      both _ _ (period_is_counted s section mpd (past here (codes "\n")) (omega (arith, within)) bare)
+      (all_counted (s + 1) sections mpd (behind here (period_at s section)) total _ (omega (arith, within)) bare)
+
   heads_mean : (sections : List Section) (mpd : Element) (here : Place) (total default : Option ℕ) → 0 < length sections
       → length sections ≡ length p.sections → base_reference mpd ≡ None
       → map head_of_row (row.in_order (first_rows (map (period_of segments_of mpd) (map timed_of (bounds_from total default
@@ -180,7 +215,7 @@ module _ (p : Presented) (lists : (section track : ℕ) → List Written) (told 
   -- ---- the whole
 
   pub outline_means : (url : List ℕ) (now : Option ℤ)
-      → mpd_meaning (dash_values (read_at root_place (root_element (outline_with p lists)))) url now ≡ meaning_of p
+      → meaning_if_counted (dash_values (read_at root_place (root_element (outline_with p lists)))) url now ≡ Some (meaning_of p)
   unfolding mpd_meaning dash_values meaning_of
   outline_means url now =
       let root = read_at root_place (root_element (outline_with p lists)) in
@@ -191,7 +226,9 @@ module _ (p : Presented) (lists : (section track : ℕ) → List Written) (told 
       let static : (facts_of root.head).live ≡ false =
       ap (is_word (codes "dynamic")) (value_read (codes "type") (root_attributes p.sections) (past root_place (codes "<"
       ++ codes "MPD"))) in
-      ap₂ meaning_with
+      let counted = all_counted 0 p.sections root inside (total_of root.head) (first_start root.head) (omega arith) bare in
+      cond-true (are_counted (dash_values root)) (Some (mpd_meaning (dash_values root) url now)) None counted
+      ∙ ap Some (ap₂ meaning_with
       (heads_mean p.sections root inside (total_of root.head) (first_start root.head) w.some refl bare)
       (rows_mean url (facts_of root.head) now 0 p.sections root inside (total_of root.head) (first_start root.head) static
-      (omega arith) bare)
+      (omega arith) bare))

@@ -1,9 +1,9 @@
 -- The text of a written MPD means what its presentation means.
-use Rattle.std.proofs.Common.{ℕ, ◌+◌, ◌<◌, List, [], ◌∷◌, length, codes, Some, None, option_map, refl, sym, ◌∙◌, ap, subst, arith}
-use Rattle.std.specs.{List.AllByRecursion, Result.result_ok}
+use Rattle.std.proofs.Common.{ℕ, ◌+◌, ◌<◌, List, [], ◌∷◌, length, codes, None, refl, sym, ◌∙◌, ap, subst, arith}
+use Rattle.std.specs.{Prelude.option_and_then, List.AllByRecursion, Result.result_ok}
 use Rattle.iso_time.specs.Duration.{duration_text}
 use Rattle.mpd_text.specs.Characters.{starts_name, goes_on_name}
-use Rattle.presentation.specs.{declared.track.Section.Section, Presented.Presented, Meanings.{dash_meaning, mpd_meaning}}
+use Rattle.presentation.specs.{declared.track.Section.Section, Presented.Presented, Meanings.{dash_meaning, meaning_if_counted}}
 use Rattle.mpd_rules.specs.Rules.{dash_values}
 use Rattle.mpd_markup.specs.Placed.{IsLegalTag, PrintedAreRead}
 use Rattle.dash_writer.specs.{Elements.{Element as Written, tag_of}, Manifest.{all_period_attributes, last_end, manifest_text, outline_of}}
@@ -43,8 +43,8 @@ printable p lists place (section ∷ sections) fine = (
 pub texts_mean : PrintedAreRead → TextsMean
 unfolding dash_meaning manifest_text
 texts_mean printed p url now w told =
-    ap (λ read. option_map (λ tree. mpd_meaning (dash_values tree) url now) (result_ok read))
+    ap (λ read. option_and_then (λ tree. meaning_if_counted (dash_values tree) url now) (result_ok read))
     (printed (root_of p).0 (root_of p).1 (root_legal (outline_of p) (finished_legal (last_end p.sections))
     (printable p (segment_lists p) 0 p.sections (λ s below. fine_lists p s w (omega (arith, below))))
     (by_recursion IsTellable p.tracks told)))
-    ∙ ap Some (trees_mean p url now w)
+    ∙ trees_mean p url now w

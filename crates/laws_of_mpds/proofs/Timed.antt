@@ -4,12 +4,13 @@ use Rattle.std.proofs.{Common.{Option, Some, None, option_map, refl, sym, ◌∙
 use Rattle.std.specs.{Prelude.{decimal, sum, option_and_then, option_to_list}, List.AllByRecursion, Result.result_ok}
 use Rattle.iso_time.specs.Laws.{DurationsAreReadAgain}
 use Rattle.timeline.specs.declared.window.Window.{Window}
-use Rattle.mpd_text.specs.{Trees.Element, Grammar.past, Meaning.reading_of}
+use Rattle.mpd_text.specs.{Grammar.past, Meaning.reading_of}
 use Rattle.mpd_profile.specs.Heads.{is_word}
 use Rattle.mpd_rules.specs.{Readings.instant_in, Rules.dash_values}
 use Rattle.mpd_markup.specs.Placed.{PrintedAreRead, root_place}
 use Rattle.presentation.specs.{declared.parts.Content.Content, declared.track.Section.Section, Presented.{Presented, content_at}}
-use Rattle.presentation.specs.{Presented.{whole_window, window_of}, Meanings.{content_meant, dash_meaning, entry_at, entry_of, mpd_meaning}}
+use Rattle.presentation.specs.{Presented.{whole_window, window_of}, Meanings.{content_meant, dash_meaning, entry_at, entry_of}}
+use Rattle.presentation.specs.Meanings.{meaning_if_counted}
 use Rattle.dash_writer.specs.{Lists.list_with, Manifest.{last_end, period_attributes, root_attributes}, Outline.root_element}
 use Rattle.dash_writer.specs.Timed.{CanBeCounted, lengths, sections_from, timed_list, timed_lists, timed_outline, timed_sections}
 use Rattle.dash_writer.specs.{Timed.timed_text, declared.timed.TickRun.TickRun}
@@ -17,9 +18,9 @@ use Rattle.laws_of_mpds.specs.{Contents.{IsOwnPart, IsPlain, IsPlainFrom}, Meant
 use Rattle.laws_of_mpds.specs.Timed.{AreTimesOf, IsTimed, TimedTextsAreRead, TimedTextsMean, content_with, contents_with, files_of}
 use Rattle.laws_of_mpds.specs.{Timed.{run_told, timed_as, told_in}, Told.{IsShort, list_told, read_at}}
 use Rattle.laws_of_mpds.proofs.{Contents.{parts_are, timed_contents}, Fine.{AreFine, by_recursion, fine_list, finished_legal, root_legal}}
-use Rattle.laws_of_mpds.proofs.{Given.{HasPlain, all_readable, fits, has_plain, window_is}, Legal.IsFine, Live.{at_index, some_at}}
-use Rattle.laws_of_mpds.proofs.{Periods.{AreMeant, Means, outline_means}, Representations.Has, Shown.{AreTold, TellsRoot, outline_shown}}
-use Rattle.laws_of_mpds.proofs.{Texts.printable, Views.value_read}
+use Rattle.laws_of_mpds.proofs.{Given.{HasPlain, all_readable, fits, has_plain, ticks_counted, window_is}, Legal.IsFine, Live.at_index}
+use Rattle.laws_of_mpds.proofs.{Live.some_at, Periods.{AreMeant, Means, outline_means}, Representations.Has, Shown.{AreTold, TellsRoot}}
+use Rattle.laws_of_mpds.proofs.{Shown.outline_shown, Texts.printable, Views.value_read}
 
 -- ---- numbers below a sum of theirs
 
@@ -152,6 +153,7 @@ means p times s k finished h =
     record {
       segments = run_told h.content h.run;
       tells = told_is p times s k finished h;
+      counted = ticks_counted h.run.scale 1 (from_first p times s k finished h).positive (omega arith);
       has = has_list p times s k finished h;
       entry = λ url end d bases.
           (ap (λ first. entry_of whole_window (content_meant url end d (list_told h.run.scale h.run.first first h.content.initialization
@@ -193,14 +195,13 @@ fine_lists p times s w t within i from below =
 -- ---- the text
 
 -- what is told of the tree is told of the text
-of_text : {X : Type 0} (p : Presented) (times : List TickRun) (f : Element → X) → IsWritable p → All IsTellable p.tracks → IsTimed p times
-    → PrintedAreRead
-    → option_map f (result_ok (reading_of (timed_text p times))) ≡ Some (f (read_at root_place (root_element (timed_outline p times))))
+of_text : (p : Presented) (times : List TickRun) → IsWritable p → All IsTellable p.tracks → IsTimed p times → PrintedAreRead
+    → result_ok (reading_of (timed_text p times)) ≡ Some (read_at root_place (root_element (timed_outline p times)))
 unfolding timed_text
-of_text p times f w told t printed =
+of_text p times w told t printed =
     let o = timed_outline p times in
     let count = as_many p times in
-    ap (λ read. option_map f (result_ok read))
+    ap result_ok
     (printed (root_element o).0 (root_element o).1 (root_legal o (finished_legal (last_end (timed_sections p times)))
     (printable (timed_as p times) (timed_lists p times) 0 (timed_sections p times)
     (λ s below. fine_lists p times s w t (omega (arith, count, below)))) (by_recursion IsTellable p.tracks told)))
@@ -208,8 +209,8 @@ of_text p times f w told t printed =
 pub texts_mean : PrintedAreRead → TimedTextsMean
 unfolding dash_meaning
 texts_mean printed p times url now w told t =
-    of_text p times (λ tree. mpd_meaning (dash_values tree) url now) w told t printed
-    ∙ ap Some (outline_means (timed_as p times) (timed_lists p times) (told_in p times) (are_meant p times w t) url now)
+    ap (option_and_then (λ tree. meaning_if_counted (dash_values tree) url now)) (of_text p times w told t printed)
+    ∙ outline_means (timed_as p times) (timed_lists p times) (told_in p times) (are_meant p times w t) url now
 
 -- ---- what the text says
 
@@ -246,6 +247,6 @@ texts_read printed durations p times w told t =
     let ns = lengths (length p.tracks) (length p.sections) times in
     let count = lengths_count (length p.tracks) (length p.sections) times in
     let total = t.can.total in
-    of_text p times (λ tree. shown_of (dash_values tree)) w told t printed
+    ap (option_map (λ tree. shown_of (dash_values tree))) (of_text p times w told t printed)
     ∙ ap Some (outline_shown durations period_attributes id_of start_of (told_in p times) o (timed_sections p times) false None None refl
     (tells_root p times) (are_told p times 0 0 ns w t (omega (arith, count)) (omega (arith, total))))

@@ -1,11 +1,11 @@
 -- What a written MPD means is what its presentation means.
-use Rattle.std.specs.Prelude.{◌≡◌, ℕ, ◌+◌, ◌<◌, ℤ, Bool, true, false, List, [], ◌∷◌, length, map, All, Option, None}
+use Rattle.std.specs.Prelude.{◌≡◌, ℕ, ◌+◌, ◌<◌, ℤ, Bool, true, false, List, [], ◌∷◌, length, map, All, Option, Some, None}
 use Rattle.bridge_io.specs.{declared.media.Kind.Kind, declared.media.Kind.TheVariants.{Video, Audio, Text}}
 use Rattle.meaning.specs.Meanings.{Entry}
 use Rattle.timeline.specs.declared.entry.End.{End}
 use Rattle.mpd_rules.specs.Rules.{dash_values}
 use Rattle.presentation.specs.{declared.track.Track.Track, Presented.{Presented, AreFilled, whole_window}, Meanings.content_of_row}
-use Rattle.presentation.specs.{Meanings.{entry_at, entry_of, meaning_of, mpd_meaning}, Rows.Row}
+use Rattle.presentation.specs.{Meanings.{entry_at, entry_of, meaning_if_counted, meaning_of}, Rows.Row}
 use Rattle.mpd_markup.specs.Placed.{root_place}
 use Rattle.dash_writer.specs.Manifest.{root_of}
 use Rattle.laws_of_mpds.specs.{Told.read_at, Contents.IsPlain}
@@ -61,4 +61,4 @@ pub record IsWritable (p : Presented) : Type 0 where
 -- at any URL and instant
 abbrev pub TreesMean : Type 0
 TreesMean = (p : Presented) (url : List ℕ) (now : Option ℤ) → IsWritable p
-    → mpd_meaning (dash_values (read_at root_place (root_of p))) url now ≡ meaning_of p
+    → meaning_if_counted (dash_values (read_at root_place (root_of p))) url now ≡ Some (meaning_of p)

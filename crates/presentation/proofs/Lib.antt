@@ -32,3 +32,4 @@ pub mod WholeWindow
 pub mod Static
 pub mod OwnListed
 pub mod Listable
+mod Countable

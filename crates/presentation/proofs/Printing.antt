@@ -68,12 +68,6 @@ pub paced_next : (old new : Rest) (made : Made) (r : Rounding) → IsMade old ma
 paced_next old new made r made_is paced = let rising = rw made_is.next at paced.rising in let near = rw made_is.next at paced.near in
     record { rising = rising.2; near = near.1 }
 
-pub paced_passed : (old new : Rest) (times : Timing) (r : Rounding) → IsPassedBefore old times new → IsPaced old r
-    → IsPaced new (record r { former = times.end })
-paced_passed old new times r passed_is paced = let rising = rw passed_is.next at paced.rising in
-    let near = rw passed_is.next at paced.near in
-    record { rising = rising.2; near = near.1 }
-
 pub floors_of : (unit : ℕ) (begin : Time) (xs : List Timing) → map (λ x. floor_in unit (difference x.end begin)) xs
     ≡ map (λ end. floor_in unit (difference end begin)) (ends_of xs)
 floors_of unit begin [] = refl

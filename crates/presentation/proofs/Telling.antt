@@ -1,23 +1,24 @@
 -- The presentation of an MPD means what the MPD means.
 use Rattle.std.proofs.Common.{◌≡◌, ℕ, ◌+◌, ◌*◌, ◌<◌, ℤ, Bool, List, [], ◌∷◌, ◌++◌, flat_map, length, map, slice_get, get_or, All, Option}
-use Rattle.std.proofs.{Common.{Some, option_map, Result, Ok, refl, sym, ◌∙◌, ap, subst, zero-add}, lemmas.List.length-map}
-use Rattle.std.proofs.{lemmas.List.Concat.{flat_map_single, flat_map-cons}, lemmas.List.FromFn.length-map-range_with_len}
-use Rattle.std.proofs.lemmas.Option.{slice_get-map}
+use Rattle.std.proofs.{Common.{Some, None, option_map, Result, Ok, refl, sym, ◌∙◌, ap, subst, zero-add}, lemmas.Bool.cond-true}
+use Rattle.std.proofs.{lemmas.List.length-map, lemmas.List.Concat.{flat_map_single, flat_map-cons}}
+use Rattle.std.proofs.{lemmas.List.FromFn.length-map-range_with_len, lemmas.Option.slice_get-map}
 use Rattle.std.specs.{Prelude.{is_some, option_and_then}, Option.option_map_or, Result.result_ok}
 use Rattle.bridge_io.proofs.AndThen.{steps_of}
 use Rattle.meaning.specs.Meanings.{Entry}
 use Rattle.timeline.specs.declared.entry.End.{End}
 use Rattle.mpd_levels.specs.Segments.{Segments}
-use Rattle.mpd_profile.specs.declared.fault.RuleFault.{RuleFault}
-use Rattle.mpd_rules.specs.{Rules.{all_refusals, dash_values, typed_mpd_of, unless_refused}, Typed.TypedMpd}
+use Rattle.mpd_rules.specs.{Rules.{all_refusals, dash_values, typed_mpd_of}, Typed.TypedMpd}
 use Rattle.presentation.specs.{declared.told.PeriodContent.PeriodContent, Presented.{Presented, content_at, start_of, window_at, window_of}}
 use Rattle.presentation.specs.{Presented.whole_window, Rows.{Row, Period, first_rows, in_order, section_of, track_of}, Told.all_told}
 use Rattle.presentation.specs.Told.{content_of, differ_told, end_of, following_of, gathered, needs_now, one_told, over_told, period_told}
 use Rattle.presentation.specs.{Told.{presented_with, segments_in, told_in_order, told_of}, Meanings.{content_of_row, entry_at, entry_of}}
-use Rattle.presentation.specs.Meanings.{head_of, head_of_row, meaning_of, meaning_with, dash_meaning, mpd_meaning, row_at, row_meant}
-use Rattle.presentation.specs.{Meanings.{rows_of, window_in}, MeaningLaws.{PresentedAreMeant, TextsAreMeant}}
-use Rattle.presentation.proofs.{Allowed.each_at, Ending.{all_as_long, none_behind}, Filling.length_in_order, FromMpd.is_told, Grids.All-at}
-use Rattle.presentation.proofs.{Grids.{by_kind_made, found, in_row, same_members}, Meant.content_is}
+use Rattle.presentation.specs.Meanings.{are_counted, head_of, head_of_row, meaning_if_counted, meaning_of, meaning_with, dash_meaning}
+use Rattle.presentation.specs.{Meanings.{mpd_meaning, row_at, row_meant, rows_of, window_in}, MeaningLaws.PresentedAreMeant}
+use Rattle.presentation.specs.MeaningLaws.{TextsAreMeant}
+use Rattle.presentation.proofs.{Countable.{typed_are_counted, values_are}, Allowed.each_at, Ending.{all_as_long, none_behind}}
+use Rattle.presentation.proofs.{Filling.length_in_order, FromMpd.is_told, Grids.{All-at, by_kind_made, found, in_row, same_members}}
+use Rattle.presentation.proofs.Meant.{content_is}
 
 -- ---- what is told, Representation by Representation
 
@@ -72,10 +73,6 @@ module _ (url : List ℕ) (live : Bool) where
 map_twice : {X Y Z : Type 0} (g : Y → Z) (f : X → Y) (xs : List X) → map g (map f xs) ≡ map (λ x. g (f x)) xs
 map_twice g f [] = refl
 map_twice g f (x ∷ xs) = ap (λ zs. g (f x) ∷ zs) (map_twice g f xs)
-
-values_are : {X : Type 0} (faults : List RuleFault) (x y : X) → unless_refused faults x ≡ Ok y → x ≡ y
-values_are [] x y is = cc
-values_are (fault ∷ faults) x y is = absurd (cc)
 
 module _ (mpd : TypedMpd (Option Segments)) (url : List ℕ) (now : Option ℤ) (tolds : List PeriodContent)
     (told : tolds ≡ flat_map (period_meant url) mpd.periods)
@@ -161,5 +158,7 @@ pub texts_are_meant : TextsAreMeant
 unfolding typed_mpd_of dash_meaning
 texts_are_meant bytes url now tree mpd p read typed is =
     let values : dash_values tree ≡ mpd = values_are (all_refusals tree) (dash_values tree) mpd typed in
-    ap (λ r. option_map (λ tree. mpd_meaning (dash_values tree) url now) (result_ok r)) read
-    ∙ ap (λ values. Some (mpd_meaning values url now)) values ∙ ap Some (presented_are_meant mpd url now p is)
+    ap (λ r. option_and_then (λ tree. meaning_if_counted (dash_values tree) url now) (result_ok r)) read
+    ∙ ap (λ values. meaning_if_counted values url now) values
+    ∙ cond-true (are_counted mpd) (Some (mpd_meaning mpd url now)) None (typed_are_counted tree mpd typed)
+    ∙ ap Some (presented_are_meant mpd url now p is)

@@ -1,9 +1,9 @@
 -- What a presentation means (ISO/IEC 23009-1, 5.3), and what an MPD means at its URL and an instant, without any limit,
 -- and without bounds on numbers and on the length of addresses.
 use Rattle.timeline.specs.declared.names.Names.TheVariants as names
-use Rattle.std.specs.Prelude.{ℕ, ℤ, ◌+◌, ◌-◌, max, Bool, List, [], ◌∷◌, map, filter, length, slice_get, is_some, Option, Some, None}
-use Rattle.std.specs.{Prelude.{option_and_then, option_map, unwrap_or, Ok, Err, if◌then◌else◌}, List.list_any, Result.result_ok}
-use Rattle.std.specs.Option.{option_map_or}
+use Rattle.std.specs.Prelude.{ℕ, ℤ, ◌+◌, ◌-◌, ◌^◌, ◌&&◌, nat_lt, max, Bool, List, [], ◌∷◌, map, filter, length, slice_get, is_some, Option}
+use Rattle.std.specs.{Prelude.{Some, None, option_and_then, unwrap_or, Ok, Err, if◌then◌else◌}, List.{list_all, list_any}}
+use Rattle.std.specs.{Option.option_map_or, Result.result_ok}
 use Rattle.url.specs.{Parser.{Parsed, parse_url}, Parts.Parts}
 use Rattle.bridge_io.specs.{declared.media.Kind.Kind, declared.media.Kind.TheVariants.{Video, Audio, Text}}
 use Rattle.url_parts.specs.{Addresses.{is_absolute, text_of, url_of}, declared.address.Part.Part}
@@ -134,8 +134,7 @@ meaning_of p = meaning_with (map head_of p.tracks) (rows_of p)
 
 -- ---- what an MPD means
 
--- A timeline wins over a duration (5.3.9.2). No rule of an MPD lets through a timescale of 0 or a number of 2^63 or more,
--- which count as 1 and 2^63 - 1.
+-- a timeline wins over a duration (5.3.9.2)
 abbrev pub timeline_by : Option (List SView) → Segments → End → Names → SegmentTimeline
 timeline_by (Some timeline) s end names = timeline_from (scale_of s) s.time_offset names
     (expansion_of_timeline (scale_of s) end (entries_of timeline))
@@ -170,6 +169,23 @@ head_of_row row = head_with row.description.kind row.description.language
 unfoldable pub mpd_meaning : TypedMpd (Option Segments) → (url : List ℕ) → (now : Option ℤ) → Meaning
 mpd_meaning mpd url now = meaning_with (map head_of_row (in_order (first_rows mpd.periods))) (map (row_meant url mpd.facts now) mpd.periods)
 
--- What the text of an MPD means at its URL and an instant. Only what isn't the text of a tree means nothing.
+-- its segments can be counted and numbered: no time is counted in ticks of which there are none in a second
+abbrev pub is_counted : Segments → Bool
+is_counted s = nat_lt 0 s.timescale && nat_lt s.start_number (2 ^ 63)
+
+abbrev pub row_counted : Row → Bool
+row_counted row = is_counted (segments_in row)
+
+abbrev pub period_counted : Period → Bool
+period_counted period = list_all row_counted period.tracks
+
+abbrev pub are_counted : TypedMpd (Option Segments) → Bool
+are_counted mpd = list_all period_counted mpd.periods
+
+abbrev pub meaning_if_counted : TypedMpd (Option Segments) → (url : List ℕ) → (now : Option ℤ) → Option Meaning
+meaning_if_counted mpd url now = if are_counted mpd then Some (mpd_meaning mpd url now) else None
+
+-- What the text of an MPD means at its URL and an instant. What isn't the text of a tree means nothing, nor does an MPD with a
+-- timescale of 0 or a start number of 2^63 or more.
 unfoldable pub dash_meaning : (bytes url : List ℕ) → (now : Option ℤ) → Option Meaning
-dash_meaning bytes url now = option_map (λ tree. mpd_meaning (dash_values tree) url now) (result_ok (reading_of bytes))
+dash_meaning bytes url now = option_and_then (λ tree. meaning_if_counted (dash_values tree) url now) (result_ok (reading_of bytes))
