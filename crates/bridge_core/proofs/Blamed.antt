@@ -4,92 +4,22 @@ use Rattle.bridge_jobs.specs.declared.jobs.Job.TheVariants as job
 use Rattle.bridge_courses.specs.declared.ending.Ending.TheVariants as ending
 use Rattle.bridge_courses.specs.declared.status.Status.TheVariants as status
 use Rattle.bridge_courses.specs.declared.status.Verdict.TheVariants as verdict
-use Rattle.std.proofs.Common.{◌≡◌, ◌⊎◌, ℕ, ℤ, ◌≤◌, List, Option, None, Some, option_map, inl, inr, refl, subst, arith}
+use Rattle.std.proofs.Common.{◌≡◌, ℕ, ℤ, ◌≤◌, List, Option, None, Some, option_map, inl, inr, refl, subst, arith}
 use Rattle.bridge_io.specs.{Fault.Rose, Outside.Files}
 use Rattle.bridge_jobs.specs.declared.jobs.Job.{Job}
-use Rattle.bridge_courses.specs.{declared.ending.Ending.Ending, Courses.World, declared.status.Status.Status, Executions.NeverFalls}
-use Rattle.bridge_courses.specs.{Executions.{TellsAs, status_of}, Steps.IsCaused}
-use Rattle.bridge_courses.proofs.Statuses.{no_fault, rose_later}
+use Rattle.bridge_courses.specs.{declared.ending.Ending.Ending, Courses.World, declared.status.Status.Status, Executions.TellsAs}
+use Rattle.bridge_courses.specs.Executions.{status_of}
+use Rattle.bridge_courses.proofs.Statuses.{rose_later}
 use Rattle.bridge_report.specs.Outcomes.{Outcome, course_by}
 use Rattle.bridge_steps.specs.Endings.{JobEndsAs}
 use Rattle.bridge_steps.proofs.Works.{met}
-use Rattle.bridge_reach.specs.Rounds.{IsCausedByEither}
 use Rattle.bridge_core.specs.Courses.{Follows, IsBlamed, ReadRose, ReadsInputAlone, WritesNoPlaylists, WritesNothing, course_of_job}
 use Rattle.bridge_core.specs.Courses.{outcome_of_job}
 
 -- ---- of a job that follows
 
-caused_read : (told : Ending) (before after : World) → IsCaused told before after → status_of told ≡ status.ReadFault
-    → Rose before.input_faults after.input_faults
-caused_read (ending.Ended v line) before after caused is = absurd (no_fault v status.ReadFault refl is)
-caused_read ending.Words before after caused is = absurd caused
-caused_read ending.ReadFault before after caused is = caused
-caused_read ending.WriteFault before after caused is = absurd (cc)
-caused_read ending.Memory before after caused is = absurd (cc)
-caused_read (ending.Cut fail.Failed) before after caused is = absurd (cc)
-caused_read (ending.Cut fail.Memory) before after caused is = absurd (cc)
-
-caused_write : (told : Ending) (before after : World) → IsCaused told before after → status_of told ≡ status.WriteFault
-    → Rose before.write_faults after.write_faults ⊎ Rose before.report_faults after.report_faults
-caused_write (ending.Ended v line) before after caused is = absurd (no_fault v status.WriteFault refl is)
-caused_write ending.Words before after caused is = absurd caused
-caused_write ending.ReadFault before after caused is = absurd (cc)
-caused_write ending.WriteFault before after caused is = inl caused
-caused_write ending.Memory before after caused is = absurd (cc)
-caused_write (ending.Cut fail.Failed) before after caused is = inr caused
-caused_write (ending.Cut fail.Memory) before after caused is = absurd (cc)
-
-caused_words : (told : Ending) (before after : World) → IsCaused told before after → status_of told ≡ status.Words → ⊥
-caused_words (ending.Ended verdict.Done line) before after caused is = absurd (cc)
-caused_words (ending.Ended verdict.Refused line) before after caused is = absurd (cc)
-caused_words (ending.Ended verdict.Words line) before after caused is = caused refl
-caused_words (ending.Ended verdict.Differ line) before after caused is = absurd (cc)
-caused_words ending.Words before after caused is = caused
-caused_words ending.ReadFault before after caused is = absurd (cc)
-caused_words ending.WriteFault before after caused is = absurd (cc)
-caused_words ending.Memory before after caused is = absurd (cc)
-caused_words (ending.Cut fail.Failed) before after caused is = absurd (cc)
-caused_words (ending.Cut fail.Memory) before after caused is = absurd (cc)
-
-pub follow_blamed : (name base out : List ℕ) (digits : ℕ) (told : Ending) (before after : World) → IsCaused told before after
-    → NeverFalls before after → IsBlamed (Some (job.Follow name base out digits)) told before after
-follow_blamed name base out digits told before after caused falls = record {
-  read_fault = caused_read told before after caused;
-  write_fault = caused_write told before after caused;
-  words = λ is. absurd (caused_words told before after caused is);
-  report = falls.report;
-}
-
--- of one that follows playlists reading either may have failed
-either_caused : (told : Ending) (before after : World) → IsCausedByEither told before after → IsCaused told before after
-    ⊎ ((told ≡ ending.ReadFault) × (Rose before.input_faults after.input_faults ⊎ Rose before.read_faults after.read_faults))
-either_caused (ending.Ended v line) before after caused = inl caused
-either_caused ending.Words before after caused = inl caused
-either_caused ending.ReadFault before after caused = inr (refl, caused)
-either_caused ending.WriteFault before after caused = inl caused
-either_caused ending.Memory before after caused = inl caused
-either_caused (ending.Cut fail) before after caused = inl caused
-
 no_other : (told : Ending) (other : Status) → told ≡ ending.ReadFault → status_of told ≡ other → status.ReadFault ≡ other
 no_other told other is ends = subst (λ (t : Ending). status_of t ≡ other) is ends
-
-pub rounds_blamed : (master base out : List ℕ) (told : Ending) (before after : World) → IsCausedByEither told before after
-    → NeverFalls before after → IsBlamed (Some (job.FollowHls master base out)) told before after
-rounds_blamed master base out told before after caused falls = let causes = either_caused told before after caused in record {
-  read_fault = λ is. elim causes [
-    | inl one ↦ inl (caused_read told before after one is)
-    | inr either ↦ either.1
-  ];
-  write_fault = λ is. elim causes [
-    | inl one ↦ caused_write told before after one is
-    | inr either ↦ absurd (let e = no_other told status.WriteFault either.0 is in (cc))
-  ];
-  words = λ is. elim causes [
-    | inl one ↦ absurd (caused_words told before after one is)
-    | inr either ↦ absurd (let e = no_other told status.Words either.0 is in (cc))
-  ];
-  report = falls.report;
-}
 
 -- ---- of any other job
 

@@ -50,5 +50,6 @@ set_text side seed = set_head side ++ runs_text side seed 200 ++ set_tail side
 -- a static MPD of one Period with a set of video and a set of audio
 unfoldable pub source_text : (seed : ℕ) → List ℕ
 source_text seed =
-    codes "<MPD xmlns=\"urn:mpeg:dash:schema:mpd:2011\" profiles=\"urn:mpeg:dash:profile:full:2011\" type=\"static\" minBufferTime=\"PT2S\">\n<Period id=\"0\">\n"
-    ++ set_text Video seed ++ set_text Audio seed ++ codes "</Period>\n</MPD>\n"
+    codes
+    "<MPD xmlns=\"urn:mpeg:dash:schema:mpd:2011\" profiles=\"urn:mpeg:dash:profile:full:2011\" type=\"static\" minBufferTime=\"PT2S\">\n"
+    ++ codes "<Period id=\"0\">\n" ++ set_text Video seed ++ set_text Audio seed ++ codes "</Period>\n</MPD>\n"

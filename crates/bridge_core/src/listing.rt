@@ -127,7 +127,8 @@ fn push_words(
     section: usize,
     segments: u64,
 ) -> Result<(), AllocError>
-    ensures { OnOk result (string_bytes lines.new ≡ string_bytes lines.old ++ spec.entry_text track kind.now language.now section segments) }
+    ensures { OnOk result (string_bytes lines.new ≡ string_bytes lines.old
+        ++ spec.entry_text track kind.now language.now section segments) }
 {
     write!(
         lines,

@@ -15,7 +15,9 @@ const RUNS: u64 = 200;
 
 const HEAD: &str =
     "<MPD xmlns=\"urn:mpeg:dash:schema:mpd:2011\" profiles=\"urn:mpeg:dash:profile:full:2011\" \
-    type=\"static\" minBufferTime=\"PT2S\">\n<Period id=\"0\">\n";
+    type=\"static\" minBufferTime=\"PT2S\">\n";
+
+const PERIOD: &str = "<Period id=\"0\">\n";
 
 const TAIL: &str = "</Period>\n</MPD>\n";
 
@@ -91,6 +93,7 @@ pub fn source_text(alloc: Global, seed: u32) -> Result<Text, NoMemory>
 {
     let mut text = String::with_capacity(alloc, LENGTH)?;
     text.push_str(HEAD)?;
+    text.push_str(PERIOD)?;
     push_set(&mut text, Side::Video, seed)?;
     push_set(&mut text, Side::Audio, seed)?;
     text.push_str(TAIL)?;

@@ -346,17 +346,6 @@ halts_cut files lines ending.WriteFault o o' put cut = absurd cut
 halts_cut files lines ending.Memory o o' put cut = absurd cut
 halts_cut files lines (ending.Cut f) o o' put cut = (put, cut)
 
--- a fault of a step has its cause
-pub stops_caused : (step : Step) (told : Ending) (before after : World) → Stops step told before after → IsCaused told before after
-stops_caused step told before after (inr m) = subst (λ t. IsCaused t before after) (sym m.0) tt
-stops_caused step (ending.Ended v line) before after (inl h) = absurd h.0
-stops_caused step ending.Words before after (inl h) = absurd h.0
-stops_caused step ending.ReadFault before after (inl h) = absurd h.0
-stops_caused step ending.WriteFault before after (inl h) = h.0.0
-stops_caused step ending.Memory before after (inl h) = tt
-stops_caused step (ending.Cut fail.Failed) before after (inl h) = h.0.1.0
-stops_caused step (ending.Cut fail.Memory) before after (inl h) = tt
-
 pub caused_later : (told : Ending) (before mid after : World) → NeverFalls before mid → IsCaused told mid after → IsCaused told before after
 caused_later (ending.Ended v line) before mid after falls is = is
 caused_later ending.Words before mid after falls is = is

@@ -114,10 +114,6 @@ refused_writes : (line : List ℕ) (told : Ending) → IsRefusal line told → s
 refused_writes line told (inl is) e = absurd (let f = ap status_of (sym is) ∙ e in cc)
 refused_writes line told (inr is) e = absurd (let f = ap status_of (sym is) ∙ e in cc)
 
-refused_reads : (line : List ℕ) (told : Ending) → IsRefusal line told → status_of told ≡ status.ReadFault → ⊥
-refused_reads line told (inl is) e = absurd (let f = ap status_of (sym is) ∙ e in cc)
-refused_reads line told (inr is) e = absurd (let f = ap status_of (sym is) ∙ e in cc)
-
 -- a job whose files have places ends as it ends there
 pub at_place : {P : Type 0} (place : Option P) (found : P) (at : P → Option Outcome) (told : Ending) (before after : Surroundings)
     → place ≡ Some found
@@ -276,22 +272,6 @@ written_never_reads line (Err out.Memory) told before after is same =
 -- ---- a command that reads nothing
 
 module _ (files : Option Files) (read_faults write_faults made made' : ℕ) where
-  -- some segments may be made before it ends
-  pub made_before : (outcome : Outcome) (told : Ending) (after : Surroundings) → (IsTrue (course_by outcome).counts → ⊥)
-      → JobEndsAs (Some outcome) told (around files read_faults write_faults made') after
-      → JobEndsAs (Some outcome) told (around files read_faults write_faults made) after
-  made_before outcome told after uncounts then = record {
-    ends = record {
-      ending = then.ends.ending;
-      made = λ o e counts. absurd (let this : o ≡ outcome = cc in uncounts (subst (λ o. IsTrue (course_by o).counts) this counts));
-      read_fault = then.ends.read_fault;
-      write_fault = then.ends.write_fault;
-      reads = then.ends.reads;
-      writes = then.ends.writes;
-    };
-    job = then.job;
-  }
-
   -- what it makes is refused, or memory is wanting
   pub is_refused : (why : Halt) (told : Ending) (outcome : Outcome) → IsHalt why told → (why ≡ halt.ReadFault → ⊥)
       → IfSome (halted why) (λ named. outcome ≡ Ends verdict.Refused (refusal_line named.0 named.1) false false)
@@ -308,18 +288,3 @@ module _ (files : Option Files) (read_faults write_faults made made' : ℕ) wher
       quiet (Some outcome) told _ _ (inr (ap status_of is)) (λ o e. rw is (inl refl))
       (λ o e counts. absurd (let this : o ≡ outcome = cc in uncounts (subst (λ o. IsTrue (course_by o).counts) this counts))) (omega arith)
       (omega arith)
-
-pub halted_never_reads : (why : Halt) (told : Ending) (faults : ℕ) → IsHalt why told → (why ≡ halt.ReadFault → ⊥)
-    → NeverReads told faults faults
-halted_never_reads (halt.Refused file refusal) told faults is no_fault =
-    record { read_fault = λ e. refused_reads (refusal_line file refusal) told is e; reads = refl }
-halted_never_reads halt.ReadFault told faults is no_fault = absurd (no_fault refl)
-halted_never_reads halt.Memory told faults is no_fault =
-    record { read_fault = λ e. absurd (let f = ap status_of (sym is) ∙ e in cc); reads = refl }
-
-pub unplaced_never_reads : {P : Type 0} (place : Option P) (told : Ending) (faults : ℕ) → IsUnplaced place told
-    → NeverReads told faults faults
-unplaced_never_reads place told faults (inl is) =
-    record { read_fault = λ e. refused_reads (refusal_line (codes "-") refusal.Base) told is.1 e; reads = refl }
-unplaced_never_reads place told faults (inr is) =
-    record { read_fault = λ e. absurd (let f = ap status_of (sym is) ∙ e in cc); reads = refl }

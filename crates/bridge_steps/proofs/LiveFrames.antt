@@ -4,8 +4,8 @@ use Rattle.bridge_jobs.specs.declared.frame.FrameFault.TheVariants as fault
 use Rattle.presentation.specs.declared.fault.PresentationFault.TheVariants as presented
 use Rattle.live_judge.specs.declared.fault.RefreshFault.TheVariants as faults
 use Rattle.live_meaning.specs.Refusals as rules
-use Rattle.std.proofs.Common.{◌≡◌, ◌≤◌, ℕ, ℤ, ◌+◌, List, [], ◌∷◌, Option, None, Some, option_map, IfSome, Result, Ok, Err, OnOk, OnErr}
-use Rattle.std.proofs.Common.{refl, sym, ap, ◌∙◌, subst, arith}
+use Rattle.std.proofs.Common.{◌≡◌, ◌≤◌, ℕ, ℤ, ◌+◌, List, [], Option, None, Some, option_map, IfSome, Result, Ok, Err, OnOk, refl, sym, ap}
+use Rattle.std.proofs.Common.{◌∙◌, subst, arith}
 use Rattle.std.specs.{Prelude.{IfOk, IfErr}, Option.option_map_or, Result.{result_ok, result_err}}
 use Rattle.bridge_io.proofs.AndThen.{steps_of}
 use Rattle.bridge_io.specs.Answer.{Gives, and_then}
@@ -17,10 +17,9 @@ use Rattle.presentation.proofs.Filling.{ok_under}
 use Rattle.live_judge.specs.{Faults.told, declared.fault.RefreshFault.RefreshFault}
 use Rattle.live_session.specs.{Sessions.CountsRefused, declared.session.Appended.Appended}
 use Rattle.live_meaning.specs.{Updates.{Refresh, Reset, Terms, Update, Values}, States.State}
-use Rattle.bridge_report.specs.{Following.Followed, Refusals.{refusal_text, refused_in}, declared.refusal.Refusal.Refusal}
-use Rattle.bridge_report.specs.declared.refusal.Stop.{Stop}
-use Rattle.bridge_steps.specs.{Follow.Accepts, LiveMpds.{AreMade, IsTaken, first_appends, frame_appends, frame_state, frame_stream}}
-use Rattle.bridge_steps.specs.{LiveMpds.{followed_mpd, next_state, told_of, update_of}, Manifests.values_of, Streams.ReadsFirst}
+use Rattle.bridge_report.specs.{Refusals.{refusal_text, refused_in}, declared.refusal.Refusal.Refusal, declared.refusal.Stop.Stop}
+use Rattle.bridge_steps.specs.{Follow.Accepts, LiveMpds.{IsTaken, first_appends, frame_appends, frame_state, frame_stream, followed_mpd}}
+use Rattle.bridge_steps.specs.{LiveMpds.{next_state, told_of, update_of}, Manifests.values_of, Streams.ReadsFirst}
 use Rattle.bridge_steps.proofs.LiveStates.{first_is_one, first_lists, one_more_of}
 
 -- ---- a stream that is read frame by frame
@@ -80,14 +79,6 @@ module _ (terms : Terms) (out : List ℕ) (s : Option State) (x : Frame) (after 
     made = counts;
   }
 
-pub next_accepted : (terms : Terms) (out : List ℕ) (s after : State) (x : Frame) (made made' : ℕ) (result : Result ℕ Stop)
-    → Gives (λ _. after) refused_in result (next_state s x) → IfOk result (λ n. n ≡ frame_appends terms (Some s) x)
-    → AreMade (frame_appends terms (Some s) x) made made' result
-    → IfOk result (λ n. Accepts (followed_mpd terms out) (Some s) x (Some after) n made made')
-next_accepted terms out s after x made made' (Ok n) is appended counts =
-    accepted_so terms out (Some s) x after n made made' is appended counts
-next_accepted terms out s after x made made' (Err stop) is appended counts = tt
-
 pub next_counts : (s after : State) (x : Frame) (result : Result ℕ Stop) → Gives (λ _. after) refused_in result (next_state s x)
     → OnOk result (after.common.accepted ≡ s.common.accepted + 1)
 unfolding next_state
@@ -95,11 +86,6 @@ next_counts s after x (Ok n) is =
     let step = steps_of (update_of x) (λ u. told_as told_of (rules.next_of s u)) after is in
     one_more_of s step.value after (ok_under _ (rules.next_of s step.value) after step.then)
 next_counts s after x (Err stop) is = tt
-
-pub made_so : {X E : Type 0} (n made made' : ℕ) (result : Result X E) → AreMade n made made' result
-    → OnErr result ((made ≤ made') × (made' ≤ made + n))
-made_so n made made' (Ok x) counts = tt
-made_so n made made' (Err e) counts = counts
 
 -- ---- what the session answers
 

@@ -2,12 +2,12 @@
 use Rattle.bridge_jobs.specs.declared.frame.FrameFault.TheVariants as fault
 use Rattle.bridge_courses.specs.declared.status.Verdict.TheVariants as verdict
 use Rattle.bridge_courses.specs.declared.ending.Ending.TheVariants as ending
-use Rattle.std.proofs.Common.{◌≡◌, ◌⊎◌, ℕ, ◌+◌, IsTrue, List, [], ◌∷◌, Option, None, Some, option_map, IfSome, inl, inr, refl, sym, ap, ◌∙◌}
+use Rattle.std.proofs.Common.{◌≡◌, ◌⊎◌, ℕ, ◌+◌, IsTrue, List, [], ◌∷◌, Option, None, Some, option_map, IfSome, inr, refl, sym, ap, ◌∙◌}
 use Rattle.std.proofs.Common.{subst}
 use Rattle.bridge_io.specs.Fault.{Rose}
 use Rattle.bridge_jobs.specs.{Frames.refusal, declared.frame.FramePos.FramePos, declared.frame.FrameFault.FrameFault}
 use Rattle.bridge_courses.specs.{declared.ending.Ending.Ending, Courses.World, Executions.{Works, NeverFalls}, Steps.first_step}
-use Rattle.bridge_courses.specs.Steps.{StepIsDone, Stops, Leads, IsCaused}
+use Rattle.bridge_courses.specs.Steps.{StepIsDone, Stops, Leads}
 use Rattle.bridge_courses.proofs.Stepping.{IsIdle, memory_first, read_fault_first, ends, stops, leads_on}
 use Rattle.bridge_report.specs.{Outcomes.IsRefusal, Following.{Followed, step_of, next_of, accepted_with, stream_line, end_by, course_from}}
 use Rattle.bridge_steps.specs.{declared.run.Following.Following, Follow.{course_of, rest_course, fault_line, IsBroken}, Streams.Stream}
@@ -75,21 +75,3 @@ next_leads f stream run next bytes rest x before mid is counts live accepted ste
     ∙ ap (λ a. course_of f (next_of f run.live x) (run.at.frames + 1) a more) accepted in
     subst (λ c. Leads (rest_course f stream run bytes) c before mid) (sym same)
     (done f run.live run.at.frames run.accepted x (stream run.at bytes) more before mid is step falls)
-
--- how a run ends without a step has its cause
-pub done_caused : (line : List ℕ) (told : Ending) (before after : World) → (told ≡ ending.Ended verdict.Done line) ⊎
-    (told ≡ ending.Memory) → IsCaused told before after
-done_caused line told before after (inl is) = subst (λ t. IsCaused t before after) (sym is) (λ e. absurd (cc))
-done_caused line told before after (inr is) = subst (λ t. IsCaused t before after) (sym is) tt
-
-pub refused_caused : (line : List ℕ) (told : Ending) (before after : World) → IsRefusal line told → IsCaused told before after
-refused_caused line told before after (inl is) = subst (λ t. IsCaused t before after) (sym is) (λ e. absurd (cc))
-refused_caused line told before after (inr is) = subst (λ t. IsCaused t before after) (sym is) tt
-
-pub broken_caused : (e : FrameFault) (told : Ending) (before after : World) → IsBroken e told → (e ≡ fault.Fault
-    → Rose before.input_faults after.input_faults) → IsCaused told before after
-broken_caused (fault.Header place) told before after last rose = refused_caused (fault_line (fault.Header place)) told before after last
-broken_caused (fault.Cut place) told before after last rose = refused_caused (fault_line (fault.Cut place)) told before after last
-broken_caused (fault.TooMany place) told before after last rose = refused_caused (fault_line (fault.TooMany place)) told before after last
-broken_caused fault.Fault told before after last rose = subst (λ t. IsCaused t before after) (sym last) (rose refl)
-broken_caused fault.Memory told before after last rose = subst (λ t. IsCaused t before after) (sym last) tt

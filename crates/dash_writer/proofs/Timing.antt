@@ -1,6 +1,6 @@
 -- Periods by the times of their tracks' segments.
-use Rattle.std.proofs.Common.{◌≡◌, ℕ, zero, suc, ◌+◌, ◌*◌, ◌<◌, max, false, List, [], ◌∷◌, length, take, drop, slice_get, sum, ◌^◌, Option}
-use Rattle.std.proofs.{Common.{None, Some, option_map, option_and_then, option_to_list, refl, ap, ◌∙◌, arith}, lemmas.List.Sums.sum_by-cons}
+use Rattle.std.proofs.Common.{◌≡◌, ℕ, zero, suc, ◌+◌, ◌*◌, ◌<◌, false, List, [], ◌∷◌, length, take, drop, slice_get, sum, ◌^◌, Option, None}
+use Rattle.std.proofs.{Common.{Some, option_map, option_and_then, option_to_list, refl, ap, ◌∙◌, arith}, lemmas.List.Sums.sum_by-cons}
 use Rattle.presentation.specs.{declared.parts.Content.Content, declared.track.Section.Section, declared.track.Track.Track}
 use Rattle.presentation.specs.Presented.{AreFilled, Presented, content_at, listed_in, window_of}
 use Rattle.presentation.proofs.OwnListed.{some_at}
@@ -31,9 +31,6 @@ room_first start tracks n m times is room =
       ap sum (first_length n m tracks times is),
       sum-cons (longest (take tracks times)) (lengths tracks m (drop tracks times)),
     )
-
-pub longest_so_far : (a b c whole : ℕ) → max a (max b c) ≡ whole → max (max a b) c ≡ whole
-longest_so_far a b c whole is = omega arith
 
 pub length-sections : (start : ℕ) (lengths : List ℕ) → length (sections_from start lengths) ≡ length lengths
 length-sections start [] = refl

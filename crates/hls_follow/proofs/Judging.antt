@@ -3,11 +3,10 @@ use Rattle.reload_law.specs.declared.unlawful.Unlawful.TheVariants as rules
 use Rattle.std.proofs.Common.{◌≡◌, ◌<◌, ◌+◌, ℕ, List, [], ◌∷◌, map, length, drop, get_or, slice_get, Option, Result, Ok, Err, refl, sym}
 use Rattle.std.proofs.Common.{◌∙◌, ap}
 use Rattle.bridge_io.specs.{Answer.and_then, Firsts.first_fault}
-use Rattle.reload_law.specs.declared.unlawful.Unlawful.{Unlawful as Rule}
 use Rattle.hls_media.specs.declared.media.Media.{Media}
 use Rattle.hls_presentation.specs.{Views.source_of, declared.fault.HlsFault.HlsFault, declared.kept.Source.Source as Held}
-use Rattle.hls_follow.specs.{declared.fault.LiveFault.LiveFault, declared.fault.LiveFault.TheVariants.Unlawful}
-use Rattle.hls_follow.specs.{declared.state.FollowedTrack.FollowedTrack, Rules.{fault_of_track, judged_all, reload_told}}
+use Rattle.hls_follow.specs.{declared.fault.LiveFault.LiveFault, declared.state.FollowedTrack.FollowedTrack, Rules.fault_of_track}
+use Rattle.hls_follow.specs.Rules.{judged_all}
 use Rattle.hls_follow.proofs.Keeping.{left_at}
 
 pub none_refused : (faults : List HlsFault) → Ok tt ≡ first_fault faults → Ok tt ≡ first_fault (map fault_of_track faults)
@@ -18,16 +17,6 @@ pub one_refused : (faults : List HlsFault) (fault : HlsFault) → Err fault ≡ 
     → Err (fault_of_track fault) ≡ first_fault (map fault_of_track faults)
 one_refused [] fault is = absurd (cc)
 one_refused (f ∷ faults) fault is = (let same : fault ≡ f = cc in rw same refl)
-
--- every rule but the last one refuses
-pub rule_told : (track : ℕ) (rule : Rule) → (rule ≡ rules.ThreeTargets → ⊥) → Err (Unlawful track rule) ≡ reload_told track (Err rule)
-rule_told track rules.Target other = refl
-rule_told track rules.Sequence other = refl
-rule_told track (rules.Segment number) other = refl
-rule_told track (rules.Discontinuity number) other = refl
-rule_told track rules.Shrunk other = refl
-rule_told track rules.AfterEnd other = refl
-rule_told track rules.ThreeTargets other = absurd (other refl)
 
 -- ---- one track after another
 

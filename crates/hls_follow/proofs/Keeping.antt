@@ -1,13 +1,12 @@
 -- Kept tracks, one after another.
 use Rattle.std.proofs.Common.{◌≡◌, ◌<◌, ◌+◌, ℕ, Bool, List, [], ◌∷◌, ◌++◌, map, length, drop, get_or, slice_get, zero, suc, All, Option}
 use Rattle.std.proofs.{Common.{Some, None, IfSome, refl, sym, ◌∙◌, ap, append_assoc}, lemmas.List.drop_more, lemmas.Option.slice_get_past}
-use Rattle.std.proofs.{lemmas.Option.slice_get_read, lemmas.List.Elements.{All-nil, All-head, All-tail}}
+use Rattle.std.proofs.{lemmas.Option.slice_get_read, lemmas.List.Elements.{All-head, All-tail}}
 use Rattle.std.specs.{Borrow.Bor, Option.option_copied, Slice.IsItemAt}
 use Rattle.hls_media.specs.declared.media.Media.{Media}
 use Rattle.hls_presentation.specs.{Tracks.Source, Views.source_of, declared.kept.Source.Source as Held}
-use Rattle.hls_follow.specs.{declared.state.Followed.Followed, declared.state.FollowedTrack.FollowedTrack}
-use Rattle.hls_follow.specs.{declared.state.TimedSegment.TimedSegment, Kept.{IsEarly, IsSound, formers_of, kept_by}, Rounds.followed_tracks}
-use Rattle.hls_follow.specs.Rounds.{times_in}
+use Rattle.hls_follow.specs.{declared.state.FollowedTrack.FollowedTrack, declared.state.TimedSegment.TimedSegment, Kept.{IsEarly, kept_by}}
+use Rattle.hls_follow.specs.Rounds.{followed_tracks, times_in}
 
 -- what is lent of a place
 pub lent_at : {X : Type 0} (xs : List X) (i : ℕ) (r : Option (Bor X)) → IsItemAt xs i r → option_copied r ≡ slice_get xs i
@@ -25,11 +24,6 @@ kept_none (flag ∷ flags) = refl
 pub followed_none : (kept : List Source) → followed_tracks kept [] ≡ []
 followed_none [] = refl
 followed_none (s ∷ kept) = refl
-
--- before the first round there are none
-pub early_formers : (former : Option Followed) → IfSome former IsSound → All IsEarly (formers_of former)
-early_formers None sound = All-nil IsEarly
-early_formers (Some former) sound = sound.early
 
 -- a track more
 pub tracks_turn : (kept : List Held) (i : ℕ) (d : Held) (tracks : List FollowedTrack) (timed later : List (List TimedSegment))

@@ -1,6 +1,6 @@
 -- Times of segments, one after another.
 use Rattle.std.proofs.Common.{◌≡◌, ◌<◌, ℕ, ◌+◌, Bool, true, false, List, [], ◌∷◌, ◌++◌, map, length, drop, get_or, slice_get, Option, Some}
-use Rattle.std.proofs.{Common.{Result, Ok, Err, IfSome, refl, sym, ◌∙◌, ap}, lemmas.Option.IfSome_then}
+use Rattle.std.proofs.Common.{Result, Ok, Err, IfSome, refl, sym, ◌∙◌, ap}
 use Rattle.bridge_io.specs.Answer.{and_then}
 use Rattle.hls_media.specs.declared.media.MediaSegment.{MediaSegment}
 use Rattle.hls_presentation.specs.{Views.source_of, declared.kept.Source.Source as Held}
@@ -8,7 +8,7 @@ use Rattle.hls_follow.specs.{declared.fault.LiveFault.LiveFault, declared.fault.
 use Rattle.hls_follow.specs.{declared.state.FollowedTrack.FollowedTrack, declared.state.TimedSegment.TimedSegment, declared.state.Last.Last}
 use Rattle.hls_follow.specs.{Faults.{behind, told}, Times.{behind_segment, is_late, time_of, timed_all, timed_from, timed_of, timed_within}}
 use Rattle.hls_follow.specs.Times.{unless_late}
-use Rattle.hls_follow.proofs.{Gathering.{behind_more, in_time, stop, too_late, turn}, Keeping.left_at}
+use Rattle.hls_follow.proofs.{Gathering.{stop, turn}, Keeping.left_at}
 
 abbrev at : MediaSegment → ℕ → TimedSegment
 at s time = record { segment = s; time = time }
@@ -17,11 +17,6 @@ at s time = record { segment = s; time = time }
 pub record IsTimed (s : MediaSegment) (time : ℕ) (next : TimedSegment) : Type 0 where
   pub early : is_late (at s time) ≡ false
   pub is : at s time ≡ next
-
-timed_by : (s : MediaSegment) (time : ℕ) (next : TimedSegment) (late : Bool) → is_late (at s time) ≡ late
-    → timed_within s time ≡ Ok next → IsTimed s time next
-timed_by s time next true late given = absurd (let h : timed_within s time ≡ Err Limit = rw late refl in cc)
-timed_by s time next false late given = record { early = late; is = (let h : timed_within s time ≡ Ok (at s time) = rw late refl in cc) }
 
 late_by : (s : MediaSegment) (time : ℕ) (fault : LiveFault) (late : Bool) → is_late (at s time) ≡ late → timed_within s time ≡ Err fault
     → (is_late (at s time) ≡ true) × (fault ≡ Limit)
@@ -36,29 +31,6 @@ module _ (former : Option FollowedTrack) (target number : ℕ) (last : Option La
   first : timed_from former target number last (s ∷ rest) ≡ at s time ∷ later time
   unfolding later
   first = ap (λ (t : ℕ). at s t ∷ later t) (sym same)
-
-  -- a segment more
-  pub segment_turn : (before : List TimedSegment) (next : TimedSegment) → timed_within s time ≡ Ok next
-      → behind before (unless_late (timed_from former target number last (s ∷ rest)))
-      ≡ behind (before ++ next ∷ []) (unless_late (timed_from former target (number + 1) (Some
-      (behind_segment number next.time next.segment)) rest))
-  unfolding later
-  segment_turn before next given =
-      let timed = timed_by s time next (is_late (at s time)) refl given in
-      ap (λ ts. behind before (unless_late ts)) first ∙ ap (behind before) (in_time (at s time) (later time) timed.early)
-      ∙ behind_more before (at s time) (unless_late (later time))
-      ∙ ap (λ (n : TimedSegment). behind (before ++ n ∷ []) (unless_late (timed_from former target (number + 1) (Some
-      (behind_segment number n.time n.segment)) rest))) timed.is
-
-  pub segment_stop : (before : List TimedSegment) (all : Result (List TimedSegment) LiveFault) (fault : LiveFault)
-      → IfSome (told fault) (λ f. timed_within s time ≡ Err f)
-      → behind before (unless_late (timed_from former target number last (s ∷ rest))) ≡ all
-      → IfSome (told fault) (λ f. all ≡ Err f)
-  unfolding later
-  segment_stop before all fault refused so_far = IfSome_then (told fault) refused (λ f given.
-      let late = late_by s time f (is_late (at s time)) refl given in
-      sym so_far ∙ ap (λ ts. behind before (unless_late ts)) first ∙ ap (behind before) (too_late (at s time) (later time) late.0)
-      ∙ ap Err (sym late.1))
 
 -- ---- one track after another
 

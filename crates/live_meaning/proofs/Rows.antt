@@ -8,10 +8,9 @@ use Rattle.url_parts.specs.declared.address.Part.{Part}
 use Rattle.presentation.specs.{declared.parts.Content.Content, declared.track.Section.Section, declared.track.Track.Track as Described}
 use Rattle.presentation.specs.Presented.{Following, Presented}
 use Rattle.live_meaning.specs.{Updates.{Refresh, Reset, Terms, Tick, Values}, Histories.{begun_common, begun_with, common_with}}
-use Rattle.live_meaning.specs.{States.{State, shown, state_with}, Segments.whole_nanos, Known.goes_on, Removal.target_of, Refusals.Changed}
+use Rattle.live_meaning.specs.{States.{State, shown, state_with}, Segments.whole_nanos, Known.goes_on, Removal.target_of}
 use Rattle.live_meaning.specs.Refusals.{ClockBack, Ended, LongSegment, Moved, NotOpen, Older, Rewritten, Step, Window, long_told}
-use Rattle.live_meaning.specs.Refusals.{makes_segments, moved_told, older_than, refusal_behind, refusal_of, rewritten_told, steps_told}
-use Rattle.live_meaning.specs.Refusals.{window_told}
+use Rattle.live_meaning.specs.Refusals.{moved_told, older_than, refusal_behind, refusal_of, rewritten_told, steps_told, window_told}
 use Rattle.followed.specs.Places.{last_place}
 use Rattle.hls_writer.specs.Finished.{rounded}
 
@@ -127,9 +126,6 @@ small = (refl, refl, refl, refl, refl, refl, refl, refl, refl, refl)
 not_first : (terms : Terms) (now : ℤ) → (refusal_behind terms None (Tick now) ≡ Some NotOpen)
     × (refusal_behind terms None (Reset mpd now) ≡ Some NotOpen)
 not_first terms now = (refl, refl)
-
-makes_none : makes_segments (Some Changed) ≡ false
-makes_none = refl
 
 -- 12 s of depth, at 20 s and 24 s
 slides :

@@ -21,7 +21,7 @@ use Rattle.presentation.specs.Counting.{limit_faults, listed_count, number_in, p
 use Rattle.presentation.specs.{Counting.{tracks_of, unless_any, whole_track_faults}, Presented.{Presented, content_at, is_finished}}
 use Rattle.presentation.specs.{Presented.{listed_at, listed_in, window_of}, Printing.IsCounted, Told.presented_of, Verifying.fault_at}
 use Rattle.presentation.specs.Verifying.{part_fault, part_faults, url_faults, url_faults_at, url_faults_of}
-use Rattle.presentation.proofs.{Counts.{from_on, from_on-end, from_on-first, from_on-start}, Reached.{all_reached, none_later}}
+use Rattle.presentation.proofs.{Counts.{from_on, from_on-end, from_on-first}, Reached.{all_reached, none_later}}
 use Rattle.live_meaning.specs.{Updates.{Terms, Values}, Histories.{begun_common, begun_with}, States.shown, Refusals.NotDynamic}
 use Rattle.live_meaning.specs.Refusals.{Presentation, Refusal, Window as Windowed, begun_of, counts_listed, first_appended_by}
 use Rattle.live_meaning.specs.Refusals.{first_refusal_of, first_told_by, is_of_address, makes_segments, over_in_all, over_in_track, told_if}
@@ -159,9 +159,6 @@ all_within p none =
 -- no track before one has too many
 abbrev pub IsNoneOver : Presented → ℕ → Type 0
 IsNoneOver p t = over_in_track 0 (counts_listed p) ≡ over_in_track t (map (many p) (from_on t (length p.tracks)))
-
-pub none_over_yet : (p : Presented) → IsNoneOver p 0
-none_over_yet p = ap (λ ts. over_in_track 0 (map (many p) ts)) (sym (from_on-start (length p.tracks)))
 
 over_here : (p : Presented) (t : ℕ) → t < length p.tracks → IsNoneOver p t
     → over_in_track 0 (counts_listed p)

@@ -284,14 +284,3 @@ module _ (m : Maker) (s t : ℕ) (last : Option LastKept) (section : Section) (o
         (not_made m s t last section.before content old made left k before mid fault
         (at_some (content_at (shown_by m) s t)
         (λ content. SoFar m s t last section.before content old made left k before mid) content at so_far) refused.refused))
-
-    pub wants_there : (made : List Kept) (left : PrintedRest) (k before after : ℕ) (fault : PresentationFault)
-        → There made left k before after → refusal fault ≡ None
-        → IsNotMade (new_faults_in (shown_by m) m.place (track_at last) t s)
-        (length (new_in (numbers_of m) (shown_by m) m.place (track_at last) t s)) fault before after
-    wants_there made left k before after fault so_far none =
-        with_content (content_at (shown_by m) s t) (λ content. content.initialization) map _ has
-        (λ content at same.
-        let here = at_some (content_at (shown_by m) s t)
-        (λ content. SoFar m s t last section.before content old made left k before after) content at so_far in
-        record { refused = rw none tt; least = omega (arith, here.counted); most_made = omega (arith, here.counted, here.number) })

@@ -4,21 +4,21 @@ use Rattle.std.proofs.{Common.{All, Option, Some, None, refl, sym, ◌∙◌, ap
 use Rattle.std.proofs.{lemmas.List.nil_from_length, lemmas.List.Elements.{All-append, All-nil}, lemmas.List.Sums.sum_by-cons}
 use Rattle.std.specs.{Prelude.{IfSome, slice_get}, Option.option_map_or}
 use Rattle.bridge_io.specs.Firsts.{first_of}
-use Rattle.presentation.specs.{Printing.IsCounted, declared.fault.PresentationFault.PresentationFault, declared.parts.Content.Content}
-use Rattle.presentation.specs.{Counting.{refusal, sections_of}, Presented.{Presented, content_at, listed_at, looked_at}}
+use Rattle.presentation.specs.{declared.fault.PresentationFault.PresentationFault, declared.parts.Content.Content, Counting.refusal}
+use Rattle.presentation.specs.{Counting.sections_of, Presented.{Presented, content_at, listed_at, looked_at}}
 use Rattle.timeline.specs.Expansions.{Timing}
 use Rattle.presentation.proofs.Grids.{All-at}
 use Rattle.followed.specs.Durations.{last_behind, told_behind}
-use Rattle.live_meaning.specs.{Updates.{is_reset, unit_of}, Segments.{Kept, Numbering, Segment, id_at, place_behind, place_of}}
-use Rattle.live_meaning.specs.{Known.ids_of, Histories.{Common, availability_start_of}, States.{Track, new_count, new_of}}
-use Rattle.live_meaning.specs.Refusals.{Presentation, Refusal, ids_in, makes_segments, urls_told}
+use Rattle.live_meaning.specs.{Updates.unit_of, Segments.{Kept, Numbering, Segment, id_at, place_behind, place_of}, Known.ids_of}
+use Rattle.live_meaning.specs.{Histories.{Common, availability_start_of}, States.{Track, new_count, new_of}, Refusals.Presentation}
+use Rattle.live_meaning.specs.Refusals.{Refusal, ids_in, makes_segments, urls_told}
 use Rattle.live_meaning.proofs.{Tracks.length-told, InForce.id_there}
-use Rattle.live_judge.specs.{declared.coming.Next.Next, Coming.{IsJoined, IsNext, coming_of, p_of, update_of}, Faults.of_presentation}
+use Rattle.live_judge.specs.{declared.coming.Next.Next, Coming.{IsJoined, IsNext, coming_of, p_of}, Faults.of_presentation}
 use Rattle.live_judge.specs.{Shown.track_shown, Sound.IsPaired}
 use Rattle.live_judge.proofs.{Contents.length-new, New.new_is, Places.place_there}
 use Rattle.live_session.specs.{declared.made.MadeTrack.MadeTrack, declared.maker.Maker.Maker, Changes.{AreNewOf, AreUnmade, IsMakerOf}}
 use Rattle.live_session.specs.{Changes.{new_in_all, shown_in, track_grown, tracks_grown, urls_in_all}, Growth.grown, Making.AreMade}
-use Rattle.live_session.specs.{Making.{AreMakeable, IsNotMade, all_kept}, New.{CanMake, faults_by, joins, new_all, new_counted, new_faults}}
+use Rattle.live_session.specs.{Making.{AreMakeable, IsNotMade, all_kept}, New.{faults_by, joins, new_all, new_counted, new_faults}}
 use Rattle.live_session.specs.New.{new_faults_in, new_faults_of, new_in, new_kept, new_timings, numbers_of, shown_by}
 use Rattle.live_session.proofs.{Addresses.urls_are, Beginning.{IsOfAddress, address_of, all_flat, counts_made, first_makes, first_mapped}}
 use Rattle.live_session.proofs.{Beginning.{parts_address, some_as, told_as}, FirstTracks.{IsDated, made_many}, Joining.{joined, not_fewer}}
@@ -93,9 +93,6 @@ module _ (n : Next) (is : IsNext n) where
 
   abbrev numbers : Numbering
   numbers = record { ids = []; resets = c.resets; availability_start = availability_start_of c.opened }
-
-  resets_few : c.resets ≤ (n.standing.now).resets + 1
-  resets_few = most (is_reset (update_of n.coming n.now)) (n.standing.now).resets
 
   places : (s : ℕ) → s < length p.sections → place_of (ids_of c.known) (id_at p s) ≡ n.place + s
   places s less = place_there (ids_of c.known) (ids_in p) n.place s (id_at p s) is.stands (id_there p.sections s less)
@@ -185,27 +182,6 @@ module _ (n : Next) (is : IsNext n) where
           near = subst (λ (xs : List Segment). joins (track_shown x).last xs)
               (all_is t (track_shown x) ∙ sym (same (λ u ns q k. new_all ns q k (track_shown x) t))) (joined n is t x at none);
         }
-
-    pub can_make : CanMake m
-    can_make = record {
-      readable = for.readable;
-      counted = λ s t in_sections in_tracks. subst (λ (q : Presented). IsCounted q s t) (sym (same (λ u ns q k. q)))
-          (is.counted s t (omega (arith, in_sections, ap (λ (q : Presented). length q.sections) for.presentation))
-          (omega (arith, in_tracks, ap (λ (q : Presented). length q.tracks) for.presentation)));
-      fits = omega (
-        arith,
-        is.few,
-        is.within,
-        is.live.periods,
-        is.live.accepted,
-        is.live.resets,
-        resets_few,
-        for.resets,
-        for.place,
-        ap
-            (λ (q : Presented). length q.sections) for.presentation,
-      );
-    }
 
     pub as_many : length n.tracks.now ≡ length m.presentation.now.tracks
     as_many = omega (arith, is.alike, ap (λ (q : Presented). length q.tracks) for.presentation)

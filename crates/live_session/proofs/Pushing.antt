@@ -55,14 +55,6 @@ kepts-get (i ∷ items) [] n item fact one other = absurd (cc)
 kepts-get (i ∷ items) (f ∷ facts) zero item fact one other = let a : i ≡ item = cc in let b : f ≡ fact = cc in rw (a, b) refl
 kepts-get (i ∷ items) (f ∷ facts) (suc n) item fact one other = kepts-get items facts n item fact one other
 
--- the last of both is the last one
-pub last_pair : (items : List MediaItem) (facts : List Fact) → length items ≡ length facts → (item : MediaItem) (fact : Fact)
-    → slice_get items (length items - 1) ≡ Some item → slice_get facts (length facts - 1) ≡ Some fact
-    → last_kept (kepts_of items facts) ≡ Some (kept_of item fact)
-last_pair items facts same item fact one other =
-    ap (λ n. slice_get (kepts_of items facts) (n - 1)) (length-kepts items facts same)
-    ∙ kepts-get items facts (length items - 1) item fact one (ap (λ n. slice_get facts (n - 1)) same ∙ other)
-
 some_last : {X : Type 0} (x : X) (xs : List X) → slice_get (x ∷ xs) (length xs) ≡ None → ⊥
 some_last x [] none = cc
 some_last x (y ∷ ys) none = some_last y ys none

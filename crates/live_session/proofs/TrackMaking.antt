@@ -10,7 +10,7 @@ use Rattle.followed.specs.Durations.{Last, duration_behind, last_behind, last_wi
 use Rattle.live_meaning.specs.{Segments.{Kept, Numbering, Segment, segments_of}, States.Track}
 use Rattle.live_meaning.proofs.Tracks.{told-segments}
 use Rattle.live_judge.specs.{declared.track.LastKept.LastKept, declared.track.LiveTrack.LiveTrack, Shown.{last_of, track_shown}}
-use Rattle.live_session.specs.{declared.made.MadeTrack.MadeTrack, declared.maker.Maker.Maker, Kept.no_place, Made.all_made, Making.AreMade}
+use Rattle.live_session.specs.{declared.made.MadeTrack.MadeTrack, declared.maker.Maker.Maker, Kept.no_place, Made.all_made}
 use Rattle.live_session.specs.{Making.{IsMadeBehind, IsNotMade, IsSectionMakeable, all_kept, first_section, number_of}, New.IsBegun}
 use Rattle.live_session.specs.New.{joins, new_all, new_among, new_counted, new_faults, new_faults_among, new_faults_in, new_faults_of}
 use Rattle.live_session.specs.New.{new_in, new_kept, numbers_of, shown_by, track_at}
@@ -177,22 +177,6 @@ module _ (m : Maker) (t : ℕ) (last : Option LastKept) where
         );
       }
 
-  -- memory was wanting
-  pub track_wants : (s : ℕ) (made : List Kept) (before after : ℕ) (fault : PresentationFault) → TrackSoFar s made before after
-      → refusal fault ≡ None
-      → IsNotMade (new_faults_of p m.place track t) (length (new_all n p m.place track t)) fault before after
-  track_wants s made before after fault so_far none = record {
-    refused = rw none tt;
-    least = omega (arith, so_far.counted);
-    most_made = omega (
-      arith,
-      so_far.counted,
-      ap (λ (xs : List Segment). length xs) so_far.segments,
-      length-append (segments_of made)
-          (new_among n p m.place track t (range_with_len s (count - s))),
-    );
-  }
-
   pub track_made : (s : ℕ) (made : List Kept) (before after : ℕ) → TrackSoFar s made before after → count ≤ s
       → IsMadeBehind (10 ^ m.digits) track.last (new_all n p m.place track t) (new_faults_of p m.place track t) [] made before after
   track_made s made before after so_far least =
@@ -267,15 +251,6 @@ module _ (m : Maker) (tracks : List LiveTrack) where
     pub least : before ≤ after
     pub dates : All (All (λ k. IsWritable k.segment.value.date)) (all_kept made)
 
-  pub all_begun : (before : ℕ) → AllSoFar 0 [] before before
-  all_begun before = record {
-    kept = refl;
-    faults = refl;
-    counted = refl;
-    least = omega arith;
-    dates = All-nil (All (λ (k : Kept). IsWritable k.segment.value.date));
-  }
-
   drop_first : {X : Type 0} (t : ℕ) (xs : List X) (x : X) → slice_get xs t ≡ Some x → drop t xs ≡ x ∷ drop (t + 1) xs
   drop_first t [] x is = absurd (cc)
   drop_first zero (y ∷ ys) x is = let e : y ≡ x = cc in ap (λ z. z ∷ ys) e
@@ -320,27 +295,8 @@ module _ (m : Maker) (tracks : List LiveTrack) where
       most_made = omega (arith, so_far.counted, not_made.most_made, ap (new_counted (numbers_of m) (shown_by m) m.place t) shown_first);
     }
 
-  pub all_want : (t : ℕ) (made : List MadeTrack) (before after : ℕ) (fault : PresentationFault) → AllSoFar t made before after
-      → refusal fault ≡ None
-      → IsNotMade (new_faults (shown_by m) m.place 0 (map track_shown tracks))
-      (new_counted (numbers_of m) (shown_by m) m.place 0 (map track_shown tracks)) fault before after
-  all_want t made before after fault so_far none =
-      record { refused = rw none tt; least = so_far.least; most_made = omega (arith, so_far.counted) }
-
   drop_all : {X : Type 0} (t : ℕ) (xs : List X) → length xs ≤ t → drop t xs ≡ []
   drop_all zero [] least = refl
   drop_all zero (x ∷ xs) least = absurd (omega arith)
   drop_all (suc t) [] least = refl
   drop_all (suc t) (x ∷ xs) least = drop_all t xs (omega arith)
-
-  pub all_are_made : (t : ℕ) (made : List MadeTrack) (before after : ℕ) → AllSoFar t made before after → length tracks ≤ t
-      → AreMade m tracks made before after
-  all_are_made t made before after so_far least =
-      let end : shown_from t ≡ [] = ap (map track_shown) (drop_all t tracks least) in
-      record {
-        kept = sym (append-nil (all_kept made))
-            ∙ ap (λ ts. all_kept made ++ new_kept unit (numbers_of m) (shown_by m) m.place t ts) (sym end) ∙ so_far.kept;
-        none = so_far.faults ∙ ap (new_faults (shown_by m) m.place t) end;
-        dates = so_far.dates;
-        counted = omega (arith, so_far.counted, ap (new_counted (numbers_of m) (shown_by m) m.place t) end);
-      }
