@@ -50,10 +50,6 @@ module _ (track : LiveTrack) (i : ℕ) (k : Kept) (here : slice_get (kept_in tra
     | inr not_earlier ↦ all j x at not_earlier less
   ]
 
-  pub stops_here : (place section begin : ℕ) → i ≡ begin - 1 → is_of place section k.segment ≡ false
-      → (x : Segment) → 0 < begin → slice_get (segments_in track) (begin - 1) ≡ Some x → is_of place section x ≡ false
-  stops_here place section begin same other x some at = ap (is_of place section) (is_it (begin - 1) x at (sym same)) ∙ other
-
 pub end_past : (track : LiveTrack) (i place : ℕ) → i ≡ length (segments_in track) → StandBefore (place + 1) (segments_in track) i
     → IsEndOf place (segments_in track) i
 end_past track i place end before = record {

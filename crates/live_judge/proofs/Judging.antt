@@ -1,15 +1,16 @@
 -- All refusals before those of addresses, in their parts.
-use Rattle.std.proofs.Common.{◌≡◌, ℕ, pos, true, false, Ok, List, [], ◌++◌, map, Option, Some, None, refl, sym, ◌∙◌, ap, subst}
+use Rattle.std.proofs.Common.{◌≡◌, ℕ, ℤ, pos, true, false, Ok, List, [], ◌++◌, map, Option, Some, None, refl, sym, ◌∙◌, ap, subst}
 use Rattle.std.proofs.lemmas.List.{append_assoc}
 use Rattle.std.specs.Prelude.{int_lt, is_some}
-use Rattle.presentation.specs.{Counting.{range_faults, unless_any}, Presented.{Presented, is_finished}, Laws.EndsAreCounted}
+use Rattle.presentation.specs.{Counting.{range_faults, unless_any}, Presented.{Presented, is_finished, looked_at}, Laws.EndsAreCounted}
 use Rattle.presentation.specs.PresentedLaws.{PresentedAreFew, PresentedAreFollowed}
 use Rattle.live_meaning.specs.{Updates.{Update, Values, is_reset, mpd_of}, Histories.{Common, common_with}, Refusals.Presentation}
 use Rattle.live_meaning.specs.{Refusals.{Refusal, mpd_told}, States.State}
 use Rattle.live_judge.specs.{declared.fault.RefreshFault.RefreshFault, Changed.{AreUnmoved, IsPlaceBy, listed_told}}
-use Rattle.live_judge.specs.Coming.{ended_and_listed_told, timed_told, told_before, Comes, IsNext, p_of, update_of}
-use Rattle.live_judge.specs.{declared.coming.Next.Next, Shown.{common_shown, in_force}, Sound.IsLive, Faults.Tells, Rewriting.kept_told}
-use Rattle.live_judge.proofs.{Listing.listed as listed_there, Firsts.{none_told, told_behind, told_first}}
+use Rattle.live_judge.specs.Coming.{ended_and_listed_told, timed_told, told_before, Comes, IsNext, IsQuiet, p_of, update_of}
+use Rattle.live_judge.specs.{declared.coming.Coming.Coming, declared.coming.Next.Next, Shown.{common_shown, in_force}, Sound.IsLive}
+use Rattle.live_judge.specs.{Faults.Tells, Rewriting.kept_told}
+use Rattle.live_judge.proofs.{Listing.{listed as listed_there, mpd_at, none_far, told_looked}, Firsts.{none_told, told_behind, told_first}}
 
 mpd_split : (s : State) (o : Option Values) (p : Presented) → mpd_told s o p ≡ listed_told s.common o p ++ kept_told s.common o p s.tracks
 mpd_split s None p = refl
@@ -48,6 +49,26 @@ module _ (s : State) (u : Update) (p : Presented) where
   pub none_before : listed ≡ [] → kept ≡ [] → timed ≡ [] → told_before s u p ≡ []
   none_before none none_kept none_timed = in_parts ∙ none_told (listed ++ kept) timed (none_told listed kept none none_kept) none_timed
 
+-- ---- of an MPD whose open ends and Periods break nothing
+
+module _ (s : State) (coming : Coming) (force : Presented) (now : ℤ) (done : Unit {0}) where
+  abbrev at_zero : List Refusal
+  at_zero = listed_told s.common (mpd_of (update_of coming (pos 0))) force
+
+  looked : at_zero ≡ listed_told s.common (mpd_of (update_of coming now)) (looked_at now force)
+  looked = told_looked s.common (mpd_of (update_of coming (pos 0))) force now
+      ∙ ap (λ (o : Option Values). listed_told s.common o (looked_at now force)) (sym (mpd_at coming now))
+
+  module _ (far : Ok done ≡ unless_any (range_faults (looked_at now force)) tt) where
+    pub listed_none : at_zero ≡ [] → ended_and_listed_told s.common (mpd_of (update_of coming now)) (looked_at now force) ≡ []
+    listed_none none = none_told _ _ (none_far (range_faults (looked_at now force)) done far) (sym looked ∙ none)
+
+    pub listed_tells : (fault : RefreshFault) → Tells fault at_zero
+        → Tells fault (ended_and_listed_told s.common (mpd_of (update_of coming now)) (looked_at now force))
+    listed_tells fault tells =
+        told_behind fault _ _ (none_far (range_faults (looked_at now force)) done far)
+        (subst (λ (xs : List Refusal). Tells fault xs) looked tells)
+
 -- known Periods begin where they did
 pub unmoved_there : (o : Option Values) (c : Common) (former : ℕ) (p : Presented) (place : ℕ) → IsPlaceBy o c former p place
     → is_some o ≡ true → AreUnmoved c.known p place
@@ -58,8 +79,9 @@ unmoved_there (Some mpd) c former p place is some = is.unmoved
 pub next_is : PresentedAreFew → PresentedAreFollowed → EndsAreCounted → (n : Next) (done : Unit {0}) → IsLive n.standing.now n.tracks.now
     → is_finished (in_force n.standing.now) ≡ false → int_lt n.now (n.standing.now).instant ≡ false
     → Comes n.standing.now n.coming n.force.now n.now → Ok done ≡ unless_any (range_faults (p_of n)) tt
-    → IsPlaceBy (mpd_of (update_of n.coming (pos 0))) (common_shown n.standing.now) (n.standing.now).place n.force.now n.place → IsNext n
-next_is few followed ends n done live unended forward comes far place =
+    → IsPlaceBy (mpd_of (update_of n.coming (pos 0))) (common_shown n.standing.now) (n.standing.now).place n.force.now n.place
+    → (n.is_quiet ≡ true → IsQuiet n) → IsNext n
+next_is few followed ends n done live unended forward comes far place quiet =
     let is = listed_there few followed n.standing.now n.tracks.now live n.coming n.force.now n.now n.place comes place in
     record {
       live = live;
@@ -71,4 +93,5 @@ next_is few followed ends n done live unended forward comes far place =
       within = is.within;
       stands = is.stands;
       follows = is.follows;
+      quiet = quiet;
     }

@@ -17,6 +17,7 @@ pub mod Counts
 pub mod Joints
 pub mod Periods
 pub mod Tracks
+pub mod Quiet
 pub mod Beginnings
 pub mod Longs
 pub mod RunDurations

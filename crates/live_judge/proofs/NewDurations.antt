@@ -56,14 +56,6 @@ module _ (u : ℕ) (n : Numbering) (place start : ℕ) where
       begun_anew content l other y xs ∙ ap (λ (t : Timing). durations_behind (rounding_behind t.start u t.start) (y ∷ xs))
       (same_Some y x at)
 
--- segments may be given to a rounder that begins where the first one does
-pub paced_anew : (unit : ℕ) (x : Timing) (walk : List Timing) → slice_get walk 0 ≡ Some x → ArePaced walk
-    → ArePacedBehind walk (rounding_behind x.start unit x.start)
-paced_anew unit x [] at paced = absurd (cc)
-paced_anew unit x (y ∷ ys) at paced =
-    subst (λ (t : Timing). ArePacedBehind (y ∷ ys) (rounding_behind t.start unit t.start)) (same_Some y x at)
-    (record { rising = paced.0; near = paced.1 })
-
 told_none : (b : Bool) (refusal : Refusal) → told_if b refusal ≡ [] → b ≡ false
 told_none true refusal none = absurd (cc)
 told_none false refusal none = refl

@@ -1,6 +1,6 @@
 -- The first place of what passes a test, step by step.
-use Rattle.std.proofs.{Common.{◌≡◌, ℕ, ◌+◌, Bool, true, false, List, ◌∷◌, drop, length, Some, refl, ◌∙◌, ap, arith}, lemmas.List.drop_all}
-use Rattle.std.proofs.{lemmas.List.drop_more, lemmas.Option.{get_or_from_slice_get, slice_get_within}}
+use Rattle.std.proofs.{Common.{◌≡◌, ℕ, ◌+◌, Bool, true, false, List, ◌∷◌, drop, Some, refl, ◌∙◌, ap, arith}, lemmas.List.drop_more}
+use Rattle.std.proofs.lemmas.Option.{get_or_from_slice_get, slice_get_within}
 use Rattle.std.specs.{Prelude.slice_get, List.position_or_len}
 
 rest_at : {X : Type 0} (xs : List X) (i : ℕ) (x : X) → slice_get xs i ≡ Some x → drop i xs ≡ x ∷ drop (i + 1) xs
@@ -19,9 +19,3 @@ position_later {X} test xs i x at other before =
     let here : position_or_len test (drop i xs) ≡ 1 + position_or_len test (drop (i + 1) xs) =
     ap (position_or_len test) (rest_at xs i x at) ∙ (rw other refl) in
     omega (arith, here, before)
-
-pub position_at_end : {X : Type 0} (test : X → Bool) (xs : List X) (i : ℕ) → i ≡ length xs
-    → i + position_or_len test (drop i xs) ≡ position_or_len test xs → i ≡ position_or_len test xs
-position_at_end {X} test xs i end before =
-    let none : position_or_len test (drop i xs) ≡ 0 = ap (position_or_len test) (drop_all i xs (omega arith)) in
-    omega (arith, none, before)

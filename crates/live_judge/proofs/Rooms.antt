@@ -1,6 +1,6 @@
 -- How many segments are kept, track by track.
-use Rattle.std.proofs.Common.{◌≡◌, ℕ, ◌+◌, ◌<◌, nat_lt, true, false, List, [], ◌∷◌, ◌++◌, drop, length, map, Some, refl, sym, ◌∙◌, ap}
-use Rattle.std.proofs.{Common.arith, lemmas.Bool.Decides.nat_tests, lemmas.List.drop_all}
+use Rattle.std.proofs.Common.{◌≡◌, ℕ, ◌+◌, ◌<◌, nat_lt, true, false, List, [], ◌∷◌, ◌++◌, drop, map, Some, refl, sym, ◌∙◌, ap, arith}
+use Rattle.std.proofs.lemmas.Bool.Decides.{nat_tests}
 use Rattle.std.specs.Prelude.{slice_get}
 use Rattle.bridge_io.specs.Firsts.{first_of}
 use Rattle.live_meaning.specs.{Histories.Common, Refusals.{Refusal, Window, count_kept, counts_kept, over_in_all, over_in_track, told_if}}
@@ -77,9 +77,3 @@ module _ (c : Common) (ts : List LiveTrack) (i total : ℕ) (x : LiveTrack) (the
       ap first_of (at_next
       ∙ ap (λ (xs : List Refusal). xs ++ left_in_all c ts (i + 1) (total + count_at c i x))
       (over_limit 500000 next (total + count_at c i x) i next_is over))
-
-pub none_over_all : (c : Common) (ts : List LiveTrack) (i total : ℕ) → i ≡ length ts → IsNoneOver c ts i total
-    → over_in_all 0 0 (counts_kept c 0 (map track_shown ts)) ≡ []
-none_over_all c ts i total end before =
-    before ∙ ap (λ (xs : List LiveTrack). over_in_all i total (counts_kept c i (map track_shown xs))) (ap (λ j. drop j ts) end
-    ∙ drop_all (length ts) ts (omega arith))

@@ -2,12 +2,12 @@
 use Rattle.std.proofs.Common.{◌≡◌, ℕ, ◌+◌, ◌<◌, ◌&&◌, ◌||◌, ◌==◌, Bool, true, false, List, [], ◌∷◌, ◌++◌, length, map, Option, Some, None}
 use Rattle.std.proofs.{Common.{sym, ◌∙◌, ap, inl, inr, arith}, lemmas.Bool.cases_Bool, lemmas.Bool.Decides.nat_tests}
 use Rattle.std.proofs.lemmas.List.{append_assoc, map-append}
-use Rattle.std.specs.{Prelude.{flat_map, option_map, option_to_list}, List.{list_any, range_with_len}}
+use Rattle.std.specs.{Prelude.{flat_map, option_map, option_to_list}, List.list_any}
 use Rattle.exact_time.specs.Time.{Time}
 use Rattle.timeline.specs.{Expansions.SegmentTimeline, Listed.offset_of}
 use Rattle.url_parts.specs.declared.address.Part.{Part}
 use Rattle.presentation.specs.{declared.parts.Content.Content, Presented.{Presented, content_at}}
-use Rattle.presentation.proofs.Counts.{from_on, from_on-end, from_on-first, from_on-start}
+use Rattle.presentation.proofs.Counts.{from_on, from_on-end, from_on-first}
 use Rattle.live_meaning.specs.Known.{Attributes, all_same, attributes_of, same_attributes}
 use Rattle.live_judge.specs.{declared.known.KeptAttributes.KeptAttributes, Changed.attributes_by, Known.attributes_shown}
 
@@ -35,9 +35,6 @@ module _ (p : Presented) (s n : ℕ) where
 
   pub at_end : (t : ℕ) → t ≡ n → flat_map (one_of p s) (from_on t n) ≡ []
   at_end t end = ap (λ i. flat_map (one_of p s) (from_on i n)) end ∙ ap (flat_map (one_of p s)) (from_on-end n)
-
-  pub at_start : flat_map (one_of p s) (from_on 0 n) ≡ flat_map (one_of p s) (range_with_len 0 n)
-  at_start = ap (flat_map (one_of p s)) (from_on-start n)
 
 pub same_more : (a b : Attributes) (more others : List Attributes) → same_attributes a b ≡ true
     → all_same (a ∷ more) (b ∷ others) ≡ all_same more others

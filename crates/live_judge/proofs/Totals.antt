@@ -1,16 +1,16 @@
 -- Sums of printed durations, which stop at the last value of a counter.
 use Rattle.std.proofs.Common.{◌≡◌, ℕ, zero, suc, ◌+◌, ◌-◌, ◌^◌, ◌<◌, ◌≤◌, cond, Bool, true, false, List, [], ◌∷◌, ◌++◌, length, sum, Option}
-use Rattle.std.proofs.Common.{Some, refl, ◌∙◌, ap, subst, arith, length-append}
+use Rattle.std.proofs.Common.{Some, refl, ◌∙◌, ap, subst, arith}
 use Rattle.std.specs.Prelude.{IfSome, flat_map, option_map, slice_get}
 use Rattle.exact_time.specs.Tick.{time_of}
 use Rattle.presentation.specs.Counting.{sections_of}
-use Rattle.presentation.proofs.Counts.{from_on, from_on-end, from_on-first, from_on-start}
+use Rattle.presentation.proofs.Counts.{from_on, from_on-end, from_on-first}
 use Rattle.followed.specs.Durations.{Last}
 use Rattle.live_meaning.specs.{Updates.is_reset, Segments.id_at, Known.ids_of, Refusals.ids_in, States.new_durations}
 use Rattle.live_meaning.proofs.InForce.{id_there}
-use Rattle.live_judge.specs.{declared.times.NewTimes.NewTimes, declared.times.NewRun.NewRun, declared.track_next.TrackNext.TrackNext}
-use Rattle.live_judge.specs.{Coming.{IsTrackNext, c_of, coming_of, p_of, t_of, update_of}, New.durations_in, Removal.kept_in}
-use Rattle.live_judge.specs.{Seconds.capped, Shown.last_from, Times.{IsNextRun, IsRun, left_of}}
+use Rattle.live_judge.specs.{declared.times.NewRun.NewRun, declared.track_next.TrackNext.TrackNext, Coming.{IsTrackNext, c_of, coming_of}}
+use Rattle.live_judge.specs.{Coming.{p_of, t_of, update_of}, New.durations_in, Removal.kept_in, Seconds.capped, Shown.last_from}
+use Rattle.live_judge.specs.Times.{IsRun}
 use Rattle.live_judge.proofs.{Keeping.length-kepts, New.durations_are, NewDurations.sound_there, Places.place_there, Removing.sum-append}
 use Rattle.live_judge.proofs.{Removing.sum-cons, Tracks.paired_there}
 
@@ -20,9 +20,6 @@ use Rattle.live_judge.proofs.{Removing.sum-cons, Tracks.paired_there}
 pub record IsSoFar (total : ℕ) (left all : List ℕ) : Type 0 where
   pub sums : capped (total + sum left) ≡ capped (sum all)
   pub bound : total ≤ 2 ^ 128 - 1
-
-pub sums_first : (left all : List ℕ) → left ≡ all → IsSoFar 0 left all
-sums_first left all same = let one = ap sum same in record { sums = omega (arith, one); bound = omega arith }
 
 pub sums_next : (total more next : ℕ) (ds old new all : List ℕ) → old ≡ ds ++ new → more ≡ capped (sum ds) → next ≡ capped (total + more)
     → IsSoFar total old all → IsSoFar next new all
@@ -42,9 +39,6 @@ run_sum ds run first total is same added =
     let others = ap (λ e. e.total) is.summed in
     omega (arith, all, others, same, added)
 
-pub fewer_left : (old new : NewTimes) (run : NewRun) → IsNextRun old run new → length (left_of new) < length (left_of old)
-fewer_left old new run is = omega (arith, ap length is.next, length-append is.ds (left_of new), ap length is.tells.is)
-
 -- ---- sections
 
 abbrev pub durs : TrackNext → ℕ → List ℕ
@@ -55,9 +49,6 @@ all_durs l = flat_map (durs l) (sections_of (p_of l.next.now))
 
 abbrev pub durs_from : TrackNext → ℕ → List ℕ
 durs_from l i = flat_map (durs l) (from_on i (length (p_of l.next.now).sections))
-
-pub durs_first : (l : TrackNext) → durs_from l 0 ≡ all_durs l
-durs_first l = ap (flat_map (durs l)) (from_on-start (length (p_of l.next.now).sections))
 
 pub durs_next : (l : TrackNext) (i : ℕ) → i < length (p_of l.next.now).sections → durs_from l i ≡ durs l i ++ durs_from l (i + 1)
 durs_next l i within = ap (flat_map (durs l)) (from_on-first i (length (p_of l.next.now).sections) within)

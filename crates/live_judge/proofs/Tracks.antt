@@ -1,14 +1,13 @@
 -- A track of an update.
 use Rattle.std.proofs.{Common.{◌≡◌, ℕ, ◌+◌, ◌<◌, [], length, take, Some, sym, ◌∙◌, subst, arith}, lemmas.Option.slice_get_within}
 use Rattle.std.specs.Prelude.{option_map}
-use Rattle.timeline.specs.{Expansions.SegmentTimeline, Listed.{IsReached, IsPlaceAfter, expansion, listed, listed_from}}
-use Rattle.timeline.specs.declared.window.Window.{Window}
+use Rattle.timeline.specs.{Expansions.SegmentTimeline, Listed.{IsReached, IsPlaceAfter, expansion, listed}, declared.window.Window.Window}
 use Rattle.presentation.specs.{declared.parts.Content.Content, Presented.{content_at, window_of}}
 use Rattle.presentation.proofs.{Extents.reached_of, Grids.All-at}
 use Rattle.live_judge.specs.{declared.track_next.TrackNext.TrackNext, Coming.{IsTrackNext, p_of, t_of}, Sound.IsPaired}
 use Rattle.live_judge.specs.{declared.track.LastKept.LastKept, New.{StartsNew, new_timings}, Shown.last_of}
 use Rattle.exact_time.specs.Tick.{time_of}
-use Rattle.live_judge.proofs.{Contents.{content_there, starts_behind, starts_first, starts_there}, New.none_earlier}
+use Rattle.live_judge.proofs.{Contents.{content_there, starts_behind, starts_first}, New.none_earlier}
 
 pub index_within : (l : TrackNext) → IsTrackNext l → l.index < length (p_of l.next.now).tracks
 index_within l is = omega (arith, slice_get_within (l.next.now).tracks.now l.index l.track.now is.there, is.next.alike)
@@ -52,9 +51,3 @@ module _ (l : TrackNext) (s : ℕ) (r : SegmentTimeline) (has : option_map (λ (
         (subst (λ (q : SegmentTimeline). listed (window_of (p_of l.next.now) s) (take cursor (expansion q (window_of (p_of l.next.now) s)))
         ≡ []) (sym its.2)
         (subst (λ (v : Window). listed v (take cursor (expansion r v)) ≡ []) same none))
-
-    pub walk_from : (cursor : ℕ) (w : Window) → StartsNew (p_of l.next.now) (l.next.now).place (t_of l) l.index s cursor
-        → w ≡ window_of (p_of l.next.now) s
-        → listed_from cursor r w ≡ new_timings (p_of l.next.now) (l.next.now).place (t_of l) l.index s
-    walk_from cursor w starts same =
-        starts_there (p_of l.next.now) (l.next.now).place (t_of l) l.index s (last_of k) last its.0 its.1 cursor r w starts its.2 same

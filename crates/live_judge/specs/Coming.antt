@@ -1,6 +1,7 @@
 -- An update that comes to a session, and what it would leave.
 use Rattle.live_judge.specs.declared.coming.Coming.TheVariants as comes
-use Rattle.std.specs.Prelude.{◌≡◌, ℕ, ◌<◌, ◌≤◌, ℤ, int_lt, Bool, false, List, [], ◌++◌, length, map, slice_get, Option, Some, Ok, unwrap_or}
+use Rattle.std.specs.Prelude.{◌≡◌, ℕ, ◌<◌, ◌≤◌, ℤ, int_lt, Bool, false, true, List, [], ◌++◌, length, map, slice_get, Option, Some, Ok}
+use Rattle.std.specs.Prelude.{unwrap_or}
 use Rattle.mpd_rules.specs.Views.{segments_mpd}
 use Rattle.presentation.specs.{Presented.{Presented, is_finished, looked_at}, Counting.range_faults, Printing.IsCounted, Told.presented_of}
 use Rattle.live_meaning.specs.{Updates.{Update, Values, Refresh, Reset, Tick, is_reset, mpd_of}, Known.ids_of, Histories.Common}
@@ -8,7 +9,7 @@ use Rattle.live_meaning.specs.{Histories.{availability_start_of, common_with}, S
 use Rattle.live_meaning.specs.Refusals.{counts_kept, ids_in, joint_told, long_told, mpd_told, window_told}
 use Rattle.live_judge.specs.{declared.coming.Coming.Coming, declared.coming.Next.Next, declared.standing.Standing.Standing}
 use Rattle.live_judge.specs.{declared.track_next.TrackNext.TrackNext, Changed.listed_told, Known.StandsAt, Shown.{common_shown, in_force}}
-use Rattle.live_judge.specs.{Shown.track_shown, Sound.{IsLive, StartsAt}}
+use Rattle.live_judge.specs.{Shown.track_shown, declared.track.LiveTrack.LiveTrack, New.new_timings, Sound.{IsLive, StartsAt}}
 
 abbrev pub update_of : Coming → ℤ → Update
 update_of (comes.Refresh mpd) now = Refresh (segments_mpd mpd.now) now
@@ -42,7 +43,16 @@ p_of n = looked_at n.now n.force.now
 abbrev pub coming_of : Next → Common
 coming_of n = common_with (common_shown n.standing.now) (update_of n.coming n.now) (p_of n)
 
--- no static MPD came before it, it doesn't go back in time, its open ends break no limit, and its Periods go on behind the known ones
+-- nothing is new of a track in any section
+abbrev pub IsQuietIn : Presented → (place t : ℕ) → Track → Type 0
+IsQuietIn p place t track = (s : ℕ) → s < length p.sections → new_timings p place track t s ≡ []
+
+-- nothing is new of any track
+abbrev pub IsQuiet : Next → Type 0
+IsQuiet n = (t : ℕ) (track : LiveTrack) → slice_get n.tracks.now t ≡ Some track → IsQuietIn (p_of n) n.place t (track_shown track)
+
+-- No static MPD came before it, it doesn't go back in time, its open ends break no limit, and its Periods go on behind the known ones.
+-- Where it is said to be quiet, it is.
 pub record IsNext (n : Next) : Type 0 where
   pub live : IsLive n.standing.now n.tracks.now
   pub unended : is_finished (in_force n.standing.now) ≡ false
@@ -53,6 +63,7 @@ pub record IsNext (n : Next) : Type 0 where
   pub within : n.place ≤ length (n.standing.now).known
   pub stands : StandsAt (ids_of (coming_of n).known) (ids_in (p_of n)) n.place
   pub follows : StartsAt (availability_start_of (n.standing.now).opened) (p_of n)
+  pub quiet : n.is_quiet ≡ true → IsQuiet n
 
 -- ---- one track of it
 

@@ -57,12 +57,14 @@ pub struct Next<'a> {
     pub now: Instant,
     /// The place of the first Period of the presentation. The others have the next ones.
     pub place: usize,
+    /// Whether it is known that nothing is new of any track. Where it isn't, something may be.
+    pub is_quiet: bool,
 }
 
 impl<'a> Next<'a> {
-    ghost use Rattle.std.specs.Prelude.{false, int_lt, IfOk};
+    ghost use Rattle.std.specs.Prelude.{false, true, int_lt, IfOk};
     ghost use Rattle.presentation.specs.Presented.{is_finished, looked_at};
-    ghost use Rattle.live_judge.specs.Coming.{Comes, IsNext, IsTrackNext, told_before, update_of};
+    ghost use Rattle.live_judge.specs.Coming.{Comes, IsNext, IsQuiet, IsTrackNext, told_before, update_of};
     ghost use Rattle.live_judge.specs.Faults.{Judges};
     ghost use Rattle.live_judge.specs.Shown.{in_force, state_shown};
     ghost use Rattle.live_judge.specs.Sound.{IsLive};
@@ -99,10 +101,28 @@ impl<'a> Next<'a> {
             force,
             now,
             place,
+            is_quiet: false,
         };
         next.check_kept()?;
+        let next = Next {
+            is_quiet: next.has_nothing_new(),
+            ..next
+        };
         next.check_times()?;
         Ok(next)
+    }
+
+    /// Whether nothing is new of any track. It divides.
+    fn has_nothing_new(&self) -> bool
+        requires { IsNext self.now }
+        ensures { result ≡ true → IsQuiet self.entry.now }
+    {
+        for track in 0..self.tracks.len() {
+            if !self.of(track).has_nothing_new() {
+                return false;
+            }
+        }
+        true
     }
 
     /// What comes to a track.

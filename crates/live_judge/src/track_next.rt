@@ -1,10 +1,10 @@
 // What an update brings to a track.
-ghost use Rattle.std.specs.Prelude.{◌≡◌, ◌+◌, ◌<◌, ◌≤◌, ◌^◌, [], All, MatchOption, Some, length, option_map, slice_get};
+ghost use Rattle.std.specs.Prelude.{◌≡◌, ◌+◌, ◌<◌, ◌≤◌, ◌^◌, [], All, MatchOption, Some, length, option_map, slice_get, true};
 ghost use Rattle.presentation.specs.Presented.{content_at, start_of, window_of};
 ghost use Rattle.timeline.specs.Listed.{IsReached, IsWindowOf, timing_of};
 ghost use Rattle.timeline.specs.Steady.{ArePaced, IsWithinLimits};
 ghost use Rattle.live_meaning.specs.States.{new_of};
-ghost use Rattle.live_judge.specs.Coming.{IsNext, IsTrackNext, c_of, coming_of, p_of, t_of};
+ghost use Rattle.live_judge.specs.Coming.{IsNext, IsQuietIn, IsTrackNext, c_of, coming_of, p_of, t_of};
 ghost use Rattle.live_judge.specs.New.{IsFirstNew, StartsNew, new_timings};
 
 use crate::{LiveTrack, Next};
@@ -95,6 +95,9 @@ impl<'a> TrackNext<'a> {
             (λ cursor. StartsNew (p_of self.entry.now.next.now) self.entry.now.next.now.place
             (t_of self.entry.now) self.entry.now.index section cursor) }
     {
+        if self.next.is_quiet {
+            return None;
+        }
         let last = self.track.last();
         let place = self.next.place + section;
         if place < last.place {
@@ -135,6 +138,20 @@ impl<'a> TrackNext<'a> {
             }
             None => 0,
         }
+    }
+
+    /// Whether nothing is new. It divides.
+    pub(crate) fn has_nothing_new(&self) -> bool
+        requires { IsTrackNext self.now }
+        ensures { result ≡ true → IsQuietIn (p_of self.entry.now.next.now) self.entry.now.next.now.place self.entry.now.index
+            (t_of self.entry.now) }
+    {
+        for section in 0..self.next.force.sections().len() {
+            if self.new_count_in(section) > 0 {
+                return false;
+            }
+        }
+        true
     }
 
     /// How many segments are new. It divides, however many they are.

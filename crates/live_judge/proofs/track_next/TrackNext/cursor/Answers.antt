@@ -1,8 +1,13 @@
-use Rattle.std.proofs.Common.{arith}
+use Rattle.std.proofs.Common.{arith, rules}
 use Rattle.presentation.specs.Presented.{window_of}
 use Rattle.live_judge.specs.Coming.{p_of}
 use Rattle.live_judge.proofs.Tracks.{cursor_behind, cursor_first, none_before}
 use Rattle.live_judge.proofs.track_next.TrackNext.cursor.Goals as goal
+
+pub returns-then-self : goal.returns-then-self
+returns-then-self c =
+    c.requires.next.next.quiet (search rules) c.args.self.now.index c.args.self.now.track.now c.requires.next.there c.args.section
+    c.requires.section
 
 pub returns-then-place-last : goal.returns-then-place-last
 returns-then-place-last c = none_before c.args.self.now c.args.section c.last-last.result c.last-last.ensures.last
