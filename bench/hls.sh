@@ -49,8 +49,8 @@ for label, command in [
         rows.append((label, *(found or (0, 0))))
 out = ["# Speed and memory", "",
        f"`bridge hls` of an MPD of {os.path.getsize(big) / 1e6:.1f} MB with 100,000 S, which writes a playlist of "
-       f"{os.path.getsize('out/t0.m3u8') / 1e6:.1f} MB, and other readers",
-       "on the same file: the shortest of eleven runs, and the largest memory. `bench/hls.sh` measures this and writes these two tables.", "",
+       f"{os.path.getsize('out/t0.m3u8') / 1e6:.1f} MB, and other readers on the same file: the shortest of",
+       "eleven runs, and the largest memory. `bench/hls.sh` measures this and writes these two tables.", "",
        "| command | ms | MB | our time to its | our memory to its |", "|---|---|---|---|---|"]
 for label, t, m in rows:
     if t:
