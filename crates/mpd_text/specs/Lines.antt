@@ -4,7 +4,7 @@ use Rattle.byte_scan.specs.Lines.{is_line_feed}
 
 -- how many bytes a block has
 abbrev pub block_size : ℕ
-block_size = 64
+block_size = 256
 
 -- how many LF bytes stand before each of the blocks, and before the byte behind the last of them
 pub record AreCounted (bytes : List ℕ) (blocks : ℕ) (counts : List ℕ) : Type 0 where

@@ -9,7 +9,7 @@ use bridge_io::Place;
 use byte_scan::count_lf;
 use std::alloc::Global;
 
-const BLOCK: usize = 64;
+const BLOCK: usize = 256;
 
 /// How many LF bytes stand before each block of a text.
 #[derive(Debug, Drop)]
@@ -22,7 +22,7 @@ impl LineCounts {
         ensures counted { IfOk result (λ lines. AreCounted bytes.now (length bytes.now / block_size) lines.before.items) }
         ensures fault { IfErr result (λ fault. fault ≡ Memory) }
     {
-        let mut before = Vec::new(alloc);
+        let mut before = Vec::with_capacity(alloc, bytes.len() / BLOCK + 1)?;
         let mut count = 0;
         before.push(count)?;
         for block in 0..bytes.len() / BLOCK {

@@ -13,14 +13,14 @@ overflow_add-count c =
       arith,
       c.loop-block.invariant.count_is,
       c.count_lf-count.ensures,
-      count_on is_line_feed bytes (block * 64) ((block + 1) * 64) (omega arith),
-      count_by-le-length is_line_feed (take ((block + 1) * 64) bytes),
-      length-take ((block + 1) * 64) bytes,
+      count_on is_line_feed bytes (block * 256) ((block + 1) * 256) (omega arith),
+      count_by-le-length is_line_feed (take ((block + 1) * 256) bytes),
+      length-take ((block + 1) * 256) bytes,
     )
 
 pub loop-block-init : goal.loop-block-init
 loop-block-init c = record {
-  counted = subst (AreCounted c.args.bytes.now 0) (sym (c.in_ok-push.ensures.items ∙ ap (λ l. l ++ 0 ∷ []) c.new-before.ensures.items))
+  counted = subst (AreCounted c.args.bytes.now 0) (sym (c.in_ok-push.ensures.items ∙ ap (λ l. l ++ 0 ∷ []) c.in_ok-before.ensures.items))
       (none_counted c.args.bytes.now);
   count_is = refl;
 }
@@ -29,12 +29,12 @@ pub loop-block-preserved : goal.loop-block-preserved
 loop-block-preserved c =
     let bytes = c.args.bytes.now in
     let block = c.loop-block.block in
-    let count_is : c.loop-block.count + c.count_lf-count.result ≡ count_by is_line_feed (take ((block + 1) * 64) bytes) =
+    let count_is : c.loop-block.count + c.count_lf-count.result ≡ count_by is_line_feed (take ((block + 1) * 256) bytes) =
     omega (
       arith,
       c.loop-block.invariant.count_is,
       c.count_lf-count.ensures,
-      count_on is_line_feed bytes (block * 64) ((block + 1) * 64) (omega arith),
+      count_on is_line_feed bytes (block * 256) ((block + 1) * 256) (omega arith),
     ) in
     record {
       counted = subst (AreCounted bytes (block + 1)) (sym c.in_ok-push-2.ensures.items)

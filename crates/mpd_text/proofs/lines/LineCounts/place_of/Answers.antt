@@ -10,11 +10,11 @@ index-requires c = omega (arith, c.requires.counted.as_many, c.args.self.now.bef
 -- the LF bytes before the block, and from there on
 counted : (c : goal.After-count_lf) → c.index.result.now + c.count_lf.result ≡ count_by is_line_feed (take c.args.at c.args.bytes.now)
 counted c =
-    let block = c.args.at / 64 in
-    let before : c.index.result.now ≡ count_by is_line_feed (take (block * 64) c.args.bytes.now) =
+    let block = c.args.at / 256 in
+    let before : c.index.result.now ≡ count_by is_line_feed (take (block * 256) c.args.bytes.now) =
     get_or_read c.args.self.now.before.items block _ (omega (arith, c.requires.counted.as_many)) c.index.ensures 0
     ∙ c.requires.counted.each block (omega arith) in
-    omega (arith, before, c.count_lf.ensures, count_on is_line_feed c.args.bytes.now (block * 64) c.args.at (omega arith))
+    omega (arith, before, c.count_lf.ensures, count_on is_line_feed c.args.bytes.now (block * 256) c.args.at (omega arith))
 
 pub overflow_add-before : goal.overflow_add-before
 overflow_add-before c = omega (
