@@ -1,8 +1,13 @@
 -- Elements by the trees, nodes and walks that hold them.
 use Rattle.std.specs.{Prelude.{ℕ, List, ◌++◌, map}, String.string_bytes}
 use Rattle.mpd_text.specs.{declared.node.Node.Node, declared.node.AttrWalk.AttrWalk, declared.node.NodeWalk.NodeWalk}
-use Rattle.mpd_text.specs.{declared.tree.Tree.Tree, declared.tree.ElementRow.ElementRow, declared.tree.AttributeRow.AttributeRow}
+use Rattle.mpd_text.specs.{declared.tree.Tree.Tree, declared.tree.Rows.Rows, declared.tree.ElementRow.ElementRow}
+use Rattle.mpd_text.specs.{declared.tree.AttributeRow.AttributeRow}
 use Rattle.mpd_text.specs.{Trees.{Attribute, Head, Element}, Views.{attribute_of, element_at, forest_of, head_of, root_shown, side_by_side}}
+
+-- the root that rows show of a text, with all that is in it
+abbrev pub root_in : List ℕ → Rows → Element
+root_in source rows = root_shown source (string_bytes rows.read) rows.elements.items rows.attributes.items
 
 -- the root of a tree, with all that is in it
 abbrev pub root_of : Tree → Element

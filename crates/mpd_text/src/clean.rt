@@ -1,5 +1,6 @@
 // Bytes that are a text, and that have no character which no text may have.
 ghost use Rattle.std.specs.Prelude.{◌≡◌, ◌⊎◌, ◌<◌, ◌≤◌, ℕ, length, drop, position, false, IfOk, IfErr, MatchOption};
+ghost use Rattle.std.specs.String.{string_bytes};
 ghost use Rattle.byte_scan.specs.Class.{is_low_control};
 ghost use Rattle.mpd_text.specs.Characters.{IsFirstNoncharacter, begins_with_noncharacter, first_bad_character};
 ghost use Rattle.mpd_text.specs.Faults.{HasBadCharacter, IsNotUtf8};
@@ -66,18 +67,22 @@ fn first_bad_character(bytes: &[u8]) -> Option<usize>
     }
 }
 
-/// The bytes as a text without a character that no text may have.
-pub(crate) fn clean(bytes: &[u8]) -> Result<&str, TextFault>
-    ensures text { IfOk result (λ text. text.now ≡ bytes.now) }
-    ensures clean { IfOk result (λ _. IsClean bytes.now) }
-    ensures fault { IfErr result (λ fault. IsNotUtf8 bytes.now fault ⊎ HasBadCharacter bytes.now fault) }
+/// The bytes, taken over as a text without a character that no text may have.
+pub(crate) fn clean(bytes: Vec<u8>) -> Result<String, TextFault>
+    ensures text { IfOk result (λ text. string_bytes text ≡ bytes.items) }
+    ensures clean { IfOk result (λ _. IsClean bytes.items) }
+    ensures fault { IfErr result (λ fault. IsNotUtf8 bytes.items fault ⊎ HasBadCharacter bytes.items fault) }
 {
-    let text = match str::from_utf8(bytes) {
-        Ok(text) => text,
-        Err(error) => return Err(TextFault::NotUtf8(place_at(bytes, error.valid_up_to()))),
+    let source = match String::from_utf8(bytes) {
+        Ok(source) => source,
+        Err(error) => {
+            let valid = error.utf8_error().valid_up_to();
+            return Err(TextFault::NotUtf8(place_at(error.as_bytes(), valid)));
+        }
     };
-    match first_bad_character(bytes) {
-        None => Ok(text),
-        Some(bad) => Err(TextFault::BadChar(place_at(bytes, bad))),
+    let text = source.as_str().as_bytes();
+    match first_bad_character(text) {
+        None => Ok(source),
+        Some(bad) => Err(TextFault::BadChar(place_at(text, bad))),
     }
 }

@@ -1,16 +1,19 @@
 // From bytes to a tree.
-ghost use Rattle.std.specs.Prelude.{IfOk, IfErr, IfSome};
+ghost use Rattle.std.specs.Prelude.{◌++◌, All, IfOk, IfErr, IfSome};
+ghost use Rattle.std.specs.String.{string_bytes};
 ghost use Rattle.bridge_io.specs.Answer.{Gives};
 ghost use Rattle.mpd_text.specs.Faults.{HasFault, refusal};
 ghost use Rattle.mpd_text.specs.Grammar.{IsClean, Spells};
 ghost use Rattle.mpd_text.specs.Meaning.{reading_of};
-ghost use Rattle.mpd_text.specs.Nodes.{root_of};
+ghost use Rattle.mpd_text.specs.Nodes.{root_in, root_of};
+ghost use Rattle.mpd_text.specs.Rows.{IsAttributeKept, IsElementKept};
 
 use crate::TextFault;
 use crate::clean::clean;
+use crate::lines::LineCounts;
 use crate::markup::{beginning_end, expect_end, misc_end};
 use crate::reader::Reader;
-use crate::tree::Tree;
+use crate::tree::{Rows, Tree};
 use std::alloc::Global;
 
 /// The tree that the bytes spell as an XML 1.0 text in UTF-8, without document type, CDATA section and processing
@@ -30,14 +33,46 @@ pub fn read_tree(alloc: Global, bytes: &[u8]) -> Result<Tree, TextFault>
     ensures tree { IfOk result (λ tree. Spells (root_of tree) bytes.now) }
     ensures fault { IfErr result (λ fault. IfSome (refusal fault) (HasFault bytes.now)) }
 {
-    let text = clean(bytes)?;
-    read_text(alloc, text)
+    let bytes = Vec::from_slice(alloc, bytes)?;
+    Tree::from_bytes(alloc, bytes)
 }
 
-/// The tree of a text without a character that no text may have.
-fn read_text(alloc: Global, text: &str) -> Result<Tree, TextFault>
+impl Tree {
+    /// The tree that the bytes spell, which takes them over: it is [`read_tree`] of them, and the text isn't copied.
+    ///
+    /// # Errors
+    ///
+    /// As those of [`read_tree`].
+    pub fn from_bytes(alloc: Global, bytes: Vec<u8>) -> Result<Tree, TextFault>
+        ensures reading { Gives root_of refusal result (reading_of bytes.items) }
+        ensures tree { IfOk result (λ tree. Spells (root_of tree) bytes.items) }
+        ensures fault { IfErr result (λ fault. IfSome (refusal fault) (HasFault bytes.items)) }
+    {
+        let source = clean(bytes)?;
+        let rows = read_text(alloc, source.as_str())?;
+        let lines = LineCounts::new(alloc, source.as_bytes())?;
+        let Rows {
+            read,
+            elements,
+            attributes,
+        } = rows;
+        Ok(Tree {
+            source,
+            read,
+            lines,
+            elements,
+            attributes,
+        })
+    }
+}
+
+/// The rows of a text without a character that no text may have.
+fn read_text(alloc: Global, text: &str) -> Result<Rows, TextFault>
     requires { IsClean text.now }
-    ensures { Gives root_of refusal result (reading_of text.now) }
+    ensures reading { Gives (root_in text.now) refusal result (reading_of text.now) }
+    ensures elements_kept { IfOk result (λ rows. All (IsElementKept text.now (text.now ++ string_bytes rows.read)) rows.elements.items) }
+    ensures attributes_kept { IfOk result (λ rows. All (IsAttributeKept text.now (text.now ++ string_bytes rows.read))
+        rows.attributes.items) }
 {
     let bytes = text.as_bytes();
     let beginning = beginning_end(bytes)?;
@@ -45,5 +80,5 @@ fn read_text(alloc: Global, text: &str) -> Result<Tree, TextFault>
     let mut reader = Reader::new(alloc, text);
     let end = reader.read_root(root)?;
     expect_end(bytes, end)?;
-    reader.finish()
+    Ok(reader.finish())
 }

@@ -43,16 +43,14 @@ ghost use Rattle.mpd_text.specs.Rows.{IsAttributeKept, IsElementKept};
 
 use crate::TextFault;
 use crate::class::starts_name;
-use crate::clean::clean;
 use crate::decode::{Value, read_data, read_value};
 use crate::growing::Growing;
-use crate::lines::LineCounts;
 use crate::many_names::{FEW, ManyNames, name_of};
 use crate::marked::Marked;
-use crate::markup::{beginning_end, comment_end, expect_end, misc_end};
+use crate::markup::comment_end;
 use crate::places::{byte_at, cut, place_at, syntax};
 use crate::runs::{name_end, white_end};
-use crate::tree::{AttributeRow, KeptSpan, Tree};
+use crate::tree::{AttributeRow, KeptSpan, Rows};
 use std::alloc::Global;
 
 #[derive(Drop)]
@@ -80,7 +78,7 @@ impl<'a> Reader<'a> {
     ghost use Rattle.mpd_text.specs.Faults.{refusal};
     ghost use Rattle.mpd_text.specs.Growth.{HasAdded, HasBegun, HasEnded};
     ghost use Rattle.mpd_text.specs.ManyNames.{IsPrepared};
-    ghost use Rattle.mpd_text.specs.Nodes.{root_of};
+    ghost use Rattle.mpd_text.specs.Nodes.{root_in};
     ghost use Rattle.mpd_text.specs.Positions.{IsPastMisc, IsReady};
     ghost use Rattle.mpd_text.specs.Reading.{IsAttributeRead, IsDataShown, IsRead, IsTagRead, IsWholeIfClosed, view_of};
     ghost use Rattle.mpd_text.specs.Rows.{AreRooted, IsKept, IsNameKept};
@@ -492,28 +490,21 @@ impl<'a> Reader<'a> {
         KeptSpan::between(start, self.kept_end())
     }
 
-    pub(crate) fn finish(self) -> Result<Tree, TextFault>
+    pub(crate) fn finish(self) -> Rows
         requires { AreRooted self.growing.elements.items }
-        ensures shown { (root : Element) → RootShown (view_of self.entry) root → IfOk result (λ tree. root_of tree ≡ root) }
-        ensures fault { IfErr result (λ fault. fault ≡ Memory) }
+        ensures shown { (root : Element) → RootShown (view_of self.entry) root → root_in self.entry.text.now result ≡ root }
+        ensures elements_kept { let source = self.entry.text.now in
+            All (IsElementKept source (source ++ string_bytes result.read)) result.elements.items }
+        ensures attributes_kept { let source = self.entry.text.now in
+            All (IsAttributeKept source (source ++ string_bytes result.read)) result.attributes.items }
     {
-        let Reader {
-            alloc,
-            text,
-            growing,
-            read,
-            ..
-        } = self;
-        let source = String::from_str(alloc, text)?;
-        let lines = LineCounts::new(alloc, text.as_bytes())?;
+        let Reader { growing, read, .. } = self;
         let (elements, attributes) = growing.finish();
-        Ok(Tree {
-            source,
+        Rows {
             read,
-            lines,
             elements,
             attributes,
-        })
+        }
     }
 }
 

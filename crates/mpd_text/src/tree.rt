@@ -73,11 +73,24 @@ pub(crate) struct AttributeRow {
     pub(crate) value: KeptSpan,
 }
 
+/// What is read of a text, without the text itself.
+#[derive(Drop)]
+pub(crate) struct Rows {
+    // What is read otherwise than it stands in the source: texts of elements, and values with references.
+    pub(crate) read: String,
+    pub(crate) elements: Vec<ElementRow>,
+    pub(crate) attributes: Vec<AttributeRow>,
+    ghost attributes_within: { All (HasAttributesWithin (vec_len attributes)) elements.items },
+    ghost followed: { AreFollowed elements.items },
+    ghost nested: { AreNested elements.items },
+    ghost rooted: { AreRooted elements.items },
+}
+
 /// The elements of a text, from the root on.
 #[derive(Debug, Drop)]
 pub struct Tree {
     pub(crate) source: String,
-    // What is read otherwise than it stands in the source: texts of elements, and values with references.
+    // As the rows have it.
     pub(crate) read: String,
     pub(crate) lines: LineCounts,
     pub(crate) elements: Vec<ElementRow>,
