@@ -67,6 +67,13 @@ impl<T> Sequence<T> {
     {
         self.members.as_slice()
     }
+
+    /// The members, which are taken over and not copied.
+    pub fn into_vec(self) -> Vec<T>
+        ensures { result.items ≡ self }
+    {
+        self.members
+    }
 }
 
 impl<T: Copy> Sequence<T> {
