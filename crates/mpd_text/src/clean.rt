@@ -8,6 +8,7 @@ ghost use Rattle.mpd_text.specs.Grammar.{IsClean};
 
 use crate::TextFault;
 use crate::places::place_at;
+use bridge_io::Bytes;
 use byte_scan::{Class, first_outside};
 use memchr::memchr;
 
@@ -68,12 +69,12 @@ fn first_bad_character(bytes: &[u8]) -> Option<usize>
 }
 
 /// The bytes, taken over as a text without a character that no text may have.
-pub(crate) fn clean(bytes: Vec<u8>) -> Result<String, TextFault>
-    ensures text { IfOk result (λ text. string_bytes text ≡ bytes.items) }
-    ensures clean { IfOk result (λ _. IsClean bytes.items) }
-    ensures fault { IfErr result (λ fault. IsNotUtf8 bytes.items fault ⊎ HasBadCharacter bytes.items fault) }
+pub(crate) fn clean(bytes: Bytes) -> Result<String, TextFault>
+    ensures text { IfOk result (λ text. string_bytes text ≡ bytes) }
+    ensures clean { IfOk result (λ _. IsClean bytes) }
+    ensures fault { IfErr result (λ fault. IsNotUtf8 bytes fault ⊎ HasBadCharacter bytes fault) }
 {
-    let source = match String::from_utf8(bytes) {
+    let source = match String::from_utf8(bytes.into_vec()) {
         Ok(source) => source,
         Err(error) => {
             let valid = error.utf8_error().valid_up_to();

@@ -14,6 +14,7 @@ use crate::lines::LineCounts;
 use crate::markup::{beginning_end, expect_end, misc_end};
 use crate::reader::Reader;
 use crate::tree::{Rows, Tree};
+use bridge_io::Bytes;
 use std::alloc::Global;
 
 /// The tree that the bytes spell as an XML 1.0 text in UTF-8, without document type, CDATA section and processing
@@ -34,7 +35,7 @@ pub fn read_tree(alloc: Global, bytes: &[u8]) -> Result<Tree, TextFault>
     ensures fault { IfErr result (λ fault. IfSome (refusal fault) (HasFault bytes.now)) }
 {
     let bytes = Vec::from_slice(alloc, bytes)?;
-    Tree::from_bytes(alloc, bytes)
+    Tree::from_bytes(alloc, Bytes::from(bytes))
 }
 
 impl Tree {
@@ -43,10 +44,10 @@ impl Tree {
     /// # Errors
     ///
     /// As those of [`read_tree`].
-    pub fn from_bytes(alloc: Global, bytes: Vec<u8>) -> Result<Tree, TextFault>
-        ensures reading { Gives root_of refusal result (reading_of bytes.items) }
-        ensures tree { IfOk result (λ tree. Spells (root_of tree) bytes.items) }
-        ensures fault { IfErr result (λ fault. IfSome (refusal fault) (HasFault bytes.items)) }
+    pub fn from_bytes(alloc: Global, bytes: Bytes) -> Result<Tree, TextFault>
+        ensures reading { Gives root_of refusal result (reading_of bytes) }
+        ensures tree { IfOk result (λ tree. Spells (root_of tree) bytes) }
+        ensures fault { IfErr result (λ fault. IfSome (refusal fault) (HasFault bytes)) }
     {
         let source = clean(bytes)?;
         let rows = read_text(alloc, source.as_str())?;

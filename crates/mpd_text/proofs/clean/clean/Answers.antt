@@ -7,7 +7,7 @@ pub place_at-requires : goal.place_at-requires
 place_at-requires c =
     let valid = c.valid_up_to-valid.ensures ∙ ap valid_up_to c.utf8_error.ensures ∙ c.in-Err.ensures.valid_len in
     let count = ap length (c.as_bytes.ensures ∙ ap (λ v. v.items) c.in-Err.ensures.err) in
-    omega (arith, valid, count, utf8_valid_len_le c.args.bytes.items)
+    omega (arith, valid, count, utf8_valid_len_le c.into_vec.result.items)
 
 pub place_at-requires-in-Some : goal.place_at-requires-in-Some
 place_at-requires-in-Some c =
@@ -15,8 +15,8 @@ place_at-requires-in-Some c =
 
 pub returns-in-None-clause-clean : goal.returns-in-None-clause-clean
 returns-in-None-clause-clean c =
-    let same : c.as_bytes-text.result.now ≡ c.args.bytes.items = c.as_bytes-text.ensures.value ∙ c.as_str.ensures.value
-    ∙ ap (λ v. v.items) c.in-Ok.ensures.ok in
+    let same : c.as_bytes-text.result.now ≡ c.args.bytes = c.as_bytes-text.ensures.value ∙ c.as_str.ensures.value
+    ∙ ap (λ v. v.items) c.in-Ok.ensures.ok ∙ c.into_vec.ensures in
     record {
       utf8 = subst IsUtf8 same c.as_bytes-text.ensures.utf8;
       no_bad_character = cc;
@@ -24,8 +24,8 @@ returns-in-None-clause-clean c =
 
 pub returns-in-Some-clause-fault : goal.returns-in-Some-clause-fault
 returns-in-Some-clause-fault c =
-    let same : c.as_bytes-text.result.now ≡ c.args.bytes.items = c.as_bytes-text.ensures.value ∙ c.as_str.ensures.value
-    ∙ ap (λ v. v.items) c.in-Ok.ensures.ok in
+    let same : c.as_bytes-text.result.now ≡ c.args.bytes = c.as_bytes-text.ensures.value ∙ c.as_str.ensures.value
+    ∙ ap (λ v. v.items) c.in-Ok.ensures.ok ∙ c.into_vec.ensures in
     inr (record {
       utf8 = subst IsUtf8 same c.as_bytes-text.ensures.utf8;
       at = c.in-Some.bad;
