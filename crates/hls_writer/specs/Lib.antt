@@ -1,3 +1,4 @@
+pub mod Adding
 pub mod AttributeRows
 pub mod Attributes
 pub mod Finished

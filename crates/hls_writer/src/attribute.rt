@@ -1,13 +1,14 @@
 // Attributes of the lines of a master.
 ghost use Rattle.std.specs.Prelude.{◌≡◌, ◌++◌, ◌∷◌, [], flat_map, option_map};
-ghost use Rattle.bridge_io.specs.Adding.{Adds, shown};
+ghost use Rattle.hls_writer.specs.Adding.{Adds};
 ghost use Rattle.hls_writer.specs.AttributeRows.{told, all_told, texts_of};
 ghost use Rattle.hls_writer.specs.Attributes.{attribute_bytes, attributes_bytes, further_bytes, codecs};
 ghost use Rattle.iso_time.specs.Digits.{padded_digits};
 ghost use Rattle.hls_writer.specs.Attributes as spec;
 
 use crate::line::decimal_at;
-use bridge_io::{Fail, FileWriter, Piece, Size, Store, push_pieces};
+use crate::sheet::Sheet;
+use bridge_io::{Fail, Piece, Size, Store};
 
 /// A group of renditions (RFC 8216, 4.3.4.1.1).
 #[derive(Clone, Copy)]
@@ -84,110 +85,71 @@ pub enum Attribute<'a> {
 
 impl Attribute<'_> {
     #[tactic(auto, unfolding(crate::specs::Attributes::attribute_bytes))]
-    fn push_to<F: Store>(&self, writer: &mut FileWriter<'_>, store: &mut F) -> Result<(), Fail>
-        ensures { let shows = shown F.files F.read_faults F.write_faults in
-            Adds (attribute_bytes (told self.now)) writer.old writer.new (shows store.old) (shows store.new) result }
+    fn push_to<F: Store>(&self, sheet: &mut Sheet<F>) -> Result<(), Fail>
+        ensures { Adds F.Store (attribute_bytes (told self.now)) sheet.old sheet.new result }
     {
         match *self {
             Attribute::MediaType(group) => {
-                push_pieces(
-                    writer,
-                    store,
-                    &[Piece::Text(b"TYPE="), Piece::Text(group.type_name())],
-                )
+                sheet.push_pieces(&[Piece::Text(b"TYPE="), Piece::Text(group.type_name())])
             }
-            Attribute::GroupId(group) => push_group(writer, store, b"GROUP-ID", group),
-            Attribute::Name { language, number } => push_pieces(
-                writer,
-                store,
-                &[
-                    Piece::Text(b"NAME=\""),
-                    Piece::Text(tag_or_undetermined(language)),
-                    Piece::Text(b"-"),
-                    Piece::Number(number),
-                    Piece::Text(b"\""),
-                ],
-            ),
-            Attribute::Language(tag) => push_pieces(
-                writer,
-                store,
-                &[
-                    Piece::Text(b"LANGUAGE=\""),
-                    Piece::Text(tag.as_bytes()),
-                    Piece::Text(b"\""),
-                ],
-            ),
+            Attribute::GroupId(group) => push_group(sheet, b"GROUP-ID", group),
+            Attribute::Name { language, number } => sheet.push_pieces(&[
+                Piece::Text(b"NAME=\""),
+                Piece::Text(tag_or_undetermined(language)),
+                Piece::Text(b"-"),
+                Piece::Number(number),
+                Piece::Text(b"\""),
+            ]),
+            Attribute::Language(tag) => sheet.push_pieces(&[
+                Piece::Text(b"LANGUAGE=\""),
+                Piece::Text(tag.as_bytes()),
+                Piece::Text(b"\""),
+            ]),
             Attribute::Default(is) => {
-                push_pieces(
-                    writer,
-                    store,
-                    &[Piece::Text(b"DEFAULT="), Piece::Text(yes_or_no(is))],
-                )
+                sheet.push_pieces(&[Piece::Text(b"DEFAULT="), Piece::Text(yes_or_no(is))])
             }
-            Attribute::Autoselect => push_pieces(writer, store, &[Piece::Text(b"AUTOSELECT=YES")]),
-            Attribute::Playlist(track) => push_pieces(
-                writer,
-                store,
-                &[
-                    Piece::Text(b"URI=\"t"),
-                    Piece::Number(track),
-                    Piece::Text(b".m3u8\""),
-                ],
-            ),
+            Attribute::Autoselect => sheet.push_pieces(&[Piece::Text(b"AUTOSELECT=YES")]),
+            Attribute::Playlist(track) => sheet.push_pieces(&[
+                Piece::Text(b"URI=\"t"),
+                Piece::Number(track),
+                Piece::Text(b".m3u8\""),
+            ]),
             Attribute::Bandwidth(bits) => {
-                push_pieces(
-                    writer,
-                    store,
-                    &[Piece::Text(b"BANDWIDTH="), Piece::Wide(bits)],
-                )
+                sheet.push_pieces(&[Piece::Text(b"BANDWIDTH="), Piece::Wide(bits)])
             }
-            Attribute::Codecs(codes) => push_codes(writer, store, codes),
-            Attribute::Resolution(size) => push_pieces(
-                writer,
-                store,
-                &[
-                    Piece::Text(b"RESOLUTION="),
-                    Piece::Number(u64::from(size.width)),
-                    Piece::Text(b"x"),
-                    Piece::Number(u64::from(size.height)),
-                ],
-            ),
-            Attribute::FrameRate(thousandths) => push_pieces(
-                writer,
-                store,
-                &[
-                    Piece::Text(b"FRAME-RATE="),
-                    Piece::Number(thousandths / 1000),
-                    Piece::Text(b"."),
-                    Piece::Text(&three_decimals(thousandths)),
-                ],
-            ),
-            Attribute::Renditions(group) => push_group(writer, store, group.type_name(), group),
+            Attribute::Codecs(codes) => push_codes(sheet, codes),
+            Attribute::Resolution(size) => sheet.push_pieces(&[
+                Piece::Text(b"RESOLUTION="),
+                Piece::Number(u64::from(size.width)),
+                Piece::Text(b"x"),
+                Piece::Number(u64::from(size.height)),
+            ]),
+            Attribute::FrameRate(thousandths) => sheet.push_pieces(&[
+                Piece::Text(b"FRAME-RATE="),
+                Piece::Number(thousandths / 1000),
+                Piece::Text(b"."),
+                Piece::Text(&three_decimals(thousandths)),
+            ]),
+            Attribute::Renditions(group) => push_group(sheet, group.type_name(), group),
         }
     }
 }
 
 /// Adds an attribute that names a group.
 fn push_group<F: Store>(
-    writer: &mut FileWriter<'_>,
-    store: &mut F,
+    sheet: &mut Sheet<F>,
     name: &[u8],
     group: RenditionGroup,
 ) -> Result<(), Fail>
-    ensures { let shows = shown F.files F.read_faults F.write_faults in
-        Adds (name.now ++ 61 ∷ spec.quoted (spec.group_bytes group)) writer.old writer.new (shows store.old) (shows store.new) result }
+    ensures { Adds F.Store (name.now ++ 61 ∷ spec.quoted (spec.group_bytes group)) sheet.old sheet.new result }
 {
-    push_pieces(
-        writer,
-        store,
-        &[
-            Piece::Text(name),
-            Piece::Text(b"=\""),
-            Piece::Text(group.letter()),
-            Piece::Number(group.number()),
-            Piece::Text(b"\""),
-        ],
-    )
+    sheet.push_pieces(&[
+        Piece::Text(name),
+        Piece::Text(b"=\""),
+        Piece::Text(group.letter()),
+        Piece::Number(group.number()),
+        Piece::Text(b"\""),
+    ])
 }
 
 fn tag_or_undetermined(language: Option<&str>) -> &[u8]
@@ -219,97 +181,68 @@ fn three_decimals(number: u64) -> [u8; 3]
 
 /// Adds the attribute of a list of codes.
 #[tactic(auto, unfolding(crate::specs::Attributes::attribute_bytes))]
-fn push_codes<F: Store>(
-    writer: &mut FileWriter<'_>,
-    store: &mut F,
-    codes: &[&str],
-) -> Result<(), Fail>
-    ensures { let shows = shown F.files F.read_faults F.write_faults in
-        Adds (attribute_bytes (codecs (texts_of codes.now))) writer.old writer.new (shows store.old) (shows store.new) result }
+fn push_codes<F: Store>(sheet: &mut Sheet<F>, codes: &[&str]) -> Result<(), Fail>
+    ensures { Adds F.Store (attribute_bytes (codecs (texts_of codes.now))) sheet.old sheet.new result }
 {
-    push_pieces(writer, store, &[Piece::Text(b"CODECS=\"")])?;
-    push_list(writer, store, codes)?;
-    push_pieces(writer, store, &[Piece::Text(b"\"")])
+    sheet.push_pieces(&[Piece::Text(b"CODECS=\"")])?;
+    push_list(sheet, codes)?;
+    sheet.push_pieces(&[Piece::Text(b"\"")])
 }
 
 /// Adds codes joined by `,`.
-fn push_list<F: Store>(
-    writer: &mut FileWriter<'_>,
-    store: &mut F,
-    codes: &[&str],
-) -> Result<(), Fail>
-    ensures { let shows = shown F.files F.read_faults F.write_faults in
-        Adds (spec.codes_bytes (texts_of codes.now)) writer.old writer.new (shows store.old) (shows store.new) result }
+fn push_list<F: Store>(sheet: &mut Sheet<F>, codes: &[&str]) -> Result<(), Fail>
+    ensures { Adds F.Store (spec.codes_bytes (texts_of codes.now)) sheet.old sheet.new result }
 {
     let Some((first, others)) = codes.split_first() else {
         return Ok(());
     };
-    push_pieces(writer, store, &[Piece::Text(first.as_bytes())])?;
-    push_further_codes(writer, store, others)
+    sheet.push_pieces(&[Piece::Text(first.as_bytes())])?;
+    push_further_codes(sheet, others)
 }
 
 /// Adds a `,` and a code for each of some codes.
-fn push_further_codes<F: Store>(
-    writer: &mut FileWriter<'_>,
-    store: &mut F,
-    codes: &[&str],
-) -> Result<(), Fail>
-    ensures { let shows = shown F.files F.read_faults F.write_faults in
-        Adds (flat_map (λ code. 44 ∷ code) (texts_of codes.now)) writer.old writer.new (shows store.old) (shows store.new) result }
+fn push_further_codes<F: Store>(sheet: &mut Sheet<F>, codes: &[&str]) -> Result<(), Fail>
+    ensures { Adds F.Store (flat_map (λ code. 44 ∷ code) (texts_of codes.now)) sheet.old sheet.new result }
 {
     for code in codes {
-        push_pieces(
-            writer,
-            store,
-            &[Piece::Text(b","), Piece::Text(code.as_bytes())],
-        )?;
+        sheet.push_pieces(&[Piece::Text(b","), Piece::Text(code.as_bytes())])?;
     }
     Ok(())
 }
 
 /// Adds a tag with its attributes and the line's end: the first one, and those that are there of some that may be missing.
 pub fn push_tag<F: Store>(
-    writer: &mut FileWriter<'_>,
-    store: &mut F,
+    sheet: &mut Sheet<F>,
     tag: &[u8],
     first: Attribute<'_>,
     others: &[Option<Attribute<'_>>],
 ) -> Result<(), Fail>
-    ensures { let shows = shown F.files F.read_faults F.write_faults in
-        Adds (tag.now ++ attributes_bytes (told first.entry) (all_told others.now) ++ 10 ∷ []) writer.old writer.new (shows store.old)
-        (shows store.new) result }
+    ensures { Adds F.Store (tag.now ++ attributes_bytes (told first.entry) (all_told others.now) ++ 10 ∷ []) sheet.old sheet.new result }
 {
-    push_pieces(writer, store, &[Piece::Text(tag)])?;
-    first.push_to(writer, store)?;
-    push_further(writer, store, others)?;
-    push_pieces(writer, store, &[Piece::Text(b"\n")])
+    sheet.push_pieces(&[Piece::Text(tag)])?;
+    first.push_to(sheet)?;
+    push_further(sheet, others)?;
+    sheet.push_pieces(&[Piece::Text(b"\n")])
 }
 
 /// Adds a `,` and an attribute for each one that is there.
 fn push_further<F: Store>(
-    writer: &mut FileWriter<'_>,
-    store: &mut F,
+    sheet: &mut Sheet<F>,
     attributes: &[Option<Attribute<'_>>],
 ) -> Result<(), Fail>
-    ensures { let shows = shown F.files F.read_faults F.write_faults in
-        Adds (further_bytes (all_told attributes.now)) writer.old writer.new (shows store.old) (shows store.new) result }
+    ensures { Adds F.Store (further_bytes (all_told attributes.now)) sheet.old sheet.new result }
 {
     for attribute in attributes {
         if let Some(attribute) = attribute {
-            push_one_further(writer, store, attribute)?;
+            push_one_further(sheet, attribute)?;
         }
     }
     Ok(())
 }
 
-fn push_one_further<F: Store>(
-    writer: &mut FileWriter<'_>,
-    store: &mut F,
-    attribute: &Attribute<'_>,
-) -> Result<(), Fail>
-    ensures { let shows = shown F.files F.read_faults F.write_faults in
-        Adds (44 ∷ attribute_bytes (told attribute.now)) writer.old writer.new (shows store.old) (shows store.new) result }
+fn push_one_further<F: Store>(sheet: &mut Sheet<F>, attribute: &Attribute<'_>) -> Result<(), Fail>
+    ensures { Adds F.Store (44 ∷ attribute_bytes (told attribute.now)) sheet.old sheet.new result }
 {
-    push_pieces(writer, store, &[Piece::Text(b",")])?;
-    attribute.push_to(writer, store)
+    sheet.push_pieces(&[Piece::Text(b",")])?;
+    attribute.push_to(sheet)
 }

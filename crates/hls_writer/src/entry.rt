@@ -1,13 +1,14 @@
 // Segments as playlists list them.
 ghost use Rattle.std.specs.Prelude.{◌≡◌, All, replicate, option_map, option_to_list, IfSome};
 ghost use Rattle.iso_time.specs.Instant.{IsWritable};
-ghost use Rattle.bridge_io.specs.Adding.{Adds, shown};
+ghost use Rattle.hls_writer.specs.Adding.{Adds};
 ghost use Rattle.hls_writer.specs.Lines.{lines_text, discontinuity, program_date_time, byte_range};
 ghost use Rattle.hls_writer.specs.Playlists.{rise, begins_section, front_lines, last_lines, item_lines};
 ghost use Rattle.hls_writer.specs.Rows.{written, all_written, entry_item, CanBeThere};
 
 use crate::line::{Tag, push_duration, push_lines, push_uri};
-use bridge_io::{Fail, FileWriter, Store};
+use crate::sheet::Sheet;
+use bridge_io::{Fail, Store};
 use exact_time::Digits;
 use iso_time::Instant;
 use url_parts::{Part, Range};
@@ -33,36 +34,27 @@ impl Entry<'_> {
     /// Adds the lines of the segment, behind a segment of the section `former` or as the playlist's first one.
     pub fn push_to<F: Store>(
         &self,
-        writer: &mut FileWriter<'_>,
-        store: &mut F,
+        sheet: &mut Sheet<F>,
         digits: Digits,
         former: Option<u64>,
     ) -> Result<(), Fail>
         requires { IfSome self.now.date IsWritable }
-        ensures { let shows = shown F.files F.read_faults F.write_faults in
-            Adds (lines_text (item_lines digits former (entry_item self.now))) writer.old writer.new (shows store.old)
-            (shows store.new) result }
+        ensures { Adds F.Store (lines_text (item_lines digits former (entry_item self.now))) sheet.old sheet.new result }
     {
-        push_discontinuities(writer, store, rise(former, self.section))?;
-        self.push_front(writer, store, former)?;
-        self.push_last(writer, store, digits)
+        push_discontinuities(sheet, rise(former, self.section))?;
+        self.push_front(sheet, former)?;
+        self.push_last(sheet, digits)
     }
 
     /// Adds the lines of what begins with the segment.
-    fn push_front<F: Store>(
-        &self,
-        writer: &mut FileWriter<'_>,
-        store: &mut F,
-        former: Option<u64>,
-    ) -> Result<(), Fail>
+    fn push_front<F: Store>(&self, sheet: &mut Sheet<F>, former: Option<u64>) -> Result<(), Fail>
         requires { IfSome self.now.date IsWritable }
-        ensures { let shows = shown F.files F.read_faults F.write_faults in
-            Adds (lines_text (front_lines former (entry_item self.now))) writer.old writer.new (shows store.old) (shows store.new) result }
+        ensures { Adds F.Store (lines_text (front_lines former (entry_item self.now))) sheet.old sheet.new result }
     {
         if self.date.is_none() && !begins_section(former, self.section) {
             return Ok(());
         }
-        push_lines(writer, store, &self.front(former))
+        push_lines(sheet, &self.front(former))
     }
 
     fn front(&self, former: Option<u64>) -> [Option<Tag<'_>>; 2]
@@ -85,28 +77,20 @@ impl Entry<'_> {
     }
 
     /// Adds the lines of the segment alone.
-    fn push_last<F: Store>(
-        &self,
-        writer: &mut FileWriter<'_>,
-        store: &mut F,
-        digits: Digits,
-    ) -> Result<(), Fail>
-        ensures { let shows = shown F.files F.read_faults F.write_faults in
-            Adds (lines_text (last_lines digits (entry_item self.now))) writer.old writer.new (shows store.old) (shows store.new) result }
+    fn push_last<F: Store>(&self, sheet: &mut Sheet<F>, digits: Digits) -> Result<(), Fail>
+        ensures { Adds F.Store (lines_text (last_lines digits (entry_item self.now))) sheet.old sheet.new result }
     {
-        push_duration(writer, store, digits, self.duration)?;
-        self.push_range(writer, store)?;
-        push_uri(writer, store, self.address)
+        push_duration(sheet, digits, self.duration)?;
+        self.push_range(sheet)?;
+        push_uri(sheet, self.address)
     }
 
-    fn push_range<F: Store>(&self, writer: &mut FileWriter<'_>, store: &mut F) -> Result<(), Fail>
-        ensures { let shows = shown F.files F.read_faults F.write_faults in
-            Adds (lines_text (option_to_list (option_map byte_range self.now.range))) writer.old writer.new (shows store.old)
-            (shows store.new) result }
+    fn push_range<F: Store>(&self, sheet: &mut Sheet<F>) -> Result<(), Fail>
+        ensures { Adds F.Store (lines_text (option_to_list (option_map byte_range self.now.range))) sheet.old sheet.new result }
     {
         match self.range {
             None => Ok(()),
-            Some(range) => Tag::ByteRange(range).push_to(writer, store),
+            Some(range) => Tag::ByteRange(range).push_to(sheet),
         }
     }
 }
@@ -126,16 +110,11 @@ fn begins_section(former: Option<u64>, section: u64) -> bool
 }
 
 /// Adds a line for each step by which the section number rises.
-fn push_discontinuities<F: Store>(
-    writer: &mut FileWriter<'_>,
-    store: &mut F,
-    count: u64,
-) -> Result<(), Fail>
-    ensures { let shows = shown F.files F.read_faults F.write_faults in
-        Adds (lines_text (replicate count discontinuity)) writer.old writer.new (shows store.old) (shows store.new) result }
+fn push_discontinuities<F: Store>(sheet: &mut Sheet<F>, count: u64) -> Result<(), Fail>
+    ensures { Adds F.Store (lines_text (replicate count discontinuity)) sheet.old sheet.new result }
 {
     for _step in 0..count {
-        Tag::Discontinuity.push_to(writer, store)?;
+        Tag::Discontinuity.push_to(sheet)?;
     }
     Ok(())
 }

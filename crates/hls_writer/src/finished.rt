@@ -7,7 +7,7 @@ ghost use Rattle.bridge_io.specs.declared.outside.Fail.TheVariants.{Memory};
 ghost use Rattle.presentation.specs.Laws.{HasAddress};
 ghost use Rattle.presentation.specs.Verifying.{verified};
 ghost use Rattle.hls_writer.specs.Verified.{IsVerified};
-ghost use Rattle.bridge_io.specs.Adding.{Adds, shown};
+ghost use Rattle.hls_writer.specs.Adding.{Adds};
 ghost use Rattle.hls_writer.specs.Finished as spec;
 ghost use Rattle.hls_writer.specs.Lines.{lines_text, on_demand};
 ghost use Rattle.hls_writer.specs.Playlists.{head_lines, items_lines, item_lines, last_section};
@@ -19,6 +19,7 @@ ghost use Rattle.bridge_io.specs.declared.out_fault.OutFault.TheVariants.{WriteF
 use crate::OutFault;
 use crate::entry::Entry;
 use crate::line::{Tag, push_lines};
+use crate::sheet::Sheet;
 use bridge_io::{Fail, FileWriter, Ledger, Name, Steps, Store};
 use exact_time::Digits;
 use presentation::{Longest, Presentation, PrintedSegments};
@@ -90,8 +91,8 @@ fn write_playlist<F: Store, L: Ledger>(
     ensures cause { HasCause WriteFault (F.write_faults store.old) (F.write_faults store.new) result }
     ensures reads { F.read_faults store.new ≡ F.read_faults store.old }
 {
-    let mut writer = FileWriter::create(alloc, store, name)?;
-    push_playlist(alloc, track, target, &mut writer, store, steps)?;
+    let writer = &mut FileWriter::create(alloc, store, name)?;
+    push_playlist(alloc, track, target, &mut Sheet { writer, store }, steps)?;
     writer.flush(store)?;
     Ok(())
 }
@@ -101,19 +102,16 @@ fn push_playlist<F: Store, L: Ledger>(
     alloc: Global,
     track: &WrittenTrack<'_>,
     target: u64,
-    writer: &mut FileWriter<'_>,
-    store: &mut F,
+    sheet: &mut Sheet<F>,
     steps: &mut Steps<L>,
 ) -> Result<(), Fail>
     requires track { track.now.track < length track.now.presentation.now.tracks }
     requires verified { IsVerified track.now.presentation.now track.now.digits }
-    ensures { let shows = shown F.files F.read_faults F.write_faults in
-        Adds (spec.track_text track.now.presentation.now track.now.digits track.now.track target) writer.old writer.new (shows store.old)
-        (shows store.new) result }
+    ensures { Adds F.Store (spec.track_text track.now.presentation.now track.now.digits track.now.track target) sheet.old sheet.new result }
 {
-    push_lines(writer, store, &head_lines(target))?;
-    push_sections(alloc, track, writer, store, steps)?;
-    push_lines(writer, store, &[Some(Tag::EndList)])
+    push_lines(sheet, &head_lines(target))?;
+    push_sections(alloc, track, sheet, steps)?;
+    push_lines(sheet, &[Some(Tag::EndList)])
 }
 
 fn head_lines(target: u64) -> [Option<Tag<'static>>; 5]
@@ -133,19 +131,17 @@ fn head_lines(target: u64) -> [Option<Tag<'static>>; 5]
 fn push_sections<F: Store, L: Ledger>(
     alloc: Global,
     track: &WrittenTrack<'_>,
-    writer: &mut FileWriter<'_>,
-    store: &mut F,
+    sheet: &mut Sheet<F>,
     steps: &mut Steps<L>,
 ) -> Result<(), Fail>
     requires track { track.now.track < length track.now.presentation.now.tracks }
     requires verified { IsVerified track.now.presentation.now track.now.digits }
-    ensures { let shows = shown F.files F.read_faults F.write_faults in
-        let items = spec.track_items track.now.presentation.now (10 ^ track.now.digits) track.now.track in
-        Adds (lines_text (items_lines track.now.digits None items)) writer.old writer.new (shows store.old) (shows store.new) result }
+    ensures { let items = spec.track_items track.now.presentation.now (10 ^ track.now.digits) track.now.track in
+        Adds F.Store (lines_text (items_lines track.now.digits None items)) sheet.old sheet.new result }
 {
     let mut former = None;
     for section in 0..track.presentation.sections().len() {
-        former = push_section(alloc, track, section, former, writer, store, steps)?;
+        former = push_section(alloc, track, section, former, sheet, steps)?;
     }
     Ok(())
 }
@@ -156,16 +152,14 @@ fn push_section<F: Store, L: Ledger>(
     track: &WrittenTrack<'_>,
     section: usize,
     former: Option<u64>,
-    writer: &mut FileWriter<'_>,
-    store: &mut F,
+    sheet: &mut Sheet<F>,
     steps: &mut Steps<L>,
 ) -> Result<Option<u64>, Fail>
     requires section { section < length track.now.presentation.now.sections }
     requires track { track.now.track < length track.now.presentation.now.tracks }
     requires verified { IsVerified track.now.presentation.now track.now.digits }
-    ensures adds { let shows = shown F.files F.read_faults F.write_faults in
-        let items = spec.section_items track.now.presentation.now (10 ^ track.now.digits) track.now.track section in
-        Adds (lines_text (items_lines track.now.digits former items)) writer.old writer.new (shows store.old) (shows store.new) result }
+    ensures adds { let items = spec.section_items track.now.presentation.now (10 ^ track.now.digits) track.now.track section in
+        Adds F.Store (lines_text (items_lines track.now.digits former items)) sheet.old sheet.new result }
     ensures last { let items = spec.section_items track.now.presentation.now (10 ^ track.now.digits) track.now.track section in
         IfOk result (λ last. last ≡ last_section former items) }
 {
@@ -177,7 +171,7 @@ fn push_section<F: Store, L: Ledger>(
     let segments = track
         .presentation
         .segments(section, track.track, track.digits);
-    push_segments(alloc, segments, &place, former, writer, store, steps)
+    push_segments(alloc, segments, &place, former, sheet, steps)
 }
 
 /// What the segments of a section have in common.
@@ -237,14 +231,12 @@ fn push_segments<F: Store, L: Ledger>(
     mut segments: PrintedSegments<'_>,
     place: &InSection<'_>,
     former: Option<u64>,
-    writer: &mut FileWriter<'_>,
-    store: &mut F,
+    sheet: &mut Sheet<F>,
     steps: &mut Steps<L>,
 ) -> Result<Option<u64>, Fail>
     requires { All (λ x. HasAddress segments.timeline x.times) segments.left }
-    ensures adds { let shows = shown F.files F.read_faults F.write_faults in
-        let items = spec.items_at segments.entry.timeline place.now.map.now place.now.section segments.entry.left in
-        Adds (lines_text (items_lines place.now.digits former items)) writer.old writer.new (shows store.old) (shows store.new) result }
+    ensures adds { let items = spec.items_at segments.entry.timeline place.now.map.now place.now.section segments.entry.left in
+        Adds F.Store (lines_text (items_lines place.now.digits former items)) sheet.old sheet.new result }
     ensures last { let items = spec.items_at segments.entry.timeline place.now.map.now place.now.section segments.entry.left in
         IfOk result (λ last. last ≡ last_section former items) }
 {
@@ -252,7 +244,7 @@ fn push_segments<F: Store, L: Ledger>(
     let mut former = former;
     while let Some((span, duration)) = segments.pass(steps) {
         let range = write_address(alloc, &mut addresses, &span)?;
-        push_segment(&addresses, range, duration, place, former, writer, store)?;
+        push_segment(&addresses, range, duration, place, former, sheet)?;
         former = Some(place.section);
     }
     Ok(former)
@@ -265,12 +257,10 @@ fn push_segment<F: Store>(
     duration: u64,
     place: &InSection<'_>,
     former: Option<u64>,
-    writer: &mut FileWriter<'_>,
-    store: &mut F,
+    sheet: &mut Sheet<F>,
 ) -> Result<(), Fail>
-    ensures { let shows = shown F.files F.read_faults F.write_faults in
-        let item = spec.item_of (part_with addresses.now.address range) place.now.map.now place.now.section duration in
-        Adds (lines_text (item_lines place.now.digits former item)) writer.old writer.new (shows store.old) (shows store.new) result }
+    ensures { let item = spec.item_of (part_with addresses.now.address range) place.now.map.now place.now.section duration in
+        Adds F.Store (lines_text (item_lines place.now.digits former item)) sheet.old sheet.new result }
 {
     let entry = Entry {
         address: addresses.as_str(),
@@ -280,5 +270,5 @@ fn push_segment<F: Store>(
         section: place.section,
         date: None,
     };
-    entry.push_to(writer, store, place.digits, former)
+    entry.push_to(sheet, place.digits, former)
 }

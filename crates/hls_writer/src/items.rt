@@ -4,7 +4,7 @@ ghost use Rattle.bridge_io.specs.Fault.{HasCause};
 ghost use Rattle.bridge_io.specs.Outside.{put, Changes};
 ghost use Rattle.bridge_io.specs.Written.{HasFront};
 ghost use Rattle.iso_time.specs.Instant.{IsWritable};
-ghost use Rattle.bridge_io.specs.Adding.{Adds, shown};
+ghost use Rattle.hls_writer.specs.Adding.{Adds};
 ghost use Rattle.hls_writer.specs.Items.{item_of, items_text};
 ghost use Rattle.hls_writer.specs.Lines.{lines_text, discontinuity_sequence};
 ghost use Rattle.hls_writer.specs.Playlists.{head_lines, items_lines, last_section};
@@ -14,6 +14,7 @@ ghost use Rattle.bridge_io.specs.declared.out_fault.OutFault.TheVariants.{WriteF
 use crate::OutFault;
 use crate::entry::Entry;
 use crate::line::{Tag, push_lines};
+use crate::sheet::Sheet;
 use bridge_io::{Fail, FileWriter, Name, Sequence, Store};
 use exact_time::Digits;
 use iso_time::Instant;
@@ -134,68 +135,60 @@ pub fn write_item_slices<F: Store>(
     ensures cause { HasCause WriteFault (F.write_faults store.old) (F.write_faults store.new) result }
     ensures reads { F.read_faults store.new ≡ F.read_faults store.old }
 {
-    let mut writer = FileWriter::create(alloc, store, name)?;
-    push_playlist(&mut writer, store, head, front, back)?;
+    let writer = &mut FileWriter::create(alloc, store, name)?;
+    push_playlist(&mut Sheet { writer, store }, head, front, back)?;
     writer.flush(store)?;
     Ok(())
 }
 
 /// Adds the whole text.
 fn push_playlist<F: Store>(
-    writer: &mut FileWriter<'_>,
-    store: &mut F,
+    sheet: &mut Sheet<F>,
     head: &MediaHead,
     front: &[MediaItem],
     back: &[MediaItem],
 ) -> Result<(), Fail>
     requires front { All (λ item. IsWritable item.date) front.now }
     requires back { All (λ item. IsWritable item.date) back.now }
-    ensures { let shows = shown F.files F.read_faults F.write_faults in
-        Adds (items_text head.now (front.now ++ back.now)) writer.old writer.new (shows store.old) (shows store.new) result }
+    ensures { Adds F.Store (items_text head.now (front.now ++ back.now)) sheet.old sheet.new result }
 {
-    push_lines(writer, store, &head.lines())?;
-    push_slices(writer, store, head.digits, front, back)?;
+    push_lines(sheet, &head.lines())?;
+    push_slices(sheet, head.digits, front, back)?;
     let end = head.ended.then_some(Tag::EndList);
-    push_lines(writer, store, &[end])
+    push_lines(sheet, &[end])
 }
 
 /// Adds the lines of the items of two slices, as a playlist's first ones.
 fn push_slices<F: Store>(
-    writer: &mut FileWriter<'_>,
-    store: &mut F,
+    sheet: &mut Sheet<F>,
     digits: Digits,
     front: &[MediaItem],
     back: &[MediaItem],
 ) -> Result<(), Fail>
     requires front { All (λ item. IsWritable item.date) front.now }
     requires back { All (λ item. IsWritable item.date) back.now }
-    ensures { let shows = shown F.files F.read_faults F.write_faults in
-        Adds (lines_text (items_lines digits None (map item_of (front.now ++ back.now))))
-        writer.old writer.new (shows store.old) (shows store.new) result }
+    ensures { Adds F.Store (lines_text (items_lines digits None (map item_of (front.now ++ back.now)))) sheet.old sheet.new result }
 {
-    let former = push_items(writer, store, digits, None, front)?;
-    push_items(writer, store, digits, former, back)?;
+    let former = push_items(sheet, digits, None, front)?;
+    push_items(sheet, digits, former, back)?;
     Ok(())
 }
 
 /// Adds the lines of items in order, behind a segment of the section `former` or as the playlist's first ones, and tells the
 /// section of the last segment so far.
 fn push_items<F: Store>(
-    writer: &mut FileWriter<'_>,
-    store: &mut F,
+    sheet: &mut Sheet<F>,
     digits: Digits,
     former: Option<u64>,
     items: &[MediaItem],
 ) -> Result<Option<u64>, Fail>
     requires { All (λ item. IsWritable item.date) items.now }
-    ensures adds { let shows = shown F.files F.read_faults F.write_faults in
-        Adds (lines_text (items_lines digits former (map item_of items.now)))
-        writer.old writer.new (shows store.old) (shows store.new) result }
+    ensures adds { Adds F.Store (lines_text (items_lines digits former (map item_of items.now))) sheet.old sheet.new result }
     ensures last { IfOk result (λ last. last ≡ last_section former (map item_of items.now)) }
 {
     let mut former = former;
     for item in items {
-        item.entry().push_to(writer, store, digits, former)?;
+        item.entry().push_to(sheet, digits, former)?;
         former = Some(item.section);
     }
     Ok(former)

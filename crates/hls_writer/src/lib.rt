@@ -10,6 +10,7 @@ pub mod laws;
 mod line;
 mod master;
 mod renditions;
+mod sheet;
 mod variants;
 
 pub use bridge_io::OutFault;

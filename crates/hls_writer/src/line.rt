@@ -1,11 +1,12 @@
 // Lines of playlists.
 ghost use Rattle.std.specs.Prelude.{◌≡◌, ◌+◌, ◌/◌, ◌%◌, ◌<◌, ◌++◌, ◌∷◌, [], All, decimal};
 ghost use Rattle.iso_time.specs.Digits.{padded_digits};
-ghost use Rattle.bridge_io.specs.Adding.{Adds, shown};
+ghost use Rattle.hls_writer.specs.Adding.{Adds};
 ghost use Rattle.hls_writer.specs.Lines.{line_text, lines_text, initialization, duration, uri};
 ghost use Rattle.hls_writer.specs.Rows.{written, all_written, CanBeWritten, CanBeThere};
 
-use bridge_io::{Fail, FileWriter, Piece, Store, push_pieces};
+use crate::sheet::Sheet;
+use bridge_io::{Fail, Piece, Store};
 use exact_time::Digits;
 use iso_time::{Instant, write_instant_ms};
 use url_parts::{Part, Range};
@@ -40,139 +41,94 @@ pub enum Tag<'a> {
 impl Tag<'_> {
     /// Adds the line with its end.
     #[tactic(auto, unfolding(crate::specs::Lines::line_bytes))]
-    pub fn push_to<F: Store>(&self, writer: &mut FileWriter<'_>, store: &mut F) -> Result<(), Fail>
+    pub fn push_to<F: Store>(&self, sheet: &mut Sheet<F>) -> Result<(), Fail>
         requires { CanBeWritten self.now }
-        ensures { let shows = shown F.files F.read_faults F.write_faults in
-            Adds (line_text (written self.now)) writer.old writer.new (shows store.old) (shows store.new) result }
+        ensures { Adds F.Store (line_text (written self.now)) sheet.old sheet.new result }
     {
         match *self {
-            Tag::Header => push_pieces(writer, store, &[Piece::Text(b"#EXTM3U\n")]),
-            Tag::Version(number) => push_numbered(writer, store, b"#EXT-X-VERSION:", number),
-            Tag::TargetDuration(seconds) => {
-                push_numbered(writer, store, b"#EXT-X-TARGETDURATION:", seconds)
-            }
-            Tag::MediaSequence(number) => {
-                push_numbered(writer, store, b"#EXT-X-MEDIA-SEQUENCE:", number)
-            }
-            Tag::DiscontinuitySequence(number) => {
-                push_numbered(writer, store, b"#EXT-X-DISCONTINUITY-SEQUENCE:", number)
-            }
-            Tag::OnDemand => {
-                push_pieces(writer, store, &[Piece::Text(b"#EXT-X-PLAYLIST-TYPE:VOD\n")])
-            }
-            Tag::Discontinuity => {
-                push_pieces(writer, store, &[Piece::Text(b"#EXT-X-DISCONTINUITY\n")])
-            }
-            Tag::Map(part) => push_map(writer, store, part),
-            Tag::ProgramDateTime(instant) => push_pieces(
-                writer,
-                store,
-                &[
-                    Piece::Text(b"#EXT-X-PROGRAM-DATE-TIME:"),
-                    Piece::Text(&write_instant_ms(instant)),
-                    Piece::Text(b"\n"),
-                ],
+            Tag::Header => sheet.push_pieces(&[Piece::Text(b"#EXTM3U\n")]),
+            Tag::Version(number) => push_numbered(sheet, b"#EXT-X-VERSION:", number),
+            Tag::TargetDuration(seconds) => push_numbered(
+                sheet,
+                b"#EXT-X-TARGETDURATION:",
+                seconds,
             ),
-            Tag::ByteRange(range) => push_pieces(
-                writer,
-                store,
-                &[
-                    Piece::Text(b"#EXT-X-BYTERANGE:"),
-                    Piece::Number(range.count),
-                    Piece::Text(b"@"),
-                    Piece::Number(range.first),
-                    Piece::Text(b"\n"),
-                ],
+            Tag::MediaSequence(number) => push_numbered(sheet, b"#EXT-X-MEDIA-SEQUENCE:", number),
+            Tag::DiscontinuitySequence(number) => push_numbered(
+                sheet,
+                b"#EXT-X-DISCONTINUITY-SEQUENCE:",
+                number,
             ),
-            Tag::EndList => push_pieces(writer, store, &[Piece::Text(b"#EXT-X-ENDLIST\n")]),
+            Tag::OnDemand => sheet.push_pieces(&[Piece::Text(b"#EXT-X-PLAYLIST-TYPE:VOD\n")]),
+            Tag::Discontinuity => sheet.push_pieces(&[Piece::Text(b"#EXT-X-DISCONTINUITY\n")]),
+            Tag::Map(part) => push_map(sheet, part),
+            Tag::ProgramDateTime(instant) => sheet.push_pieces(&[
+                Piece::Text(b"#EXT-X-PROGRAM-DATE-TIME:"),
+                Piece::Text(&write_instant_ms(instant)),
+                Piece::Text(b"\n"),
+            ]),
+            Tag::ByteRange(range) => sheet.push_pieces(&[
+                Piece::Text(b"#EXT-X-BYTERANGE:"),
+                Piece::Number(range.count),
+                Piece::Text(b"@"),
+                Piece::Number(range.first),
+                Piece::Text(b"\n"),
+            ]),
+            Tag::EndList => sheet.push_pieces(&[Piece::Text(b"#EXT-X-ENDLIST\n")]),
         }
     }
 }
 
 /// Adds a line of a tag with a number.
-fn push_numbered<F: Store>(
-    writer: &mut FileWriter<'_>,
-    store: &mut F,
-    tag: &[u8],
-    number: u64,
-) -> Result<(), Fail>
-    ensures { let shows = shown F.files F.read_faults F.write_faults in
-        Adds (tag.now ++ decimal number ++ 10 ∷ []) writer.old writer.new (shows store.old) (shows store.new) result }
+fn push_numbered<F: Store>(sheet: &mut Sheet<F>, tag: &[u8], number: u64) -> Result<(), Fail>
+    ensures { Adds F.Store (tag.now ++ decimal number ++ 10 ∷ []) sheet.old sheet.new result }
 {
-    push_pieces(
-        writer,
-        store,
-        &[Piece::Text(tag), Piece::Number(number), Piece::Text(b"\n")],
-    )
+    sheet.push_pieces(&[Piece::Text(tag), Piece::Number(number), Piece::Text(b"\n")])
 }
 
 /// Adds the line of the part of a file that initializes segments.
 #[tactic(auto, unfolding(crate::specs::Lines::line_bytes))]
-fn push_map<F: Store>(writer: &mut FileWriter<'_>, store: &mut F, part: &Part) -> Result<(), Fail>
-    ensures { let shows = shown F.files F.read_faults F.write_faults in
-        Adds (line_text (initialization part.now)) writer.old writer.new (shows store.old) (shows store.new) result }
+fn push_map<F: Store>(sheet: &mut Sheet<F>, part: &Part) -> Result<(), Fail>
+    ensures { Adds F.Store (line_text (initialization part.now)) sheet.old sheet.new result }
 {
     let tag = Piece::Text(b"#EXT-X-MAP:URI=\"");
     let address = Piece::Text(part.address.as_str().as_bytes());
     match part.range {
-        None => push_pieces(writer, store, &[tag, address, Piece::Text(b"\"\n")]),
-        Some(range) => push_pieces(
-            writer,
-            store,
-            &[
-                tag,
-                address,
-                Piece::Text(b"\",BYTERANGE=\""),
-                Piece::Number(range.count),
-                Piece::Text(b"@"),
-                Piece::Number(range.first),
-                Piece::Text(b"\"\n"),
-            ],
-        ),
+        None => sheet.push_pieces(&[tag, address, Piece::Text(b"\"\n")]),
+        Some(range) => sheet.push_pieces(&[
+            tag,
+            address,
+            Piece::Text(b"\",BYTERANGE=\""),
+            Piece::Number(range.count),
+            Piece::Text(b"@"),
+            Piece::Number(range.first),
+            Piece::Text(b"\"\n"),
+        ]),
     }
 }
 
 /// Adds the line of an address.
 #[tactic(auto, unfolding(crate::specs::Lines::line_bytes))]
-pub fn push_uri<F: Store>(
-    writer: &mut FileWriter<'_>,
-    store: &mut F,
-    address: &str,
-) -> Result<(), Fail>
-    ensures { let shows = shown F.files F.read_faults F.write_faults in
-        Adds (line_text (uri address.now)) writer.old writer.new (shows store.old) (shows store.new) result }
+pub fn push_uri<F: Store>(sheet: &mut Sheet<F>, address: &str) -> Result<(), Fail>
+    ensures { Adds F.Store (line_text (uri address.now)) sheet.old sheet.new result }
 {
-    push_pieces(
-        writer,
-        store,
-        &[Piece::Text(address.as_bytes()), Piece::Text(b"\n")],
-    )
+    sheet.push_pieces(&[Piece::Text(address.as_bytes()), Piece::Text(b"\n")])
 }
 
 /// Adds the line of a printed duration (EXTINF of RFC 8216, 4.3.2.1), in units of the last of so many decimals.
 #[tactic(auto, unfolding(crate::specs::Lines::line_bytes))]
-pub fn push_duration<F: Store>(
-    writer: &mut FileWriter<'_>,
-    store: &mut F,
-    digits: Digits,
-    units: u64,
-) -> Result<(), Fail>
-    ensures { let shows = shown F.files F.read_faults F.write_faults in
-        Adds (line_text (duration digits units)) writer.old writer.new (shows store.old) (shows store.new) result }
+pub fn push_duration<F: Store>(sheet: &mut Sheet<F>, digits: Digits, units: u64) -> Result<(), Fail>
+    ensures { Adds F.Store (line_text (duration digits units)) sheet.old sheet.new result }
 {
     let decimals = nine_decimals(units);
     let before = 9 - usize::from(digits.count());
-    push_pieces(
-        writer,
-        store,
-        &[
-            Piece::Text(b"#EXTINF:"),
-            Piece::Number(units / u64::from(digits.unit())),
-            Piece::Text(b"."),
-            Piece::Text(&decimals[before..]),
-            Piece::Text(b",\n"),
-        ],
-    )
+    sheet.push_pieces(&[
+        Piece::Text(b"#EXTINF:"),
+        Piece::Number(units / u64::from(digits.unit())),
+        Piece::Text(b"."),
+        Piece::Text(&decimals[before..]),
+        Piece::Text(b",\n"),
+    ])
 }
 
 /// The last nine decimal digits of a number, with zeros in front.
@@ -202,18 +158,13 @@ pub(crate) fn decimal_at(number: u64, unit: u64) -> u8
 }
 
 /// Adds lines in order, those that are there of some that may be missing.
-pub fn push_lines<F: Store>(
-    writer: &mut FileWriter<'_>,
-    store: &mut F,
-    lines: &[Option<Tag<'_>>],
-) -> Result<(), Fail>
+pub fn push_lines<F: Store>(sheet: &mut Sheet<F>, lines: &[Option<Tag<'_>>]) -> Result<(), Fail>
     requires { All CanBeThere lines.now }
-    ensures { let shows = shown F.files F.read_faults F.write_faults in
-        Adds (lines_text (all_written lines.now)) writer.old writer.new (shows store.old) (shows store.new) result }
+    ensures { Adds F.Store (lines_text (all_written lines.now)) sheet.old sheet.new result }
 {
     for line in lines {
         if let Some(line) = line {
-            line.push_to(writer, store)?;
+            line.push_to(sheet)?;
         }
     }
     Ok(())

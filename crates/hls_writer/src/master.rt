@@ -4,7 +4,7 @@ ghost use Rattle.std.specs.List.{flat_map};
 ghost use Rattle.bridge_io.specs.Fault.{HasCause};
 ghost use Rattle.bridge_io.specs.Outside.{put, Changes};
 ghost use Rattle.bridge_io.specs.Written.{HasFront};
-ghost use Rattle.bridge_io.specs.Adding.{Adds, shown};
+ghost use Rattle.hls_writer.specs.Adding.{Adds};
 ghost use Rattle.hls_writer.specs.Lines.{header, version, line_text, lines_text};
 ghost use Rattle.hls_writer.specs.Master.{master_text, lines_with};
 ghost use Rattle.hls_writer.specs.Renditions.{places_of, renditions_of, rendition_line, rendition_text};
@@ -18,8 +18,9 @@ use crate::OutFault;
 use crate::attribute::{Attribute, push_tag};
 use crate::line::{Tag, push_lines};
 use crate::renditions::{Rendition, places_of, renditions_of};
+use crate::sheet::Sheet;
 use crate::variants::{Cast, Variant, code_lists, variants_of};
-use bridge_io::{Fail, FileWriter, Kind, Name, NoMemory, Piece, Store, push_pieces};
+use bridge_io::{Fail, FileWriter, Kind, Name, NoMemory, Piece, Store};
 use presentation::{Group, Presentation, Track};
 use std::alloc::Global;
 
@@ -45,8 +46,8 @@ pub fn write_master<F: Store>(
     ensures cause { HasCause WriteFault (F.write_faults store.old) (F.write_faults store.new) result }
     ensures reads { F.read_faults store.new ≡ F.read_faults store.old }
 {
-    let mut writer = FileWriter::create(alloc, store, name)?;
-    push_master(alloc, presentation, &mut writer, store)?;
+    let writer = &mut FileWriter::create(alloc, store, name)?;
+    push_master(alloc, presentation, &mut Sheet { writer, store })?;
     writer.flush(store)?;
     Ok(())
 }
@@ -56,30 +57,26 @@ pub fn write_master<F: Store>(
 fn push_master<F: Store>(
     alloc: Global,
     presentation: &Presentation,
-    writer: &mut FileWriter<'_>,
-    store: &mut F,
+    sheet: &mut Sheet<F>,
 ) -> Result<(), Fail>
-    ensures { let shows = shown F.files F.read_faults F.write_faults in
-        Adds (master_text presentation.now) writer.old writer.new (shows store.old) (shows store.new) result }
+    ensures { Adds F.Store (master_text presentation.now) sheet.old sheet.new result }
 {
     let tracks = presentation.tracks().as_slice();
     let groups = presentation.groups().as_slice();
-    push_all(alloc, tracks, groups, writer, store)
+    push_all(alloc, tracks, groups, sheet)
 }
 
 fn push_all<F: Store>(
     alloc: Global,
     tracks: &[Track],
     groups: &[Group],
-    writer: &mut FileWriter<'_>,
-    store: &mut F,
+    sheet: &mut Sheet<F>,
 ) -> Result<(), Fail>
-    ensures { let shows = shown F.files F.read_faults F.write_faults in
-        Adds (lines_text (lines_with tracks.now groups.now)) writer.old writer.new (shows store.old) (shows store.new) result }
+    ensures { Adds F.Store (lines_text (lines_with tracks.now groups.now)) sheet.old sheet.new result }
 {
-    push_lines(writer, store, &[Some(Tag::Header), Some(Tag::Version(6))])?;
-    push_renditions(alloc, tracks, groups, writer, store)?;
-    push_variants(alloc, tracks, groups, writer, store)
+    push_lines(sheet, &[Some(Tag::Header), Some(Tag::Version(6))])?;
+    push_renditions(alloc, tracks, groups, sheet)?;
+    push_variants(alloc, tracks, groups, sheet)
 }
 
 /// Adds the lines of the renditions.
@@ -87,46 +84,38 @@ fn push_renditions<F: Store>(
     alloc: Global,
     tracks: &[Track],
     groups: &[Group],
-    writer: &mut FileWriter<'_>,
-    store: &mut F,
+    sheet: &mut Sheet<F>,
 ) -> Result<(), Fail>
-    ensures { let shows = shown F.files F.read_faults F.write_faults in
-        Adds (lines_text (map (rendition_line tracks.now) (renditions_of tracks.now groups.now))) writer.old writer.new (shows store.old)
-        (shows store.new) result }
+    ensures { Adds F.Store (lines_text (map (rendition_line tracks.now) (renditions_of tracks.now groups.now))) sheet.old sheet.new result }
 {
     let renditions = renditions_of(alloc, tracks, groups)?;
-    push_rendition_lines(writer, store, tracks, &renditions)
+    push_rendition_lines(sheet, tracks, &renditions)
 }
 
 fn push_rendition_lines<F: Store>(
-    writer: &mut FileWriter<'_>,
-    store: &mut F,
+    sheet: &mut Sheet<F>,
     tracks: &[Track],
     renditions: &[Rendition],
 ) -> Result<(), Fail>
-    ensures { let shows = shown F.files F.read_faults F.write_faults in
-        Adds (flat_map (rendition_text tracks.now) renditions.now) writer.old writer.new (shows store.old) (shows store.new) result }
+    ensures { Adds F.Store (flat_map (rendition_text tracks.now) renditions.now) sheet.old sheet.new result }
 {
     for rendition in renditions {
-        push_rendition(writer, store, tracks, *rendition)?;
+        push_rendition(sheet, tracks, *rendition)?;
     }
     Ok(())
 }
 
 #[tactic(auto, unfolding(crate::specs::Lines::line_bytes))]
 fn push_rendition<F: Store>(
-    writer: &mut FileWriter<'_>,
-    store: &mut F,
+    sheet: &mut Sheet<F>,
     tracks: &[Track],
     rendition: Rendition,
 ) -> Result<(), Fail>
-    ensures { let shows = shown F.files F.read_faults F.write_faults in
-        Adds (rendition_text tracks.now rendition) writer.old writer.new (shows store.old) (shows store.new) result }
+    ensures { Adds F.Store (rendition_text tracks.now rendition) sheet.old sheet.new result }
 {
     let media_type = Attribute::MediaType(rendition.group);
     push_tag(
-        writer,
-        store,
+        sheet,
         b"#EXT-X-MEDIA:",
         media_type,
         &rendition.attributes(tracks),
@@ -138,31 +127,27 @@ fn push_variants<F: Store>(
     alloc: Global,
     tracks: &[Track],
     groups: &[Group],
-    writer: &mut FileWriter<'_>,
-    store: &mut F,
+    sheet: &mut Sheet<F>,
 ) -> Result<(), Fail>
-    ensures { let shows = shown F.files F.read_faults F.write_faults in
-        Adds (lines_text (flat_map (variant_lines tracks.now groups.now (places_of Text tracks.now)) (variants_of tracks.now groups.now)))
-        writer.old writer.new (shows store.old) (shows store.new) result }
+    ensures { Adds F.Store
+        (lines_text (flat_map (variant_lines tracks.now groups.now (places_of Text tracks.now)) (variants_of tracks.now groups.now)))
+        sheet.old sheet.new result }
 {
     let variants = variants_of(alloc, tracks, groups)?;
     let texts = places_of(alloc, Kind::Text, tracks)?;
-    push_told(alloc, writer, store, tracks, groups, &texts, &variants)
+    push_told(alloc, sheet, tracks, groups, &texts, &variants)
 }
 
 /// Adds the lines of variants, with the places of the text tracks.
 fn push_told<'a, F: Store>(
     alloc: Global,
-    writer: &mut FileWriter<'_>,
-    store: &mut F,
+    sheet: &mut Sheet<F>,
     tracks: &'a [Track],
     groups: &'a [Group],
     texts: &'a [usize],
     variants: &[Variant],
 ) -> Result<(), Fail>
-    ensures { let shows = shown F.files F.read_faults F.write_faults in
-        Adds (flat_map (variant_text tracks.now groups.now texts.now) variants.now) writer.old writer.new (shows store.old)
-        (shows store.new) result }
+    ensures { Adds F.Store (flat_map (variant_text tracks.now groups.now texts.now) variants.now) sheet.old sheet.new result }
 {
     let codes = code_lists(alloc, tracks)?;
     let cast = Cast {
@@ -171,22 +156,20 @@ fn push_told<'a, F: Store>(
         texts,
         codes: &codes,
     };
-    push_variant_lines(alloc, writer, store, &cast, variants)
+    push_variant_lines(alloc, sheet, &cast, variants)
 }
 
 fn push_variant_lines<F: Store>(
     alloc: Global,
-    writer: &mut FileWriter<'_>,
-    store: &mut F,
+    sheet: &mut Sheet<F>,
     cast: &Cast<'_, '_>,
     variants: &[Variant],
 ) -> Result<(), Fail>
-    ensures { let shows = shown F.files F.read_faults F.write_faults in
-        Adds (flat_map (variant_text cast.now.tracks.now cast.now.groups.now cast.now.texts.now) variants.now) writer.old writer.new
-        (shows store.old) (shows store.new) result }
+    ensures { Adds F.Store (flat_map (variant_text cast.now.tracks.now cast.now.groups.now cast.now.texts.now) variants.now)
+        sheet.old sheet.new result }
 {
     for variant in variants {
-        push_variant(alloc, writer, store, cast, *variant)?;
+        push_variant(alloc, sheet, cast, *variant)?;
     }
     Ok(())
 }
@@ -194,48 +177,38 @@ fn push_variant_lines<F: Store>(
 /// Adds the line of a variant and the address of its playlist.
 fn push_variant<F: Store>(
     alloc: Global,
-    writer: &mut FileWriter<'_>,
-    store: &mut F,
+    sheet: &mut Sheet<F>,
     cast: &Cast<'_, '_>,
     variant: Variant,
 ) -> Result<(), Fail>
-    ensures { let shows = shown F.files F.read_faults F.write_faults in
-        Adds (variant_text cast.now.tracks.now cast.now.groups.now cast.now.texts.now variant) writer.old writer.new (shows store.old)
-        (shows store.new) result }
+    ensures { Adds F.Store (variant_text cast.now.tracks.now cast.now.groups.now cast.now.texts.now variant) sheet.old sheet.new result }
 {
     match cast.codes(alloc, variant)? {
-        Some(codes) => push_coded_variant(writer, store, cast, variant, Some(codes.as_slice())),
-        None => push_coded_variant(writer, store, cast, variant, None),
+        Some(codes) => push_coded_variant(sheet, cast, variant, Some(codes.as_slice())),
+        None => push_coded_variant(sheet, cast, variant, None),
     }
 }
 
 /// The same, where the codes of its tracks were found.
 #[tactic(auto, unfolding(crate::specs::Lines::line_bytes))]
 fn push_coded_variant<F: Store>(
-    writer: &mut FileWriter<'_>,
-    store: &mut F,
+    sheet: &mut Sheet<F>,
     cast: &Cast<'_, '_>,
     variant: Variant,
     codes: Option<&[&str]>,
 ) -> Result<(), Fail>
-    ensures { let shows = shown F.files F.read_faults F.write_faults in
-        Adds (coded_text cast.now.tracks.now cast.now.groups.now cast.now.texts.now (option_map texts_in codes.entry) variant) writer.old
-        writer.new (shows store.old) (shows store.new) result }
+    ensures { Adds F.Store (coded_text cast.now.tracks.now cast.now.groups.now cast.now.texts.now (option_map texts_in codes.entry) variant)
+        sheet.old sheet.new result }
 {
     push_tag(
-        writer,
-        store,
+        sheet,
         b"#EXT-X-STREAM-INF:",
         Attribute::Bandwidth(cast.bandwidth(variant)),
         &cast.attributes(variant, codes),
     )?;
-    push_pieces(
-        writer,
-        store,
-        &[
-            Piece::Text(b"t"),
-            Piece::Number(variant.track as u64),
-            Piece::Text(b".m3u8\n"),
-        ],
-    )
+    sheet.push_pieces(&[
+        Piece::Text(b"t"),
+        Piece::Number(variant.track as u64),
+        Piece::Text(b".m3u8\n"),
+    ])
 }

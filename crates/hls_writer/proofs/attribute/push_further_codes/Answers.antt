@@ -1,10 +1,10 @@
 use Rattle.std.proofs.lemmas.List.{take_all}
-use Rattle.bridge_io.proofs.Adding.{adds_none, adds_more, adds_until, adds_same}
+use Rattle.hls_writer.proofs.Adding.{adds_none, adds_more, adds_until, adds_same}
 use Rattle.hls_writer.proofs.Listing.{code_after, code_at, further_codes}
 use Rattle.hls_writer.proofs.attribute.push_further_codes.Goals as goal
 
 pub loop-code-init : goal.loop-code-init
-loop-code-init g c = adds_none _ _
+loop-code-init g c = adds_none _
 
 pub loop-code-preserved : goal.loop-code-preserved
 loop-code-preserved g c = adds_more code_after c.args.codes.now c.loop-code.code-index _ c.loop-code-test.true c.loop-code.invariant

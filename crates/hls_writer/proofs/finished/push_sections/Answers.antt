@@ -2,7 +2,7 @@ use Rattle.hls_writer.proofs.finished.push_sections.Goals as goal
 use Rattle.std.proofs.{Common.{◌≡◌, ◌+◌, ◌^◌, ◌<◌, ◌++◌, [], ap, sym, ◌∙◌, length, flat_map, None, arith}, lemmas.List.append-nil}
 use Rattle.presentation.proofs.Counts.{from_on, from_on-end, from_on-first, from_on-start}
 use Rattle.hls_writer.specs.{Finished.section_items, Lines.lines_text, Playlists.items_lines}
-use Rattle.bridge_io.proofs.Adding.{adds_answered, adds_none, adds_same, adds_then, adds_stop_at}
+use Rattle.hls_writer.proofs.Adding.{adds_answered, adds_none, adds_same, adds_then, adds_stop_at}
 use Rattle.hls_writer.proofs.Sections.{more_items}
 
 pub loop-section-init : goal.loop-section-init
@@ -10,7 +10,7 @@ loop-section-init g c = let t = c.args.track.now in let p = t.presentation.now i
   [],
   ap (λ ss. lines_text (items_lines t.digits None (flat_map (section_items p (10 ^ t.digits) t.track) ss)))
       (from_on-start (length p.sections)),
-  adds_none _ _,
+  adds_none _,
 )
 
 pub returns-in_err-former : goal.returns-in_err-former

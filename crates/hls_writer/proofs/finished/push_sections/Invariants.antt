@@ -1,17 +1,16 @@
 use Rattle.hls_writer.proofs.finished.push_sections.Given as goal
 use Rattle.std.proofs.Common.{◌≡◌, ℕ, ◌^◌, ◌-◌, List, ◌++◌, flat_map, length, None, Ok}
 use Rattle.std.specs.List.{range_with_len}
-use Rattle.bridge_io.specs.Adding.{Adds, shown}
+use Rattle.hls_writer.specs.Adding.{Adds}
 use Rattle.hls_writer.specs.{Finished.{section_items, track_items}, Lines.lines_text, Playlists.items_lines}
 
 -- what is added so far goes on to the text of all sections
 abbrev pub invariant-loop-section : goal.invariant-loop-section
 invariant-loop-section g l =
-    let shows = shown g.F.Store.files g.F.Store.read_faults g.F.Store.write_faults in
     let p = l.track.presentation.now in
     let unit = 10 ^ l.track.digits in
     let left = flat_map (section_items p unit l.track.track) (range_with_len l.section (length p.sections - l.section)) in
     (done : List ℕ)
     × (done ++ lines_text (items_lines l.track.digits l.former left)
     ≡ lines_text (items_lines l.track.digits None (track_items p unit l.track.track)))
-    × Adds {T = Unit {0}} done l.initial.writer l.writer (shows l.initial.store) (shows l.store) (Ok tt)
+    × Adds {T = Unit {0}} g.F.Store done l.initial.sheet l.sheet (Ok tt)

@@ -3,15 +3,15 @@ use Rattle.std.proofs.Common.{◌++◌, ◌∙◌, [], refl, sym}
 use Rattle.presentation.specs.Printing.{IsPassed}
 use Rattle.timeline.specs.{Listed.timing_of, Written.part_with}
 use Rattle.hls_writer.specs.{Finished.item_of, Lines.lines_text, Playlists.item_lines}
-use Rattle.bridge_io.proofs.Adding.{adds_none, adds_same, adds_then, adds_stop_at, adds_wanting}
+use Rattle.hls_writer.proofs.Adding.{adds_none, adds_same, adds_then, adds_stop_at, adds_wanting}
 use Rattle.hls_writer.proofs.Sections.{first_addressed, next_item, one_more, still_addressed}
 
 pub loop-span-init : goal.loop-span-init
-loop-span-init g c = record { timeline = c.in_ok-addresses.ensures; addressed = c.requires; done = ([], refl, adds_none _ _); last = refl }
+loop-span-init g c = record { timeline = c.in_ok-addresses.ensures; addressed = c.requires; done = ([], refl, adds_none _); last = refl }
 
 pub returns-in_err-addresses-clause-adds : goal.returns-in_err-addresses-clause-adds
 returns-in_err-addresses-clause-adds g c = adds_wanting {done = []} _ _ c.from_residual.result refl c.from_residual.ensures.1
-    (adds_none _ _)
+    (adds_none _)
 
 pub write_address-requires-clause-has : goal.write_address-requires-clause-has
 write_address-requires-clause-has g c = let l = c.loop-span in let place = c.args.place.now in

@@ -1,10 +1,10 @@
 use Rattle.std.proofs.lemmas.List.{take_all}
 use Rattle.hls_writer.specs.Renditions.{rendition_text}
-use Rattle.bridge_io.proofs.Adding.{adds_none, adds_more, adds_until}
+use Rattle.hls_writer.proofs.Adding.{adds_none, adds_more, adds_until}
 use Rattle.hls_writer.proofs.master.push_rendition_lines.Goals as goal
 
 pub loop-rendition-init : goal.loop-rendition-init
-loop-rendition-init g c = adds_none _ _
+loop-rendition-init g c = adds_none _
 
 pub loop-rendition-preserved : goal.loop-rendition-preserved
 loop-rendition-preserved g c = adds_more (rendition_text c.args.tracks.now) c.args.renditions.now c.loop-rendition.rendition-index _

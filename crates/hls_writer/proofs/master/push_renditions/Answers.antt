@@ -1,11 +1,11 @@
 use Rattle.std.proofs.Common.{refl, ap, ◌∙◌, flat_map}
 use Rattle.hls_writer.specs.Renditions.{renditions_of, rendition_line, rendition_text}
-use Rattle.bridge_io.proofs.Adding.{adds_none, adds_same, adds_wanting}
+use Rattle.hls_writer.proofs.Adding.{adds_none, adds_same, adds_wanting}
 use Rattle.hls_writer.proofs.Listing.{text_of_each}
 use Rattle.hls_writer.proofs.master.push_renditions.Goals as goal
 
 pub returns-in_err-renditions : goal.returns-in_err-renditions
-returns-in_err-renditions g c = adds_wanting _ _ c.from_residual.result refl c.from_residual.ensures.1 (adds_none _ _)
+returns-in_err-renditions g c = adds_wanting _ _ c.from_residual.result refl c.from_residual.ensures.1 (adds_none _)
 
 pub returns : goal.returns
 returns g c =

@@ -1,10 +1,10 @@
 use Rattle.std.proofs.lemmas.List.{take_all}
 use Rattle.hls_writer.specs.Variants.{variant_text}
-use Rattle.bridge_io.proofs.Adding.{adds_none, adds_more, adds_until}
+use Rattle.hls_writer.proofs.Adding.{adds_none, adds_more, adds_until}
 use Rattle.hls_writer.proofs.master.push_variant_lines.Goals as goal
 
 pub loop-variant-init : goal.loop-variant-init
-loop-variant-init g c = adds_none _ _
+loop-variant-init g c = adds_none _
 
 pub loop-variant-preserved : goal.loop-variant-preserved
 loop-variant-preserved g c = adds_more (variant_text c.args.cast.now.tracks.now c.args.cast.now.groups.now c.args.cast.now.texts.now)
