@@ -1,3 +1,4 @@
+pub mod Adding
 pub mod Escaping
 pub mod LiveTracks
 pub mod Neighbours

@@ -2,13 +2,13 @@
 use Rattle.std.proofs.Common.{◌≡◌, ℕ, List, [], ◌∷◌, ◌++◌, Bool, codes, flat_map, Result, Ok, Err, IsErrAnd, Option, None, Some, refl, sym}
 use Rattle.std.proofs.{Common.{ap, ◌∙◌}, lemmas.List.{append_assoc, append-nil}}
 use Rattle.std.specs.Borrow.{Bor}
-use Rattle.bridge_io.specs.{declared.file_writer.FileWriter.FileWriter, declared.outside.Fail.Fail, Adding.{Adds, Shown}}
-use Rattle.bridge_io.proofs.Adding.{adds_same, adds_stop, adds_stop_at, adds_then}
+use Rattle.bridge_io.specs.{declared.outside.Fail.Fail, declared.outside.Store.Ghosts}
+use Rattle.dash_writer.proofs.Adding.{adds_same, adds_stop, adds_stop_at, adds_then}
 use Rattle.mpd_text.specs.Escapes.{escape_all}
 use Rattle.mpd_markup.specs.Markup.{attribute_text, enclosed, opening, printed}
 use Rattle.dash_writer.specs.{Elements.{Attribute, Element, attributes_of, node, tag_of, with_attribute}, Written.all_told}
 use Rattle.dash_writer.specs.Written.{attributes_text, element_text, elements_text, end_text, is_childless, known_text, start_text, told}
-use Rattle.dash_writer.specs.declared.attribute.Value.{Value}
+use Rattle.dash_writer.specs.{Adding.Adds, declared.attribute.Value.Value, declared.sheet.Sheet.Sheet}
 
 -- ---- attributes
 
@@ -59,28 +59,27 @@ module _ (name : List ℕ) (attributes : List Attribute) where
       ≡ element_text (node name attributes children)
   parts children childless is = rw (← is) (node_parts children)
 
-  module _ {T : Type 0} (children : List Element) {childless : Bool} (is : is_childless children
-      ≡ childless) {old mid : FileWriter} {before between : Shown} where
+  module _ {T F : Type 0} {store : Ghosts F} (children : List Element) {childless : Bool} (is : is_childless children ≡ childless)
+      {old mid : Sheet F} where
     -- the start fails
     pub stops_at_start : {fail : Fail} (result : Result T Fail) → IsErrAnd result (λ e. e ≡ fail)
-        → Adds {T = Unit {0}} (start_text (tag_of name attributes) childless) old mid before between (Err fail)
-        → Adds (element_text (node name attributes children)) old mid before between result
+        → Adds {T = Unit {0}} store (start_text (tag_of name attributes) childless) old mid (Err fail)
+        → Adds store (element_text (node name attributes children)) old mid result
     stops_at_start result handed one = adds_same (parts children childless is)
         (adds_stop_at _ result handed (adds_stop {T = Unit {0}} _ one))
 
-    module _ {new : FileWriter} {after : Shown}
-        (one : Adds {T = Unit {0}} (start_text (tag_of name attributes) childless) old mid before between (Ok tt)) where
+    module _ {new : Sheet F} (one : Adds {T = Unit {0}} store (start_text (tag_of name attributes) childless) old mid (Ok tt)) where
       -- the children fail
       pub stops_at_children : {fail : Fail} (result : Result T Fail) → IsErrAnd result (λ e. e ≡ fail)
-          → Adds {T = Unit {0}} (elements_text children) mid new between after (Err fail)
-          → Adds (element_text (node name attributes children)) old new before after result
+          → Adds {T = Unit {0}} store (elements_text children) mid new (Err fail)
+          → Adds store (element_text (node name attributes children)) old new result
       stops_at_children result handed two = adds_same (parts children childless is) (adds_stop_at _ result handed (adds_then _ one two))
 
       -- the end is added, or fails
-      pub adds_node : {end : FileWriter} {last : Shown} {result : Result T Fail}
-          → Adds {T = Unit {0}} (elements_text children) mid new between after (Ok tt)
-          → Adds (end_text name childless) new end after last result
-          → Adds (element_text (node name attributes children)) old end before last result
+      pub adds_node : {end : Sheet F} {result : Result T Fail}
+          → Adds {T = Unit {0}} store (elements_text children) mid new (Ok tt)
+          → Adds store (end_text name childless) new end result
+          → Adds store (element_text (node name attributes children)) old end result
       adds_node two three = adds_same (parts children childless is) (adds_then _ (adds_then _ one two) three)
 
 -- one element more is added to what goes on to a whole text
@@ -99,7 +98,6 @@ three_parts x y xs = append_assoc (element_text x) (element_text y) (elements_te
     ∙ ap (λ t. element_text x ++ t) (sym (elements-cons y xs)) ∙ sym (elements-cons x (y ∷ xs))
 
 -- a failure is handed on
-pub adds_fails : {S T : Type 0} {text : List ℕ} {old mid : FileWriter} {before between : Shown} {fail : Fail} (result : Result T Fail)
-    → IsErrAnd result (λ e. e ≡ fail)
-    → Adds {T = S} text old mid before between (Err fail) → Adds {T = T} text old mid before between result
+pub adds_fails : {S T F : Type 0} {store : Ghosts F} {text : List ℕ} {old mid : Sheet F} {fail : Fail} (result : Result T Fail)
+    → IsErrAnd result (λ e. e ≡ fail) → Adds {T = S} store text old mid (Err fail) → Adds {T = T} store text old mid result
 adds_fails {text = text} result handed one = adds_same (append-nil text) (adds_stop_at [] result handed one)

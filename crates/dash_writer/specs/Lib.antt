@@ -1,3 +1,4 @@
+pub mod Adding
 pub mod Elements
 pub mod Escaped
 pub mod Given

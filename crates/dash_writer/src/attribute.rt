@@ -1,12 +1,13 @@
 // Attributes.
-ghost use Rattle.bridge_io.specs.Adding.{Adds, shown};
+ghost use Rattle.dash_writer.specs.Adding.{Adds};
 ghost use Rattle.mpd_text.specs.Escapes.{escape_all};
 ghost use Rattle.dash_writer.specs.Elements.{attributes_of};
 ghost use Rattle.dash_writer.specs.Values.{range_text, rate_text};
 ghost use Rattle.dash_writer.specs.Written.{all_told, attributes_text, known_text, told, value_text};
 
 use crate::escape::push_escaped;
-use bridge_io::{Fail, FileWriter, Piece, Ratio, Store, push_pieces};
+use crate::sheet::Sheet;
+use bridge_io::{Fail, Piece, Ratio, Store};
 use exact_time::Nanos;
 use iso_time::write_duration;
 use url_parts::Range;
@@ -39,103 +40,80 @@ pub(crate) type Attribute<'a> = (&'a str, Option<Value<'a>>);
 
 impl Value<'_> {
     /// Adds what is written between the quotes.
-    fn push_to<F: Store>(&self, writer: &mut FileWriter<'_>, store: &mut F) -> Result<(), Fail>
-        ensures { let shows = shown F.files F.read_faults F.write_faults in
-            Adds (escape_all (value_text self.now)) writer.old writer.new (shows store.old) (shows store.new) result }
+    fn push_to<F: Store>(&self, sheet: &mut Sheet<F>) -> Result<(), Fail>
+        ensures { Adds F.Store (escape_all (value_text self.now)) sheet.old sheet.new result }
     {
         match *self {
-            Value::Text(text) => push_escaped(writer, store, text.as_bytes()),
-            Value::Number(number) => push_pieces(writer, store, &[Piece::Number(number)]),
-            Value::Wide(number) => push_pieces(writer, store, &[Piece::Wide(number)]),
-            Value::Duration(nanos) => {
-                push_escaped(writer, store, write_duration(nanos).as_str().as_bytes())
+            Value::Text(text) => push_escaped(sheet, text.as_bytes()),
+            Value::Number(number) => sheet.push_pieces(&[Piece::Number(number)]),
+            Value::Wide(number) => sheet.push_pieces(&[Piece::Wide(number)]),
+            Value::Duration(nanos) => push_escaped(
+                sheet,
+                write_duration(nanos).as_str().as_bytes(),
+            ),
+            Value::Seconds(number) => sheet.push_pieces(&[
+                Piece::Text(b"PT"),
+                Piece::Number(number),
+                Piece::Text(b"S"),
+            ]),
+            Value::Instant(text) => push_escaped(sheet, text),
+            Value::Id(place) => {
+                sheet.push_pieces(&[Piece::Text(b"t"), Piece::Number(place as u64)])
             }
-            Value::Seconds(number) => push_pieces(
-                writer,
-                store,
-                &[Piece::Text(b"PT"), Piece::Number(number), Piece::Text(b"S")],
-            ),
-            Value::Instant(text) => push_escaped(writer, store, text),
-            Value::Id(place) => push_pieces(
-                writer,
-                store,
-                &[Piece::Text(b"t"), Piece::Number(place as u64)],
-            ),
-            Value::Rate(ratio) => push_rate(writer, store, ratio),
-            Value::Range(range) => push_range(writer, store, range),
+            Value::Rate(ratio) => push_rate(sheet, ratio),
+            Value::Range(range) => push_range(sheet, range),
         }
     }
 }
 
 /// Adds a frame rate.
-fn push_rate<F: Store>(writer: &mut FileWriter<'_>, store: &mut F, ratio: Ratio) -> Result<(), Fail>
-    ensures { let shows = shown F.files F.read_faults F.write_faults in
-        Adds (escape_all (rate_text ratio)) writer.old writer.new (shows store.old) (shows store.new) result }
+fn push_rate<F: Store>(sheet: &mut Sheet<F>, ratio: Ratio) -> Result<(), Fail>
+    ensures { Adds F.Store (escape_all (rate_text ratio)) sheet.old sheet.new result }
 {
     if ratio.n % ratio.m == 0 {
         let whole = u64::from(ratio.n / ratio.m);
-        return push_pieces(writer, store, &[Piece::Number(whole)]);
+        return sheet.push_pieces(&[Piece::Number(whole)]);
     }
     let n = Piece::Number(u64::from(ratio.n));
     let m = Piece::Number(u64::from(ratio.m));
-    push_pieces(writer, store, &[n, Piece::Text(b"/"), m])
+    sheet.push_pieces(&[n, Piece::Text(b"/"), m])
 }
 
 /// Adds the places of the first and the last byte.
-fn push_range<F: Store>(
-    writer: &mut FileWriter<'_>,
-    store: &mut F,
-    range: Range,
-) -> Result<(), Fail>
-    ensures { let shows = shown F.files F.read_faults F.write_faults in
-        Adds (escape_all (range_text range)) writer.old writer.new (shows store.old) (shows store.new) result }
+fn push_range<F: Store>(sheet: &mut Sheet<F>, range: Range) -> Result<(), Fail>
+    ensures { Adds F.Store (escape_all (range_text range)) sheet.old sheet.new result }
 {
     let behind = u128::from(range.first) + u128::from(range.count);
-    push_pieces(
-        writer,
-        store,
-        &[
-            Piece::Number(range.first),
-            Piece::Text(b"-"),
-            Piece::Wide(behind.saturating_sub(1)),
-        ],
-    )
+    sheet.push_pieces(&[
+        Piece::Number(range.first),
+        Piece::Text(b"-"),
+        Piece::Wide(behind.saturating_sub(1)),
+    ])
 }
 
 /// Adds the attributes that have values, in order.
 pub(crate) fn push_attributes<F: Store>(
-    writer: &mut FileWriter<'_>,
-    store: &mut F,
+    sheet: &mut Sheet<F>,
     attributes: &[Attribute<'_>],
 ) -> Result<(), Fail>
-    ensures { let shows = shown F.files F.read_faults F.write_faults in
-        Adds (attributes_text (attributes_of (all_told attributes.now))) writer.old writer.new (shows store.old) (shows store.new) result }
+    ensures { Adds F.Store (attributes_text (attributes_of (all_told attributes.now))) sheet.old sheet.new result }
 {
     for attribute in attributes {
-        push_attribute(writer, store, attribute)?;
+        push_attribute(sheet, attribute)?;
     }
     Ok(())
 }
 
 /// Adds an attribute, if it has a value.
-fn push_attribute<F: Store>(
-    writer: &mut FileWriter<'_>,
-    store: &mut F,
-    attribute: &Attribute<'_>,
-) -> Result<(), Fail>
-    ensures { let shows = shown F.files F.read_faults F.write_faults in
-        Adds (known_text (told attribute.now)) writer.old writer.new (shows store.old) (shows store.new) result }
+fn push_attribute<F: Store>(sheet: &mut Sheet<F>, attribute: &Attribute<'_>) -> Result<(), Fail>
+    ensures { Adds F.Store (known_text (told attribute.now)) sheet.old sheet.new result }
 {
     let (name, value) = attribute;
     let Some(value) = value else {
         return Ok(());
     };
     let name = Piece::Text(name.as_bytes());
-    push_pieces(
-        writer,
-        store,
-        &[Piece::Text(b" "), name, Piece::Text(b"=\"")],
-    )?;
-    value.push_to(writer, store)?;
-    push_pieces(writer, store, &[Piece::Text(b"\"")])
+    sheet.push_pieces(&[Piece::Text(b" "), name, Piece::Text(b"=\"")])?;
+    value.push_to(sheet)?;
+    sheet.push_pieces(&[Piece::Text(b"\"")])
 }

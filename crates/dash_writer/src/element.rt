@@ -1,40 +1,36 @@
 // Elements.
 ghost use Rattle.std.specs.Prelude.{◌≡◌, codes, if◌then◌else◌};
-ghost use Rattle.bridge_io.specs.Adding.{Adds, shown};
+ghost use Rattle.dash_writer.specs.Adding.{Adds};
 ghost use Rattle.mpd_markup.specs.Markup.{opening};
 ghost use Rattle.dash_writer.specs.Elements.{leaf, tag_of};
 ghost use Rattle.dash_writer.specs.Written.{all_told, element_text, end_text, start_text};
 
 use crate::attribute::{Attribute, push_attributes};
-use bridge_io::{Fail, FileWriter, Piece, Store, push_pieces};
+use crate::sheet::Sheet;
+use bridge_io::{Fail, Piece, Store};
 
 /// Adds an element without children (XML 1.0, 3.1).
 pub(crate) fn push_leaf<F: Store>(
-    writer: &mut FileWriter<'_>,
-    store: &mut F,
+    sheet: &mut Sheet<F>,
     name: &str,
     attributes: &[Attribute<'_>],
 ) -> Result<(), Fail>
-    ensures { let shows = shown F.files F.read_faults F.write_faults in
-        Adds (element_text (leaf name.now (all_told attributes.now))) writer.old writer.new (shows store.old) (shows store.new) result }
+    ensures { Adds F.Store (element_text (leaf name.now (all_told attributes.now))) sheet.old sheet.new result }
 {
-    push_start(writer, store, name, attributes, true)
+    push_start(sheet, name, attributes, true)
 }
 
 /// Adds what stands before the children of an element. It is the whole element where there are none.
 pub(crate) fn push_start<F: Store>(
-    writer: &mut FileWriter<'_>,
-    store: &mut F,
+    sheet: &mut Sheet<F>,
     name: &str,
     attributes: &[Attribute<'_>],
     childless: bool,
 ) -> Result<(), Fail>
-    ensures { let shows = shown F.files F.read_faults F.write_faults in
-        Adds (start_text (tag_of name.now (all_told attributes.now)) childless)
-        writer.old writer.new (shows store.old) (shows store.new) result }
+    ensures { Adds F.Store (start_text (tag_of name.now (all_told attributes.now)) childless) sheet.old sheet.new result }
 {
-    push_opening(writer, store, name, attributes)?;
-    push_pieces(writer, store, &[Piece::Text(tag_end(childless))])
+    push_opening(sheet, name, attributes)?;
+    sheet.push_pieces(&[Piece::Text(tag_end(childless))])
 }
 
 fn tag_end(childless: bool) -> &'static [u8]
@@ -45,36 +41,28 @@ fn tag_end(childless: bool) -> &'static [u8]
 
 /// Adds a tag up to its end.
 fn push_opening<F: Store>(
-    writer: &mut FileWriter<'_>,
-    store: &mut F,
+    sheet: &mut Sheet<F>,
     name: &str,
     attributes: &[Attribute<'_>],
 ) -> Result<(), Fail>
-    ensures { let shows = shown F.files F.read_faults F.write_faults in
-        Adds (opening (tag_of name.now (all_told attributes.now))) writer.old writer.new (shows store.old) (shows store.new) result }
+    ensures { Adds F.Store (opening (tag_of name.now (all_told attributes.now))) sheet.old sheet.new result }
 {
     let name = Piece::Text(name.as_bytes());
-    push_pieces(writer, store, &[Piece::Text(b"<"), name])?;
-    push_attributes(writer, store, attributes)
+    sheet.push_pieces(&[Piece::Text(b"<"), name])?;
+    push_attributes(sheet, attributes)
 }
 
 /// Adds what stands behind the children of an element.
 pub(crate) fn push_end<F: Store>(
-    writer: &mut FileWriter<'_>,
-    store: &mut F,
+    sheet: &mut Sheet<F>,
     name: &str,
     childless: bool,
 ) -> Result<(), Fail>
-    ensures { let shows = shown F.files F.read_faults F.write_faults in
-        Adds (end_text name.now childless) writer.old writer.new (shows store.old) (shows store.new) result }
+    ensures { Adds F.Store (end_text name.now childless) sheet.old sheet.new result }
 {
     if childless {
         return Ok(());
     }
     let name = Piece::Text(name.as_bytes());
-    push_pieces(
-        writer,
-        store,
-        &[Piece::Text(b"</"), name, Piece::Text(b">\n")],
-    )
+    sheet.push_pieces(&[Piece::Text(b"</"), name, Piece::Text(b">\n")])
 }

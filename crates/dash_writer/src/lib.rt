@@ -10,6 +10,7 @@ mod manifest;
 mod outline;
 mod segments;
 mod sets;
+mod sheet;
 mod timed;
 mod times;
 

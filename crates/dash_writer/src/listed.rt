@@ -1,7 +1,7 @@
 // The segments that a presentation lists.
 ghost use Rattle.std.specs.Prelude.{◌≡◌, ◌<◌, ◌^◌, All, length, MatchOption, MatchResult};
 ghost use Rattle.bridge_io.specs.declared.outside.Fail.TheVariants.{Memory};
-ghost use Rattle.bridge_io.specs.Adding.{Adds, shown};
+ghost use Rattle.dash_writer.specs.Adding.{Adds};
 ghost use Rattle.timeline.specs.Listed.{IsDone, IsMade};
 ghost use Rattle.presentation.specs.Laws.{HasAddress};
 ghost use Rattle.presentation.specs.Origins.{IsAddressed};
@@ -13,8 +13,9 @@ ghost use Rattle.dash_writer.specs.Written.{element_text};
 
 use crate::segments::{Files, ListHead, push_segment_list, push_url};
 use crate::sets::TrackLists;
+use crate::sheet::Sheet;
 use crate::times::Durations;
-use bridge_io::{Fail, FileWriter, Ledger, Steps, Store};
+use bridge_io::{Fail, Ledger, Steps, Store};
 use presentation::Presentation;
 use std::alloc::Global;
 use timeline::{ListFault, Listing, Runs, Segment, Window};
@@ -30,14 +31,13 @@ impl<L: Ledger> TrackLists<Steps<L>> for Presentation {
         alloc: Global,
         section: usize,
         track: usize,
-        writer: &mut FileWriter<'_>,
-        store: &mut F,
+        sheet: &mut Sheet<F>,
         steps: &mut Steps<L>,
     ) -> Result<(), Fail> {
         let runs = self.runs(section, track);
         let part = self.initialization(section, track);
         let window = self.window(section);
-        push_own(alloc, runs, part, &window, writer, store, steps)
+        push_own(alloc, runs, part, &window, sheet, steps)
     }
 }
 
@@ -47,14 +47,11 @@ fn push_own<F: Store, L: Ledger>(
     runs: &Runs,
     part: &Part,
     window: &Window,
-    writer: &mut FileWriter<'_>,
-    store: &mut F,
+    sheet: &mut Sheet<F>,
     steps: &mut Steps<L>,
 ) -> Result<(), Fail>
     requires { IsAddressed runs.now }
-    ensures { let shows = shown F.files F.read_faults F.write_faults in
-        Adds (element_text (segment_list runs.now part.now (listed_in window.now runs.now)))
-        writer.old writer.new (shows store.old) (shows store.new) result }
+    ensures { Adds F.Store (element_text (segment_list runs.now part.now (listed_in window.now runs.now))) sheet.old sheet.new result }
 {
     let _ = runs.count(window).unwrap_or(0); // which fits a number
     let head = ListHead {
@@ -64,7 +61,7 @@ fn push_own<F: Store, L: Ledger>(
         initialization: part,
     };
     let mut walk = runs.walk(&runs.seek(window), window);
-    push_listed(alloc, &head, &mut walk, runs, window, writer, store, steps)
+    push_listed(alloc, &head, &mut walk, runs, window, sheet, steps)
 }
 
 /// Adds the SegmentList of the segments that are listed in a window, with these durations.
@@ -74,18 +71,16 @@ pub(crate) fn push_listed<D: Durations, F: Store, L: Ledger>(
     durations: &mut D,
     runs: &Runs,
     window: &Window,
-    writer: &mut FileWriter<'_>,
-    store: &mut F,
+    sheet: &mut Sheet<F>,
     steps: &mut Steps<L>,
 ) -> Result<(), Fail>
     requires few { length (D.durations durations.old) < 2 ^ 64 }
     requires addressed { IsAddressed runs.now }
-    ensures { let shows = shown F.files F.read_faults F.write_faults in
-        Adds (element_text (list_with head.now.ticks head.now.offset head.now.first head.now.initialization.now (D.durations durations.old)
-        (parts_of runs.now (listed_in window.now runs.now)))) writer.old writer.new (shows store.old) (shows store.new) result }
+    ensures { Adds F.Store (element_text (list_with head.now.ticks head.now.offset head.now.first head.now.initialization.now
+        (D.durations durations.old) (parts_of runs.now (listed_in window.now runs.now)))) sheet.old sheet.new result }
 {
     let mut listing = runs.resume(&runs.seek(window), window);
-    push_segment_list(alloc, head, durations, &mut listing, writer, store, steps)
+    push_segment_list(alloc, head, durations, &mut listing, sheet, steps)
 }
 
 impl<L: Ledger> Files<Steps<L>> for Listing<'_> {
@@ -96,12 +91,11 @@ impl<L: Ledger> Files<Steps<L>> for Listing<'_> {
     fn push_urls<F: Store>(
         &mut self,
         alloc: Global,
-        writer: &mut FileWriter<'_>,
-        store: &mut F,
+        sheet: &mut Sheet<F>,
         steps: &mut Steps<L>,
     ) -> Result<(), Fail> {
         while let Some(segment) = next_segment(alloc, self, steps)? {
-            push_url(segment.address().as_str(), segment.range(), writer, store)?;
+            push_url(segment.address().as_str(), segment.range(), sheet)?;
         }
         Ok(())
     }

@@ -3,7 +3,7 @@ ghost use Rattle.std.specs.Prelude.{⊤, ◌≡◌, ◌⊎◌, OnErr, OnOk, if�
 ghost use Rattle.bridge_io.specs.Fault.{HasCause};
 ghost use Rattle.bridge_io.specs.Outside.{put, Changes};
 ghost use Rattle.bridge_io.specs.Written.{HasFront};
-ghost use Rattle.bridge_io.specs.Adding.{Adds, shown};
+ghost use Rattle.dash_writer.specs.Adding.{Adds};
 ghost use Rattle.bridge_io.specs.declared.out_fault.OutFault.TheVariants.{WriteFault};
 ghost use Rattle.dash_writer.specs.Live as spec;
 ghost use Rattle.dash_writer.specs.Written.{all_told, element_text};
@@ -13,8 +13,9 @@ use crate::manifest::finished_root;
 use crate::outline::{Outline, Period};
 use crate::segments::{Files, ListHead, push_segment_list, push_url};
 use crate::sets::TrackLists;
+use crate::sheet::Sheet;
 use crate::times::Durations;
-use bridge_io::{Fail, FileWriter, Name, OutFault, Sequence, Store};
+use bridge_io::{Fail, Name, OutFault, Sequence, Store};
 use exact_time::Nanos;
 use iso_time::{Instant, write_instant_ms};
 use presentation::TrackList;
@@ -179,12 +180,11 @@ impl TrackLists<()> for LiveMpd {
         alloc: Global,
         section: usize,
         track: usize,
-        writer: &mut FileWriter<'_>,
-        store: &mut F,
+        sheet: &mut Sheet<F>,
         steps: &mut (),
     ) -> Result<(), Fail> {
         let run = &self.periods.as_slice()[section].runs.as_slice()[track];
-        push_run(alloc, run, writer, store, steps)
+        push_run(alloc, run, sheet, steps)
     }
 }
 
@@ -192,12 +192,10 @@ impl TrackLists<()> for LiveMpd {
 fn push_run<F: Store>(
     alloc: Global,
     run: &LiveRun,
-    writer: &mut FileWriter<'_>,
-    store: &mut F,
+    sheet: &mut Sheet<F>,
     steps: &mut (),
 ) -> Result<(), Fail>
-    ensures { let shows = shown F.files F.read_faults F.write_faults in
-        Adds (element_text (spec.live_list run.now)) writer.old writer.new (shows store.old) (shows store.new) result }
+    ensures { Adds F.Store (element_text (spec.live_list run.now)) sheet.old sheet.new result }
 {
     let segments = run.segments.as_slice();
     let head = ListHead {
@@ -208,15 +206,7 @@ fn push_run<F: Store>(
     };
     let mut durations = LiveSegments { left: segments };
     let mut files = LiveSegments { left: segments };
-    push_segment_list(
-        alloc,
-        &head,
-        &mut durations,
-        &mut files,
-        writer,
-        store,
-        steps,
-    )
+    push_segment_list(alloc, &head, &mut durations, &mut files, sheet, steps)
 }
 
 /// When the first segment begins.
@@ -253,12 +243,11 @@ impl Files<()> for LiveSegments<'_> {
     fn push_urls<F: Store>(
         &mut self,
         _alloc: Global,
-        writer: &mut FileWriter<'_>,
-        store: &mut F,
+        sheet: &mut Sheet<F>,
         _steps: &mut (),
     ) -> Result<(), Fail> {
         for segment in self.left {
-            push_url(segment.address.as_str(), segment.range, writer, store)?;
+            push_url(segment.address.as_str(), segment.range, sheet)?;
         }
         Ok(())
     }

@@ -3,7 +3,7 @@ ghost use Rattle.std.specs.Prelude.{◌≡◌, ◌+◌, ◌<◌, ◌⊎◌, ℕ,
 ghost use Rattle.bridge_io.specs.Fault.{HasCause};
 ghost use Rattle.bridge_io.specs.Outside.{put, Changes};
 ghost use Rattle.bridge_io.specs.Written.{HasFront};
-ghost use Rattle.bridge_io.specs.Adding.{Adds, shown};
+ghost use Rattle.dash_writer.specs.Adding.{Adds};
 ghost use Rattle.bridge_io.specs.declared.out_fault.OutFault.TheVariants.{WriteFault};
 ghost use Rattle.dash_writer.specs.Elements as elements;
 ghost use Rattle.dash_writer.specs.Given.{CanBeListed, given_text, outline_of};
@@ -13,7 +13,8 @@ ghost use Rattle.dash_writer.specs.Written.{all_told, element_text, elements_tex
 use crate::attribute::Attribute;
 use crate::element::{push_end, push_start};
 use crate::sets::{TrackLists, push_sets};
-use bridge_io::{Fail, FileWriter, Name, OutFault, Piece, Store, push_pieces};
+use crate::sheet::Sheet;
+use bridge_io::{Fail, FileWriter, Name, OutFault, Piece, Store};
 use presentation::Track;
 use std::alloc::Global;
 
@@ -56,8 +57,8 @@ impl<P: Period, T> Outline<'_, P, T> {
         ensures cause { HasCause WriteFault (F.write_faults store.old) (F.write_faults store.new) result }
         ensures reads { F.read_faults store.new ≡ F.read_faults store.old }
     {
-        let mut writer = FileWriter::create(alloc, store, name)?;
-        self.push_to(alloc, &mut writer, store, steps)?;
+        let writer = &mut FileWriter::create(alloc, store, name)?;
+        self.push_to(alloc, &mut Sheet { writer, store }, steps)?;
         writer.flush(store)?;
         Ok(())
     }
@@ -66,42 +67,37 @@ impl<P: Period, T> Outline<'_, P, T> {
     fn push_to<S, F: Store>(
         &self,
         alloc: Global,
-        writer: &mut FileWriter<'_>,
-        store: &mut F,
+        sheet: &mut Sheet<F>,
         steps: &mut S,
     ) -> Result<(), Fail>
     where
         T: TrackLists<S>,
         requires { CanBeListed T.can_list T.lists self.now }
-        ensures { let shows = shown F.files F.read_faults F.write_faults in
-            Adds (given_text P.head T.lists self.now) writer.old writer.new (shows store.old) (shows store.new) result }
+        ensures { Adds F.Store (given_text P.head T.lists self.now) sheet.old sheet.new result }
     {
         let childless = self.periods.is_empty();
         let declaration = b"<?xml version=\"1.0\" encoding=\"UTF-8\"?>\n";
-        push_pieces(writer, store, &[Piece::Text(declaration)])?;
-        push_start(writer, store, "MPD", self.root, childless)?;
-        self.push_periods(alloc, writer, store, steps)?;
-        push_end(writer, store, "MPD", childless)
+        sheet.push_pieces(&[Piece::Text(declaration)])?;
+        push_start(sheet, "MPD", self.root, childless)?;
+        self.push_periods(alloc, sheet, steps)?;
+        push_end(sheet, "MPD", childless)
     }
 
     /// Adds the Periods (5.3.2).
     fn push_periods<S, F: Store>(
         &self,
         alloc: Global,
-        writer: &mut FileWriter<'_>,
-        store: &mut F,
+        sheet: &mut Sheet<F>,
         steps: &mut S,
     ) -> Result<(), Fail>
     where
         T: TrackLists<S>,
         requires { CanBeListed T.can_list T.lists self.now }
-        ensures { let shows = shown F.files F.read_faults F.write_faults in
-            let outline = outline_of P.head T.lists self.now in
-            Adds (elements_text (spec.period_elements outline 0 outline.periods))
-            writer.old writer.new (shows store.old) (shows store.new) result }
+        ensures { let outline = outline_of P.head T.lists self.now in
+            Adds F.Store (elements_text (spec.period_elements outline 0 outline.periods)) sheet.old sheet.new result }
     {
         for (place, period) in self.periods.iter().enumerate() {
-            self.push_period(alloc, place, period, writer, store, steps)?;
+            self.push_period(alloc, place, period, sheet, steps)?;
         }
         Ok(())
     }
@@ -112,21 +108,19 @@ impl<P: Period, T> Outline<'_, P, T> {
         alloc: Global,
         place: usize,
         period: &P,
-        writer: &mut FileWriter<'_>,
-        store: &mut F,
+        sheet: &mut Sheet<F>,
         steps: &mut S,
     ) -> Result<(), Fail>
     where
         T: TrackLists<S>,
         requires { spec.AreListed (T.can_list self.now.lists.now place) (T.lists self.now.lists.now place) 0 (length self.now.tracks.now) }
-        ensures { let shows = shown F.files F.read_faults F.write_faults in
-            Adds (element_text (spec.period_element (outline_of P.head T.lists self.now) place (P.head place period.now)))
-            writer.old writer.new (shows store.old) (shows store.new) result }
+        ensures { Adds F.Store (element_text (spec.period_element (outline_of P.head T.lists self.now) place (P.head place period.now)))
+            sheet.old sheet.new result }
     {
         let childless = self.tracks.is_empty();
         let attributes = period.attributes(place);
-        push_start(writer, store, "Period", &attributes, childless)?;
-        push_sets(alloc, self.lists, place, self.tracks, writer, store, steps)?;
-        push_end(writer, store, "Period", childless)
+        push_start(sheet, "Period", &attributes, childless)?;
+        push_sets(alloc, self.lists, place, self.tracks, sheet, steps)?;
+        push_end(sheet, "Period", childless)
     }
 }

@@ -1,6 +1,6 @@
 // SegmentLists.
 ghost use Rattle.std.specs.Prelude.{◌≡◌, ◌<◌, ◌^◌, ℕ, List, length, map, option_map};
-ghost use Rattle.bridge_io.specs.Adding.{Adds, shown};
+ghost use Rattle.dash_writer.specs.Adding.{Adds};
 ghost use Rattle.url_parts.specs.declared.address.Part.{Part};
 ghost use Rattle.dash_writer.specs.Lists as lists;
 ghost use Rattle.dash_writer.specs.Segments as spec;
@@ -9,8 +9,9 @@ ghost use Rattle.dash_writer.specs.Written.{all_told, element_text, elements_tex
 
 use crate::attribute::{Attribute, Value};
 use crate::element::{push_end, push_leaf, push_start};
+use crate::sheet::Sheet;
 use crate::times::{Durations, number, push_timeline};
-use bridge_io::{Fail, FileWriter, Store};
+use bridge_io::{Fail, Store};
 use std::alloc::Global;
 use url_parts::{Part, Range};
 
@@ -26,14 +27,11 @@ pub(crate) trait Files<S> {
     fn push_urls<F: Store>(
         &mut self,
         alloc: Global,
-        writer: &mut FileWriter<'_>,
-        store: &mut F,
+        sheet: &mut Sheet<F>,
         steps: &mut S,
     ) -> Result<(), Fail>
         requires { can_push self.old }
-        ensures { let shows = shown F.files F.read_faults F.write_faults in
-            Adds (elements_text (map spec.segment_url (parts self.old)))
-            writer.old writer.new (shows store.old) (shows store.new) result };
+        ensures { Adds F.Store (elements_text (map spec.segment_url (parts self.old))) sheet.old sheet.new result };
 }
 
 /// What a SegmentList tells of all its segments (5.3.9.2).
@@ -54,20 +52,17 @@ pub(crate) fn push_segment_list<S, D: Durations, P: Files<S>, F: Store>(
     head: &ListHead<'_>,
     durations: &mut D,
     files: &mut P,
-    writer: &mut FileWriter<'_>,
-    store: &mut F,
+    sheet: &mut Sheet<F>,
     steps: &mut S,
 ) -> Result<(), Fail>
     requires few { length (D.durations durations.old) < 2 ^ 64 }
     requires can { P.can_push files.old }
-    ensures { let shows = shown F.files F.read_faults F.write_faults in
-        Adds (element_text (lists.list_with head.now.ticks head.now.offset head.now.first head.now.initialization.now
-        (D.durations durations.old) (P.parts files.old)))
-        writer.old writer.new (shows store.old) (shows store.new) result }
+    ensures { Adds F.Store (element_text (lists.list_with head.now.ticks head.now.offset head.now.first head.now.initialization.now
+        (D.durations durations.old) (P.parts files.old))) sheet.old sheet.new result }
 {
-    push_start(writer, store, "SegmentList", &list_attributes(head), false)?;
-    push_contents(alloc, head, durations, files, writer, store, steps)?;
-    push_end(writer, store, "SegmentList", false)
+    push_start(sheet, "SegmentList", &list_attributes(head), false)?;
+    push_contents(alloc, head, durations, files, sheet, steps)?;
+    push_end(sheet, "SegmentList", false)
 }
 
 fn list_attributes<'a>(head: &ListHead<'_>) -> [Attribute<'a>; 2]
@@ -85,34 +80,27 @@ fn push_contents<S, D: Durations, P: Files<S>, F: Store>(
     head: &ListHead<'_>,
     durations: &mut D,
     files: &mut P,
-    writer: &mut FileWriter<'_>,
-    store: &mut F,
+    sheet: &mut Sheet<F>,
     steps: &mut S,
 ) -> Result<(), Fail>
     requires few { length (D.durations durations.old) < 2 ^ 64 }
     requires can { P.can_push files.old }
-    ensures { let shows = shown F.files F.read_faults F.write_faults in
-        Adds (elements_text (lists.contents_with head.now.first head.now.initialization.now
-        (D.durations durations.old) (P.parts files.old)))
-        writer.old writer.new (shows store.old) (shows store.new) result }
+    ensures { Adds F.Store
+        (elements_text (lists.contents_with head.now.first head.now.initialization.now (D.durations durations.old) (P.parts files.old)))
+        sheet.old sheet.new result }
 {
-    push_initialization(head.initialization, writer, store)?;
-    push_timeline(head.first, durations, writer, store)?;
-    files.push_urls(alloc, writer, store, steps)
+    push_initialization(head.initialization, sheet)?;
+    push_timeline(head.first, durations, sheet)?;
+    files.push_urls(alloc, sheet, steps)
 }
 
 /// Adds the Initialization (5.3.9.2.2).
-fn push_initialization<F: Store>(
-    part: &Part,
-    writer: &mut FileWriter<'_>,
-    store: &mut F,
-) -> Result<(), Fail>
-    ensures { let shows = shown F.files F.read_faults F.write_faults in
-        Adds (element_text (spec.initialization part.now)) writer.old writer.new (shows store.old) (shows store.new) result }
+fn push_initialization<F: Store>(part: &Part, sheet: &mut Sheet<F>) -> Result<(), Fail>
+    ensures { Adds F.Store (element_text (spec.initialization part.now)) sheet.old sheet.new result }
 {
     let address = Value::Text(part.address.as_str());
     let attributes = [("sourceURL", Some(address)), ("range", range(part.range))];
-    push_leaf(writer, store, "Initialization", &attributes)
+    push_leaf(sheet, "Initialization", &attributes)
 }
 
 /// A range as a value, where there is one.
@@ -126,16 +114,13 @@ fn range<'a>(range: Option<Range>) -> Option<Value<'a>>
 pub(crate) fn push_url<F: Store>(
     address: &str,
     bytes: Option<Range>,
-    writer: &mut FileWriter<'_>,
-    store: &mut F,
+    sheet: &mut Sheet<F>,
 ) -> Result<(), Fail>
-    ensures { let shows = shown F.files F.read_faults F.write_faults in
-        Adds (element_text (spec.segment_url (record { address = address.now; range = bytes })))
-        writer.old writer.new (shows store.old) (shows store.new) result }
+    ensures { Adds F.Store (element_text (spec.segment_url (record { address = address.now; range = bytes }))) sheet.old sheet.new result }
 {
     let attributes = [
         ("media", Some(Value::Text(address))),
         ("mediaRange", range(bytes)),
     ];
-    push_leaf(writer, store, "SegmentURL", &attributes)
+    push_leaf(sheet, "SegmentURL", &attributes)
 }

@@ -1,6 +1,6 @@
 // The tracks of a Period: AdaptationSets with their Representations.
 ghost use Rattle.std.specs.Prelude.{◌≡◌, ℕ, ◌+◌, ◌<◌, ◌≤◌, ◌^◌, List, ◌∷◌, false, length, take, drop, decimal, option_map, option_and_then};
-ghost use Rattle.bridge_io.specs.Adding.{Adds, shown};
+ghost use Rattle.dash_writer.specs.Adding.{Adds};
 ghost use Rattle.presentation.specs.Rows.{is_of, same_language};
 ghost use Rattle.dash_writer.specs.Elements.{Element};
 ghost use Rattle.dash_writer.specs.Outline as spec;
@@ -10,7 +10,8 @@ ghost use Rattle.dash_writer.specs.Written.{all_told, element_text, elements_tex
 
 use crate::attribute::{Attribute, Value};
 use crate::element::{push_end, push_start};
-use bridge_io::{Fail, FileWriter, Kind, Ratio, Size, Store, Text};
+use crate::sheet::Sheet;
+use bridge_io::{Fail, Kind, Ratio, Size, Store, Text};
 use presentation::Track;
 use std::alloc::Global;
 
@@ -28,13 +29,11 @@ pub(crate) trait TrackLists<S> {
         alloc: Global,
         section: usize,
         track: usize,
-        writer: &mut FileWriter<'_>,
-        store: &mut F,
+        sheet: &mut Sheet<F>,
         steps: &mut S,
     ) -> Result<(), Fail>
         requires { can_list self.now section track }
-        ensures { let shows = shown F.files F.read_faults F.write_faults in
-            Adds (elements_text (lists self.now section track)) writer.old writer.new (shows store.old) (shows store.new) result };
+        ensures { Adds F.Store (elements_text (lists self.now section track)) sheet.old sheet.new result };
 }
 
 /// Adds the AdaptationSets of the Period at a place (ISO/IEC 23009-1, 5.3.3).
@@ -43,20 +42,17 @@ pub(crate) fn push_sets<S, T: TrackLists<S>, F: Store>(
     lists: &T,
     section: usize,
     tracks: &[Track],
-    writer: &mut FileWriter<'_>,
-    store: &mut F,
+    sheet: &mut Sheet<F>,
     steps: &mut S,
 ) -> Result<(), Fail>
     requires { spec.AreListed (T.can_list lists.now section) (T.lists lists.now section) 0 (length tracks.now) }
-    ensures { let shows = shown F.files F.read_faults F.write_faults in
-        Adds (elements_text (spec.sets_of (T.lists lists.now section) tracks.now))
-        writer.old writer.new (shows store.old) (shows store.new) result }
+    ensures { Adds F.Store (elements_text (spec.sets_of (T.lists lists.now section) tracks.now)) sheet.old sheet.new result }
 {
     let mut rest = tracks;
     while let Some((first, others)) = rest.split_first() {
         let place = tracks.len() - rest.len();
         let (set, behind) = rest.split_at(1 + standing_with(first, others));
-        push_set(alloc, lists, section, place, set, writer, store, steps)?;
+        push_set(alloc, lists, section, place, set, sheet, steps)?;
         rest = behind;
     }
     Ok(())
@@ -109,26 +105,23 @@ fn push_set<S, T: TrackLists<S>, F: Store>(
     section: usize,
     place: usize,
     set: &[Track],
-    writer: &mut FileWriter<'_>,
-    store: &mut F,
+    sheet: &mut Sheet<F>,
     steps: &mut S,
 ) -> Result<(), Fail>
     requires listed { spec.AreListed (T.can_list lists.now section) (T.lists lists.now section) place (length set.now) }
     requires places { place + length set.now < 2 ^ 64 }
-    ensures { let shows = shown F.files F.read_faults F.write_faults in
-        Adds (elements_text (spec.set_element (T.lists lists.now section) place set.now))
-        writer.old writer.new (shows store.old) (shows store.new) result }
+    ensures { Adds F.Store (elements_text (spec.set_element (T.lists lists.now section) place set.now)) sheet.old sheet.new result }
 {
     let Some((first, _)) = set.split_first() else {
         return Ok(());
     };
     let attributes = set_attributes(first);
-    push_start(writer, store, "AdaptationSet", &attributes, false)?;
+    push_start(sheet, "AdaptationSet", &attributes, false)?;
     for (index, track) in set.iter().enumerate() {
         let place = place + index;
-        push_track(alloc, lists, section, place, track, writer, store, steps)?;
+        push_track(alloc, lists, section, place, track, sheet, steps)?;
     }
-    push_end(writer, store, "AdaptationSet", false)
+    push_end(sheet, "AdaptationSet", false)
 }
 
 /// The attributes of the AdaptationSet that a track stands in.
@@ -168,20 +161,17 @@ fn push_track<S, T: TrackLists<S>, F: Store>(
     section: usize,
     place: usize,
     track: &Track,
-    writer: &mut FileWriter<'_>,
-    store: &mut F,
+    sheet: &mut Sheet<F>,
     steps: &mut S,
 ) -> Result<(), Fail>
     requires can { T.can_list lists.now section place }
     requires some { is_childless (T.lists lists.now section place) ≡ false }
-    ensures { let shows = shown F.files F.read_faults F.write_faults in
-        Adds (element_text (spec.track_element (T.lists lists.now section) place track.now))
-        writer.old writer.new (shows store.old) (shows store.new) result }
+    ensures { Adds F.Store (element_text (spec.track_element (T.lists lists.now section) place track.now)) sheet.old sheet.new result }
 {
     let attributes = track_attributes(place, track);
-    push_start(writer, store, "Representation", &attributes, false)?;
-    lists.push_list(alloc, section, place, writer, store, steps)?;
-    push_end(writer, store, "Representation", false)
+    push_start(sheet, "Representation", &attributes, false)?;
+    lists.push_list(alloc, section, place, sheet, steps)?;
+    push_end(sheet, "Representation", false)
 }
 
 /// The attributes of the Representation of the track at a place.

@@ -4,7 +4,7 @@ ghost use Rattle.bridge_io.specs.Fault.{HasCause};
 ghost use Rattle.bridge_io.specs.Outside.{put, Changes};
 ghost use Rattle.bridge_io.specs.Written.{HasFront};
 ghost use Rattle.bridge_io.specs.declared.outside.Fail.TheVariants.{Memory};
-ghost use Rattle.bridge_io.specs.Adding.{Adds, shown};
+ghost use Rattle.dash_writer.specs.Adding.{Adds};
 ghost use Rattle.bridge_io.specs.declared.out_fault.OutFault.TheVariants.{WriteFault};
 ghost use Rattle.presentation.specs.Origins.{IsAddressed};
 ghost use Rattle.dash_writer.specs.Timed as spec;
@@ -15,8 +15,9 @@ use crate::manifest::{finished_root, last_end};
 use crate::outline::Outline;
 use crate::segments::ListHead;
 use crate::sets::TrackLists;
+use crate::sheet::Sheet;
 use crate::times::Ticks;
-use bridge_io::{Fail, FileWriter, Ledger, Name, OutFault, Sequence, Steps, Store, Text};
+use bridge_io::{Fail, Ledger, Name, OutFault, Sequence, Steps, Store, Text};
 use exact_time::Nanos;
 use presentation::{Presentation, Section, SectionList};
 use std::alloc::Global;
@@ -152,8 +153,7 @@ impl<L: Ledger> TrackLists<Steps<L>> for TimedLists<'_> {
         alloc: Global,
         section: usize,
         track: usize,
-        writer: &mut FileWriter<'_>,
-        store: &mut F,
+        sheet: &mut Sheet<F>,
         steps: &mut Steps<L>,
     ) -> Result<(), Fail> {
         let presentation = self.presentation;
@@ -161,7 +161,7 @@ impl<L: Ledger> TrackLists<Steps<L>> for TimedLists<'_> {
         let part = presentation.initialization(section, track);
         let runs = presentation.runs(section, track);
         let window = presentation.window(section);
-        push_timed(alloc, run, part, runs, &window, writer, store, steps)
+        push_timed(alloc, run, part, runs, &window, sheet, steps)
     }
 }
 
@@ -172,14 +172,11 @@ fn push_timed<F: Store, L: Ledger>(
     part: &Part,
     runs: &Runs,
     window: &Window,
-    writer: &mut FileWriter<'_>,
-    store: &mut F,
+    sheet: &mut Sheet<F>,
     steps: &mut Steps<L>,
 ) -> Result<(), Fail>
     requires { IsAddressed runs.now }
-    ensures { let shows = shown F.files F.read_faults F.write_faults in
-        Adds (element_text (spec.list_of window.now runs.now part.now run.now))
-        writer.old writer.new (shows store.old) (shows store.new) result }
+    ensures { Adds F.Store (element_text (spec.list_of window.now runs.now part.now run.now)) sheet.old sheet.new result }
 {
     let head = ListHead {
         ticks: u64::from(run.scale),
@@ -190,14 +187,5 @@ fn push_timed<F: Store, L: Ledger>(
     let mut durations = Ticks {
         left: run.durations.as_slice(),
     };
-    push_listed(
-        alloc,
-        &head,
-        &mut durations,
-        runs,
-        window,
-        writer,
-        store,
-        steps,
-    )
+    push_listed(alloc, &head, &mut durations, runs, window, sheet, steps)
 }

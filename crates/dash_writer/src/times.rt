@@ -1,6 +1,6 @@
 // The times of segments, run by run.
 ghost use Rattle.std.specs.Prelude.{◌≡◌, ◌∷◌, ◌+◌, ◌<◌, ◌^◌, ℕ, List, [], codes, length, decimal, option_map, IfOk, MatchOption};
-ghost use Rattle.bridge_io.specs.Adding.{Adds, shown};
+ghost use Rattle.dash_writer.specs.Adding.{Adds};
 ghost use Rattle.timeline.specs.Listed.{timing_of};
 ghost use Rattle.dash_writer.specs.Elements.{node};
 ghost use Rattle.dash_writer.specs.Lists.{timeline_with};
@@ -10,7 +10,8 @@ ghost use Rattle.dash_writer.specs.Written.{element_text, elements_text, value_t
 
 use crate::attribute::Value;
 use crate::element::{push_end, push_leaf, push_start};
-use bridge_io::{Fail, FileWriter, Store};
+use crate::sheet::Sheet;
+use bridge_io::{Fail, Store};
 use timeline::{Span, TimeWalk};
 
 /// How long segments last, in order.
@@ -81,33 +82,24 @@ impl SegmentRun {
     }
 
     /// Takes a segment that lasts so long. Where it is none of the run, the run is added, and a new one begins.
-    fn go_on<F: Store>(
-        self,
-        duration: u128,
-        writer: &mut FileWriter<'_>,
-        store: &mut F,
-    ) -> Result<SegmentRun, Fail>
+    fn go_on<F: Store>(self, duration: u128, sheet: &mut Sheet<F>) -> Result<SegmentRun, Fail>
         requires { self.repeats + 1 < 2 ^ 64 }
-        ensures adds { let shows = shown F.files F.read_faults F.write_faults in
-            Adds (elements_text (ended self duration)) writer.old writer.new (shows store.old) (shows store.new) result }
+        ensures adds { Adds F.Store (elements_text (ended self duration)) sheet.old sheet.new result }
         ensures run { IfOk result (λ run. run ≡ gone_on self duration) }
     {
         if duration == self.duration {
             let repeats = self.repeats + 1;
             return Ok(SegmentRun { repeats, ..self });
         }
-        self.push_to(writer, store)?;
+        self.push_to(sheet)?;
         Ok(SegmentRun::of(None, duration))
     }
 
-    fn push_to<F: Store>(self, writer: &mut FileWriter<'_>, store: &mut F) -> Result<(), Fail>
-        ensures { let shows = shown F.files F.read_faults F.write_faults in
-            Adds (element_text (spec.s_element self.time self.duration self.repeats))
-            writer.old writer.new (shows store.old) (shows store.new) result }
+    fn push_to<F: Store>(self, sheet: &mut Sheet<F>) -> Result<(), Fail>
+        ensures { Adds F.Store (element_text (spec.s_element self.time self.duration self.repeats)) sheet.old sheet.new result }
     {
         push_leaf(
-            writer,
-            store,
+            sheet,
             "S",
             &[
                 ("t", number(self.time)),
@@ -129,17 +121,14 @@ pub(crate) fn number<'a>(number: Option<u64>) -> Option<Value<'a>>
 pub(crate) fn push_timeline<D: Durations, F: Store>(
     time: u64,
     durations: &mut D,
-    writer: &mut FileWriter<'_>,
-    store: &mut F,
+    sheet: &mut Sheet<F>,
 ) -> Result<(), Fail>
     requires { length (D.durations durations.old) < 2 ^ 64 }
-    ensures { let shows = shown F.files F.read_faults F.write_faults in
-        Adds (element_text (timeline_with time (D.durations durations.old)))
-        writer.old writer.new (shows store.old) (shows store.new) result }
+    ensures { Adds F.Store (element_text (timeline_with time (D.durations durations.old))) sheet.old sheet.new result }
 {
     match durations.next_duration() {
-        None => push_leaf(writer, store, "SegmentTimeline", &[]),
-        Some(first) => push_runs(SegmentRun::of(Some(time), first), durations, writer, store),
+        None => push_leaf(sheet, "SegmentTimeline", &[]),
+        Some(first) => push_runs(SegmentRun::of(Some(time), first), durations, sheet),
     }
 }
 
@@ -147,19 +136,17 @@ pub(crate) fn push_timeline<D: Durations, F: Store>(
 fn push_runs<D: Durations, F: Store>(
     first: SegmentRun,
     durations: &mut D,
-    writer: &mut FileWriter<'_>,
-    store: &mut F,
+    sheet: &mut Sheet<F>,
 ) -> Result<(), Fail>
     requires { first.repeats + length (D.durations durations.old) < 2 ^ 64 }
-    ensures { let shows = shown F.files F.read_faults F.write_faults in
-        Adds (element_text (node (codes "SegmentTimeline") [] (runs_left first (D.durations durations.old))))
-        writer.old writer.new (shows store.old) (shows store.new) result }
+    ensures { Adds F.Store (element_text (node (codes "SegmentTimeline") [] (runs_left first (D.durations durations.old))))
+        sheet.old sheet.new result }
 {
-    push_start(writer, store, "SegmentTimeline", &[], false)?;
+    push_start(sheet, "SegmentTimeline", &[], false)?;
     let mut run = first;
     while let Some(duration) = durations.next_duration() {
-        run = run.go_on(duration, writer, store)?;
+        run = run.go_on(duration, sheet)?;
     }
-    run.push_to(writer, store)?;
-    push_end(writer, store, "SegmentTimeline", false)
+    run.push_to(sheet)?;
+    push_end(sheet, "SegmentTimeline", false)
 }

@@ -1,11 +1,11 @@
 use Rattle.dash_writer.proofs.attribute.push_attributes.Goals as goal
 use Rattle.std.proofs.{Common.{◌∙◌, ap, flat_map}, lemmas.List.take_all}
-use Rattle.bridge_io.proofs.Adding.{adds_more, adds_none, adds_same, adds_until}
+use Rattle.dash_writer.proofs.Adding.{adds_more, adds_none, adds_same, adds_until}
 use Rattle.dash_writer.specs.Written.{known_text, told}
 use Rattle.dash_writer.proofs.Nodes.{each_attribute}
 
 pub loop-attribute-init : goal.loop-attribute-init
-loop-attribute-init g c = adds_none _ _
+loop-attribute-init g c = adds_none _
 
 pub loop-attribute-preserved : goal.loop-attribute-preserved
 loop-attribute-preserved g c = let l = c.loop-attribute in

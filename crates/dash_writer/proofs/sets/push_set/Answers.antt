@@ -1,6 +1,6 @@
 use Rattle.dash_writer.proofs.sets.push_set.Goals as goal
 use Rattle.std.proofs.{Common.{◌≡◌, ◌+◌, drop, codes, Err, refl, ap, arith}, lemmas.List.drop_all}
-use Rattle.bridge_io.proofs.Adding.{adds_same}
+use Rattle.dash_writer.proofs.Adding.{adds_same}
 use Rattle.dash_writer.specs.{Outline.{set_attributes, track_elements}, Written.elements_text}
 use Rattle.dash_writer.proofs.{Nodes.{adds_node, stops_at_children, stops_at_start}, Progress.{all_added, fails, further, nothing_yet}}
 use Rattle.dash_writer.proofs.Sections.{one_set, some_tracks, tracks_behind}
@@ -14,7 +14,7 @@ returns-in_err-push_start g c = let lists = g.T.TrackLists.lists c.args.lists.no
     c.from_residual.result c.from_residual.ensures.1 (rw c.set_attributes-attributes.ensures at c.in_err-push_start.ensures))
 
 pub loop-index-init : goal.loop-index-init
-loop-index-init g c = let none : c.args.place + 0 ≡ c.args.place = omega arith in rw none (nothing_yet _ _ _)
+loop-index-init g c = let none : c.args.place + 0 ≡ c.args.place = omega arith in rw none (nothing_yet _ _)
 
 pub push_track-requires-clause-can : goal.push_track-requires-clause-can
 push_track-requires-clause-can g c = (c.requires.listed (c.args.place + c.loop-index.index) (omega arith)

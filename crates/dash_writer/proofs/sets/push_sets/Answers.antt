@@ -6,7 +6,7 @@ use Rattle.dash_writer.proofs.{Progress.{all_added, fails, further, nothing_yet}
 pub loop-first-init : goal.loop-first-init
 loop-first-init g c = let lists = g.T.TrackLists.lists c.args.lists.now c.args.section in let tracks = c.args.tracks.now in
     let none : length tracks - length tracks ≡ 0 = omega arith in
-    record { within = omega arith; so_far = rw none (nothing_yet (elements_text (sets_of lists tracks)) _ _) }
+    record { within = omega arith; so_far = rw none (nothing_yet (elements_text (sets_of lists tracks)) _) }
 
 pub push_set-requires-clause-listed : goal.push_set-requires-clause-listed
 push_set-requires-clause-listed g c = let l = c.loop-first in

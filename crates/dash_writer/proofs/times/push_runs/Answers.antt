@@ -1,6 +1,6 @@
 use Rattle.dash_writer.proofs.times.push_runs.Goals as goal
 use Rattle.std.proofs.Common.{◌≡◌, [], length, codes, Err, refl, sym, ap, ◌∙◌}
-use Rattle.bridge_io.proofs.Adding.{adds_same}
+use Rattle.dash_writer.proofs.Adding.{adds_same}
 use Rattle.dash_writer.specs.{SegmentRuns.{gone_on, runs_left}, Written.elements_text}
 use Rattle.dash_writer.proofs.{Nodes.{adds_node, stops_at_children, stops_at_start}, Progress.{ends, fails, further, nothing_yet}}
 use Rattle.dash_writer.proofs.RunLemmas.{more_runs, room_left, run_ends, some_runs}
@@ -11,7 +11,7 @@ returns-in_err-push_start g c = let durations = g.D.Durations.durations c.args.d
     c.from_residual.result c.from_residual.ensures.1 c.in_err-push_start.ensures
 
 pub loop-duration-init : goal.loop-duration-init
-loop-duration-init g c = record { room = c.requires; so_far = nothing_yet _ _ _ }
+loop-duration-init g c = record { room = c.requires; so_far = nothing_yet _ _ }
 
 pub returns-in_err-run : goal.returns-in_err-run
 returns-in_err-run g c = let durations = g.D.Durations.durations in let l = c.loop-duration in

@@ -1,18 +1,16 @@
 use Rattle.dash_writer.proofs.times.push_runs.Given as goal
 use Rattle.std.proofs.Common.{◌+◌, ◌<◌, ◌^◌, length}
-use Rattle.bridge_io.specs.Adding.{shown}
 use Rattle.dash_writer.specs.{SegmentRuns.runs_left, Written.elements_text}
 use Rattle.dash_writer.proofs.Progress.{Progress}
 
 abbrev pub invariant-loop-duration : goal.invariant-loop-duration
 invariant-loop-duration g l =
-    let shows = shown g.F.Store.files g.F.Store.read_faults g.F.Store.write_faults in
     let durations = g.D.Durations.durations in
     record {
       room : l.run.repeats + length (durations l.durations) < 2 ^ 64;
-      so_far : Progress (elements_text (runs_left l.fn.first (durations l.initial.durations))) (elements_text (runs_left l.run
+      so_far : Progress g.F.Store (elements_text (runs_left l.fn.first (durations l.initial.durations))) (elements_text (runs_left l.run
           (durations l.durations)))
-          l.initial.writer l.writer (shows l.initial.store) (shows l.store);
+          l.initial.sheet l.sheet;
     }
 
 abbrev pub decreases-loop-duration : goal.decreases-loop-duration

@@ -6,7 +6,7 @@ use Rattle.dash_writer.proofs.Urls.{next_url, no_url, still_addressed, urls_left
 use Rattle.dash_writer.proofs.listed.ListingFilesSteps.push_urls.Goals as goal
 
 pub loop-segment-init : goal.loop-segment-init
-loop-segment-init g c = record { addressed = c.requires; so_far = nothing_yet _ _ _ }
+loop-segment-init g c = record { addressed = c.requires; so_far = nothing_yet _ _ }
 
 pub returns-in_err-segment : goal.returns-in_err-segment
 returns-in_err-segment g c = wants c.loop-segment.invariant.so_far c.from_residual.result

@@ -4,7 +4,7 @@ use Rattle.dash_writer.specs.{Given.outline_of, Outline.{heads_from, period_elem
 use Rattle.dash_writer.proofs.{Progress.{all_added, fails, further, nothing_yet}, Sections.periods_behind}
 
 pub loop-place-init : goal.loop-place-init
-loop-place-init g c = nothing_yet _ _ _
+loop-place-init g c = nothing_yet _ _
 
 pub returns-in_err-push_period : goal.returns-in_err-push_period
 returns-in_err-push_period g c = let head = g.P.Period.head in let o = outline_of head g.T.TrackLists.lists c.args.self.now in

@@ -1,13 +1,11 @@
 use Rattle.dash_writer.proofs.outline.Outline.push_periods.Given as goal
 use Rattle.std.proofs.Common.{drop}
-use Rattle.bridge_io.specs.Adding.{shown}
 use Rattle.dash_writer.specs.{Given.outline_of, Outline.{heads_from, period_elements}, Written.elements_text}
 use Rattle.dash_writer.proofs.Progress.{Progress}
 
 abbrev pub invariant-loop-place : goal.invariant-loop-place
 invariant-loop-place g l =
-    let shows = shown g.F.Store.files g.F.Store.read_faults g.F.Store.write_faults in
     let head = g.P.Period.head in let o = outline_of head g.T.TrackLists.lists l.self in
-    Progress (elements_text (period_elements o 0 o.periods)) (elements_text
+    Progress g.F.Store (elements_text (period_elements o 0 o.periods)) (elements_text
     (period_elements o l.place (heads_from head l.place (drop l.place l.self.periods.now))))
-    l.initial.writer l.writer (shows l.initial.store) (shows l.store)
+    l.initial.sheet l.sheet
