@@ -1,4 +1,3 @@
-pub mod Adding
 pub mod Escaping
 pub mod LiveTracks
 pub mod Neighbours

@@ -1,9 +1,9 @@
 -- Texts that are added part by part.
 use Rattle.std.proofs.Common.{◌≡◌, ℕ, ◌+◌, ◌<◌, List, [], ◌∷◌, ◌++◌, length, drop, get_or, Result, Ok, Err, IsErrAnd, suc, refl, sym, ap}
 use Rattle.std.proofs.{Common.{◌∙◌, add-one, drop-cons}, lemmas.List.{append_assoc, append-nil}}
-use Rattle.bridge_io.specs.{declared.outside.Fail.{Fail, TheVariants.Memory}, declared.outside.Store.Ghosts}
-use Rattle.dash_writer.specs.{Adding.Adds, declared.sheet.Sheet.Sheet}
-use Rattle.dash_writer.proofs.Adding.{adds_answered, adds_none, adds_same, adds_stop_at, adds_then, adds_wanting}
+use Rattle.bridge_io.specs.{Adding.Adds, declared.outside.Fail.{Fail, TheVariants.Memory}, declared.outside.Store.Ghosts}
+use Rattle.bridge_io.specs.declared.sheet.Sheet.{Sheet}
+use Rattle.bridge_io.proofs.Adding.{adds_answered, adds_none, adds_same, adds_stop_at, adds_then, adds_wanting}
 
 -- what is added so far goes on to the whole
 pub record Progress {F : Type 0} (store : Ghosts F) (whole left : List ℕ) (old new : Sheet F) : Type 0 where

@@ -1,4 +1,3 @@
-pub mod Adding
 pub mod Elements
 pub mod Escaped
 pub mod Given

@@ -1,13 +1,12 @@
 // Attributes.
-ghost use Rattle.dash_writer.specs.Adding.{Adds};
+ghost use Rattle.bridge_io.specs.Adding.{Adds};
 ghost use Rattle.mpd_text.specs.Escapes.{escape_all};
 ghost use Rattle.dash_writer.specs.Elements.{attributes_of};
 ghost use Rattle.dash_writer.specs.Values.{range_text, rate_text};
 ghost use Rattle.dash_writer.specs.Written.{all_told, attributes_text, known_text, told, value_text};
 
 use crate::escape::push_escaped;
-use crate::sheet::Sheet;
-use bridge_io::{Fail, Piece, Ratio, Store};
+use bridge_io::{Fail, Piece, Ratio, Sheet, Store};
 use exact_time::Nanos;
 use iso_time::write_duration;
 use url_parts::Range;

@@ -1,13 +1,12 @@
 // Elements.
 ghost use Rattle.std.specs.Prelude.{◌≡◌, codes, if◌then◌else◌};
-ghost use Rattle.dash_writer.specs.Adding.{Adds};
+ghost use Rattle.bridge_io.specs.Adding.{Adds};
 ghost use Rattle.mpd_markup.specs.Markup.{opening};
 ghost use Rattle.dash_writer.specs.Elements.{leaf, tag_of};
 ghost use Rattle.dash_writer.specs.Written.{all_told, element_text, end_text, start_text};
 
 use crate::attribute::{Attribute, push_attributes};
-use crate::sheet::Sheet;
-use bridge_io::{Fail, Piece, Store};
+use bridge_io::{Fail, Piece, Sheet, Store};
 
 /// Adds an element without children (XML 1.0, 3.1).
 pub(crate) fn push_leaf<F: Store>(

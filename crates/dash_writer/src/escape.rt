@@ -1,12 +1,11 @@
 // Texts as they are written into values.
 ghost use Rattle.std.specs.Prelude.{◌≡◌, true};
 ghost use Rattle.byte_scan.specs.ByteSet.{is_member};
-ghost use Rattle.dash_writer.specs.Adding.{Adds};
+ghost use Rattle.bridge_io.specs.Adding.{Adds};
 ghost use Rattle.mpd_text.specs.Escapes.{escape_all, escape_of};
 ghost use Rattle.dash_writer.specs.Escaped.{four};
 
-use crate::sheet::Sheet;
-use bridge_io::{Fail, Piece, Store};
+use bridge_io::{Fail, Piece, Sheet, Store};
 use byte_scan::{ByteSet, first_of_set};
 
 /// Adds a text with `&`, `<`, `>` and `"` as references (XML 1.0, 2.4 and 4.6). What stands between two of them is added at

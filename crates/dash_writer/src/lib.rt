@@ -10,7 +10,6 @@ mod manifest;
 mod outline;
 mod segments;
 mod sets;
-mod sheet;
 mod timed;
 mod times;
 

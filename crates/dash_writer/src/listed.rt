@@ -1,7 +1,7 @@
 // The segments that a presentation lists.
 ghost use Rattle.std.specs.Prelude.{◌≡◌, ◌<◌, ◌^◌, All, length, MatchOption, MatchResult};
 ghost use Rattle.bridge_io.specs.declared.outside.Fail.TheVariants.{Memory};
-ghost use Rattle.dash_writer.specs.Adding.{Adds};
+ghost use Rattle.bridge_io.specs.Adding.{Adds};
 ghost use Rattle.timeline.specs.Listed.{IsDone, IsMade};
 ghost use Rattle.presentation.specs.Laws.{HasAddress};
 ghost use Rattle.presentation.specs.Origins.{IsAddressed};
@@ -13,9 +13,8 @@ ghost use Rattle.dash_writer.specs.Written.{element_text};
 
 use crate::segments::{Files, ListHead, push_segment_list, push_url};
 use crate::sets::TrackLists;
-use crate::sheet::Sheet;
 use crate::times::Durations;
-use bridge_io::{Fail, Ledger, Steps, Store};
+use bridge_io::{Fail, Ledger, Sheet, Steps, Store};
 use presentation::Presentation;
 use std::alloc::Global;
 use timeline::{ListFault, Listing, Runs, Segment, Window};

@@ -3,7 +3,7 @@ ghost use Rattle.std.specs.Prelude.{◌≡◌, ◌+◌, ◌<◌, ◌⊎◌, ℕ,
 ghost use Rattle.bridge_io.specs.Fault.{HasCause};
 ghost use Rattle.bridge_io.specs.Outside.{put, Changes};
 ghost use Rattle.bridge_io.specs.Written.{HasFront};
-ghost use Rattle.dash_writer.specs.Adding.{Adds};
+ghost use Rattle.bridge_io.specs.Adding.{Adds};
 ghost use Rattle.bridge_io.specs.declared.out_fault.OutFault.TheVariants.{WriteFault};
 ghost use Rattle.dash_writer.specs.Elements as elements;
 ghost use Rattle.dash_writer.specs.Given.{CanBeListed, given_text, outline_of};
@@ -13,8 +13,7 @@ ghost use Rattle.dash_writer.specs.Written.{all_told, element_text, elements_tex
 use crate::attribute::Attribute;
 use crate::element::{push_end, push_start};
 use crate::sets::{TrackLists, push_sets};
-use crate::sheet::Sheet;
-use bridge_io::{Fail, FileWriter, Name, OutFault, Piece, Store};
+use bridge_io::{Fail, FileWriter, Name, OutFault, Piece, Sheet, Store};
 use presentation::Track;
 use std::alloc::Global;
 

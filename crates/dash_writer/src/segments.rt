@@ -1,6 +1,6 @@
 // SegmentLists.
 ghost use Rattle.std.specs.Prelude.{◌≡◌, ◌<◌, ◌^◌, ℕ, List, length, map, option_map};
-ghost use Rattle.dash_writer.specs.Adding.{Adds};
+ghost use Rattle.bridge_io.specs.Adding.{Adds};
 ghost use Rattle.url_parts.specs.declared.address.Part.{Part};
 ghost use Rattle.dash_writer.specs.Lists as lists;
 ghost use Rattle.dash_writer.specs.Segments as spec;
@@ -9,9 +9,8 @@ ghost use Rattle.dash_writer.specs.Written.{all_told, element_text, elements_tex
 
 use crate::attribute::{Attribute, Value};
 use crate::element::{push_end, push_leaf, push_start};
-use crate::sheet::Sheet;
 use crate::times::{Durations, number, push_timeline};
-use bridge_io::{Fail, Store};
+use bridge_io::{Fail, Sheet, Store};
 use std::alloc::Global;
 use url_parts::{Part, Range};
 

@@ -1,6 +1,6 @@
 // The tracks of a Period: AdaptationSets with their Representations.
 ghost use Rattle.std.specs.Prelude.{◌≡◌, ℕ, ◌+◌, ◌<◌, ◌≤◌, ◌^◌, List, ◌∷◌, false, length, take, drop, decimal, option_map, option_and_then};
-ghost use Rattle.dash_writer.specs.Adding.{Adds};
+ghost use Rattle.bridge_io.specs.Adding.{Adds};
 ghost use Rattle.presentation.specs.Rows.{is_of, same_language};
 ghost use Rattle.dash_writer.specs.Elements.{Element};
 ghost use Rattle.dash_writer.specs.Outline as spec;
@@ -10,8 +10,7 @@ ghost use Rattle.dash_writer.specs.Written.{all_told, element_text, elements_tex
 
 use crate::attribute::{Attribute, Value};
 use crate::element::{push_end, push_start};
-use crate::sheet::Sheet;
-use bridge_io::{Fail, Kind, Ratio, Size, Store, Text};
+use bridge_io::{Fail, Kind, Ratio, Sheet, Size, Store, Text};
 use presentation::Track;
 use std::alloc::Global;
 

@@ -1,6 +1,6 @@
 // The times of segments, run by run.
 ghost use Rattle.std.specs.Prelude.{◌≡◌, ◌∷◌, ◌+◌, ◌<◌, ◌^◌, ℕ, List, [], codes, length, decimal, option_map, IfOk, MatchOption};
-ghost use Rattle.dash_writer.specs.Adding.{Adds};
+ghost use Rattle.bridge_io.specs.Adding.{Adds};
 ghost use Rattle.timeline.specs.Listed.{timing_of};
 ghost use Rattle.dash_writer.specs.Elements.{node};
 ghost use Rattle.dash_writer.specs.Lists.{timeline_with};
@@ -10,8 +10,7 @@ ghost use Rattle.dash_writer.specs.Written.{element_text, elements_text, value_t
 
 use crate::attribute::Value;
 use crate::element::{push_end, push_leaf, push_start};
-use crate::sheet::Sheet;
-use bridge_io::{Fail, Store};
+use bridge_io::{Fail, Sheet, Store};
 use timeline::{Span, TimeWalk};
 
 /// How long segments last, in order.

@@ -1,4 +1,3 @@
-pub mod Adding
 pub mod AttributeRows
 pub mod Attributes
 pub mod Finished

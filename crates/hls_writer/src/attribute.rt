@@ -1,14 +1,13 @@
 // Attributes of the lines of a master.
 ghost use Rattle.std.specs.Prelude.{◌≡◌, ◌++◌, ◌∷◌, [], flat_map, option_map};
-ghost use Rattle.hls_writer.specs.Adding.{Adds};
+ghost use Rattle.bridge_io.specs.Adding.{Adds};
 ghost use Rattle.hls_writer.specs.AttributeRows.{told, all_told, texts_of};
 ghost use Rattle.hls_writer.specs.Attributes.{attribute_bytes, attributes_bytes, further_bytes, codecs};
 ghost use Rattle.iso_time.specs.Digits.{padded_digits};
 ghost use Rattle.hls_writer.specs.Attributes as spec;
 
 use crate::line::decimal_at;
-use crate::sheet::Sheet;
-use bridge_io::{Fail, Piece, Size, Store};
+use bridge_io::{Fail, Piece, Sheet, Size, Store};
 
 /// A group of renditions (RFC 8216, 4.3.4.1.1).
 #[derive(Clone, Copy)]

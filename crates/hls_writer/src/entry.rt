@@ -1,14 +1,13 @@
 // Segments as playlists list them.
 ghost use Rattle.std.specs.Prelude.{◌≡◌, All, replicate, option_map, option_to_list, IfSome};
 ghost use Rattle.iso_time.specs.Instant.{IsWritable};
-ghost use Rattle.hls_writer.specs.Adding.{Adds};
+ghost use Rattle.bridge_io.specs.Adding.{Adds};
 ghost use Rattle.hls_writer.specs.Lines.{lines_text, discontinuity, program_date_time, byte_range};
 ghost use Rattle.hls_writer.specs.Playlists.{rise, begins_section, front_lines, last_lines, item_lines};
 ghost use Rattle.hls_writer.specs.Rows.{written, all_written, entry_item, CanBeThere};
 
 use crate::line::{Tag, push_duration, push_lines, push_uri};
-use crate::sheet::Sheet;
-use bridge_io::{Fail, Store};
+use bridge_io::{Fail, Sheet, Store};
 use exact_time::Digits;
 use iso_time::Instant;
 use url_parts::{Part, Range};

@@ -7,7 +7,7 @@ ghost use Rattle.bridge_io.specs.declared.outside.Fail.TheVariants.{Memory};
 ghost use Rattle.presentation.specs.Laws.{HasAddress};
 ghost use Rattle.presentation.specs.Verifying.{verified};
 ghost use Rattle.hls_writer.specs.Verified.{IsVerified};
-ghost use Rattle.hls_writer.specs.Adding.{Adds};
+ghost use Rattle.bridge_io.specs.Adding.{Adds};
 ghost use Rattle.hls_writer.specs.Finished as spec;
 ghost use Rattle.hls_writer.specs.Lines.{lines_text, on_demand};
 ghost use Rattle.hls_writer.specs.Playlists.{head_lines, items_lines, item_lines, last_section};
@@ -19,8 +19,7 @@ ghost use Rattle.bridge_io.specs.declared.out_fault.OutFault.TheVariants.{WriteF
 use crate::OutFault;
 use crate::entry::Entry;
 use crate::line::{Tag, push_lines};
-use crate::sheet::Sheet;
-use bridge_io::{Fail, FileWriter, Ledger, Name, Steps, Store};
+use bridge_io::{Fail, FileWriter, Ledger, Name, Sheet, Steps, Store};
 use exact_time::Digits;
 use presentation::{Longest, Presentation, PrintedSegments};
 use std::alloc::Global;

@@ -4,7 +4,7 @@ ghost use Rattle.bridge_io.specs.Fault.{HasCause};
 ghost use Rattle.bridge_io.specs.Outside.{put, Changes};
 ghost use Rattle.bridge_io.specs.Written.{HasFront};
 ghost use Rattle.iso_time.specs.Instant.{IsWritable};
-ghost use Rattle.hls_writer.specs.Adding.{Adds};
+ghost use Rattle.bridge_io.specs.Adding.{Adds};
 ghost use Rattle.hls_writer.specs.Items.{item_of, items_text};
 ghost use Rattle.hls_writer.specs.Lines.{lines_text, discontinuity_sequence};
 ghost use Rattle.hls_writer.specs.Playlists.{head_lines, items_lines, last_section};
@@ -14,8 +14,7 @@ ghost use Rattle.bridge_io.specs.declared.out_fault.OutFault.TheVariants.{WriteF
 use crate::OutFault;
 use crate::entry::Entry;
 use crate::line::{Tag, push_lines};
-use crate::sheet::Sheet;
-use bridge_io::{Fail, FileWriter, Name, Sequence, Store};
+use bridge_io::{Fail, FileWriter, Name, Sequence, Sheet, Store};
 use exact_time::Digits;
 use iso_time::Instant;
 use std::alloc::Global;

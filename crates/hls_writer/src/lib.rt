@@ -10,7 +10,6 @@ pub mod laws;
 mod line;
 mod master;
 mod renditions;
-mod sheet;
 mod variants;
 
 pub use bridge_io::OutFault;

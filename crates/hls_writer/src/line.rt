@@ -1,12 +1,11 @@
 // Lines of playlists.
 ghost use Rattle.std.specs.Prelude.{◌≡◌, ◌+◌, ◌/◌, ◌%◌, ◌<◌, ◌++◌, ◌∷◌, [], All, decimal};
 ghost use Rattle.iso_time.specs.Digits.{padded_digits};
-ghost use Rattle.hls_writer.specs.Adding.{Adds};
+ghost use Rattle.bridge_io.specs.Adding.{Adds};
 ghost use Rattle.hls_writer.specs.Lines.{line_text, lines_text, initialization, duration, uri};
 ghost use Rattle.hls_writer.specs.Rows.{written, all_written, CanBeWritten, CanBeThere};
 
-use crate::sheet::Sheet;
-use bridge_io::{Fail, Piece, Store};
+use bridge_io::{Fail, Piece, Sheet, Store};
 use exact_time::Digits;
 use iso_time::{Instant, write_instant_ms};
 use url_parts::{Part, Range};

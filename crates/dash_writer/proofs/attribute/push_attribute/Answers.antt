@@ -1,4 +1,4 @@
-use Rattle.dash_writer.proofs.Adding.{adds_same, adds_stop, adds_stop_at, adds_then}
+use Rattle.bridge_io.proofs.Adding.{adds_same, adds_stop, adds_stop_at, adds_then}
 use Rattle.dash_writer.specs.Written.{value_text}
 use Rattle.dash_writer.proofs.Nodes.{attribute_parts}
 use Rattle.dash_writer.proofs.attribute.push_attribute.Goals as goal

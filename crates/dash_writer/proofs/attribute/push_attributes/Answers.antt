@@ -1,6 +1,6 @@
 use Rattle.dash_writer.proofs.attribute.push_attributes.Goals as goal
 use Rattle.std.proofs.{Common.{◌∙◌, ap, flat_map}, lemmas.List.take_all}
-use Rattle.dash_writer.proofs.Adding.{adds_more, adds_none, adds_same, adds_until}
+use Rattle.bridge_io.proofs.Adding.{adds_more, adds_none, adds_same, adds_until}
 use Rattle.dash_writer.specs.Written.{known_text, told}
 use Rattle.dash_writer.proofs.Nodes.{each_attribute}
 

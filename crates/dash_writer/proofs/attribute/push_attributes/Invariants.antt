@@ -1,5 +1,5 @@
 use Rattle.std.proofs.Common.{take, flat_map, Ok}
-use Rattle.dash_writer.specs.Adding.{Adds}
+use Rattle.bridge_io.specs.Adding.{Adds}
 use Rattle.dash_writer.specs.Written.{known_text, told}
 use Rattle.dash_writer.proofs.attribute.push_attributes.Given as goal
 

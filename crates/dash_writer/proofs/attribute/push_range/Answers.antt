@@ -1,5 +1,5 @@
 use Rattle.std.proofs.Common.{◌≡◌, ◌+◌, ◌-◌, ◌∷◌, ◌++◌, [], decimal, refl, ap, ◌∙◌, arith}
-use Rattle.dash_writer.proofs.Adding.{adds_same}
+use Rattle.bridge_io.proofs.Adding.{adds_same}
 use Rattle.dash_writer.proofs.Escaping.{numbers_stay}
 use Rattle.dash_writer.proofs.attribute.push_range.Goals as goal
 

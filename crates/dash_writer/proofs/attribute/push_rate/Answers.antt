@@ -1,6 +1,6 @@
 use Rattle.dash_writer.proofs.attribute.push_rate.Goals as goal
 use Rattle.std.proofs.{Common.{◌/◌, ◌%◌, ◌==◌, refl, inl, inr}, lemmas.Bool.{cases_Bool, eqb-true}}
-use Rattle.dash_writer.proofs.Adding.{adds_same}
+use Rattle.bridge_io.proofs.Adding.{adds_same}
 use Rattle.dash_writer.proofs.Escaping.{alone_stays, numbers_stay}
 
 pub returns-then-ratio-eq0 : goal.returns-then-ratio-eq0

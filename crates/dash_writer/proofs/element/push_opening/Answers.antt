@@ -1,5 +1,5 @@
 use Rattle.dash_writer.proofs.element.push_opening.Goals as goal
-use Rattle.dash_writer.proofs.Adding.{adds_same, adds_stop_at, adds_then}
+use Rattle.bridge_io.proofs.Adding.{adds_same, adds_stop_at, adds_then}
 use Rattle.dash_writer.specs.{Elements.attributes_of, Written.{all_told, attributes_text}}
 use Rattle.dash_writer.proofs.Nodes.{opening_parts}
 

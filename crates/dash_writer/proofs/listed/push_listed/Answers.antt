@@ -1,7 +1,7 @@
 use Rattle.dash_writer.proofs.listed.push_listed.Goals as goal
 use Rattle.std.proofs.Common.{List, ◌∙◌, ap}
 use Rattle.url_parts.specs.declared.address.Part.{Part}
-use Rattle.dash_writer.proofs.Adding.{adds_same}
+use Rattle.bridge_io.proofs.Adding.{adds_same}
 use Rattle.timeline.specs.Listed.{expansion}
 use Rattle.presentation.proofs.{OwnListed.{have_addresses, reached}, Printing.all_listed}
 use Rattle.dash_writer.specs.{Lists.{list_with, parts_of}, Written.element_text}

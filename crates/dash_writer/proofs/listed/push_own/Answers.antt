@@ -1,7 +1,7 @@
 use Rattle.dash_writer.proofs.listed.push_own.Goals as goal
 use Rattle.std.proofs.{Common.{◌≡◌, None, length, map, ap, ◌∙◌, arith}, lemmas.List.length-map}
 use Rattle.std.specs.Result.{result_unwrap_or}
-use Rattle.dash_writer.proofs.Adding.{adds_same}
+use Rattle.bridge_io.proofs.Adding.{adds_same}
 use Rattle.exact_time.specs.Time.{Time}
 use Rattle.timeline.specs.Listed.{expansion}
 use Rattle.presentation.specs.Presented.{listed_in}

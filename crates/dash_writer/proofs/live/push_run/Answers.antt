@@ -1,6 +1,6 @@
 use Rattle.dash_writer.proofs.live.push_run.Goals as goal
 use Rattle.std.proofs.Common.{List, None, ◌^◌, map, ap, ◌∙◌}
-use Rattle.dash_writer.proofs.Adding.{adds_same}
+use Rattle.bridge_io.proofs.Adding.{adds_same}
 use Rattle.dash_writer.specs.{declared.live.LiveSegment.LiveSegment, Lists.list_with, Live.{first_time, part_of}, Written.element_text}
 
 pub returns : goal.returns

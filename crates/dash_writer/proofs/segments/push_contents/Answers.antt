@@ -1,6 +1,6 @@
 use Rattle.dash_writer.proofs.segments.push_contents.Goals as goal
 use Rattle.std.proofs.Common.{map}
-use Rattle.dash_writer.proofs.Adding.{adds_same, adds_stop, adds_stop_at, adds_then}
+use Rattle.bridge_io.proofs.Adding.{adds_same, adds_stop, adds_stop_at, adds_then}
 use Rattle.dash_writer.specs.{Lists.timeline_with, Segments.{initialization, segment_url}}
 use Rattle.dash_writer.proofs.Nodes.{three_parts}
 

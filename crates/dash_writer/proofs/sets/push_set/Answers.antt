@@ -1,6 +1,6 @@
 use Rattle.dash_writer.proofs.sets.push_set.Goals as goal
 use Rattle.std.proofs.{Common.{◌≡◌, ◌+◌, drop, codes, Err, refl, ap, arith}, lemmas.List.drop_all}
-use Rattle.dash_writer.proofs.Adding.{adds_same}
+use Rattle.bridge_io.proofs.Adding.{adds_same}
 use Rattle.dash_writer.specs.{Outline.{set_attributes, track_elements}, Written.elements_text}
 use Rattle.dash_writer.proofs.{Nodes.{adds_node, stops_at_children, stops_at_start}, Progress.{all_added, fails, further, nothing_yet}}
 use Rattle.dash_writer.proofs.Sections.{one_set, some_tracks, tracks_behind}

@@ -1,6 +1,6 @@
 use Rattle.dash_writer.proofs.timed.push_timed.Goals as goal
 use Rattle.std.proofs.Common.{ℕ, List, Some, ap, ◌∙◌}
-use Rattle.dash_writer.proofs.Adding.{adds_same}
+use Rattle.bridge_io.proofs.Adding.{adds_same}
 use Rattle.presentation.specs.Presented.{listed_in}
 use Rattle.dash_writer.specs.{Lists.{list_with, parts_of}, Written.element_text}
 

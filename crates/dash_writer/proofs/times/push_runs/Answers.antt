@@ -1,6 +1,6 @@
 use Rattle.dash_writer.proofs.times.push_runs.Goals as goal
 use Rattle.std.proofs.Common.{◌≡◌, [], length, codes, Err, refl, sym, ap, ◌∙◌}
-use Rattle.dash_writer.proofs.Adding.{adds_same}
+use Rattle.bridge_io.proofs.Adding.{adds_same}
 use Rattle.dash_writer.specs.{SegmentRuns.{gone_on, runs_left}, Written.elements_text}
 use Rattle.dash_writer.proofs.{Nodes.{adds_node, stops_at_children, stops_at_start}, Progress.{ends, fails, further, nothing_yet}}
 use Rattle.dash_writer.proofs.RunLemmas.{more_runs, room_left, run_ends, some_runs}

@@ -1,6 +1,6 @@
 use Rattle.dash_writer.proofs.times.push_timeline.Goals as goal
 use Rattle.std.proofs.Common.{ap, sym}
-use Rattle.dash_writer.proofs.Adding.{adds_same}
+use Rattle.bridge_io.proofs.Adding.{adds_same}
 use Rattle.dash_writer.specs.{Lists.timeline_with, Written.element_text}
 
 pub returns-in-None : goal.returns-in-None

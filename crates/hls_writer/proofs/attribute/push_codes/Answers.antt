@@ -1,7 +1,7 @@
 use Rattle.hls_writer.proofs.attribute.push_codes.Goals as goal
 use Rattle.std.proofs.Common.{◌≡◌, ℕ, List, [], ◌∷◌, ◌++◌, codes, append_assoc}
 use Rattle.hls_writer.specs.{Attributes.{attribute_bytes, codes_bytes}, AttributeRows.texts_of}
-use Rattle.hls_writer.proofs.Adding.{adds_same, adds_then, adds_stop, adds_stop_at}
+use Rattle.bridge_io.proofs.Adding.{adds_same, adds_then, adds_stop, adds_stop_at}
 
 whole : (list : List ℕ) → (codes "CODECS=\"" ++ list) ++ 34 ∷ [] ≡ codes "CODECS=" ++ 34 ∷ list ++ 34 ∷ []
 whole list = simp append_assoc

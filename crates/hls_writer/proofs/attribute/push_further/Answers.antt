@@ -1,5 +1,5 @@
 use Rattle.std.proofs.lemmas.List.{take_all}
-use Rattle.hls_writer.proofs.Adding.{adds_none, adds_same, adds_more, adds_until}
+use Rattle.bridge_io.proofs.Adding.{adds_none, adds_same, adds_more, adds_until}
 use Rattle.hls_writer.proofs.Listing.{there_bytes, further_all_told, there_bytes-some, there_bytes-none}
 use Rattle.hls_writer.proofs.attribute.push_further.Goals as goal
 use Rattle.hls_writer.proofs.attribute.push_further.Goals.{in-Some+in_ok-push_one_further, in_default}

@@ -1,5 +1,5 @@
 use Rattle.std.proofs.Common.{take, flat_map, Ok}
-use Rattle.hls_writer.specs.Adding.{Adds}
+use Rattle.bridge_io.specs.Adding.{Adds}
 use Rattle.hls_writer.proofs.Listing.{there_bytes}
 use Rattle.hls_writer.proofs.attribute.push_further.Given as goal
 

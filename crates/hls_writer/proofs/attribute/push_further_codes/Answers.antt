@@ -1,5 +1,5 @@
 use Rattle.std.proofs.lemmas.List.{take_all}
-use Rattle.hls_writer.proofs.Adding.{adds_none, adds_more, adds_until, adds_same}
+use Rattle.bridge_io.proofs.Adding.{adds_none, adds_more, adds_until, adds_same}
 use Rattle.hls_writer.proofs.Listing.{code_after, code_at, further_codes}
 use Rattle.hls_writer.proofs.attribute.push_further_codes.Goals as goal
 

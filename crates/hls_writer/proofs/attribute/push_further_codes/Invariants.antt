@@ -1,5 +1,5 @@
 use Rattle.std.proofs.Common.{take, Ok}
-use Rattle.hls_writer.specs.Adding.{Adds}
+use Rattle.bridge_io.specs.Adding.{Adds}
 use Rattle.hls_writer.proofs.Listing.{codes_after}
 use Rattle.hls_writer.proofs.attribute.push_further_codes.Given as goal
 

@@ -2,7 +2,7 @@ use Rattle.hls_writer.proofs.attribute.push_list.Goals as goal
 use Rattle.std.proofs.{Common.{◌≡◌, ℕ, List, ◌∷◌, ap, ◌∙◌, sym, flat_map}, lemmas.List.append-nil}
 use Rattle.std.specs.Borrow.{Bor}
 use Rattle.hls_writer.specs.{Attributes.codes_bytes, AttributeRows.texts_of}
-use Rattle.hls_writer.proofs.Adding.{adds_same, adds_then, adds_stop_at}
+use Rattle.bridge_io.proofs.Adding.{adds_same, adds_then, adds_stop_at}
 
 -- the codes are the first one and the others
 all : (codes others : List (Bor (List ℕ))) (first : Bor (List ℕ)) → codes ≡ first ∷ others

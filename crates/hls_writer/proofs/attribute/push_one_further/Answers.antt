@@ -1,4 +1,4 @@
-use Rattle.hls_writer.proofs.Adding.{adds_then, adds_stop_at}
+use Rattle.bridge_io.proofs.Adding.{adds_then, adds_stop_at}
 use Rattle.hls_writer.proofs.attribute.push_one_further.Goals as goal
 
 pub returns-in_err-push_pieces : goal.returns-in_err-push_pieces

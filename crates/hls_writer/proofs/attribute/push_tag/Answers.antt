@@ -1,7 +1,7 @@
 use Rattle.hls_writer.proofs.attribute.push_tag.Goals as goal
 use Rattle.std.proofs.Common.{◌≡◌, ℕ, List, [], ◌∷◌, ◌++◌, append_assoc, append-nil}
 use Rattle.hls_writer.specs.{Attributes.{attribute_bytes, further_bytes}, AttributeRows.{told, all_told}}
-use Rattle.hls_writer.proofs.Adding.{adds_same, adds_then, adds_stop, adds_stop_at}
+use Rattle.bridge_io.proofs.Adding.{adds_same, adds_then, adds_stop, adds_stop_at}
 
 whole : (tag first others : List ℕ) → (((tag ++ []) ++ first) ++ others) ++ 10 ∷ [] ≡ tag ++ (first ++ others) ++ 10 ∷ []
 whole tag first others = simp (append_assoc, append-nil)

@@ -1,7 +1,7 @@
 use Rattle.hls_writer.proofs.entry.push_discontinuities.Goals as goal
 use Rattle.std.proofs.{Common.{◌<◌, replicate, length, sym, ap, arith}, lemmas.List.{take_all, get_or-replicate, length-replicate}}
 use Rattle.hls_writer.specs.Lines.{line_text, discontinuity}
-use Rattle.hls_writer.proofs.Adding.{adds_none, adds_same, adds_more, adds_until}
+use Rattle.bridge_io.proofs.Adding.{adds_none, adds_same, adds_more, adds_until}
 
 pub loop-step-init : goal.loop-step-init
 loop-step-init g c = adds_none _

@@ -1,5 +1,5 @@
 use Rattle.std.proofs.Common.{take, replicate, Ok}
-use Rattle.hls_writer.specs.Adding.{Adds}
+use Rattle.bridge_io.specs.Adding.{Adds}
 use Rattle.hls_writer.specs.Lines.{lines_text, discontinuity}
 use Rattle.hls_writer.proofs.entry.push_discontinuities.Given as goal
 

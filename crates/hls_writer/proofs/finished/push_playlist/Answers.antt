@@ -2,7 +2,7 @@ use Rattle.hls_writer.proofs.finished.push_playlist.Goals as goal
 use Rattle.std.proofs.Common.{◌^◌, None, ap, true}
 use Rattle.hls_writer.specs.{Finished.track_items, Lines.{lines_text, on_demand}, Playlists.{finished_text, head_lines, items_lines}}
 use Rattle.hls_writer.specs.Playlists.{end_lines}
-use Rattle.hls_writer.proofs.Adding.{adds_same, adds_then, adds_stop, adds_stop_at}
+use Rattle.bridge_io.proofs.Adding.{adds_same, adds_then, adds_stop, adds_stop_at}
 use Rattle.hls_writer.proofs.Following.{media_text}
 
 pub returns-in_err-push_lines : goal.returns-in_err-push_lines

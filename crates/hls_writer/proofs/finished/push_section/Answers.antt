@@ -3,7 +3,7 @@ use Rattle.std.proofs.Common.{ap, ◌^◌}
 use Rattle.presentation.specs.Presented.{content_at, listed_at}
 use Rattle.presentation.proofs.Allowed.{have_addresses, verified_are_counted}
 use Rattle.hls_writer.specs.{Lines.lines_text, Playlists.items_lines}
-use Rattle.hls_writer.proofs.Adding.{adds_same}
+use Rattle.bridge_io.proofs.Adding.{adds_same}
 use Rattle.hls_writer.proofs.Sections.{rest_addressed, rest_items}
 
 pub segments-segments-requires-clause-reached : goal.segments-segments-requires-clause-reached

@@ -2,7 +2,7 @@ use Rattle.hls_writer.proofs.finished.push_sections.Goals as goal
 use Rattle.std.proofs.{Common.{◌≡◌, ◌+◌, ◌^◌, ◌<◌, ◌++◌, [], ap, sym, ◌∙◌, length, flat_map, None, arith}, lemmas.List.append-nil}
 use Rattle.presentation.proofs.Counts.{from_on, from_on-end, from_on-first, from_on-start}
 use Rattle.hls_writer.specs.{Finished.section_items, Lines.lines_text, Playlists.items_lines}
-use Rattle.hls_writer.proofs.Adding.{adds_answered, adds_none, adds_same, adds_then, adds_stop_at}
+use Rattle.bridge_io.proofs.Adding.{adds_answered, adds_none, adds_same, adds_then, adds_stop_at}
 use Rattle.hls_writer.proofs.Sections.{more_items}
 
 pub loop-section-init : goal.loop-section-init

@@ -1,7 +1,7 @@
 use Rattle.hls_writer.proofs.finished.push_sections.Given as goal
 use Rattle.std.proofs.Common.{◌≡◌, ℕ, ◌^◌, ◌-◌, List, ◌++◌, flat_map, length, None, Ok}
 use Rattle.std.specs.List.{range_with_len}
-use Rattle.hls_writer.specs.Adding.{Adds}
+use Rattle.bridge_io.specs.Adding.{Adds}
 use Rattle.hls_writer.specs.{Finished.{section_items, track_items}, Lines.lines_text, Playlists.items_lines}
 
 -- what is added so far goes on to the text of all sections

@@ -3,7 +3,7 @@ use Rattle.std.proofs.Common.{◌++◌, ◌∙◌, [], refl, sym}
 use Rattle.presentation.specs.Printing.{IsPassed}
 use Rattle.timeline.specs.{Listed.timing_of, Written.part_with}
 use Rattle.hls_writer.specs.{Finished.item_of, Lines.lines_text, Playlists.item_lines}
-use Rattle.hls_writer.proofs.Adding.{adds_none, adds_same, adds_then, adds_stop_at, adds_wanting}
+use Rattle.bridge_io.proofs.Adding.{adds_none, adds_same, adds_then, adds_stop_at, adds_wanting}
 use Rattle.hls_writer.proofs.Sections.{first_addressed, next_item, one_more, still_addressed}
 
 pub loop-span-init : goal.loop-span-init

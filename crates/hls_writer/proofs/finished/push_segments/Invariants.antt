@@ -1,7 +1,7 @@
 use Rattle.hls_writer.proofs.finished.push_segments.Given as goal
 use Rattle.std.proofs.Common.{◌≡◌, ℕ, List, ◌++◌, length, All, Ok}
 use Rattle.presentation.specs.Laws.{HasAddress}
-use Rattle.hls_writer.specs.Adding.{Adds}
+use Rattle.bridge_io.specs.Adding.{Adds}
 use Rattle.hls_writer.specs.{Finished.items_at, Lines.lines_text, Playlists.{items_lines, last_section}}
 
 -- what is added so far goes on to the text of all segments

@@ -1,7 +1,7 @@
 use Rattle.hls_writer.proofs.items.push_items.Goals as goal
 use Rattle.std.proofs.Common.{◌++◌, ap}
 use Rattle.hls_writer.specs.{Items.item_of, Lines.lines_text, Playlists.item_lines}
-use Rattle.hls_writer.proofs.Adding.{adds_same, adds_then, adds_stop_at}
+use Rattle.bridge_io.proofs.Adding.{adds_same, adds_then, adds_stop_at}
 use Rattle.hls_writer.proofs.{Following.left_is, Sections.one_more}
 
 pub loop-item-preserved : goal.loop-item-preserved

@@ -1,6 +1,6 @@
 use Rattle.hls_writer.proofs.items.push_items.Given as goal
 use Rattle.std.proofs.Common.{◌≡◌, ℕ, List, ◌++◌, drop, map, Ok}
-use Rattle.hls_writer.specs.Adding.{Adds}
+use Rattle.bridge_io.specs.Adding.{Adds}
 use Rattle.hls_writer.specs.{Items.item_of, Lines.lines_text, Playlists.{items_lines, last_section}}
 
 -- what is added so far goes on to the text of all items

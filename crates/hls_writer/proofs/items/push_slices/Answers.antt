@@ -1,6 +1,6 @@
 use Rattle.hls_writer.proofs.items.push_slices.Goals as goal
 use Rattle.std.proofs.{Common.{None, refl, ◌∙◌}, lemmas.List.append-nil}
-use Rattle.hls_writer.proofs.Adding.{adds_same, adds_answered, adds_then, adds_stop_at}
+use Rattle.bridge_io.proofs.Adding.{adds_same, adds_answered, adds_then, adds_stop_at}
 use Rattle.hls_writer.proofs.Following.{joined}
 
 pub returns-in_err-former : goal.returns-in_err-former

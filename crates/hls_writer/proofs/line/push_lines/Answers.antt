@@ -1,5 +1,5 @@
 use Rattle.std.proofs.lemmas.List.{take_all}
-use Rattle.hls_writer.proofs.Adding.{adds_none, adds_same, adds_more, adds_until}
+use Rattle.bridge_io.proofs.Adding.{adds_none, adds_same, adds_more, adds_until}
 use Rattle.hls_writer.proofs.Present.{there_text, lines_text-all_written, there_text-some, there_text-none}
 use Rattle.hls_writer.proofs.line.push_lines.Goals as goal
 use Rattle.hls_writer.proofs.line.push_lines.Goals.{in-Some+in_ok-push_to, in_default}

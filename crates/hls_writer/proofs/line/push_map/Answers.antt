@@ -1,6 +1,6 @@
 use Rattle.std.proofs.Common.{◌≡◌, ℕ, List, [], ◌∷◌, ◌++◌, codes, decimal, ap, append_assoc}
 use Rattle.hls_writer.specs.Lines.{line_bytes}
-use Rattle.hls_writer.proofs.Adding.{adds_same}
+use Rattle.bridge_io.proofs.Adding.{adds_same}
 use Rattle.hls_writer.proofs.line.push_map.Goals as goal
 
 file : (address : List ℕ) → address ++ (34 ∷ (10 ∷ [])) ≡ ((address ++ (34 ∷ [])) ++ []) ++ (10 ∷ [])

@@ -3,7 +3,7 @@ use Rattle.std.proofs.Common.{[], ◌∷◌, map, flat_map}
 use Rattle.bridge_io.specs.declared.media.Kind.TheVariants.{Text}
 use Rattle.hls_writer.specs.{Lines.{header, version, lines_text}, Renditions.{places_of, renditions_of, rendition_line}}
 use Rattle.hls_writer.specs.Variants.{variants_of, variant_lines}
-use Rattle.hls_writer.proofs.Adding.{adds_same, adds_then, adds_stop, adds_stop_at}
+use Rattle.bridge_io.proofs.Adding.{adds_same, adds_then, adds_stop, adds_stop_at}
 use Rattle.hls_writer.proofs.Listing.{three_parts}
 
 pub returns-in_err-push_lines : goal.returns-in_err-push_lines

@@ -1,7 +1,7 @@
 use Rattle.std.proofs.Common.{◌≡◌, ℕ, List, [], ◌∷◌, ◌++◌, codes, decimal, refl, ap, sym, ◌∙◌, append_assoc, append-nil}
 use Rattle.hls_writer.specs.Attributes.{WrittenAttribute, attributes_bytes, playlist_name}
 use Rattle.hls_writer.specs.Lines.{variant, uri, line_bytes, line_text, lines_text}
-use Rattle.hls_writer.proofs.Adding.{adds_same, adds_then, adds_stop_at}
+use Rattle.bridge_io.proofs.Adding.{adds_same, adds_then, adds_stop_at}
 use Rattle.hls_writer.proofs.master.push_coded_variant.Goals as goal
 
 first_line : (first : WrittenAttribute) (others : List WrittenAttribute)

@@ -1,6 +1,6 @@
 use Rattle.std.proofs.Common.{refl, ap, ◌∙◌, flat_map}
 use Rattle.hls_writer.specs.Renditions.{renditions_of, rendition_line, rendition_text}
-use Rattle.hls_writer.proofs.Adding.{adds_none, adds_same, adds_wanting}
+use Rattle.bridge_io.proofs.Adding.{adds_none, adds_same, adds_wanting}
 use Rattle.hls_writer.proofs.Listing.{text_of_each}
 use Rattle.hls_writer.proofs.master.push_renditions.Goals as goal
 

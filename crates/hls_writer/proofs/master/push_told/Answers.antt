@@ -1,6 +1,6 @@
 use Rattle.std.proofs.Common.{refl, flat_map}
 use Rattle.hls_writer.specs.Variants.{variant_text}
-use Rattle.hls_writer.proofs.Adding.{adds_none, adds_wanting}
+use Rattle.bridge_io.proofs.Adding.{adds_none, adds_wanting}
 use Rattle.hls_writer.proofs.master.push_told.Goals as goal
 
 pub returns-in_err-codes : goal.returns-in_err-codes

@@ -1,6 +1,6 @@
 use Rattle.std.proofs.lemmas.List.{take_all}
 use Rattle.hls_writer.specs.Variants.{variant_text}
-use Rattle.hls_writer.proofs.Adding.{adds_none, adds_more, adds_until}
+use Rattle.bridge_io.proofs.Adding.{adds_none, adds_more, adds_until}
 use Rattle.hls_writer.proofs.master.push_variant_lines.Goals as goal
 
 pub loop-variant-init : goal.loop-variant-init

@@ -1,5 +1,5 @@
 use Rattle.std.proofs.Common.{take, flat_map, Ok}
-use Rattle.hls_writer.specs.Adding.{Adds}
+use Rattle.bridge_io.specs.Adding.{Adds}
 use Rattle.hls_writer.specs.Variants.{variant_text}
 use Rattle.hls_writer.proofs.master.push_variant_lines.Given as goal
 

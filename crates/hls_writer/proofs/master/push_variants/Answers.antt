@@ -2,7 +2,7 @@ use Rattle.hls_writer.proofs.master.push_variants.Goals as goal
 use Rattle.std.proofs.Common.{refl, ap, ◌∙◌, flat_map}
 use Rattle.bridge_io.specs.declared.media.Kind.TheVariants.{Text}
 use Rattle.hls_writer.specs.{Renditions.places_of, Variants.{variants_of, variant_lines, variant_text}}
-use Rattle.hls_writer.proofs.Adding.{adds_none, adds_same, adds_wanting}
+use Rattle.bridge_io.proofs.Adding.{adds_none, adds_same, adds_wanting}
 use Rattle.hls_writer.proofs.Listing.{text_of_all}
 
 pub returns-in_err-variants : goal.returns-in_err-variants

@@ -1,5 +1,5 @@
 use Rattle.std.proofs.Common.{refl}
-use Rattle.dash_writer.proofs.Adding.{adds_same}
+use Rattle.bridge_io.proofs.Adding.{adds_same}
 use Rattle.dash_writer.proofs.Escaping.{alone_stays, number_stays, seconds_stay}
 use Rattle.dash_writer.proofs.attribute.Value.push_to.Goals as goal
 

@@ -1,6 +1,6 @@
 use Rattle.dash_writer.proofs.listed.PresentationTrackListsSteps.push_list.Goals as goal
 use Rattle.std.proofs.Common.{ap, sym, option_to_list, ◌*◌, ◌+◌, ◌∙◌, length}
-use Rattle.dash_writer.proofs.Adding.{adds_same}
+use Rattle.bridge_io.proofs.Adding.{adds_same}
 use Rattle.presentation.specs.Presented.{content_at, listed_in, window_of}
 use Rattle.presentation.proofs.OwnListed.{addressed_at}
 use Rattle.dash_writer.specs.{Segments.segment_list, Written.{element_text, elements_text}}

@@ -1,6 +1,6 @@
 use Rattle.dash_writer.proofs.live.LiveMpdTrackListsUnit.push_list.Goals as goal
 use Rattle.std.proofs.Common.{sym, ap, ◌∙◌}
-use Rattle.dash_writer.proofs.Adding.{adds_same}
+use Rattle.bridge_io.proofs.Adding.{adds_same}
 use Rattle.dash_writer.specs.{declared.live.LivePeriod.LivePeriod, Written.elements_text}
 use Rattle.dash_writer.proofs.LiveTracks.{list_read}
 

@@ -1,6 +1,6 @@
 use Rattle.dash_writer.proofs.outline.Outline.push_to.Goals as goal
 use Rattle.std.proofs.Common.{codes, sym, ◌∙◌}
-use Rattle.dash_writer.proofs.Adding.{adds_stop_at, adds_then}
+use Rattle.bridge_io.proofs.Adding.{adds_stop_at, adds_then}
 use Rattle.dash_writer.specs.{Given.{outline_of, text_with}, Outline.period_elements}
 use Rattle.dash_writer.proofs.{Nodes.{adds_node, stops_at_children, stops_at_start}, Sections.childless_periods}
 

@@ -1,6 +1,6 @@
 use Rattle.dash_writer.proofs.timed.TimedListsTrackListsSteps.push_list.Goals as goal
 use Rattle.std.proofs.{Common.{◌*◌, ◌+◌, get_or, slice_get, length, refl, sym, ap, ◌∙◌}, lemmas.Option.slice_get_read}
-use Rattle.dash_writer.proofs.Adding.{adds_same}
+use Rattle.bridge_io.proofs.Adding.{adds_same}
 use Rattle.presentation.specs.Presented.{content_at, window_of}
 use Rattle.presentation.proofs.OwnListed.{addressed_at}
 use Rattle.dash_writer.specs.{Timed.list_of, Written.{element_text, elements_text}}

@@ -1,7 +1,7 @@
 use Rattle.std.proofs.Common.{◌≡◌, ℕ, ◌/◌, List, [], ◌∷◌, ◌++◌, codes, decimal, ap, append-nil}
 use Rattle.iso_time.specs.Digits.{padded_digits}
 use Rattle.hls_writer.specs.Attributes.{attribute_bytes}
-use Rattle.hls_writer.proofs.Adding.{adds_same}
+use Rattle.bridge_io.proofs.Adding.{adds_same}
 use Rattle.hls_writer.proofs.attribute.Attribute.push_to.Goals as goal
 
 size_text : (width height : List ℕ) → codes "RESOLUTION=" ++ (width ++ (codes "x" ++ (height ++ [])))

@@ -1,5 +1,5 @@
 use Rattle.std.proofs.Common.{ap}
-use Rattle.hls_writer.proofs.Adding.{adds_same}
+use Rattle.bridge_io.proofs.Adding.{adds_same}
 use Rattle.hls_writer.specs.Lines.{lines_text}
 use Rattle.hls_writer.proofs.entry.Entry.push_front.Goals as goal
 

@@ -1,6 +1,6 @@
 use Rattle.hls_writer.proofs.entry.Entry.push_last.Goals as goal
 use Rattle.std.proofs.Common.{option_map, option_to_list}
-use Rattle.hls_writer.proofs.Adding.{adds_same, adds_then, adds_stop, adds_stop_at}
+use Rattle.bridge_io.proofs.Adding.{adds_same, adds_then, adds_stop, adds_stop_at}
 use Rattle.hls_writer.specs.{Lines.{lines_text, byte_range}, Rows.entry_item}
 use Rattle.hls_writer.proofs.Present.{last_text}
 

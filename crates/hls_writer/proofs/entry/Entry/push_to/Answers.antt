@@ -1,6 +1,6 @@
 use Rattle.hls_writer.proofs.entry.Entry.push_to.Goals as goal
 use Rattle.std.proofs.Common.{ap, replicate}
-use Rattle.hls_writer.proofs.Adding.{adds_same, adds_then, adds_stop, adds_stop_at}
+use Rattle.bridge_io.proofs.Adding.{adds_same, adds_then, adds_stop, adds_stop_at}
 use Rattle.hls_writer.specs.{Lines.{lines_text, discontinuity}, Playlists.front_lines, Rows.entry_item}
 use Rattle.hls_writer.proofs.Present.{item_text}
 

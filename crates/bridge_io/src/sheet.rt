@@ -1,8 +1,8 @@
 // A file that is written, with the store that it lies in.
+ghost use Rattle.bridge_io.specs.Adding.{Adds};
 ghost use Rattle.bridge_io.specs.Pieces.{piece_text, pieces_text};
-ghost use Rattle.dash_writer.specs.Adding.{Adds};
 
-use bridge_io::{Fail, FileWriter, Piece, Store};
+use crate::{Fail, FileWriter, Piece, Store};
 use itoa::Buffer;
 
 /// A file that is written, with the store that it lies in.

@@ -1,7 +1,6 @@
-use Rattle.hls_writer.proofs.sheet.Sheet.push_pieces.Given as goal
+use Rattle.bridge_io.proofs.sheet.Sheet.push_pieces.Given as goal
 use Rattle.std.proofs.Common.{take, Ok}
-use Rattle.bridge_io.specs.Pieces.{pieces_text}
-use Rattle.hls_writer.specs.Adding.{Adds}
+use Rattle.bridge_io.specs.{Adding.Adds, Pieces.pieces_text}
 
 -- the pieces so far are added
 abbrev pub invariant-loop-piece : goal.invariant-loop-piece

@@ -1,8 +1,0 @@
-use Rattle.dash_writer.proofs.sheet.Sheet.push_pieces.Given as goal
-use Rattle.std.proofs.Common.{take, Ok}
-use Rattle.bridge_io.specs.Pieces.{pieces_text}
-use Rattle.dash_writer.specs.Adding.{Adds}
-
--- the pieces so far are added
-abbrev pub invariant-loop-piece : goal.invariant-loop-piece
-invariant-loop-piece g l = Adds {T = Unit {0}} g.F.Store (pieces_text (take l.piece-index l.pieces)) l.initial.self l.self (Ok tt)
