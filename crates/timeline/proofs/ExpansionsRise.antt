@@ -39,7 +39,7 @@ lists_rise spans lasting step = ends_rise (expansion_of_list spans) (spans_last 
 pub LastsTicks-extent : (scale : Scale) (start d : ℕ) → 0 < d → LastsTicks (extent_from scale start d)
 LastsTicks-extent scale start d some = record { one_scale = refl; end_is = scale.positive; rises = omega (arith, ints) }
 
-repeated_last : (count : ℕ) (x : Extent) (later : List Member) → LastsTicks x → AreLasting later
+pub repeated_last : (count : ℕ) (x : Extent) (later : List Member) → LastsTicks x → AreLasting later
     → AreLasting (map Closed (repeated count x) ++ later)
 unfolding repeated
 repeated_last zero x later is last = last

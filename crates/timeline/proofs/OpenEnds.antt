@@ -66,6 +66,30 @@ entries_open scale end former (s ∷ later) some =
       | inr behind ↦ let rest = entries_open scale end (start + count_of reach x * s.d) later behind in (rest.0, later_open s later rest.1)
     ]
 
+-- and where the last one does, so do the members
+
+open_right : (xs ys : List Member) → is_open ys ≡ true → is_open (xs ++ ys) ≡ true
+open_right [] ys some = some
+open_right (Closed x ∷ xs) ys some = open_right xs ys some
+open_right (Short x ∷ xs) ys some = open_right xs ys some
+open_right (Endless x ∷ xs) ys some = refl
+
+last_expands : (scale : Scale) (r : ℤ) (x : Extent) → is_negative r ≡ true
+    → is_open (members_of (reach_of scale Unbounded r []) x ++ []) ≡ true
+last_expands scale (pos r) x is = absurd (cc)
+last_expands scale (negsuc r) x is = refl
+
+pub open_expands : (scale : Scale) (former : ℕ) (entries : List SEntry) → ends_open entries ≡ true
+    → is_open (members_from scale Unbounded former entries) ≡ true
+open_expands scale former [] is = absurd (cc)
+open_expands scale former (s ∷ []) is = last_expands scale s.r (extent_from scale (unwrap_or s.t former) s.d) is
+open_expands scale former (s ∷ next ∷ later) is =
+    let start = unwrap_or s.t former in
+    let x = extent_from scale start s.d in
+    let reach = reach_of scale Unbounded s.r (next ∷ later) in
+    open_right (members_of reach x) (members_from scale Unbounded (start + count_of reach x * s.d) (next ∷ later))
+    (open_expands scale (start + count_of reach x * s.d) (next ∷ later) is)
+
 pub none_reaches : (timeline : SegmentTimeline) (window : Window) (members : List Member) → list_any goes_on members ≡ false
     → list_any (reaches_fault timeline window) members ≡ false
 none_reaches timeline window [] none = refl

@@ -1,10 +1,10 @@
 -- How far the segments of an S go on.
 use Rattle.std.proofs.{lemmas.List.{append_assoc, append-nil, map-append, drop-drop, length-append, length-drop}, Common.{inl, inr, ◌≡◌, ℕ}}
-use Rattle.std.proofs.Common.{zero, suc, ◌+◌, ◌-◌, ◌*◌, ◌<◌, ◌≤◌, Bool, true, false, cond, List, ◌∷◌, map, ℤ, pos, negsuc, [], ◌+ℤ◌, ◌-ℤ◌}
+use Rattle.std.proofs.Common.{ap₂, zero, suc, ◌+◌, ◌-◌, ◌*◌, ◌<◌, ◌≤◌, Bool, true, false, cond, List, ◌∷◌, map, ℤ, pos, negsuc, [], ◌+ℤ◌, ◌-ℤ◌}
 use Rattle.std.proofs.Common.{◌*ℤ◌, Option, Some, None, refl, ◌∙◌, sym, ap, subst, arith, ◌^◌, max, ltb, ◌||◌, ◌++◌, length, drop}
 use Rattle.std.proofs.{lemmas.Int.ints, lemmas.Option.IfSome_then, lemmas.Bool.Decides.nat_tests, lemmas.Bool.{cond-true, cond-false}}
 use Rattle.std.proofs.{lemmas.Bool.{or_parts, cases_Bool, cases_lt, eq-eqb, ne_eqb, le-ltb, lt-leb}, Math.Nat.one-le-mul}
-use Rattle.std.proofs.Math.Nat.{mul-le-mul_right}
+use Rattle.std.proofs.{Math.Nat.mul-le-mul_right, Math.Seq.drop-nil}
 use Rattle.std.specs.{Prelude.{◌⊎◌, slice_get, not, ◌&&◌, ◌==◌, Option, Some, None, IsNone, unsigned_abs}, List.list_any}
 use Rattle.std.specs.Int.{FitsUnsignedBits, abs_diff}
 use mir.Val.{SFits}
@@ -19,15 +19,18 @@ use Rattle.timeline.specs.{declared.timelines.Reach.Reach as Found, declared.tim
 use Rattle.timeline.specs.{declared.timelines.Reach.TheVariants.Nowhere as Without, Ratios.natural, Expansions.{Extent, Member, Closed}}
 use Rattle.timeline.specs.{Expansions.{Short, lasting, repeated, Endless, repeat_of}, Timelines.{UpTo, placed, extent_from, count_up_to}}
 use Rattle.timeline.specs.Timelines.{members_of, reach_of, reach_of_end, members_from, expansion_of_timeline, reach_of_next}
-use Rattle.timeline.specs.{SegmentTimelines.{timeline_of_entries, timeline_if_paired}, Steady.AreKept, Limits.breaks_limits}
+use Rattle.timeline.specs.{SegmentTimelines.{timeline_of_entries, timeline_of_members, timeline_if_paired}, Limits.breaks_limits}
+use Rattle.timeline.specs.Steady.{AreKept, AreLasting}
 use Rattle.timeline.specs.{Faults.{ends_open, is_apart, is_unbounded, refusal, segment_fault}, Building.{AreAdded, IsLaidOut, IsFaultOf}}
 use Rattle.timeline.specs.Building.{breaks_in, extent_in, fault_of, former_end, members_so_far, placed_in, runs_in}
 use Rattle.timeline.specs.Reaches.{GoesOn as MoreFollow, IsUpTo, IsReach, AreLaidOut, AreLimitsOf, IsSoFar, IsTheirFault, members_of_entry}
-use Rattle.timeline.specs.{Reaches.{next_of, start_of}, MediaTimelines.{IsLaidTimeline, IsMedia, IsNextRun, IsPushed, are_passed}}
+use Rattle.timeline.specs.{Reaches.{next_of, start_of}, MediaTimelines.{AreMediaRuns, IsLaidTimeline, IsMedia, IsNextRun, IsPushed}}
+use Rattle.timeline.specs.MediaTimelines.{LaysOut, are_passed, expansion_of_laid, timeline_of_laid}
 use Rattle.timeline.specs.{MediaTimelines.{media_end, rest_of, runs_by}, RunSegments.{IsRun, all_extents, placed_run}}
 use Rattle.timeline.proofs.Ratios.{steps_to_cover-is, ceiling-is, int_le-mul, int_add-mul, ceiling, ceiling-enough, ceiling-le}
 use Rattle.timeline.proofs.Laid.{refusal_some, IsRun-in, extents-push, extents_after, laid-push, none_follows, none_of, room_after}
-use Rattle.timeline.proofs.{Laid.timed-in, Paced.kept_of, ExpansionsRise.entries_last, Judged.{breaks-mono, head_breaks, is_apart-in}}
+use Rattle.timeline.proofs.{Laid.timed-in, Paced.kept_of, ExpansionsRise.{entries_last, repeated_last}, OpenEnds.{closed_not_open, open_expands}}
+use Rattle.timeline.proofs.Judged.{breaks-mono, head_breaks, is_apart-in}
 use Rattle.timeline.proofs.{Judged.{media_extent-in, run_fault}, LimitLemmas.{breaks_media, abs-lt}}
 use Rattle.exact_time.proofs.TimeOrder.{at_most-from, not_at_most-from}
 
@@ -143,14 +146,13 @@ pub fault_in : (scale : Scale) (l : Limits) → AreLimitsOf scale l → (former 
     segment_fault (breaks_limits scale.ticks scale.offset) former members ≡ segment_fault (breaks_in l) former members
 fault_in scale l are former members = rw (← are.ticks, ← are.origin) refl
 
-pub fault_so_far : (scale : Scale) (end : End) (entries : List SEntry) (l : RunsBuilder) (rest : List SEntry) (s : SEntry)
-    (later : List SEntry) (fault : TimeFault) → IsSoFar scale end entries l rest → rest ≡ s ∷ later →
-    IsFaultOf l (members_of_entry scale end l.former s later) fault
-    → IsTheirFault (breaks_limits scale.ticks scale.offset) (expansion_of_timeline scale end entries) fault
-fault_so_far scale end entries l rest s later fault so_far at is =
+pub fault_so_far : (scale : Scale) (end : End) (members : List Member) (l : RunsBuilder) (rest : List SEntry) (s : SEntry)
+    (later : List SEntry) (fault : TimeFault) → IsSoFar scale end members l rest → rest ≡ s ∷ later →
+    IsFaultOf l (members_of_entry scale end l.former s later) fault → IsTheirFault (breaks_limits scale.ticks scale.offset) members fault
+fault_so_far scale end members l rest s later fault so_far at is =
     IfSome_then (refusal fault) is (λ f holds.
     cc (
-      fault_in scale l.limits so_far.limits None (expansion_of_timeline scale end entries),
+      fault_in scale l.limits so_far.limits None members,
       so_far.judged,
       holds (members_from scale end (next_of scale end l.former s later) later),
     ))
@@ -161,11 +163,11 @@ pub members_nowhere : (scale : Scale) (end : End) (former : ℕ) (s : SEntry) (l
 members_nowhere scale end former s later start is short = cc
 
 -- the segments of one more S are in the row
-pub so_far_more : (scale : Scale) (end : End) (entries : List SEntry) (l new : RunsBuilder) (rest : List SEntry) (s : SEntry)
-    (later : List SEntry) → IsSoFar scale end entries l rest → rest ≡ s ∷ later →
+pub so_far_more : (scale : Scale) (end : End) (all : List Member) (l new : RunsBuilder) (rest : List SEntry) (s : SEntry)
+    (later : List SEntry) → IsSoFar scale end all l rest → rest ≡ s ∷ later →
     AreAdded l (members_of_entry scale end l.former s later) new → new.limits ≡ l.limits → IsLaidOut new → MoreFollow new later
-    → (new.former ≡ next_of scale end l.former s later) ⊎ (later ≡ []) → IsSoFar scale end entries new later
-so_far_more scale end entries l new rest s later so_far at added limits laid goes_on former =
+    → (new.former ≡ next_of scale end l.former s later) ⊎ (later ≡ []) → IsSoFar scale end all new later
+so_far_more scale end all l new rest s later so_far at added limits laid goes_on former =
     let members = members_of_entry scale end l.former s later in
     let behind : members_from scale end (next_of scale end l.former s later) later ≡ members_from scale end new.former later =
     elim former [ inl same ↦ cc | inr none ↦ cc ] in
@@ -174,7 +176,7 @@ so_far_more scale end entries l new rest s later so_far at added limits laid goe
       laid = laid;
       lasting = (or_parts (s.d == 0) (list_any (λ e. e.d == 0) later) (sym (ap (list_any (λ e. e.d == 0)) at) ∙ so_far.lasting)).1;
       goes_on = goes_on;
-      members = cc (so_far.members, added.added, append_assoc (members_so_far l) members (members_from scale end new.former later));
+      members_are = cc (so_far.members_are, added.added, append_assoc (members_so_far l) members (members_from scale end new.former later));
       judged = cc (so_far.judged, added.passed (members_from scale end (next_of scale end l.former s later) later));
     }
 
@@ -185,18 +187,11 @@ pub judged_by : (scale : Scale) (l : RunsBuilder) (members : List Member) → Ar
     → segment_fault (breaks_limits scale.ticks scale.offset) None members ≡ None
 judged_by scale l members are = fault_in scale l.limits are.limits None members ∙ are.judged
 
-pub timeline_kept : (scale : Scale) (end : End) (entries : List SEntry) (l : RunsBuilder) →
-    AreLaidOut scale (expansion_of_timeline scale end entries) l → list_any (λ s. s.d == 0) entries ≡ false → AreKept (members_so_far l)
-timeline_kept scale end entries l are some = rw are.members_are
-    (kept_of (λ x. l.limits.ticks) l.limits.origin (expansion_of_timeline scale end entries)
-    (entries_last scale end 0 entries some) are.judged)
-
-pub timeline_built : (entries : List SEntry) (end : End) (live : Bool) (scale : Scale) (names : Names) (l : RunsBuilder)
-    → list_any (λ s. s.d == 0) entries ≡ false → (not live && is_unbounded end && ends_open entries) ≡ false →
-    AreLaidOut scale (expansion_of_timeline scale end entries) l → timeline_of_entries entries end live scale names
-    ≡ timeline_if_paired scale scale.offset names (members_so_far l)
-timeline_built entries end live scale names l lasting ended are =
-    rw (are.members_are, lasting, ended, judged_by scale l (expansion_of_timeline scale end entries) are) refl
+pub timeline_built : (no_time unended : Bool) (members : List Member) (end : End) (live : Bool) (scale : Scale) (names : Names)
+    (l : RunsBuilder) → no_time ≡ false → (not live && is_unbounded end && unended) ≡ false → AreLaidOut scale members l
+    → timeline_of_members no_time unended members end live scale names ≡ timeline_if_paired scale scale.offset names (members_so_far l)
+timeline_built no_time unended members end live scale names l lasting ended are =
+    rw (are.members_are, lasting, ended, judged_by scale l members are) refl
 
 -- ---- how many segments an S has, whatever the scale
 
@@ -303,10 +298,10 @@ module _ (entries : List SEntry) (m new : MediaRuns) (s : SEntry) (later : List 
   least = omega (arith, mul-le-mul_right run.step next.some)
 
   not_later : m.former ≤ run.start + run.count * run.step
-  not_later = grind (arith, next.late_enough, is.begun, least)
+  not_later = grind (arith, next.late_enough, is.runs.begun, least)
 
   fits : m.total + run.count ≤ run.start + run.count * run.step
-  fits = room_after m.total run.start run.step run.count step_lasts next.some (grind (arith, next.late_enough, is.room))
+  fits = room_after m.total run.start run.step run.count step_lasts next.some (grind (arith, next.late_enough, is.runs.room))
 
   runs_new : (l : Limits) → runs_by l new ≡ runs_by l m ++ placed_run l.ticks l.origin run ∷ []
   runs_new l = cc (pushed.runs, map-append (placed_run l.ticks l.origin) m.runs.items (run ∷ []))
@@ -334,7 +329,7 @@ module _ (entries : List SEntry) (m new : MediaRuns) (s : SEntry) (later : List 
       let here = ltb (1000000 * l.ticks) run.step || ltb (l.origin + l.ticks * 100000000000) (run.start + run.count * run.step) in
       let swap : l.ticks * 1000000 ≡ 1000000 * l.ticks = omega arith in
       let end = end_is l new (omega (arith, pushed.total, next.some)) in
-      let before = is.judged l (map Closed (added l) ++ more) in
+      let before = is.runs.judged l (map Closed (added l) ++ more) in
       let behind = run_judged l run.start run.step run.count (media_end l m) more next.some next.near
       (near_media l m run.start run.step next.late_enough next.early_enough) in
       let passed = passed_more (l.ticks * 1000000) (l.origin + l.ticks * 100000000000) m.longest run.step m.former
@@ -357,44 +352,77 @@ module _ (entries : List SEntry) (m new : MediaRuns) (s : SEntry) (later : List 
       (omega (arith, next.before, fits, next.near)) (small_abs run.start l.origin (omega (arith, next.near)) small)
       (small_abs (run.start + run.step) l.origin (omega (arith, next.near, least)) small)
 
-  pub media_more : IsMedia entries new
-  media_more = record {
-    fewer = omega (arith, shorter, longer);
+  runs_more : AreMediaRuns new
+  runs_more = record {
     begun = λ none. absurd (omega (arith, none, pushed.total, next.some));
     room = omega (arith, fits, pushed.total, pushed.former);
     near = omega (arith, next.near, pushed.former);
     laid = λ l small. rw (runs_new l, pushed.total)
-        (laid-push 0 (runs_by l m) m.total (placed_run l.ticks l.origin run) (is.laid l small) next.before next.some (run_is l small));
+        (laid-push 0 (runs_by l m) m.total (placed_run l.ticks l.origin run) (is.runs.laid l small) next.before next.some (run_is l small));
     timed = λ l. extents_after (runs_by l new) (runs_by l m) (placed_run l.ticks l.origin run) (added l) (runs_new l) refl
-        (λ y. natural (y.start.ticks +ℤ pos l.origin) < 2 ^ 64) (is.timed l)
+        (λ y. natural (y.start.ticks +ℤ pos l.origin) < 2 ^ 64) (is.runs.timed l)
         (timed-in l run.step run.count run.start (omega (arith, next.near)));
-    members = expanded_new;
+    lasting = λ l more last. subst AreLasting (sym (members_new l more)) (is.runs.lasting l (map Closed (added l) ++ more)
+        (repeated_last run.count (extent_in l run.start run.step) more (record { one_scale = refl; end_is = l.positive; rises = omega (arith, ints) }) last));
     judged = judged_new;
   }
 
--- ---- the runs in a builder
+  pub media_more : IsMedia entries new
+  media_more = record { runs = runs_more; fewer = omega (arith, shorter, longer); members = expanded_new }
 
-any_drop : {X : Type 0} (test : X → Bool) (k : ℕ) (xs : List X) → list_any test xs ≡ false → list_any test (drop k xs) ≡ false
-any_drop test zero xs none = none
-any_drop test (suc k) [] none = none
-any_drop test (suc k) (x ∷ xs) none = any_drop test k xs (or_parts (test x) (list_any test xs) none).1
+-- ---- what was laid out
+
+-- S elements from a place on go on up to the Period's end as all of them do, where there are any
+open_behind : (n : ℕ) (entries : List SEntry) (s : SEntry) (later : List SEntry) → drop n entries ≡ s ∷ later
+    → ends_open (drop n entries) ≡ ends_open entries
+open_behind zero entries s later at = refl
+open_behind (suc n) [] s later at = refl
+open_behind (suc n) (x ∷ []) s later at = absurd (cc (drop-nil n))
+open_behind (suc n) (x ∷ next ∷ entries) s later at = open_behind n (next ∷ entries) s later at
+
+module _ (scale : Scale) (entries : List SEntry) (m : MediaRuns) (is : IsMedia entries m) where
+  -- and where there is none, the last one doesn't
+  closed_behind : rest_of entries m ≡ [] → ends_open entries ≡ false
+  closed_behind none = elim (cases_Bool (ends_open entries)) [
+    | inr closed ↦ closed
+    | inl is_open ↦
+        let l : Limits = record { ticks = scale.ticks; origin = scale.offset; positive = scale.positive } in
+        let members = is.members scale Unbounded l refl refl in
+        let runs = closed_not_open (all_extents (runs_by l m)) in
+        absurd (let some = open_expands scale 0 entries is_open in cc (append-nil (map Closed (all_extents (runs_by l m)))))
+  ]
+
+  pub open_left : ends_open (rest_of entries m) ≡ ends_open entries
+  open_left = left (rest_of entries m) refl where
+    left : (rest : List SEntry) → rest_of entries m ≡ rest → ends_open (rest_of entries m) ≡ ends_open entries
+    left [] none = ap ends_open none ∙ sym (closed_behind none)
+    left (s ∷ later) at = open_behind (length m.runs.items) entries s later at
 
 module _ (t : LaidTimeline) (is : IsLaidTimeline t) (scale : Scale) (l : Limits) (are : AreLimitsOf scale l) where
-  abbrev entries : List SEntry
-  entries = t.entries
+  members_at : (end : End) → expansion_of_laid scale end t
+      ≡ map Closed (all_extents (runs_by l t.media)) ++ members_from scale end t.media.former t.rest
+  members_at end = ap₂ (λ k o. map Closed (all_extents (map (placed_run k o) t.media.runs.items))
+      ++ members_from scale end t.media.former t.rest) (sym are.ticks) (sym are.origin)
+
+  pub laid_kept : (end : End) (b : RunsBuilder) → AreLaidOut scale (expansion_of_laid scale end t) b → t.no_time ≡ false
+      → AreKept (members_so_far b)
+  laid_kept end b laid some =
+      let last = is.media.lasting l (members_from scale end t.media.former t.rest)
+      (entries_last scale end t.media.former t.rest (is.lasting some)) in
+      rw laid.members_are (kept_of (λ x. b.limits.ticks) b.limits.origin (expansion_of_laid scale end t)
+      (subst AreLasting (sym (members_at end)) last) laid.judged)
 
   pub passed_fault : are_passed l t.media.longest t.media.former ≡ true → (end : End)
-      → segment_fault (breaks_limits scale.ticks scale.offset) None (expansion_of_timeline scale end entries) ≡ Some Range
+      → segment_fault (breaks_limits scale.ticks scale.offset) None (expansion_of_laid scale end t) ≡ Some Range
   passed_fault passed end =
-      let rest = members_from scale end t.media.former (rest_of entries t.media) in
-      fault_in scale l are None (expansion_of_timeline scale end entries)
-      ∙ ap (segment_fault (breaks_in l) None) (is.media.members scale end l are.ticks are.origin)
-      ∙ is.media.judged l rest ∙ cond-true (are_passed l t.media.longest t.media.former) (Some Range) _ passed
+      fault_in scale l are None (expansion_of_laid scale end t) ∙ ap (segment_fault (breaks_in l) None) (members_at end)
+      ∙ is.media.judged l (members_from scale end t.media.former t.rest)
+      ∙ cond-true (are_passed l t.media.longest t.media.former) (Some Range) _ passed
 
   pub begun_so_far : (b : RunsBuilder) (rest : List SEntry) → b.limits ≡ l → runs_in b ≡ runs_by l t.media → b.total ≡ t.media.total
-      → b.former ≡ t.media.former → IsNone b.endless → rest ≡ rest_of entries t.media → l.origin < 2 ^ 64 →
-      list_any (λ s. s.d == 0) entries ≡ false → are_passed l t.media.longest t.media.former ≡ false → (end : End)
-      → IsSoFar scale end entries b rest
+      → b.former ≡ t.media.former → IsNone b.endless → rest ≡ t.rest → l.origin < 2 ^ 64 → t.no_time ≡ false
+      → are_passed l t.media.longest t.media.former ≡ false → (end : End)
+      → IsSoFar scale end (expansion_of_laid scale end t) b rest
   begun_so_far b rest limits runs total former none at small lasting kept end =
       let laid : IsLaidOut b = record {
         laid = rw (runs, total) (is.media.laid l small);
@@ -403,18 +431,47 @@ module _ (t : LaidTimeline) (is : IsLaidTimeline t) (scale : Scale) (l : Limits)
         timed = rw (runs, limits) (is.media.timed l);
       } in
       let so_far : members_so_far b ≡ map Closed (all_extents (runs_by l t.media)) = rw (none_of b.endless none, append-nil, runs) refl in
-      let behind : members_from scale end b.former rest ≡ members_from scale end t.media.former (rest_of entries t.media) = cc in
+      let behind : members_from scale end b.former rest ≡ members_from scale end t.media.former t.rest = cc in
       let former_is : former_end b ≡ media_end l t.media = cc in
       record {
         limits = subst (λ (k : Limits). AreLimitsOf scale k) (sym limits) are;
         laid = laid;
-        lasting = cc (any_drop (λ s. s.d == 0) (length t.media.runs.items) entries lasting);
+        lasting = cc (is.lasting lasting);
         goes_on = inl (record { laid = laid; room = omega (arith, is.media.room); near = omega (arith, is.media.near) }, none);
-        members = cc (is.media.members scale end l are.ticks are.origin);
+        members_are = cc (members_at end);
         judged =
-            let by_judged = is.media.judged l (members_from scale end t.media.former (rest_of entries t.media)) in
-            cc (
-              is.media.members scale end l are.ticks are.origin,
-              cond-false (are_passed l t.media.longest t.media.former) (Some Range) _ kept,
-            );
+            let by_judged = is.media.judged l (members_from scale end t.media.former t.rest) in
+            cc (members_at end, cond-false (are_passed l t.media.longest t.media.former) (Some Range) _ kept);
       }
+
+-- ---- what S elements are laid out as
+
+any_drop : {X : Type 0} (test : X → Bool) (k : ℕ) (xs : List X) → list_any test xs ≡ false → list_any test (drop k xs) ≡ false
+any_drop test zero xs none = none
+any_drop test (suc k) [] none = none
+any_drop test (suc k) (x ∷ xs) none = any_drop test k xs (or_parts (test x) (list_any test xs) none).1
+
+some_scale : Scale
+some_scale = record { ticks = 1; offset = 0; start_number = 0; positive = omega arith; countable = omega arith }
+
+module _ (entries : List SEntry) (t : LaidTimeline) (is : IsMedia entries t.media) (rest : t.rest ≡ rest_of entries t.media)
+    (no_time : t.no_time ≡ list_any (λ s. s.d == 0) entries) where
+  pub laid_timeline : IsLaidTimeline t
+  laid_timeline = record {
+    media = is.runs;
+    lasting = λ none. ap (list_any (λ s. s.d == 0)) rest ∙ any_drop (λ s. s.d == 0) (length t.media.runs.items) entries (sym no_time ∙ none);
+  }
+
+  pub lays_out : LaysOut entries t
+  lays_out = record {
+    no_time = no_time;
+    ending = ap ends_open rest ∙ open_left some_scale entries t.media is;
+    members = λ scale end. ap (λ more. map Closed (all_extents (map (placed_run scale.ticks scale.offset) t.media.runs.items))
+        ++ members_from scale end t.media.former more) rest
+        ∙ sym (is.members scale end (record { ticks = scale.ticks; origin = scale.offset; positive = scale.positive }) refl refl);
+  }
+
+-- what is laid out means what the S elements mean
+pub laid_means : (entries : List SEntry) (t : LaidTimeline) → LaysOut entries t → (end : End) (live : Bool) (scale : Scale) (names : Names)
+    → timeline_of_laid t end live scale names ≡ timeline_of_entries entries end live scale names
+laid_means entries t is end live scale names = rw (is.no_time, is.ending, is.members scale end) refl

@@ -57,12 +57,17 @@ abbrev pub is_unbounded : End → Bool
 is_unbounded (At length) = false
 is_unbounded Unbounded = true
 
-abbrev pub timeline_fault : List SEntry → End → Bool → Scale → Names → Option TimeFault
-timeline_fault entries end live scale names = let members = expansion_of_timeline scale end entries in
-    or_fault (fault_if (list_any (λ s. s.d == 0) entries) ZeroDuration)
-    (or_fault (fault_if (not live && is_unbounded end && ends_open entries) NoEnd)
+-- of members, by whether some S lasts no time, and whether the last one goes on up to the Period's end
+abbrev pub members_fault : (no_time unended : Bool) → List Member → End → Bool → Scale → Names → Option TimeFault
+members_fault no_time unended members end live scale names =
+    or_fault (fault_if no_time ZeroDuration)
+    (or_fault (fault_if (not live && is_unbounded end && unended) NoEnd)
     (or_fault (segment_fault (breaks_limits scale.ticks scale.offset) None members)
     (fault_if (not (are_paired (count_of names) members)) ListLength)))
+
+abbrev pub timeline_fault : List SEntry → End → Bool → Scale → Names → Option TimeFault
+timeline_fault entries end live scale names =
+    members_fault (list_any (λ s. s.d == 0) entries) (ends_open entries) (expansion_of_timeline scale end entries) end live scale names
 
 abbrev pub extents_break : (Extent → Bool) → List Member → Bool
 extents_break breaks [] = false

@@ -1,13 +1,15 @@
 -- S elements that were laid out in media time, whatever the timescale.
-use Rattle.std.specs.Prelude.{◌≡◌, ℕ, ◌+◌, ◌*◌, ◌<◌, ◌≤◌, ◌^◌, ◌==◌, pos, ◌+ℤ◌, Bool, ◌||◌, nat_lt, max, List, [], ◌∷◌, ◌++◌, map, drop}
-use Rattle.std.specs.{Prelude.{length, All, Option, Some, None, if◌then◌else◌}, List.list_any}
+use Rattle.std.specs.Prelude.{◌≡◌, ℕ, ◌+◌, ◌*◌, ◌<◌, ◌≤◌, ◌^◌, ◌==◌, pos, ◌+ℤ◌, Bool, false, ◌||◌, nat_lt, max, List, [], ◌∷◌, ◌++◌, map}
+use Rattle.std.specs.{Prelude.{drop, length, All, Option, Some, None, Result, if◌then◌else◌}, List.list_any}
 use Rattle.exact_time.specs.Time.{Time}
 use Rattle.timeline.specs.{declared.entry.SEntry.SEntry, declared.entry.Scale.Scale, declared.entry.End.End}
-use Rattle.timeline.specs.{declared.fault.TimeFault.TheVariants.Range, declared.limits.Limits.Limits, declared.media_run.MediaRun.MediaRun}
+use Rattle.timeline.specs.{declared.fault.TimeFault.TimeFault, declared.fault.TimeFault.TheVariants.Range, declared.limits.Limits.Limits}
+use Rattle.timeline.specs.{declared.media_run.MediaRun.MediaRun, declared.names.Names.Names}
 use Rattle.timeline.specs.{declared.media_runs.MediaRuns.MediaRuns, declared.shared_timeline.LaidTimeline.LaidTimeline}
 use Rattle.timeline.specs.{declared.timelines.Reach.TheVariants.Count, Building.{breaks_in, placed_in}, Expansions.{Member, Closed}}
-use Rattle.timeline.specs.{Faults.segment_fault, Ratios.natural, Reaches.{IsReach, start_of}, RunSegments.{AreLaid, TimedRun, all_extents}}
-use Rattle.timeline.specs.{RunSegments.placed_run, Timelines.{expansion_of_timeline, extent_from, members_from, reach_of}}
+use Rattle.timeline.specs.{Expansions.SegmentTimeline, Faults.{ends_open, segment_fault}, Ratios.natural, Reaches.{IsReach, start_of}}
+use Rattle.timeline.specs.{RunSegments.{AreLaid, TimedRun, all_extents, placed_run}, SegmentTimelines.timeline_of_members, Steady.AreLasting}
+use Rattle.timeline.specs.Timelines.{expansion_of_timeline, extent_from, members_from, reach_of}
 
 -- the S elements that have no run here
 abbrev pub rest_of : List SEntry → MediaRuns → List SEntry
@@ -43,20 +45,39 @@ pub record IsPushed (old : MediaRuns) (run : MediaRun) (new : MediaRuns) : Type 
   pub former : new.former ≡ run.start + run.count * run.step
   pub longest : new.longest ≡ max old.longest run.step
 
--- the runs are those of the first S elements, and tell the first fault of these at every timescale
-pub record IsMedia (entries : List SEntry) (m : MediaRuns) : Type 0 where
-  pub fewer : length m.runs.items ≤ length entries
+-- the runs stand in a row, and tell their first fault at every timescale
+pub record AreMediaRuns (m : MediaRuns) : Type 0 where
   pub begun : m.total ≡ 0 → m.former ≡ 0
   pub room : m.total ≤ m.former
   pub near : m.former < 2 ^ 63
   pub laid : (l : Limits) → l.origin < 2 ^ 64 → AreLaid 0 (runs_by l m) m.total
   pub timed : (l : Limits) → All (λ x. natural (x.start.ticks +ℤ pos l.origin) < 2 ^ 64) (all_extents (runs_by l m))
-  pub members : (scale : Scale) (end : End) (l : Limits) → l.ticks ≡ scale.ticks → l.origin ≡ scale.offset →
-      expansion_of_timeline scale end entries ≡ map Closed (all_extents (runs_by l m)) ++ members_from scale end m.former
-      (rest_of entries m)
+  pub lasting : (l : Limits) (later : List Member) → AreLasting later → AreLasting (map Closed (all_extents (runs_by l m)) ++ later)
   pub judged : (l : Limits) (later : List Member) → segment_fault (breaks_in l) None (map Closed (all_extents (runs_by l m)) ++ later)
       ≡ (if are_passed l m.longest m.former then Some Range else segment_fault (breaks_in l) (media_end l m) later)
 
+-- the runs are those of the first S elements
+pub record IsMedia (entries : List SEntry) (m : MediaRuns) : Type 0 where
+  pub runs : AreMediaRuns m
+  pub fewer : length m.runs.items ≤ length entries
+  pub members : (scale : Scale) (end : End) (l : Limits) → l.ticks ≡ scale.ticks → l.origin ≡ scale.offset →
+      expansion_of_timeline scale end entries ≡ map Closed (all_extents (runs_by l m)) ++ members_from scale end m.former
+      (rest_of entries m)
+
 pub record IsLaidTimeline (t : LaidTimeline) : Type 0 where
-  pub media : IsMedia t.entries t.media
-  pub no_time : t.no_time ≡ list_any (λ s. s.d == 0) t.entries
+  pub media : AreMediaRuns t.media
+  pub lasting : t.no_time ≡ false → list_any (λ s. s.d == 0) t.rest ≡ false
+
+-- the segments of the runs at a scale, and those of the S elements behind them
+abbrev pub expansion_of_laid : Scale → End → LaidTimeline → List Member
+expansion_of_laid scale end t =
+    map Closed (all_extents (map (placed_run scale.ticks scale.offset) t.media.runs.items)) ++ members_from scale end t.media.former t.rest
+
+abbrev pub timeline_of_laid : LaidTimeline → End → Bool → Scale → Names → Result SegmentTimeline TimeFault
+timeline_of_laid t end live scale names = timeline_of_members t.no_time (ends_open t.rest) (expansion_of_laid scale end t) end live scale names
+
+-- S elements are laid out so
+pub record LaysOut (entries : List SEntry) (t : LaidTimeline) : Type 0 where
+  pub no_time : t.no_time ≡ list_any (λ s. s.d == 0) entries
+  pub ending : ends_open t.rest ≡ ends_open entries
+  pub members : (scale : Scale) (end : End) → expansion_of_laid scale end t ≡ expansion_of_timeline scale end entries

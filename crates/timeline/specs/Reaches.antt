@@ -7,7 +7,7 @@ use Rattle.timeline.specs.{declared.fault.TimeFault.TimeFault, declared.builder.
 use Rattle.timeline.specs.{declared.timelines.Reach.Reach as Found, declared.timelines.Reach.TheVariants.{Count, Open, Nowhere}}
 use Rattle.timeline.specs.{Expansions.{Extent, Member, Closed, Short, repeated}, Faults.{refusal, segment_fault}, Building.IsLaidOut}
 use Rattle.timeline.specs.{Building.{IsInTime, breaks_in, former_end, members_so_far}, Timelines.{Reach, Unending, count_of, extent_from}}
-use Rattle.timeline.specs.Timelines.{members_of, members_from, expansion_of_timeline, reach_of}
+use Rattle.timeline.specs.Timelines.{members_of, members_from, reach_of}
 
 -- the segments from a start on that it takes up to a bound
 abbrev pub IsUpTo : ℕ → ℕ → ℕ → Found → Type 0
@@ -45,14 +45,14 @@ pub record AreLimitsOf (scale : Scale) (limits : Limits) : Type 0 where
 abbrev pub GoesOn : RunsBuilder → List SEntry → Type 0
 GoesOn l later = (IsInTime l × IsNone l.endless) ⊎ (later ≡ [])
 
--- the segments of some S are in the row, and those of the others are judged from there on
-pub record IsSoFar (scale : Scale) (end : End) (entries : List SEntry) (l : RunsBuilder) (rest : List SEntry) : Type 0 where
+-- of members, those of the first S are in the row, and those of the others are judged from there on
+pub record IsSoFar (scale : Scale) (end : End) (members : List Member) (l : RunsBuilder) (rest : List SEntry) : Type 0 where
   pub limits : AreLimitsOf scale l.limits
   pub laid : IsLaidOut l
   pub lasting : list_any (λ s. s.d == 0) rest ≡ false
   pub goes_on : GoesOn l rest
-  pub members : expansion_of_timeline scale end entries ≡ members_so_far l ++ members_from scale end l.former rest
-  pub judged : segment_fault (breaks_in l.limits) None (expansion_of_timeline scale end entries)
+  pub members_are : members ≡ members_so_far l ++ members_from scale end l.former rest
+  pub judged : segment_fault (breaks_in l.limits) None members
       ≡ segment_fault (breaks_in l.limits) (former_end l) (members_from scale end l.former rest)
 
 -- the members are in the row, and have no fault

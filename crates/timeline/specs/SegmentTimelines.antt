@@ -1,10 +1,10 @@
 -- What the constructors of `Runs` give.
-use Rattle.std.specs.Prelude.{ℕ, Bool, List, not, Option, Some, None, Result, Ok, Err, IsSome}
+use Rattle.std.specs.{Prelude.{ℕ, ◌==◌, Bool, List, not, Option, Some, None, Result, Ok, Err, IsSome}, List.list_any}
 use Rattle.timeline.specs.{declared.fault.TimeFault.TimeFault, declared.fault.TimeFault.TheVariants.ListLength}
 use Rattle.timeline.specs.{declared.entry.SEntry.SEntry, declared.entry.Scale.Scale, declared.entry.End.End, declared.span.Span.Span}
 use Rattle.timeline.specs.{declared.names.Names.Names, Expansions.{SegmentTimeline, Member}, Timelines.expansion_of_timeline}
-use Rattle.timeline.specs.{Durations.expansion_of_list, Faults.{timeline_fault, duration_fault, list_fault, members_by, are_paired}}
-use Rattle.timeline.specs.{Faults.fault_if, Names.count_of}
+use Rattle.timeline.specs.{Durations.expansion_of_list, Faults.{duration_fault, list_fault, members_by, members_fault, are_paired}}
+use Rattle.timeline.specs.{Faults.{ends_open, fault_if}, Names.count_of}
 
 abbrev pub unless_fault : Option TimeFault → SegmentTimeline → Result SegmentTimeline TimeFault
 unless_fault None timeline = Ok timeline
@@ -26,9 +26,13 @@ abbrev pub timeline_if_paired : Scale → ℕ → Names → List Member → Resu
 timeline_if_paired scale origin names members = unless_fault (fault_if (not (are_paired (count_of names) members)) ListLength)
     (timeline_from scale origin names members)
 
+abbrev pub timeline_of_members : (no_time unended : Bool) → List Member → End → Bool → Scale → Names → Result SegmentTimeline TimeFault
+timeline_of_members no_time unended members end live scale names =
+    unless_fault (members_fault no_time unended members end live scale names) (timeline_from scale scale.offset names members)
+
 abbrev pub timeline_of_entries : List SEntry → End → Bool → Scale → Names → Result SegmentTimeline TimeFault
-timeline_of_entries entries end live scale names = unless_fault (timeline_fault entries end live scale names)
-    (timeline_from scale scale.offset names (expansion_of_timeline scale end entries))
+timeline_of_entries entries end live scale names = timeline_of_members (list_any (λ s. s.d == 0) entries) (ends_open entries)
+    (expansion_of_timeline scale end entries) end live scale names
 
 -- the times of segments by a duration are counted from the Period's start
 abbrev pub timeline_of_duration : ℕ → End → Bool → Scale → Names → Result SegmentTimeline TimeFault

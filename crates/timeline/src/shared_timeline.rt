@@ -1,6 +1,5 @@
 // A timeline that many Representations share.
-ghost use Rattle.std.specs.Prelude.{◌≡◌, ◌==◌, false, IfOk, MatchResult};
-ghost use Rattle.std.specs.List.{list_any};
+ghost use Rattle.std.specs.Prelude.{◌≡◌, false, IfOk, MatchResult};
 
 use crate::builder::RunsBuilder;
 use crate::media_run::MediaRun;
@@ -12,12 +11,13 @@ use std::alloc::Global;
 use std::marker::Model;
 use std::rc::Rc;
 
-/// The S elements of a timeline, and the runs of the first ones of them.
+/// The S elements of a timeline: the runs of the first ones, and those that are left.
 #[derive(Debug, Drop)]
 pub struct LaidTimeline {
-    pub entries: SList,
-    /// Those of the first S elements that have a run for every timescale.
+    /// The runs of the first S elements, up to one that has none for every timescale.
     pub media: MediaRuns,
+    /// The S elements behind them.
+    pub rest: SList,
     /// Whether some S lasts no time.
     pub no_time: bool,
 }
@@ -34,21 +34,20 @@ impl LaidTimeline {
 /// whatever their timescales, their `@presentationTimeOffset` and the Period's end. The `Runs` of each of them keep a
 /// hold of it, and no copy.
 ///
-/// In a contract it is the list of S elements.
+/// In a contract it is what was laid out, and `LaysOut` says of which S elements.
 #[derive(Debug, Drop)]
 pub struct SharedTimeline {
     laid: Rc<LaidTimeline>,
 }
 
 impl Model for SharedTimeline {
-    ghost use Rattle.std.specs.Prelude.{List};
-    ghost use Rattle.timeline.specs.declared.entry.SEntry.{SEntry};
+    ghost use Rattle.timeline.specs.declared.shared_timeline.LaidTimeline.{LaidTimeline};
 
-    ghost Value = { List SEntry };
+    ghost Value = { LaidTimeline };
 
     ghost use Rattle.timeline.specs.MediaTimelines.{IsLaidTimeline};
 
-    ghost view = { λ t. t.laid.value.entries };
+    ghost view = { λ t. t.laid.value };
 
     ghost invariant = { λ t. IsLaidTimeline t.laid.value };
 }
@@ -57,33 +56,36 @@ impl SharedTimeline {
     ghost use Rattle.timeline.specs.declared.entry.End.{End};
     ghost use Rattle.timeline.specs.Limits.{breaks_limits};
     ghost use Rattle.timeline.specs.Reaches.{IsSoFar, IsTheirFault};
-    ghost use Rattle.timeline.specs.Timelines.{expansion_of_timeline};
+    ghost use Rattle.timeline.specs.MediaTimelines.{IsLaidTimeline, LaysOut, expansion_of_laid};
 
-    /// Lays out the S elements, which it keeps.
-    pub fn of(alloc: Global, entries: SList) -> Result<SharedTimeline, NoMemory>
-        ensures { IfOk result (λ timeline. timeline ≡ entries) }
+    /// Lays out S elements.
+    pub fn of(alloc: Global, entries: &[SEntry]) -> Result<SharedTimeline, NoMemory>
+        ensures { IfOk result (LaysOut entries.now) }
     {
-        let no_time = have_no_time(entries.as_slice());
-        let media = MediaRuns::of(alloc, entries.as_slice())?;
+        let no_time = have_no_time(entries);
+        let media = MediaRuns::of(alloc, entries)?;
+        let mut rest = SList::new(alloc);
+        rest.extend(&entries[media.runs.as_slice().len()..])?;
         let laid = LaidTimeline {
-            entries,
             media,
+            rest,
             no_time,
         };
         let laid = Rc::new(alloc, laid)?;
         Ok(SharedTimeline { laid })
     }
 
-    /// The S elements.
-    pub(crate) fn entries(&self) -> &[SEntry]
-        ensures { result.now ≡ self.now }
+    /// The S elements behind the runs that were laid out.
+    pub(crate) fn rest(&self) -> &[SEntry]
+        ensures rest { result.now ≡ self.now.rest }
+        ensures laid { IsLaidTimeline self.now }
     {
-        self.laid.entries.as_slice()
+        self.laid.rest.as_slice()
     }
 
     /// Whether some S lasts no time.
     pub(crate) fn has_no_time(&self) -> bool
-        ensures { result ≡ list_any (λ s. s.d == 0) self.now }
+        ensures { result ≡ self.now.no_time }
     {
         self.laid.no_time
     }
@@ -95,18 +97,17 @@ impl SharedTimeline {
         alloc: Global,
         scale: Scale,
     ) -> Result<(RunsBuilder, &[SEntry]), TimeFault>
-        requires lasting { list_any (λ s. s.d == 0) self.now ≡ false }
+        requires lasting { self.now.no_time ≡ false }
         ensures { MatchResult result
-            (λ parts. (end : End) → IsSoFar scale end self.now parts.0 parts.1.now)
+            (λ parts. (end : End) → IsSoFar scale end (expansion_of_laid scale end self.now) parts.0 parts.1.now)
             (λ fault. (end : End) → IsTheirFault (breaks_limits scale.ticks scale.offset)
-            (expansion_of_timeline scale end self.now) fault) }
+            (expansion_of_laid scale end self.now) fault) }
     {
         let limits = scale.limits(scale.offset);
         if self.laid.media.are_passed(limits) {
             return Err(TimeFault::Range);
         }
         let laid = self.laid.clone()?;
-        let rest = &self.laid.entries.as_slice()[self.laid.runs().len()..];
-        Ok((RunsBuilder::upon(alloc, laid, limits), rest))
+        Ok((RunsBuilder::upon(alloc, laid, limits), self.rest()))
     }
 }

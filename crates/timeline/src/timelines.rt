@@ -1,5 +1,5 @@
 // The segments of a SegmentTimeline.
-ghost use Rattle.std.specs.Prelude.{◌≡◌, ◌<◌, ◌^◌, ◌==◌, ◌⊎◌, ◌&&◌, not, [], false, IfOk, IsNone, MatchResult, OnOk};
+ghost use Rattle.std.specs.Prelude.{◌≡◌, ◌<◌, ◌^◌, ◌==◌, ◌⊎◌, ◌&&◌, not, [], false, IsNone, MatchResult, OnOk};
 ghost use Rattle.std.specs.List.{list_any};
 ghost use Rattle.bridge_io.specs.Answer.{Gives};
 ghost use Rattle.timeline.specs.Faults.{ends_open, is_unbounded};
@@ -7,11 +7,11 @@ ghost use Rattle.timeline.specs.Building.{AreAdded, IsFaultOf, IsInTime, IsLaidO
 ghost use Rattle.timeline.specs.Limits.{breaks_limits};
 ghost use Rattle.timeline.specs.Reaches.{AreLaidOut, AreLimitsOf, GoesOn, IsReach, IsTheirFault, IsUpTo, members_of_entry, next_of};
 ghost use Rattle.timeline.specs.Reaches.{start_of};
-ghost use Rattle.timeline.specs.Timelines.{expansion_of_timeline, extent_from, reach_of};
+ghost use Rattle.timeline.specs.MediaTimelines.{expansion_of_laid};
+ghost use Rattle.timeline.specs.Timelines.{extent_from, reach_of};
 
 use crate::builder::RunsBuilder;
 use crate::{End, Names, Runs, SEntry, SList, Scale, SharedTimeline, TimeFault};
-use bridge_io::NoMemory;
 use exact_time::ceil_count;
 use std::alloc::Global;
 
@@ -28,6 +28,7 @@ pub enum Reach {
 
 impl Runs {
     ghost use Rattle.timeline.specs.Faults.{refusal};
+    ghost use Rattle.timeline.specs.MediaTimelines.{timeline_of_laid};
     ghost use Rattle.timeline.specs.SegmentTimelines.{timeline_of_entries};
 
     /// The segments of a SegmentTimeline (ISO/IEC 23009-1, 5.3.9.6).
@@ -46,12 +47,12 @@ impl Runs {
     ) -> Result<Runs, TimeFault>
         ensures { Gives (λ runs. runs) refusal result (timeline_of_entries list.now end live scale names) }
     {
-        let timeline = SharedTimeline::of(alloc, copy_of(alloc, list)?)?;
+        let timeline = SharedTimeline::of(alloc, list.as_slice())?;
         Runs::from_shared(alloc, &timeline, end, live, scale, names)
     }
 
-    /// The segments of a SegmentTimeline that others share. It is `from_timeline` of its S elements, and takes no memory
-    /// for each of them.
+    /// The segments of a SegmentTimeline that others share. It is `from_timeline` of the S elements that were laid out, and
+    /// takes no memory for each of them.
     pub fn from_shared(
         alloc: Global,
         timeline: &SharedTimeline,
@@ -60,25 +61,17 @@ impl Runs {
         scale: Scale,
         names: Names,
     ) -> Result<Runs, TimeFault>
-        ensures { Gives (λ runs. runs) refusal result (timeline_of_entries timeline.now end live scale names) }
+        ensures { Gives (λ runs. runs) refusal result (timeline_of_laid timeline.now end live scale names) }
     {
         if timeline.has_no_time() {
             return Err(TimeFault::ZeroDuration);
         }
-        if lack_end(timeline.entries(), end, live) {
+        if lack_end(timeline.rest(), end, live) {
             return Err(TimeFault::NoEnd);
         }
         let builder = laid_out(alloc, timeline, &end, scale)?;
         Runs::paired(builder, scale, scale.offset, names)
     }
-}
-
-fn copy_of(alloc: Global, list: &SList) -> Result<SList, NoMemory>
-    ensures { IfOk result (λ copy. copy ≡ list.now) }
-{
-    let mut copy = SList::new(alloc);
-    copy.extend(list.as_slice())?;
-    Ok(copy)
 }
 
 /// Whether some S lasts no time.
@@ -112,8 +105,8 @@ fn laid_out(
     end: &End,
     scale: Scale,
 ) -> Result<RunsBuilder, TimeFault>
-    requires { list_any (λ s. s.d == 0) timeline.now ≡ false }
-    ensures { let members = expansion_of_timeline scale end.now timeline.now in
+    requires { timeline.now.no_time ≡ false }
+    ensures { let members = expansion_of_laid scale end.now timeline.now in
         MatchResult result (AreLaidOut scale members) (IsTheirFault (breaks_limits scale.ticks scale.offset) members) }
 {
     let (mut builder, mut rest) = timeline.begin(alloc, scale)?;
