@@ -36,7 +36,7 @@ fn shares(rt: HostRuntime) -> Result<(), Fail> {
     for (t, d, r) in [(None, 4, 1), (Some(10), 6, 0), (None, 2, -1)] {
         list.push(SEntry { t, d, r })?;
     }
-    let shared = SharedTimeline::of(alloc, list)?;
+    let shared = SharedTimeline::of(alloc, list.as_slice())?;
     for (ticks, offset, count) in [(1, 0, 5u64), (2, 4, 16)] {
         let scale = Scale {
             ticks,

@@ -10,7 +10,7 @@ use Rattle.timeline.specs.{Listed.part_of_timing, SegmentTimelines.timeline_from
 use Rattle.mpd_levels.specs.Segments.{if_any}
 use Rattle.mpd_rules.specs.declared.rows.Description.{Description}
 use Rattle.presentation.specs.{declared.parts.Content.Content, Presented.{listed_in, whole_window}, Meanings.{content_meant, entry_of}}
-use Rattle.presentation.specs.{Meanings.{entry_with, listed_part, own_part, part_meant, segment_of}, Scales.scale_of, Told.name_of}
+use Rattle.presentation.specs.{Meanings.{entry_with, listed_part, own_part, part_meant, segment_of}, Scales.scale_of}
 use Rattle.dash_writer.specs.Segments.{duration_of, part_or_none}
 use Rattle.laws_of_mpds.specs.{Rows.in_row, Told.{list_told, told_of, url_of}, Contents.{IsOwnPart, IsPlain, IsPlainFrom, ContentsAreMeant}}
 use Rattle.laws_of_mpds.specs.Contents.{TimedContentsAreMeant}
@@ -20,7 +20,7 @@ use Rattle.laws_of_mpds.proofs.{Addressed.own_address, Times.{all_listed, durati
 
 -- the reference at a place gives the part there
 part_again : (url : List ℕ) (parts : List Part) (k : ℕ) → k < length parts → AllByRecursion IsOwnPart parts
-    → listed_part url (slice_get (map name_of (map url_of parts)) k) ≡ own_part (slice_get parts k)
+    → listed_part url (slice_get (map url_of parts) k) ≡ own_part (slice_get parts k)
 part_again url [] k within own = absurd (omega (arith, within))
 part_again url (p ∷ parts) zero within own = ap (λ address. record {
   address = address;
@@ -46,7 +46,7 @@ parts_behind tl parts k n (x ∷ xs) named is paired =
 
 -- the same segments of two timelines with the same parts
 same_segments : (tl other : SegmentTimeline) (url : List ℕ) (parts : List Part) (k n m : ℕ) (xs : List Extent)
-    → tl.names ≡ names.Addresses parts → other.names ≡ names.Shared (map name_of (map url_of parts)) url → n ≡ tl.first_number + k
+    → tl.names ≡ names.Addresses parts → other.names ≡ names.Shared (map url_of parts) url → n ≡ tl.first_number + k
     → m ≡ other.first_number + k
     → k + length xs ≤ length parts → AllByRecursion IsOwnPart parts
     → map (segment_of other) (numbered m xs) ≡ map (segment_of tl) (numbered n xs)
@@ -128,7 +128,7 @@ content_is : (c : Content) (offset from : ℕ) (plain : IsPlainFrom from c) (url
     ≡ record {
       initialization = c.initialization;
       runs = timeline_from (scale_of (list_told c.runs.ticks offset (offset + from) c.initialization plain.durations plain.parts)) offset
-          (names.Shared (map name_of (map url_of plain.parts)) url)
+          (names.Shared (map url_of plain.parts) url)
           (map Closed (in_row (max 1 c.runs.ticks) from plain.durations));
     }
 unfolding content_meant
@@ -144,7 +144,7 @@ content_is c offset from plain url end d bases =
 pub timed_contents : TimedContentsAreMeant
 timed_contents c offset from url end d plain bases =
     let s = list_told c.runs.ticks offset (offset + from) c.initialization plain.durations plain.parts in
-    let other : SegmentTimeline = timeline_from (scale_of s) offset (names.Shared (map name_of (map url_of plain.parts)) url)
+    let other : SegmentTimeline = timeline_from (scale_of s) offset (names.Shared (map url_of plain.parts) url)
     (map Closed (in_row (max 1 c.runs.ticks) from plain.durations)) in
     let same_ticks : max 1 c.runs.ticks ≡ c.runs.ticks = omega (arith, plain.positive) in
     let row = in_row c.runs.ticks from plain.durations in

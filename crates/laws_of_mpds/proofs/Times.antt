@@ -7,7 +7,7 @@ use Rattle.exact_time.specs.Time.{Time, in_units, before, seconds}
 use Rattle.timeline.specs.{declared.entry.End.End, declared.entry.Scale.Scale, Expansions.{Extent, Closed, extents, numbered, repeated}}
 use Rattle.timeline.specs.{Expansions.repeat_of, Listed.is_listed, Ratios.natural, Timelines.{expansion_of_timeline, extent_from}}
 use Rattle.timeline.specs.Timelines.{members_from}
-use Rattle.presentation.specs.{Presented.whole_window, Told.entries_of}
+use Rattle.presentation.specs.Presented.{whole_window}
 use Rattle.dash_writer.specs.{Runs.{longest_runs, with_first}, Segments.{duration_of, same_duration}}
 use Rattle.laws_of_mpds.specs.{Rows.in_row, Told.runs_of}
 
@@ -115,7 +115,7 @@ row_joins ticks from d (e ∷ others) ds all =
 -- the members of an S are its run
 runs_expand : (scale : Scale) (end : End) (told : Option ℕ) (former time from : ℕ) (runs : List (List ℕ)) → time ≡ scale.offset + from
     → unwrap_or told former ≡ time → AllByRecursion IsRun runs
-    → members_from scale end former (entries_of (runs_of told runs)) ≡ map Closed (in_row scale.ticks from (joined runs))
+    → members_from scale end former (runs_of told runs) ≡ map Closed (in_row scale.ticks from (joined runs))
 runs_expand scale end told former time from [] is begins all = refl
 runs_expand scale end told former time from ([] ∷ runs) is begins all = absurd (all.0)
 runs_expand scale end told former time from ((d ∷ others) ∷ runs) is begins all =
@@ -128,7 +128,7 @@ runs_expand scale end told former time from ((d ∷ others) ∷ runs) is begins 
     ∙ ap (map Closed) (sym (row_joins scale.ticks from d (d ∷ others) (joined runs) (refl, all.0))))
 
 pub timeline_expands : (scale : Scale) (end : End) (first from : ℕ) (ds : List ℕ) → first ≡ scale.offset + from
-    → expansion_of_timeline scale end (entries_of (runs_of (Some first) (longest_runs same_duration ds)))
+    → expansion_of_timeline scale end (runs_of (Some first) (longest_runs same_duration ds))
     ≡ map Closed (in_row scale.ticks from ds)
 timeline_expands scale end first from ds is =
     runs_expand scale end (Some first) 0 first from (longest_runs same_duration ds) is refl (all_run ds)

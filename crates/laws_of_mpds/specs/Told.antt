@@ -3,9 +3,10 @@ use Rattle.std.specs.Prelude.{◌≡◌, ℕ, ◌+◌, ◌^◌, ◌<◌, ◌≤�
 use Rattle.std.specs.{Prelude.{None, unwrap_or, IfSome}, List.{list_all, AllByRecursion}}
 use Rattle.bridge_io.specs.declared.place.Place.{Place}
 use Rattle.url_parts.specs.{declared.address.Part.Part, declared.range.Range.Range}
-use Rattle.timeline.specs.{Expansions.{SegmentTimeline, Timing}, Listed.part_of_timing}
+use Rattle.timeline.specs.{declared.entry.SEntry.SEntry, declared.names.RefPart.RefPart, Expansions.{SegmentTimeline, Timing}}
+use Rattle.timeline.specs.Listed.{part_of_timing}
 use Rattle.mpd_text.specs.{Trees.Element, Grammar.past}
-use Rattle.mpd_levels.specs.{declared.tables.SView.SView, declared.tables.SegmentUrl.SegmentUrl, Segments.{Segments, if_any, segments_of}}
+use Rattle.mpd_levels.specs.Segments.{Segments, if_any, segments_of}
 use Rattle.mpd_markup.specs.{Markup.{Tag, opening}, Placed.{head_at, placed}}
 use Rattle.dash_writer.specs.{Elements.{Element as Written, in_order}, Lists.list_with, Runs.longest_runs, Segments.duration_of}
 use Rattle.dash_writer.specs.Segments.{part_or_none, same_duration, segment_list}
@@ -19,19 +20,19 @@ read_at here x = record { head = head_at here x.0 x.1; children = placed (past h
 -- ---- segments
 
 -- an S (5.3.9.6)
-abbrev pub run_told : (time : Option ℕ) → (duration repeats : ℕ) → SView
+abbrev pub run_told : (time : Option ℕ) → (duration repeats : ℕ) → SEntry
 run_told time duration repeats = record { t = time; d = duration; r = pos repeats }
 
-abbrev pub run_of : (time : Option ℕ) → List ℕ → List SView
+abbrev pub run_of : (time : Option ℕ) → List ℕ → List SEntry
 run_of time [] = []
 run_of time (duration ∷ others) = run_told time duration (length others) ∷ []
 
-abbrev pub runs_of : (time : Option ℕ) → List (List ℕ) → List SView
+abbrev pub runs_of : (time : Option ℕ) → List (List ℕ) → List SEntry
 runs_of time [] = []
 runs_of time (run ∷ runs) = run_of time run ++ runs_of None runs
 
-abbrev pub url_of : Part → SegmentUrl
-url_of part = record { media = Some part.address; range = part.range }
+abbrev pub url_of : Part → RefPart
+url_of part = record { reference = Some part.address; range = part.range }
 
 -- segments of these durations and files: the media time of the Period's start, and that of the first segment
 abbrev pub list_told : (ticks offset first : ℕ) → Part → (durations : List ℕ) → List Part → Segments

@@ -23,7 +23,8 @@ use Rattle.template_ids.specs.{declared.fault.TemplateFault.TemplateFault, decla
 use Rattle.template_ids.specs.{declared.identifier.Identifier.TheVariants.{Dollar, Padded, RepresentationId}, declared.ids.Ids.Ids}
 use Rattle.template_ids.specs.{Identifiers.identifier_of, Templates.{is_dollar, named, padded, parts_of, quantity, replaced}}
 use Rattle.template_ids.specs.Templates.{template_fault, template_of, value_if_ok, value_of}
-use Rattle.timeline.specs.{declared.entry.End.End, declared.names.Names.Names, declared.names.RefPart.RefPart, Expansions.SegmentTimeline}
+use Rattle.timeline.specs.{declared.entry.End.End, declared.entry.SEntry.SEntry, declared.names.Names.Names}
+use Rattle.timeline.specs.{declared.names.RefPart.RefPart, Expansions.SegmentTimeline}
 use Rattle.timeline.specs.{Listed.media_time, Names.{listed_part, part_at, part_of, referred}, OpenEnds.{DurationsEnd, TimelinesEnd}}
 use Rattle.timeline.proofs.OpenEnds.{no_fault}
 use Rattle.mpd_values.specs.{declared.blank.Blank.TheVariants.SpaceOrLineEnd, Blanks.trimmed}
@@ -31,8 +32,7 @@ use Rattle.mpd_text.specs.{Trees.{Attribute, Element, Forest, Head, element, not
 use Rattle.mpd_profile.specs.{declared.listed.Addressing.TheVariants.Segments as OneByOne, declared.listed.Listed.Listed, Heads.is_named}
 use Rattle.mpd_profile.specs.Heads.{value_named}
 use Rattle.mpd_levels.specs.{declared.initialization.Initialization.Initialization, declared.level.Means.Means}
-use Rattle.mpd_levels.specs.{declared.tables.SegmentUrl.SegmentUrl, declared.tables.SView.SView, Levels.{elements_used, first_some}}
-use Rattle.mpd_levels.specs.{Levels.{list_name, template_name, used}, Readings.{child_named, children_named}, Segments.Segments}
+use Rattle.mpd_levels.specs.{Levels.{elements_used, first_some, list_name, template_name, used}, Readings.{child_named, children_named}, Segments.Segments}
 use Rattle.mpd_levels.specs.Segments.{attributes_by, if_any, initialization_in, initialization_of, of_list, of_template, segments_by}
 use Rattle.mpd_levels.specs.Segments.{segments_of, told, unless_there, url_of, urls_by, urls_in, values_in}
 use Rattle.mpd_rules.specs.{declared.rows.Description.Description, Kept.{Path, is_kept, kept_children, levels_of, path_in, paths_of}}
@@ -41,8 +41,8 @@ use Rattle.mpd_rules.specs.Typed.{bases_below, common_at, description_in}
 use Rattle.mpd_rules.proofs.Ranges.{named_some}
 use Rattle.presentation.specs.{declared.fault.PresentationFault.PresentationFault, declared.parts.Content.Content}
 use Rattle.presentation.specs.{Origins.CameFromStaticMpd, Presented.{IsEnded, Presented}, Rows.{Period, Row}, Scales.scale_of}
-use Rattle.presentation.specs.Told.{all_told, at_url, base_of, content_of, end_of, entries_of, gathered, init_of, init_reference}
-use Rattle.presentation.specs.Told.{init_template_of, initialization_of as initialization_told, media_of, name_of, names_in, names_of}
+use Rattle.presentation.specs.Told.{all_told, at_url, base_of, content_of, end_of, gathered, init_of, init_reference}
+use Rattle.presentation.specs.Told.{init_template_of, initialization_of as initialization_told, media_of, names_of}
 use Rattle.presentation.specs.Told.{one_told, part_with, period_told, runs_of, segments_in, some_init, timeline_by, told_as, told_in_order}
 use Rattle.presentation.specs.Told.{told_of, unless_segments, untold}
 use Rattle.presentation.proofs.{Ending.all_ended, Filling.{all_in_order, ok_under}, Pace.{IsSound, duration_sound, entries_sound}}
@@ -212,8 +212,8 @@ below above e are is = with_one (base_reference e) (reference_is e is)
 -- ---- segments
 
 -- a SegmentURL
-pub record IsUrlOfBytes (url : SegmentUrl) : Type 0 where
-  pub media : IfSome url.media IsOfBytes
+pub record IsUrlOfBytes (url : RefPart) : Type 0 where
+  pub reference : IfSome url.reference IsOfBytes
   pub range : IfSome url.range IsSomeBytes
 
 pub record AreSegmentsOfBytes (s : Segments) : Type 0 where
@@ -249,12 +249,12 @@ of_other : {X : Type 0} (P : X → Type 0) (b : Bool) (o : Option X) → IfSome 
 of_other P true o is = is
 of_other P false o is = tt
 
-some_urls : (urls : List SegmentUrl) → All IsUrlOfBytes urls → IfSome (if_any urls) (All IsUrlOfBytes)
+some_urls : (urls : List RefPart) → All IsUrlOfBytes urls → IfSome (if_any urls) (All IsUrlOfBytes)
 some_urls [] all = tt
 some_urls (url ∷ urls) all = all
 
 url_is : (e : Element) → IsElementOfBytes e → IsUrlOfBytes (url_of e)
-url_is e is = record { media = value_is (codes "media") e.head is.head; range = named_some (value_named (codes "mediaRange") e.head) }
+url_is e is = record { reference = value_is (codes "media") e.head is.head; range = named_some (value_named (codes "mediaRange") e.head) }
 
 urls_are : (e : Element) → IsElementOfBytes e → IfSome (urls_in e) (All IsUrlOfBytes)
 urls_are e is =
@@ -492,7 +492,7 @@ at_place P [] k all = tt
 at_place P (x ∷ xs) zero all = All-head P x xs all
 at_place P (x ∷ xs) (suc k) all = at_place P xs k (All-tail P x xs all)
 
-or_none : (o : Option (List SegmentUrl)) → IfSome o (All IsUrlOfBytes) → All IsUrlOfBytes (unwrap_or o [])
+or_none : (o : Option (List RefPart)) → IfSome o (All IsUrlOfBytes) → All IsUrlOfBytes (unwrap_or o [])
 or_none None are = All-nil IsUrlOfBytes
 or_none (Some urls) are = are
 
@@ -500,13 +500,13 @@ or_none (Some urls) are = are
 module _ (d : Description) (s : Segments) (media base : List ℕ) (id : IsOfBytes d.id) (are : AreSegmentsOfBytes s)
     (media_bytes : IsOfBytes media) (is : IsAddress base) where
   by_names : (list : Bool) (place number time : ℕ) (part : Part)
-      → part_of (if list then names.Shared (names_in (unwrap_or s.urls [])) base
+      → part_of (if list then names.Shared (unwrap_or s.urls []) base
       else names.Template media d.id d.bandwidth base) place number time ≡ Ok part → IsLocated part
   by_names true place number time part made =
       let P = λ (one : RefPart). IfSome one.reference IsOfBytes × IfSome one.range IsSomeBytes in
-      one_located base (slice_get (names_in (unwrap_or s.urls [])) place) part is
-      (at_place P (names_in (unwrap_or s.urls [])) place (All-map P name_of (unwrap_or s.urls [])
-      (λ k d within. let url = or_none s.urls are.urls k d within in (url.media, url.range)))) made
+      one_located base (slice_get (unwrap_or s.urls []) place) part is
+      (at_place P (unwrap_or s.urls []) place
+      (λ k d within. let url = or_none s.urls are.urls k d within in (url.reference, url.range))) made
   by_names false place number time part made =
       let ids : Ids = record { id = d.id; bandwidth = d.bandwidth; number = number; time = time } in
       part_located None (resolve base (named media ids)) part tt (λ address told. resolved_is_address base (named media ids) address
@@ -516,7 +516,7 @@ module _ (d : Description) (s : Segments) (media base : List ℕ) (id : IsOfByte
   parts_located timeline same x part made = by_names s.is_list (x.number - timeline.first_number) x.number (media_time timeline x) part
       (subst (λ (n : Names). part_of n (x.number - timeline.first_number) x.number (media_time timeline x) ≡ Ok part) (sym same) made)
 
-timeline_names : (o : Option (List SView)) (s : Segments) (live : Bool) (end : End) (by : Names) (runs : SegmentTimeline)
+timeline_names : (o : Option (List SEntry)) (s : Segments) (live : Bool) (end : End) (by : Names) (runs : SegmentTimeline)
     → timeline_by o s live end by ≡ Ok runs → by ≡ runs.names
 timeline_names (Some timeline) s live end by runs is = ap (λ (t : SegmentTimeline). t.names) (no_fault _ _ runs is).1
 timeline_names None s live end by runs is = ap (λ (t : SegmentTimeline). t.names) (no_fault _ _ runs is).1
@@ -602,10 +602,10 @@ parts_are_located p from found = λ k d within. (contents_located p from found k
 
 -- ---- times
 
-timeline_well : (o : Option (List SView)) (s : Segments) (live : Bool) (end : End) (by : Names) (runs : SegmentTimeline)
+timeline_well : (o : Option (List SEntry)) (s : Segments) (live : Bool) (end : End) (by : Names) (runs : SegmentTimeline)
     → timeline_by o s live end by ≡ Ok runs
     → IsSound runs.members
-timeline_well (Some timeline) s live end by runs is = entries_sound (scale_of s) end live by runs (entries_of timeline) is
+timeline_well (Some timeline) s live end by runs is = entries_sound (scale_of s) end live by runs timeline is
 timeline_well None s live end by runs is = duration_sound (scale_of s) end live by runs (unwrap_or s.duration 0) is
 
 abbrev pub IsContentWell : Content → Type 0

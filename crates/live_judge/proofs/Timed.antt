@@ -4,20 +4,21 @@ use Rattle.std.proofs.Common.{◌≡◌, ℕ, ◌+◌, ◌*◌, Bool, true, fals
 use Rattle.std.proofs.{Common.{ap, subst}, lemmas.List.Elements.{All-from_recursion, All-nil}}
 use Rattle.std.specs.{Prelude.{is_none, is_some, option_map}, Option.option_map_or}
 use Rattle.exact_time.specs.Time.{IsTime}
-use Rattle.mpd_levels.specs.{declared.tables.SView.SView, Segments.Segments}
+use Rattle.mpd_levels.specs.Segments.{Segments}
 use Rattle.mpd_rules.specs.{Typed.TypedMpd, Views.segments_mpd}
+use Rattle.timeline.specs.declared.entry.SEntry.{SEntry}
 use Rattle.timeline.specs.{declared.entry.End.End, declared.names.Names.Names, declared.window.Window.Window, Expansions.SegmentTimeline}
 use Rattle.timeline.specs.{Expansions.Timing, Listed.expansion, Steady.AreLasting}
 use Rattle.presentation.specs.{declared.parts.Content.Content, Presented.{Presented, content_at, looked_at, window_of}, Scales.scale_of}
-use Rattle.presentation.specs.Told.{entries_of, presented_of, timeline_by}
+use Rattle.presentation.specs.Told.{presented_of, timeline_by}
 use Rattle.presentation.proofs.{Ending.all_have, FromMpd.is_told, Grids.All-at, Pace.{duration_sound, entries_sound, expansion_has}}
 use Rattle.live_meaning.specs.Updates.{mpd_of}
 use Rattle.live_judge.specs.{declared.coming.Coming.Coming, declared.standing.Standing.Standing, Coming.{Comes, update_of}}
 use Rattle.live_judge.specs.Rewriting.{EndAtTimes}
 
-timed_lasting : (live : Bool) (timeline : Option (List SView)) (s : Segments) (end : End) (names : Names) (runs : SegmentTimeline)
+timed_lasting : (live : Bool) (timeline : Option (List SEntry)) (s : Segments) (end : End) (names : Names) (runs : SegmentTimeline)
     → timeline_by timeline s live end names ≡ Ok runs → AreLasting runs.members
-timed_lasting live (Some timeline) s end names runs is = (entries_sound (scale_of s) end live names runs (entries_of timeline) is).lasting
+timed_lasting live (Some timeline) s end names runs is = (entries_sound (scale_of s) end live names runs timeline is).lasting
 timed_lasting live None s end names runs is = (duration_sound (scale_of s) end live names runs (unwrap_or s.duration 0) is).lasting
 
 contents_last : (mpd : TypedMpd (Option Segments)) (url : List ℕ) (now : Option ℤ) (p : Presented) → presented_of mpd url now ≡ Ok p

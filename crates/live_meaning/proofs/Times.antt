@@ -4,13 +4,14 @@ use Rattle.std.proofs.{Common.{subst, inl, inr}, lemmas.Bool.cases_Bool, lemmas.
 use Rattle.std.specs.{Prelude.{All, filter, unwrap_or}, List.AllByRecursion, Option.option_map_or}
 use Rattle.exact_time.specs.Time.{Time, AreRising}
 use Rattle.exact_time.proofs.TimeOrder.{IsAtMost-from_before, before_then_at_most}
-use Rattle.mpd_levels.specs.{declared.tables.SView.SView, Segments.Segments}
+use Rattle.mpd_levels.specs.Segments.{Segments}
+use Rattle.timeline.specs.declared.entry.SEntry.{SEntry}
 use Rattle.timeline.specs.{declared.entry.End.End, declared.names.Names.Names, declared.window.Window.Window, Expansions.{Closed, Endless}}
 use Rattle.timeline.specs.Expansions.{Extent, Member, SegmentTimeline, Short, Timing, ended_by, extents, numbered, repeat_of, repeated}
 use Rattle.timeline.specs.{Limits.too_long, Listed.{instant_of, is_listed}, Steady.{AreLasting, Lasts, LastsTicks}}
 use Rattle.timeline.proofs.{KeptLemmas.all_append, Rises.{Lasts-from_ticks, LastsTicks-repeat, ends_rise, no_step_from}}
 use Rattle.presentation.specs.{declared.parts.Content.Content, Presented.{Presented, content_at, listed_at, listed_in, window_of}}
-use Rattle.presentation.specs.{Scales.scale_of, Told.{entries_of, presented_of, timeline_by}}
+use Rattle.presentation.specs.{Scales.scale_of, Told.{presented_of, timeline_by}}
 use Rattle.presentation.proofs.{Ending.all_have, FromMpd.is_told, Grids.All-at, Pace.{IsSound, duration_sound, entries_sound}}
 use Rattle.live_meaning.specs.{Updates.Values, Laws.DoesLast}
 
@@ -99,9 +100,9 @@ content_timed p s t sound (Some content) is =
 pub period_timed : (p : Presented) (s t : ℕ) → All IsSoundIn p.contents → AreTimed (listed_at p s t)
 period_timed p s t sound = content_timed p s t sound (content_at p s t) refl
 
-runs_sound : (live : Bool) (timeline : Option (List SView)) (s : Segments) (end : End) (names : Names) (runs : SegmentTimeline)
+runs_sound : (live : Bool) (timeline : Option (List SEntry)) (s : Segments) (end : End) (names : Names) (runs : SegmentTimeline)
     → timeline_by timeline s live end names ≡ Ok runs → IsSound runs.members
-runs_sound live (Some timeline) s end names runs is = entries_sound (scale_of s) end live names runs (entries_of timeline) is
+runs_sound live (Some timeline) s end names runs is = entries_sound (scale_of s) end live names runs timeline is
 runs_sound live None s end names runs is = duration_sound (scale_of s) end live names runs (unwrap_or s.duration 0) is
 
 pub presented_sound : (mpd : Values) (url : List ℕ) (now : Option ℤ) (p : Presented) → presented_of mpd url now ≡ Ok p

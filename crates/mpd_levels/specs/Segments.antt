@@ -3,10 +3,11 @@ use Rattle.mpd_levels.specs.declared.level.Means.TheVariants as means
 use Rattle.std.specs.Prelude.{ℕ, pos, ◌||◌, ◌&&◌, not, Bool, true, false, List, [], ◌∷◌, map, codes, is_none, if◌then◌else◌, Option, Some}
 use Rattle.std.specs.Prelude.{None, option_map, option_and_then, unwrap_or}
 use Rattle.url_parts.specs.declared.range.Range.{Range}
+use Rattle.timeline.specs.declared.{entry.SEntry.SEntry, names.RefPart.RefPart}
 use Rattle.mpd_text.specs.Trees.{Head, Element}
 use Rattle.mpd_profile.specs.Heads.{value_named}
-use Rattle.mpd_levels.specs.{declared.level.Means.Means, declared.initialization.Initialization.Initialization, declared.tables.SView.SView}
-use Rattle.mpd_levels.specs.{declared.tables.SegmentUrl.SegmentUrl, declared.values.Attributes.Attributes, Readings.number_named}
+use Rattle.mpd_levels.specs.{declared.level.Means.Means, declared.initialization.Initialization.Initialization}
+use Rattle.mpd_levels.specs.{declared.values.Attributes.Attributes, Readings.number_named}
 use Rattle.mpd_levels.specs.{Readings.{signed_named, range_named, child_named, children_named}, Levels.{first_some, template_name}}
 use Rattle.mpd_levels.specs.Levels.{list_name, used, elements_used}
 
@@ -14,13 +15,13 @@ use Rattle.mpd_levels.specs.Levels.{list_name, used, elements_used}
 pub record Values : Type 0 where
   pub attributes : Attributes
   pub initialization : Option Initialization
-  pub timeline : Option (List SView)
-  pub urls : Option (List SegmentUrl)
+  pub timeline : Option (List SEntry)
+  pub urls : Option (List RefPart)
 
 -- ---- what an element says itself
 
 -- an S: its time, where it says one, its duration, and how often it is repeated (5.3.9.6)
-abbrev pub run_of : Element → SView
+abbrev pub run_of : Element → SEntry
 run_of s = record {
   t = number_named (codes "t") s.head;
   d = unwrap_or (number_named (codes "d") s.head) 0;
@@ -28,22 +29,22 @@ run_of s = record {
 }
 
 -- the entries of a SegmentTimeline
-abbrev pub runs_of : Element → List SView
+abbrev pub runs_of : Element → List SEntry
 runs_of timeline = map run_of (children_named (codes "S") timeline)
 
-abbrev pub timeline_in : Element → Option (List SView)
+abbrev pub timeline_in : Element → Option (List SEntry)
 timeline_in e = option_map runs_of (child_named (codes "SegmentTimeline") e)
 
 -- a SegmentURL
-abbrev pub url_of : Element → SegmentUrl
-url_of url = record { media = value_named (codes "media") url.head; range = range_named (codes "mediaRange") url.head }
+abbrev pub url_of : Element → RefPart
+url_of url = record { reference = value_named (codes "media") url.head; range = range_named (codes "mediaRange") url.head }
 
 -- a list that isn't empty
 abbrev pub if_any : {X : Type 0} → List X → Option (List X)
 if_any [] = None
 if_any (x ∷ xs) = Some (x ∷ xs)
 
-abbrev pub urls_in : Element → Option (List SegmentUrl)
+abbrev pub urls_in : Element → Option (List RefPart)
 urls_in e = if_any (map url_of (children_named (codes "SegmentURL") e))
 
 -- an Initialization (5.3.9.2)
@@ -73,7 +74,7 @@ attributes_by is_list head = record {
   time_offset = number_named (codes "presentationTimeOffset") head;
 }
 
-abbrev pub urls_by : (is_list : Bool) → Element → Option (List SegmentUrl)
+abbrev pub urls_by : (is_list : Bool) → Element → Option (List RefPart)
 urls_by is_list e = of_list is_list (urls_in e)
 
 abbrev pub values_by : (is_list : Bool) → Element → Values
@@ -115,9 +116,9 @@ pub record Segments : Type 0 where
   pub duration : Option ℕ
   pub start_number : ℕ
   pub time_offset : ℕ
-  pub timeline : Option (List SView)
+  pub timeline : Option (List SEntry)
   -- the SegmentURLs of a list, where there are any
-  pub urls : Option (List SegmentUrl)
+  pub urls : Option (List RefPart)
   pub init_template : Option (List ℕ)
   pub init_reference : Option (List ℕ)
   pub init_range : Option Range

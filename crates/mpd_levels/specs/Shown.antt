@@ -3,19 +3,19 @@ use Rattle.std.specs.Prelude.{◌≡◌, ℕ, true, false, List, Option, Some, N
 use Rattle.mpd_text.specs.Trees.{Element}
 use Rattle.mpd_levels.specs.{declared.addressing.Addressing.Addressing, declared.addressing.SegmentRow.SegmentRow}
 use Rattle.mpd_levels.specs.{declared.indexed.InitView.InitView, declared.initialization.Initialization.Initialization}
-use Rattle.mpd_levels.specs.{declared.level.Level.Level, declared.tables.SView.SView, declared.tables.SegmentUrl.SegmentUrl}
-use Rattle.mpd_levels.specs.{declared.tables.Tables.Tables, declared.values.ValueRow.ValueRow, declared.walks.SWalk.SWalk}
-use Rattle.mpd_levels.specs.{declared.walks.UrlView.UrlView, declared.walks.UrlWalk.UrlWalk, Levels.{used, elements_used, template_name}}
-use Rattle.mpd_levels.specs.{Levels.list_name, Segments.{Values, Segments, told, values_in}, Indexed.base_in}
+use Rattle.mpd_levels.specs.{declared.level.Level.Level, declared.tables.Tables.Tables, declared.values.ValueRow.ValueRow}
+use Rattle.mpd_levels.specs.{Levels.{used, elements_used, template_name, list_name}, Segments.{Values, Segments, told, values_in}}
+use Rattle.mpd_levels.specs.Indexed.{base_in}
+use Rattle.timeline.specs.declared.{entry.SEntry.SEntry, names.RefPart.RefPart}
 
 -- ---- tables
 
 -- all timelines that are kept, each by its place
-abbrev pub timelines_in : Tables → List (List SView)
+abbrev pub timelines_in : Tables → List (List SEntry)
 timelines_in tables = tables.timelines
 
 -- all lists of SegmentURLs that are kept, each by its place
-abbrev pub lists_in : Tables → List (List SegmentUrl)
+abbrev pub lists_in : Tables → List (List RefPart)
 lists_in tables = tables.lists
 
 -- what was in a table is still at its place
@@ -71,17 +71,6 @@ IsTold tables (Some row) segments = (s : Segments) × (segments ≡ Some s) × T
 
 abbrev pub addressed : Addressing → Segments
 addressed view = segments_shown view.tables.now view.row.now
-
--- the entries that a walk has before it
-abbrev pub runs_left : SWalk → List SView
-runs_left walk = walk.rest.now
-
-abbrev pub url_shown : UrlView → SegmentUrl
-url_shown view = record { media = option_map (λ text. text.now) view.media; range = view.range }
-
--- the SegmentURLs that a walk has before it
-abbrev pub urls_left : UrlWalk → List SegmentUrl
-urls_left walk = walk.rest.now
 
 abbrev pub initialization_shown : InitView → Initialization
 initialization_shown view = view.initialization.now

@@ -1,7 +1,7 @@
 // How segments are told one by one.
-ghost use Rattle.std.specs.Prelude.{◌≡◌, [], IfOk, List, option_and_then, option_map, slice_get, unwrap_or};
+ghost use Rattle.std.specs.Prelude.{◌≡◌, IfOk, option_and_then, option_map, slice_get};
 ghost use Rattle.mpd_levels.specs.Segments as spec;
-ghost use Rattle.mpd_levels.specs.Shown.{Shows, Tells, addressed, lists_in, segments_shown, timelines_in};
+ghost use Rattle.mpd_levels.specs.Shown.{Shows, Tells, addressed, segments_shown, timelines_in};
 ghost use Rattle.mpd_levels.specs.declared.tables.Tables.{Tables};
 ghost use Rattle.mpd_levels.specs.Segments.{Segments, Values};
 
@@ -9,8 +9,8 @@ use crate::initialization::Initialization;
 use crate::shared_text::SharedText;
 use crate::tables::Tables;
 use crate::values::ValueRow;
-use crate::walks::{SWalk, UrlWalk};
 use bridge_io::NoMemory;
+use timeline::SharedNames;
 use url_parts::Range;
 
 /// The effective values of the used kind, a SegmentTemplate or a SegmentList (ISO/IEC 23009-1, 5.3.9.1). Timeline and
@@ -58,8 +58,6 @@ pub struct Addressing<'a> {
 
 #[tactic(auto, unfolding(crate::specs::Shown::segments_shown))]
 impl<'a> Addressing<'a> {
-    ghost use Rattle.mpd_levels.specs.Shown.{runs_left, urls_left};
-
     /// The view of a row whose timelines and lists stand in these tables.
     pub fn of(tables: &'a Tables, row: &'a SegmentRow) -> Addressing<'a>
         ensures segments { addressed result ≡ segments_shown tables.now row.now }
@@ -117,32 +115,9 @@ impl<'a> Addressing<'a> {
         self.row.values.timeline
     }
 
-    /// The entries of the timeline. There is nothing exactly where no timeline is effective.
-    pub fn timeline(&self) -> Option<SWalk<'a>>
-        ensures { option_map runs_left result ≡ (addressed self.now).timeline }
-    {
-        self.tables.timeline(self.row.values.timeline?)
-    }
-
-    /// Which list of the tables it has, so equal keys have equal lists.
-    pub fn urls_key(&self) -> Option<usize>
-        ensures { option_and_then (slice_get (lists_in self.now.tables.now)) result ≡ (addressed self.now).urls }
-    {
-        self.row.values.urls
-    }
-
-    /// The SegmentURLs; of a template none.
-    pub fn urls(&self) -> UrlWalk<'a>
-        ensures { urls_left result ≡ unwrap_or (addressed self.now).urls [] }
-    {
-        match self.list() {
-            Some(urls) => urls,
-            None => UrlWalk { rest: &[] },
-        }
-    }
-
-    fn list(&self) -> Option<UrlWalk<'a>>
-        ensures { option_map urls_left result ≡ (addressed self.now).urls }
+    /// The SegmentURLs of a list, where it has any.
+    pub fn urls(&self) -> Option<&'a SharedNames>
+        ensures { option_map (λ names. names.now) result ≡ (addressed self.now).urls }
     {
         self.tables.list(self.row.values.urls?)
     }

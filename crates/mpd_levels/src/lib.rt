@@ -10,11 +10,9 @@ mod readings;
 mod shared_text;
 mod tables;
 mod values;
-mod walks;
 
 pub use addressing::{Addressing, SegmentRow};
 pub use indexed::{IndexRow, InitView};
 pub use level::Level;
 pub use shared_text::{SharedText, share_text};
-pub use tables::{SView, SegmentUrl, Tables};
-pub use walks::{SWalk, UrlView, UrlWalk};
+pub use tables::Tables;

@@ -1,5 +1,5 @@
 // What is kept once for all Representations.
-ghost use Rattle.std.specs.Prelude.{◌≡◌, [], IfOk, Some, codes, length, map, option_map, slice_get};
+ghost use Rattle.std.specs.Prelude.{◌≡◌, [], IfOk, Some, codes, map, option_map, slice_get};
 ghost use Rattle.mpd_text.specs.Nodes.{element_of};
 ghost use Rattle.mpd_levels.specs.Fits.{FitsRun, FitsTimeline};
 ghost use Rattle.mpd_levels.specs.Segments.{run_of, runs_of, url_of, urls_in};
@@ -8,39 +8,20 @@ ghost use Rattle.mpd_profile.specs.Heads.{value_named};
 ghost use Rattle.mpd_levels.specs.Shown as spec;
 
 use crate::readings::{count_named, number, range};
-use crate::walks::{SWalk, UrlWalk};
 use bridge_io::{NoMemory, Sequence, Text};
 use mpd_profile::value_named;
 use mpd_text::Node;
 use mpd_values::read_signed;
 use std::alloc::Global;
-use url_parts::Range;
-
-/// An S of a SegmentTimeline (ISO/IEC 23009-1, 5.3.9.6), in ticks.
-#[derive(Clone, Copy, Debug, PartialEq, Eq)]
-pub struct SView {
-    /// When its first segment begins, where it says so.
-    pub t: Option<u64>,
-    /// How long each of its segments is.
-    pub d: u64,
-    /// How many segments follow the first one; a negative number stands for as many as there is room for.
-    pub r: i64,
-}
-
-/// A SegmentURL (ISO/IEC 23009-1, 5.3.9.3).
-#[derive(Debug, Drop)]
-pub struct SegmentUrl {
-    pub(crate) media: Option<Text>,
-    pub(crate) range: Option<Range>,
-}
+use timeline::{RefList, RefPart, SEntry, SList, SharedNames};
 
 /// The timelines and the lists of SegmentURLs of an MPD, each kept once for all Representations that have it.
 ///
 /// What is added stays at its place.
 #[derive(Debug, Drop)]
 pub struct Tables {
-    pub(crate) timelines: Sequence<Sequence<SView>>,
-    pub(crate) lists: Sequence<Sequence<SegmentUrl>>,
+    pub(crate) timelines: Sequence<SList>,
+    pub(crate) lists: Sequence<SharedNames>,
 }
 
 impl Tables {
@@ -55,40 +36,22 @@ impl Tables {
         }
     }
 
-    /// How many timelines there are. Their keys are the numbers below this one.
-    pub fn timeline_count(&self) -> usize
-        ensures { result ≡ length (spec.timelines_in self.now) }
+    /// The S elements of the timelines, each at the place that is its key.
+    pub fn timelines(&self) -> &[SList]
+        ensures { result.now ≡ spec.timelines_in self.now }
     {
-        self.timelines.len()
-    }
-
-    /// The entries of a timeline, by its key.
-    pub fn timeline(&self, key: usize) -> Option<SWalk<'_>>
-        ensures { option_map spec.runs_left result ≡ slice_get (spec.timelines_in self.now) key }
-    {
-        Some(SWalk {
-            rest: self.timelines.get(key)?.as_slice(),
-        })
-    }
-
-    /// How many lists there are. Their keys are the numbers below this one.
-    pub fn list_count(&self) -> usize
-        ensures { result ≡ length (spec.lists_in self.now) }
-    {
-        self.lists.len()
+        self.timelines.as_slice()
     }
 
     /// The SegmentURLs of a list, by its key.
-    pub fn list(&self, key: usize) -> Option<UrlWalk<'_>>
-        ensures { option_map spec.urls_left result ≡ slice_get (spec.lists_in self.now) key }
+    pub(crate) fn list(&self, key: usize) -> Option<&SharedNames>
+        ensures { option_map (λ names. names.now) result ≡ slice_get (spec.lists_in self.now) key }
     {
-        Some(UrlWalk {
-            rest: self.lists.get(key)?.as_slice(),
-        })
+        self.lists.get(key)
     }
 
     /// Keeps a timeline, and gives its key.
-    pub(crate) fn keep_timeline(&mut self, timeline: Sequence<SView>) -> Result<usize, NoMemory>
+    pub(crate) fn keep_timeline(&mut self, timeline: SList) -> Result<usize, NoMemory>
         ensures key { IfOk result (λ key. slice_get (spec.timelines_in self.new) key ≡ Some timeline) }
         ensures lists { spec.lists_in self.new ≡ spec.lists_in self.old }
         ensures grows { spec.Grows self.old self.new }
@@ -99,7 +62,7 @@ impl Tables {
     }
 
     /// Keeps a list, and gives its key.
-    pub(crate) fn keep_list(&mut self, list: Sequence<SegmentUrl>) -> Result<usize, NoMemory>
+    pub(crate) fn keep_list(&mut self, list: SharedNames) -> Result<usize, NoMemory>
         ensures key { IfOk result (λ key. slice_get (spec.lists_in self.new) key ≡ Some list) }
         ensures timelines { spec.timelines_in self.new ≡ spec.timelines_in self.old }
         ensures grows { spec.Grows self.old self.new }
@@ -111,7 +74,7 @@ impl Tables {
 }
 
 /// The entries of a SegmentTimeline.
-pub(crate) fn read_timeline(alloc: Global, timeline: Node<'_>) -> Result<Sequence<SView>, NoMemory>
+pub(crate) fn read_timeline(alloc: Global, timeline: Node<'_>) -> Result<SList, NoMemory>
     requires { FitsTimeline (element_of timeline) }
     ensures { IfOk result (λ entries. entries ≡ runs_of (element_of timeline.entry)) }
 {
@@ -121,14 +84,14 @@ pub(crate) fn read_timeline(alloc: Global, timeline: Node<'_>) -> Result<Sequenc
             entries.push(read_run(child))?;
         }
     }
-    Ok(Sequence::from(entries))
+    Ok(SList::from(entries))
 }
 
-fn read_run(s: Node<'_>) -> SView
+fn read_run(s: Node<'_>) -> SEntry
     requires { FitsRun (element_of s) }
     ensures { result ≡ run_of (element_of s.entry) }
 {
-    SView {
+    SEntry {
         t: number(s, "t", 0, 1 << 63),
         d: number(s, "d", 0, 1 << 63).unwrap_or(0),
         r: read_repeat(s).unwrap_or(0),
@@ -143,10 +106,7 @@ fn read_repeat(s: Node<'_>) -> Option<i64>
 }
 
 /// The SegmentURLs of an element. There is none exactly where it has none.
-pub(crate) fn read_urls(
-    alloc: Global,
-    list: Node<'_>,
-) -> Result<Option<Sequence<SegmentUrl>>, NoMemory>
+pub(crate) fn read_urls(alloc: Global, list: Node<'_>) -> Result<Option<RefList>, NoMemory>
     ensures { IfOk result (λ urls. urls ≡ urls_in (element_of list.entry)) }
 {
     let urls = read_all_urls(alloc, list)?;
@@ -156,7 +116,7 @@ pub(crate) fn read_urls(
     Ok(Some(urls))
 }
 
-fn read_all_urls(alloc: Global, list: Node<'_>) -> Result<Sequence<SegmentUrl>, NoMemory>
+fn read_all_urls(alloc: Global, list: Node<'_>) -> Result<RefList, NoMemory>
     ensures { IfOk result (λ urls. urls ≡ map url_of (children_named (codes "SegmentURL") (element_of list.entry))) }
 {
     let mut urls = Vec::with_capacity(alloc, count_named(list, "SegmentURL"))?;
@@ -165,15 +125,15 @@ fn read_all_urls(alloc: Global, list: Node<'_>) -> Result<Sequence<SegmentUrl>, 
             urls.push(read_url(alloc, child)?)?;
         }
     }
-    Ok(Sequence::from(urls))
+    Ok(RefList::from(urls))
 }
 
-fn read_url(alloc: Global, url: Node<'_>) -> Result<SegmentUrl, NoMemory>
+fn read_url(alloc: Global, url: Node<'_>) -> Result<RefPart, NoMemory>
     ensures { IfOk result (λ row. row ≡ url_of (element_of url.entry)) }
 {
-    let media = read_media(alloc, url)?;
-    Ok(SegmentUrl {
-        media,
+    let reference = read_media(alloc, url)?;
+    Ok(RefPart {
+        reference,
         range: range(url, "mediaRange"),
     })
 }

@@ -17,6 +17,7 @@ use crate::tables::{Tables, read_timeline, read_urls};
 use bridge_io::NoMemory;
 use mpd_text::Node;
 use std::alloc::Global;
+use timeline::SharedNames;
 
 /// Attributes (ISO/IEC 23009-1, 5.3.9.2 to 5.3.9.4). A SegmentList has the numbers alone.
 #[derive(Debug, Drop)]
@@ -211,7 +212,7 @@ fn keep_urls(
         return Ok(None);
     }
     match read_urls(alloc, node)? {
-        Some(urls) => Ok(Some(tables.keep_list(urls)?)),
+        Some(urls) => Ok(Some(tables.keep_list(SharedNames::of(alloc, urls)?)?)),
         None => Ok(None),
     }
 }

@@ -17,7 +17,7 @@ mod typed;
 mod view;
 
 pub use file_index::FileIndex;
-pub use mpd_levels::{Addressing, InitView, SView, SWalk, SegmentRow, Tables, UrlView, UrlWalk};
+pub use mpd_levels::{Addressing, InitView, SegmentRow, Tables};
 pub use mpd_profile::RuleFault;
 pub use passes::{rules, rules_indexed};
 pub use typed::TypedMpd;

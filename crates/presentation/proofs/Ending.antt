@@ -9,16 +9,17 @@ use Rattle.presentation.specs.{Counting.{refusal, unless_any}, declared.fault.Pr
 use Rattle.presentation.specs.{declared.parts.Content.Content, declared.shared.Shared.Shared, declared.told.PeriodContent.PeriodContent}
 use Rattle.presentation.specs.{Presented.IsEnded, Rows.{Row, Period, are_alike, in_order, is_alike, first_rows}, Scales.scale_of}
 use Rattle.presentation.specs.{Shared.{AreOf, AreOfAll, IsShared}, Told.{all_told, content_of, differ_told, differs_told, end_of}}
-use Rattle.presentation.specs.Told.{entries_of, gathered, one_told, over_told, period_told, presented_if_told, presented_of, needs_now}
+use Rattle.presentation.specs.Told.{gathered, one_told, over_told, period_told, presented_if_told, presented_of, needs_now}
 use Rattle.presentation.specs.Told.{segments_in, timeline_by, told_before, told_in_order, told_of, base_of, init_of, initialization_of}
 use Rattle.presentation.specs.Told.{media_of, runs_of}
 use Rattle.presentation.proofs.{Printing.if_some, Filling.{all_gathered, all_in_order, length_gathered, length_in_order, ok_under}}
 use Rattle.bridge_io.proofs.AndThen.{steps_of}
 use Rattle.bridge_io.specs.Answer.{and_then}
 use Rattle.url_parts.specs.declared.address.Part.{Part}
+use Rattle.timeline.specs.declared.entry.SEntry.{SEntry}
 use Rattle.timeline.specs.{declared.entry.End.End, declared.names.Names.Names, Expansions.{SegmentTimeline, is_open}, OpenEnds.TimelinesEnd}
 use Rattle.timeline.specs.OpenEnds.{DurationsEnd}
-use Rattle.mpd_levels.specs.{declared.addressing.SegmentRow.SegmentRow, declared.tables.SView.SView, declared.tables.Tables.Tables}
+use Rattle.mpd_levels.specs.{declared.addressing.SegmentRow.SegmentRow, declared.tables.Tables.Tables}
 use Rattle.mpd_levels.specs.Segments.{Segments}
 
 -- ---- keys
@@ -102,7 +103,7 @@ with_runs initialization runs = Ok (record { initialization = initialization; ru
 
 -- what holds of segments by a timeline or a duration holds of all that is told
 module _ (P : SegmentTimeline → Type 0) (live : Bool)
-    (each : (timeline : Option (List SView)) (s : Segments) (end : End) (names : Names) (runs : SegmentTimeline)
+    (each : (timeline : Option (List SEntry)) (s : Segments) (end : End) (names : Names) (runs : SegmentTimeline)
     → timeline_by timeline s live end names ≡ Ok runs → P runs) (url : List ℕ) where
   abbrev Has : PeriodContent → Type 0
   Has told = P told.content.runs
@@ -156,9 +157,9 @@ module _ (P : SegmentTimeline → Type 0) (live : Bool)
 -- ---- ends
 
 module _ (timelines : TimelinesEnd) (durations : DurationsEnd) where
-  timeline_ended : (timeline : Option (List SView)) (s : Segments) (end : End) (names : Names) (runs : SegmentTimeline)
+  timeline_ended : (timeline : Option (List SEntry)) (s : Segments) (end : End) (names : Names) (runs : SegmentTimeline)
       → timeline_by timeline s false end names ≡ Ok runs → is_open runs.members ≡ false
-  timeline_ended (Some timeline) s end names runs is = timelines (entries_of timeline) end false (scale_of s) names runs is refl
+  timeline_ended (Some timeline) s end names runs is = timelines timeline end false (scale_of s) names runs is refl
   timeline_ended None s end names runs is = durations _ end false (scale_of s) names runs is refl
 
   pub all_ended : (url : List ℕ) (live : Bool) (periods : List Period) (tolds : List PeriodContent) → all_told url live periods ≡ Ok tolds

@@ -14,10 +14,11 @@ use Rattle.bridge_io.proofs.AndThen.{steps_of}
 use Rattle.bridge_io.specs.Answer.{and_then}
 use Rattle.template_ids.specs.{declared.fault.TemplateFault.TemplateFault, Templates.{template_of, template_fault, named, uses_number}}
 use Rattle.template_ids.specs.Templates.{uses_time}
+use Rattle.timeline.specs.declared.entry.SEntry.{SEntry}
 use Rattle.timeline.specs.{declared.entry.End.End, declared.fault.TimeFault.TimeFault, declared.names.Names.Names}
 use Rattle.timeline.specs.{declared.names.RefPart.RefPart, Expansions.SegmentTimeline, Names.{part_at, part_of, referred}}
 use Rattle.timeline.specs.SegmentTimelines.{unless_fault}
-use Rattle.mpd_levels.specs.{declared.tables.SView.SView, Segments.Segments}
+use Rattle.mpd_levels.specs.Segments.{Segments}
 use Rattle.mpd_rules.specs.declared.rows.Description.{Description}
 use Rattle.presentation.specs.{declared.fault.PresentationFault.PresentationFault, declared.parts.Content.Content, Told.base_of}
 use Rattle.presentation.specs.Told.{content_of, init_of, init_reference, init_template_of, initialization_of, media_of, names_of, part_with}
@@ -107,7 +108,7 @@ fault_is : (o : Option TimeFault) (timeline runs : SegmentTimeline) → unless_f
 fault_is None timeline runs is = (let same : timeline ≡ runs = cc in sym same)
 fault_is (Some fault) timeline runs is = absurd (cc)
 
-timed_is : (o : Option (List SView)) (s : Segments) (live : Bool) (end : End) (by : Names) (runs : SegmentTimeline)
+timed_is : (o : Option (List SEntry)) (s : Segments) (live : Bool) (end : End) (by : Names) (runs : SegmentTimeline)
     → told.timeline_by o s live end by ≡ Ok runs → runs ≡ timeline_by o s end by
 timed_is (Some timeline) s live end by runs is = fault_is _ _ runs is
 timed_is None s live end by runs is = fault_is _ _ runs is

@@ -5,7 +5,7 @@ use Rattle.std.proofs.{lemmas.Bool.cases_Bool, lemmas.Bool.Decides.nat_tests, le
 use Rattle.std.specs.{Option.option_map_or, List.{AllByRecursion, list_any}}
 use Rattle.exact_time.specs.{Time.{Time, IsAtMost, IsTime, before, nanoseconds, seconds}, Rounding.{AreNear, IsRising}}
 use Rattle.exact_time.proofs.TimeOrder.{at_most-false, before-from, before-true, before_then_at_most, not_at_most-from}
-use Rattle.mpd_levels.specs.{declared.tables.SView.SView, Segments.Segments}
+use Rattle.mpd_levels.specs.Segments.{Segments}
 use Rattle.mpd_rules.specs.Typed.{TypedMpd}
 use Rattle.timeline.specs.{declared.entry.End.End, declared.entry.Scale.Scale, declared.entry.SEntry.SEntry}
 use Rattle.timeline.specs.declared.fault.TimeFault.TheVariants.{ListLength, NoEnd, Range, TimeWithoutTimeline, ZeroDuration}
@@ -21,7 +21,7 @@ use Rattle.timeline.proofs.{NumberedLemmas.drop-numbered, OpenEnds.{no_fault, no
 use Rattle.timeline.proofs.Rises.{LastsTicks-repeat, Lasts-from_ticks, steady_from}
 use Rattle.presentation.specs.{declared.parts.Content.Content, Presented.{Presented, content_at, listed_at, listed_in, looked_at}}
 use Rattle.presentation.specs.{Presented.window_of, Printing.{IsCounted, ends_of}, PresentedLaws.{AreAlwaysInPace, IsInPace}}
-use Rattle.presentation.specs.{PresentedLaws.PresentedAreInPace, Scales.scale_of, Told.{entries_of, presented_of, timeline_by}}
+use Rattle.presentation.specs.{PresentedLaws.PresentedAreInPace, Scales.scale_of, Told.{presented_of, timeline_by}}
 use Rattle.presentation.proofs.{Ending.all_have, FromMpd.is_told, Grids.All-at}
 
 -- ---- what is listed of segments in pace
@@ -183,9 +183,9 @@ module _ (scale : Scale) (end : End) (live : Bool) (names : Names) (timeline : S
             (row_steady (breaks_limits scale.ticks 0) (λ x kept. not_long scale.ticks 0 x kept) members row (unless _ Range ranges.0));
       }
 
-timed_sound : (live : Bool) (timeline : Option (List SView)) (s : Segments) (end : End) (names : Names) (runs : SegmentTimeline)
+timed_sound : (live : Bool) (timeline : Option (List SEntry)) (s : Segments) (end : End) (names : Names) (runs : SegmentTimeline)
     → timeline_by timeline s live end names ≡ Ok runs → IsSound runs.members
-timed_sound live (Some timeline) s end names runs is = entries_sound (scale_of s) end live names runs (entries_of timeline) is
+timed_sound live (Some timeline) s end names runs is = entries_sound (scale_of s) end live names runs timeline is
 timed_sound live None s end names runs is = duration_sound (scale_of s) end live names runs (unwrap_or s.duration 0) is
 
 -- ---- those of a presentation

@@ -8,16 +8,17 @@ use Rattle.url.specs.{Parser.{Parsed, parse_url}, Parts.Parts}
 use Rattle.bridge_io.specs.{declared.media.Kind.Kind, declared.media.Kind.TheVariants.{Video, Audio, Text}}
 use Rattle.url_parts.specs.{Addresses.{is_absolute, text_of, url_of}, declared.address.Part.Part}
 use Rattle.template_ids.specs.Templates.{named}
+use Rattle.timeline.specs.declared.entry.SEntry.{SEntry}
 use Rattle.timeline.specs.{declared.entry.End.End, declared.names.Names.Names, declared.names.RefPart.RefPart}
 use Rattle.timeline.specs.{declared.window.Window.Window, Expansions.{SegmentTimeline, Timing}, Faults.members_by, Listed.media_time}
 use Rattle.timeline.specs.{Names.count_of, SegmentTimelines.timeline_from, Timelines.expansion_of_timeline}
 use Rattle.meaning.specs.Meanings.{Segment, Entry, Meaning, Track as MeantTrack}
-use Rattle.mpd_levels.specs.{declared.tables.SView.SView, Segments.Segments}
+use Rattle.mpd_levels.specs.Segments.{Segments}
 use Rattle.mpd_rules.specs.{declared.facts.Facts.Facts, declared.rows.Description.Description, Rules.dash_values, Typed.TypedMpd}
 use Rattle.mpd_text.specs.Meaning.{reading_of}
 use Rattle.presentation.specs.{declared.parts.Content.Content, declared.track.Track.Track, Counting.{sections_of, tracks_of}}
 use Rattle.presentation.specs.{Presented.{Presented, content_at, listed_in, window_at, window_of, whole_window}, Rows.{Row, Period}}
-use Rattle.presentation.specs.{Rows.{first_rows, in_order}, Scales.scale_of, Told.{end_of, entries_of, following_of, init_reference}}
+use Rattle.presentation.specs.{Rows.{first_rows, in_order}, Scales.scale_of, Told.{end_of, following_of, init_reference}}
 use Rattle.presentation.specs.Told.{names_of, part_with, segments_in}
 
 -- ---- addresses of any length
@@ -135,9 +136,9 @@ meaning_of p = meaning_with (map head_of p.tracks) (rows_of p)
 -- ---- what an MPD means
 
 -- a timeline wins over a duration (5.3.9.2)
-abbrev pub timeline_by : Option (List SView) → Segments → End → Names → SegmentTimeline
+abbrev pub timeline_by : Option (List SEntry) → Segments → End → Names → SegmentTimeline
 timeline_by (Some timeline) s end names = timeline_from (scale_of s) s.time_offset names
-    (expansion_of_timeline (scale_of s) end (entries_of timeline))
+    (expansion_of_timeline (scale_of s) end timeline)
 timeline_by None s end names = timeline_from (scale_of s) 0 names
     (members_by (max 1 s.timescale) end (unwrap_or s.duration 0) (count_of names))
 

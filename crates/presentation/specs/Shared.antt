@@ -1,12 +1,13 @@
 -- What is laid out once, by the tables of an MPD.
-use Rattle.std.specs.Prelude.{◌≡◌, List, All, map}
-use Rattle.mpd_levels.specs.{declared.addressing.SegmentRow.SegmentRow, declared.tables.Tables.Tables, Shown.{timelines_in, lists_in}}
+use Rattle.std.specs.Prelude.{List, All}
+use Rattle.meaning.specs.Same.{Pairwise}
+use Rattle.timeline.specs.MediaTimelines.{LaysOut}
+use Rattle.mpd_levels.specs.{declared.addressing.SegmentRow.SegmentRow, declared.tables.Tables.Tables, Shown.timelines_in}
 use Rattle.mpd_rules.specs.{declared.rows.TrackRow.TrackRow, declared.rows.PeriodRow.PeriodRow, Held.Keyed}
-use Rattle.presentation.specs.{declared.shared.Shared.Shared, Told.{entries_of, names_in}}
+use Rattle.presentation.specs.declared.shared.Shared.{Shared}
 
 pub record IsShared (tables : Tables) (shared : Shared) : Type 0 where
-  pub timelines : shared.timelines.items ≡ map entries_of (timelines_in tables)
-  pub lists : shared.lists.items ≡ map names_in (lists_in tables)
+  pub timelines : Pairwise LaysOut (timelines_in tables) shared.timelines.items
 
 -- Representations whose keys are of these tables
 abbrev pub AreOf : Shared → List (TrackRow (Keyed SegmentRow)) → Type 0

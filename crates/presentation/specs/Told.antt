@@ -10,9 +10,9 @@ use Rattle.template_ids.specs.{declared.fault.TemplateFault.TemplateFault, decla
 use Rattle.template_ids.specs.Templates.{template_of, named, uses_number, uses_time}
 use Rattle.url_parts.specs.{Addresses.chain, declared.address.Part.Part, declared.range.Range.Range, declared.fault.UrlFault.UrlFault}
 use Rattle.timeline.specs.{declared.entry.SEntry.SEntry, declared.entry.End.End, declared.entry.End.TheVariants.{At, Unbounded}}
-use Rattle.timeline.specs.{declared.fault.TimeFault.TimeFault, declared.names.RefPart.RefPart, declared.names.Names.Names}
+use Rattle.timeline.specs.{declared.fault.TimeFault.TimeFault, declared.names.Names.Names}
 use Rattle.timeline.specs.{Expansions.SegmentTimeline, Names.referred, SegmentTimelines.{timeline_of_entries, timeline_of_duration}}
-use Rattle.mpd_levels.specs.{declared.tables.SView.SView, declared.tables.SegmentUrl.SegmentUrl, Segments.Segments}
+use Rattle.mpd_levels.specs.Segments.{Segments}
 use Rattle.mpd_rules.specs.{declared.facts.Facts.Facts, declared.rows.Description.Description, Typed.TypedMpd}
 use Rattle.presentation.specs.{declared.fault.Spot.TheVariants.At as Standing, declared.fault.PresentationFault.PresentationFault}
 use Rattle.presentation.specs.declared.fault.PresentationFault.TheVariants.{PeriodsDiffer, Limit, Url, Template, Timeline, NeedsNow, Memory}
@@ -109,25 +109,13 @@ initialization_of d s template base =
 
 -- ---- times
 
-abbrev pub entry_of : SView → SEntry
-entry_of s = record { t = s.t; d = s.d; r = s.r }
-
-abbrev pub entries_of : List SView → List SEntry
-entries_of timeline = map entry_of timeline
-
-abbrev pub name_of : SegmentUrl → RefPart
-name_of url = record { reference = url.media; range = url.range }
-
-abbrev pub names_in : List SegmentUrl → List RefPart
-names_in urls = map name_of urls
-
 abbrev pub names_of : Description → Segments → (media base : List ℕ) → Names
-names_of d s media base = if s.is_list then names.Shared (names_in (unwrap_or s.urls [])) base
+names_of d s media base = if s.is_list then names.Shared (unwrap_or s.urls []) base
     else names.Template media d.id d.bandwidth base
 
 -- a timeline wins over a duration
-abbrev pub timeline_by : Option (List SView) → Segments → (live : Bool) → End → Names → Result SegmentTimeline TimeFault
-timeline_by (Some timeline) s live end names = timeline_of_entries (entries_of timeline) end live (scale_of s) names
+abbrev pub timeline_by : Option (List SEntry) → Segments → (live : Bool) → End → Names → Result SegmentTimeline TimeFault
+timeline_by (Some timeline) s live end names = timeline_of_entries timeline end live (scale_of s) names
 timeline_by None s live end names = timeline_of_duration (unwrap_or s.duration 0) end live (scale_of s) names
 
 abbrev pub runs_of : (live : Bool) → End → Description → Segments → (media base : List ℕ) → Result SegmentTimeline PresentationFault

@@ -4,7 +4,7 @@ ghost use Rattle.bridge_io.specs.Answer.{Gives};
 ghost use Rattle.url_parts.specs.Addresses.{chain, resolve};
 ghost use Rattle.timeline.specs.Names.{referred};
 ghost use Rattle.timeline.specs.Expansions.{is_open};
-ghost use Rattle.mpd_levels.specs.Shown.{addressed, timelines_in, lists_in};
+ghost use Rattle.mpd_levels.specs.Shown.{addressed, timelines_in};
 ghost use Rattle.mpd_rules.specs.Views.{bases_left, track_in, tracks_left, tables_of, period_in};
 ghost use Rattle.presentation.specs.Counting.{refusal};
 ghost use Rattle.template_ids.specs.Templates.{refusal as template_refusal};
@@ -21,7 +21,7 @@ use bridge_io::{Kind, NoMemory, Place, Text};
 use mpd_rules::{Addressing, BaseWalk, PeriodView, RepView};
 use std::alloc::Global;
 use template_ids::{Ids, Template, TemplateFault};
-use timeline::{End, Names, RefList, Runs, Scale, SharedNames, SharedTimeline, TimeFault};
+use timeline::{End, Names, RefList, Runs, Scale, SharedNames, TimeFault};
 use url_parts::{Address, Base, Part, UrlFault};
 
 /// What a Representation has in its Period.
@@ -79,42 +79,12 @@ impl Setting<'_> {
         let template = init_of(alloc, told, place)?;
         let base = base_of(alloc, self.base, row, former)?;
         let initialization = initialization_of(alloc, row, told, &template, &base)?;
-        let names = self.names_of(alloc, row, told, media, base)?;
+        let names = names_of(alloc, row, told, media, base)?;
         let runs = self.runs_of(alloc, told, end, names, place)?;
         Ok(Content {
             initialization,
             runs,
         })
-    }
-
-    /// The names of a Representation's segments.
-    fn names_of(
-        &self,
-        alloc: Global,
-        row: &RepView<'_>,
-        told: &Addressing<'_>,
-        media: Template,
-        base: Base,
-    ) -> Result<Names, NoMemory>
-        requires { IsShared (tables_of told.now) self.now.shared.now }
-        ensures { IfOk result (λ names. names ≡ spec.names_of (row_of row.now).description (addressed told.now) media base) }
-    {
-        if told.is_list() {
-            let names = self.list_of(alloc, told)?;
-            return Ok(Names::of_shared(names, base));
-        }
-        let id = Text::copy_of(alloc, row.id())?;
-        Ok(Names::of_template(media, id, row.bandwidth(), base))
-    }
-
-    fn list_of(&self, alloc: Global, told: &Addressing<'_>) -> Result<SharedNames, NoMemory>
-        requires { IsShared (tables_of told.now) self.now.shared.now }
-        ensures { IfOk result (λ names. names ≡ spec.names_in (unwrap_or (addressed told.now).urls [])) }
-    {
-        match self.shared.list(told.urls_key()) {
-            Some(names) => names.share(),
-            None => SharedNames::of(alloc, RefList::new(alloc)),
-        }
     }
 
     /// The segments of a Representation.
@@ -156,6 +126,33 @@ impl Setting<'_> {
                 Runs::from_duration(alloc, duration, end, self.live, scale, names)
             }
         }
+    }
+}
+
+/// The names of a Representation's segments.
+fn names_of(
+    alloc: Global,
+    row: &RepView<'_>,
+    told: &Addressing<'_>,
+    media: Template,
+    base: Base,
+) -> Result<Names, NoMemory>
+    ensures { IfOk result (λ names. names ≡ spec.names_of (row_of row.now).description (addressed told.now) media base) }
+{
+    if told.is_list() {
+        return Ok(Names::of_shared(list_of(alloc, told)?, base));
+    }
+    let id = Text::copy_of(alloc, row.id())?;
+    Ok(Names::of_template(media, id, row.bandwidth(), base))
+}
+
+/// The SegmentURLs of a list.
+fn list_of(alloc: Global, told: &Addressing<'_>) -> Result<SharedNames, NoMemory>
+    ensures { IfOk result (λ names. names ≡ unwrap_or (addressed told.now).urls []) }
+{
+    match told.urls() {
+        Some(names) => names.share(),
+        None => SharedNames::of(alloc, RefList::new(alloc)),
     }
 }
 
