@@ -13,14 +13,23 @@ use std::{fs, io};
 /// The files under a folder as a store. It tells nothing of their bytes.
 ///
 /// A file's path is the folder's, `/` and the name, which has no `..` and is no absolute path. A symbolic link is
-/// followed.
+/// followed. The file that was appended to last stays open until another one is, or it is created anew.
 #[derive(Drop)]
 pub struct FolderStore<R: Files> {
     files: R,
     alloc: Global,
     folder: String,
+    /// What was appended to last.
+    open: Option<OpenEnd<R::File>>,
     read_faults: u64,
     write_faults: u64,
+}
+
+/// A file that is open for more at its end.
+#[derive(Drop)]
+struct OpenEnd<W> {
+    path: String,
+    file: W,
 }
 
 impl<R: Files + Drop> FolderStore<R> {
@@ -33,6 +42,7 @@ impl<R: Files + Drop> FolderStore<R> {
             files,
             alloc,
             folder: String::from_str(alloc, folder)?,
+            open: None,
             read_faults: 0,
             write_faults: 0,
         })
@@ -68,6 +78,7 @@ impl<R: Files> Store for FolderStore<R> {
     /// Makes the folders that are missing, too.
     fn create(&mut self, name: &Name) -> Result<(), Fail> {
         let path = path_of(self.alloc, &self.folder, name)?;
+        self.open = None;
         match create_empty(&self.files, path.as_str()) {
             Ok(()) => Ok(()),
             Err(error) => Err(counted(&mut self.write_faults, error)),
@@ -77,7 +88,7 @@ impl<R: Files> Store for FolderStore<R> {
     /// Writes until the whole piece was taken. Makes the folders that are missing, too.
     fn append(&mut self, name: &Name, piece: &[u8]) -> Result<(), Fail> {
         let path = path_of(self.alloc, &self.folder, name)?;
-        match append_to(&self.files, path.as_str(), piece) {
+        match append_to(&self.files, &mut self.open, path, piece) {
             Ok(()) => Ok(()),
             Err(error) => Err(counted(&mut self.write_faults, error)),
         }
@@ -118,15 +129,33 @@ fn create_empty<R: Files>(files: &R, path: &str) -> io::Result<()> {
     Ok(())
 }
 
-fn append_to<R: Files>(files: &R, path: &str, piece: &[u8]) -> io::Result<()> {
-    let mut file = match open_end(files, path) {
+/// Adds a piece at the end of a file, which is open where it was appended to last. A fault closes it.
+fn append_to<R: Files>(
+    files: &R,
+    open: &mut Option<OpenEnd<R::File>>,
+    path: String,
+    piece: &[u8],
+) -> io::Result<()> {
+    let mut end = match open.take() {
+        Some(end) if end.path == path => end,
+        _ => OpenEnd {
+            file: end_of(files, path.as_str())?,
+            path,
+        },
+    };
+    end.file.write_all(piece)?;
+    *open = Some(end);
+    Ok(())
+}
+
+fn end_of<R: Files>(files: &R, path: &str) -> io::Result<R::File> {
+    match open_end(files, path) {
         Err(error) if is_absence(&error) => {
             make_folders(files, path)?;
-            open_end(files, path)?
+            open_end(files, path)
         }
-        opened => opened?,
-    };
-    file.write_all(piece)
+        opened => opened,
+    }
 }
 
 fn open_end<R: Files>(files: &R, path: &str) -> io::Result<R::File> {
