@@ -16,7 +16,7 @@ ghost use Rattle.bridge_steps.specs.Endings.{JobEndsAs, around};
 ghost use Rattle.bridge_core.specs.Hls as spec;
 
 use bridge_courses::Ending;
-use bridge_io::{Ledger, Name, NoMemory, Steps, Store, Text};
+use bridge_io::{Bytes, Ledger, Name, NoMemory, Steps, Store, Text};
 use bridge_playlists::StorePlace;
 use bridge_report::{Halt, Refusal, Stop, content_of, halted};
 use bridge_steps::{
@@ -97,7 +97,7 @@ fn translation_at<F: Store, L: Ledger>(
     ensures writes { F.write_faults store.new ≡ F.write_faults store.old }
 {
     let bytes = content_of(alloc, store, &place.file)?;
-    match translation_of(alloc, job, &place.url, bytes.as_slice(), steps) {
+    match translation_of(alloc, job, &place.url, bytes, steps) {
         Ok(translation) => Ok(translation),
         Err(Stop::Refused(refusal)) => Err(Halt::refused(alloc, &place.file, refusal)),
         Err(Stop::Memory) => Err(Halt::Memory),
@@ -110,11 +110,11 @@ fn translation_of<L: Ledger>(
     alloc: Global,
     job: &Hls,
     url: &Base,
-    bytes: &[u8],
+    bytes: Bytes,
     steps: &mut Steps<L>,
 ) -> Result<Translation, Stop>
     requires { IfSome job.now.instant IsReadable }
-    ensures { Gives spec.translated refused_in result (spec.translation_of job.now url.now bytes.now) }
+    ensures { Gives spec.translated refused_in result (spec.translation_of job.now url.now bytes) }
 {
     let mpd = values_of(alloc, bytes)?;
     if mpd.live() {

@@ -13,7 +13,7 @@ ghost use Rattle.bridge_core.specs.Source.{source_text};
 use crate::seconds::push_seconds;
 use crate::source::source_text;
 use bridge_courses::Ending;
-use bridge_io::{FileWriter, Ledger, Name, NoMemory, Steps, Store, Text};
+use bridge_io::{Bytes, FileWriter, Ledger, Name, NoMemory, Steps, Store, Text};
 use bridge_playlists::StorePlace;
 use bridge_report::{Refusal, halted};
 use bridge_steps::{Ready, file_in, mpd_in, place_in, write_playlists, written};
@@ -55,7 +55,9 @@ pub fn run<F: Store, L: Ledger>(
     let Ok(text) = source_text(alloc, job.seed) else {
         return Ending::Memory;
     };
-    let bytes = text.as_str().as_bytes();
+    let Ok(bytes) = bytes_of(alloc, &text) else {
+        return Ending::Memory;
+    };
     let live = Some(Refusal::NotStatic);
     match source_place(alloc) {
         Ok(place) => match mpd_in(alloc, &place, bytes, None, live, job.digits, steps) {
@@ -64,6 +66,14 @@ pub fn run<F: Store, L: Ledger>(
         },
         Err(told) => told,
     }
+}
+
+/// A copy of a text's bytes.
+fn bytes_of(alloc: Global, text: &Text) -> Result<Bytes, NoMemory>
+    ensures { IfOk result (λ bytes. bytes ≡ text.now) }
+{
+    let bytes = Vec::from_slice(alloc, text.as_str().as_bytes())?;
+    Ok(Bytes::from(bytes))
 }
 
 /// Where the MPD is thought to lie.

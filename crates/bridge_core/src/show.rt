@@ -72,7 +72,6 @@ fn shown_at<F: Store, L: Ledger>(
 {
     let bytes = content_of(alloc, store, &place.file)?;
     if is_mpd(bytes.as_slice()) {
-        let bytes = bytes.as_slice();
         let ready = mpd_in(alloc, place, bytes, job.instant, None, job.digits, steps)?;
         return Ok((
             Verdict::Done,

@@ -13,7 +13,7 @@ ghost use Rattle.bridge_steps.specs.Endings.{JobEndsAs, around};
 ghost use Rattle.bridge_reach.specs.Index as spec;
 
 use bridge_courses::Ending;
-use bridge_io::{Ledger, Name, Steps, Store, Text};
+use bridge_io::{Bytes, Ledger, Name, Steps, Store, Text};
 use bridge_playlists::StorePlace;
 use bridge_report::{Halt, IndexRefusal, Refusal, Stop, content_of, halted};
 use bridge_steps::{Ready, checked, done_line, place_in, tree_of, write_playlists, written};
@@ -95,7 +95,7 @@ fn indexed_at<F: Store, L: Ledger>(
     ensures writes { F.write_faults store.new ≡ F.write_faults store.old }
 {
     let bytes = content_of(alloc, store, &place.file)?;
-    indexed_in(alloc, place, bytes.as_slice(), digits, store, steps)
+    indexed_in(alloc, place, bytes, digits, store, steps)
 }
 
 /// The same of bytes that the file at the place has.
@@ -103,13 +103,13 @@ fn indexed_at<F: Store, L: Ledger>(
 fn indexed_in<F: Store, L: Ledger>(
     alloc: Global,
     place: &StorePlace,
-    bytes: &[u8],
+    bytes: Bytes,
     digits: Digits,
     store: &mut F,
     steps: &mut Steps<L>,
 ) -> Result<Ready, Halt>
     ensures mpd { ForSome (F.files store.old) (λ files.
-        Gives (λ ready. ready.presentation) halted result (spec.ready_in (10 ^ digits) place.now files bytes.now)) }
+        Gives (λ ready. ready.presentation) halted result (spec.ready_in (10 ^ digits) place.now files bytes)) }
     ensures digits { IfOk result (λ ready. ready.digits ≡ digits) }
     ensures cause { HasCause ReadFault (F.read_faults store.old) (F.read_faults store.new) result }
     ensures files { F.files store.new ≡ F.files store.old }
@@ -140,8 +140,8 @@ fn checked_in<L: Ledger>(
 }
 
 /// The values of the MPD.
-fn values_in(alloc: Global, place: &StorePlace, bytes: &[u8]) -> Result<IndexedMpd, Halt>
-    ensures values { Gives index_mpd halted result (spec.values_in place.now bytes.now) }
+fn values_in(alloc: Global, place: &StorePlace, bytes: Bytes) -> Result<IndexedMpd, Halt>
+    ensures values { Gives index_mpd halted result (spec.values_in place.now bytes) }
     ensures no_fault { IsNoReadFault result }
 {
     match values_of(alloc, bytes) {
@@ -152,8 +152,8 @@ fn values_in(alloc: Global, place: &StorePlace, bytes: &[u8]) -> Result<IndexedM
 }
 
 #[tactic(auto, unfolding(crate::specs::Index::values_of))]
-fn values_of(alloc: Global, bytes: &[u8]) -> Result<IndexedMpd, Stop>
-    ensures { Gives index_mpd refused_in result (spec.values_of bytes.now) }
+fn values_of(alloc: Global, bytes: Bytes) -> Result<IndexedMpd, Stop>
+    ensures { Gives index_mpd refused_in result (spec.values_of bytes) }
 {
     let tree = tree_of(alloc, bytes)?;
     match rules_indexed(alloc, &tree) {

@@ -12,9 +12,10 @@ ghost use Rattle.live_meaning.specs.Refusals.{begun_of, first_appended_by};
 ghost use Rattle.live_meaning.specs.Updates.{Terms};
 ghost use Rattle.bridge_report.specs.Refusals.{refused_in};
 ghost use Rattle.bridge_steps.specs.LiveMpds as spec;
+ghost use Rattle.bridge_steps.specs.Manifests.{values_of};
 
 use crate::manifest::values_of;
-use bridge_io::{Ledger, Steps};
+use bridge_io::{Bytes, Ledger, Steps};
 use bridge_jobs::Frame;
 use bridge_report::{Refusal, Stop, UpdateFault};
 use exact_time::Digits;
@@ -69,7 +70,7 @@ pub(crate) fn first_frame<L: Ledger>(
     answers_allow_listings();
     match frame {
         Frame::Mpd { now, body } => {
-            let mpd = values_of(alloc, body.as_slice())?;
+            let mpd = values_in(alloc, body)?;
             begin_session(alloc, url, digits, &mpd, *now, steps)
         }
         Frame::Reset { .. } | Frame::Tick { .. } => Err(Stop::Refused(Refusal::NotOpen)),
@@ -93,14 +94,25 @@ pub(crate) fn next_frame<L: Ledger>(
 {
     match frame {
         Frame::Mpd { now, body } => {
-            let mpd = values_of(alloc, body.as_slice())?;
+            let mpd = values_in(alloc, body)?;
             taken(session.refresh(Some(&mpd), *now, steps))
         }
         Frame::Reset { now, body } => {
-            let mpd = values_of(alloc, body.as_slice())?;
+            let mpd = values_in(alloc, body)?;
             taken(session.reset(&mpd, *now, steps))
         }
         Frame::Tick { now } => taken(session.refresh(None, *now, steps)),
+    }
+}
+
+/// The values of the MPD that a frame carries.
+fn values_in(alloc: Global, body: &Bytes) -> Result<Mpd, Stop>
+    ensures mpd { Gives segments_mpd refused_in result (values_of body.now) }
+    ensures typed { IfOk result (λ mpd. IsTyped (Some (segments_mpd mpd))) }
+{
+    match Vec::from_slice(alloc, body.as_slice()) {
+        Ok(bytes) => values_of(alloc, Bytes::from(bytes)),
+        Err(_) => Err(Stop::Memory),
     }
 }
 

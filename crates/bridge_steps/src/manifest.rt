@@ -5,6 +5,7 @@ ghost use Rattle.bridge_io.specs.Answer.{Gives};
 ghost use Rattle.bridge_io.specs.Fault.{HasCause};
 ghost use Rattle.live_meaning.specs.Laws.{IsTyped};
 ghost use Rattle.mpd_text.specs.Meaning.{reading_of};
+ghost use Rattle.mpd_text.specs.Faults.{refusal};
 ghost use Rattle.mpd_text.specs.Nodes.{root_of};
 ghost use Rattle.mpd_rules.specs.Rules.{typed_mpd_of};
 ghost use Rattle.mpd_rules.specs.Views.{segments_mpd};
@@ -18,7 +19,7 @@ ghost use Rattle.bridge_report.specs.Reading.{halted, IsNoReadFault};
 ghost use Rattle.bridge_report.specs.Refusals.{refused_in};
 ghost use Rattle.bridge_steps.specs.Manifests as spec;
 
-use bridge_io::{Ledger, Steps, Store};
+use bridge_io::{Bytes, Ledger, Steps, Store};
 use bridge_playlists::StorePlace;
 use bridge_report::{Halt, Refusal, Stop, content_of};
 use exact_time::Digits;
@@ -65,20 +66,20 @@ pub fn mpd_at<F: Store, L: Ledger>(
     ensures writes { F.write_faults store.new ≡ F.write_faults store.old }
 {
     let bytes = content_of(alloc, store, &place.file)?;
-    mpd_in(alloc, place, bytes.as_slice(), now, live, digits, steps)
+    mpd_in(alloc, place, bytes, now, live, digits, steps)
 }
 
 /// The same of bytes that the file at a place has.
 pub fn mpd_in<L: Ledger>(
     alloc: Global,
     place: &StorePlace,
-    bytes: &[u8],
+    bytes: Bytes,
     now: Option<Instant>,
     live: Option<Refusal>,
     digits: Digits,
     steps: &mut Steps<L>,
 ) -> Result<Ready, Halt>
-    ensures mpd { Gives (λ ready. ready.presentation) halted result (spec.mpd_in live (10 ^ digits) now place.now bytes.now) }
+    ensures mpd { Gives (λ ready. ready.presentation) halted result (spec.mpd_in live (10 ^ digits) now place.now bytes) }
     ensures digits { IfOk result (λ ready. ready.digits ≡ digits) }
     ensures finished { IfOk result (λ ready. IsTrue (is_some live) → is_finished ready.presentation ≡ true) }
     ensures listable { IfOk result (λ ready. IsTrue (is_some live) → AreListable ready.presentation) }
@@ -98,14 +99,14 @@ pub fn mpd_in<L: Ledger>(
 fn checked_presentation<L: Ledger>(
     alloc: Global,
     url: &Base,
-    bytes: &[u8],
+    bytes: Bytes,
     now: Option<Instant>,
     live: Option<Refusal>,
     digits: Digits,
     steps: &mut Steps<L>,
 ) -> Result<Ready, Stop>
     ensures ready { Gives (λ ready. ready.presentation) refused_in result
-        (spec.checked_presentation live (10 ^ digits) url.now now bytes.now) }
+        (spec.checked_presentation live (10 ^ digits) url.now now bytes) }
     ensures digits { IfOk result (λ ready. ready.digits ≡ digits) }
 {
     let mpd = mpd_of(alloc, bytes, live)?;
@@ -154,8 +155,8 @@ pub fn checked<L: Ledger>(
 
 /// The values of an MPD, or the first refusal. A live one may be refused.
 #[tactic(auto, unfolding(crate::specs::Manifests::mpd_of))]
-fn mpd_of(alloc: Global, bytes: &[u8], live: Option<Refusal>) -> Result<Mpd, Stop>
-    ensures { Gives segments_mpd refused_in result (spec.mpd_of live bytes.now) }
+fn mpd_of(alloc: Global, bytes: Bytes, live: Option<Refusal>) -> Result<Mpd, Stop>
+    ensures { Gives segments_mpd refused_in result (spec.mpd_of live bytes) }
 {
     let mpd = values_of(alloc, bytes)?;
     match live {
@@ -166,19 +167,19 @@ fn mpd_of(alloc: Global, bytes: &[u8], live: Option<Refusal>) -> Result<Mpd, Sto
 
 /// The values of an MPD, live or not, or the first refusal.
 #[tactic(auto, unfolding(crate::specs::Manifests::values_of))]
-pub fn values_of(alloc: Global, bytes: &[u8]) -> Result<Mpd, Stop>
-    ensures mpd { Gives segments_mpd refused_in result (spec.values_of bytes.now) }
+pub fn values_of(alloc: Global, bytes: Bytes) -> Result<Mpd, Stop>
+    ensures mpd { Gives segments_mpd refused_in result (spec.values_of bytes) }
     ensures typed { IfOk result (λ mpd. IsTyped (Some (segments_mpd mpd))) }
 {
     let tree = tree_of(alloc, bytes)?;
     typed_of(alloc, &tree)
 }
 
-/// The tree that bytes spell, or why they spell none.
-pub fn tree_of(alloc: Global, bytes: &[u8]) -> Result<Tree, Stop>
-    ensures { Gives root_of refused_in result (told_as Refusal.Text (reading_of bytes.now)) }
+/// The tree that bytes spell, which it takes over, or why they spell none.
+pub fn tree_of(alloc: Global, bytes: Bytes) -> Result<Tree, Stop>
+    ensures { Gives root_of refused_in result (told_as Refusal.Text (reading_of bytes)) }
 {
-    match read_tree(alloc, bytes) {
+    match tree_from(alloc, bytes) {
         Ok(tree) => Ok(tree),
         Err(fault) => Err(Stop::of_text(fault)),
     }
@@ -192,4 +193,10 @@ fn typed_of(alloc: Global, tree: &Tree) -> Result<Mpd, Stop>
         Ok(mpd) => Ok(mpd),
         Err(fault) => Err(Stop::of_rules(fault)),
     }
+}
+
+fn tree_from(alloc: Global, bytes: Bytes) -> Result<Tree, mpd_text::TextFault>
+    ensures { Gives root_of refusal result (reading_of bytes) }
+{
+    read_tree(alloc, bytes.as_slice())
 }

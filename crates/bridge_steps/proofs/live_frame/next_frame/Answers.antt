@@ -1,20 +1,16 @@
-use Rattle.std.proofs.Common.{◌≡◌, Ok, sym, ap, ◌∙◌}
 use Rattle.mpd_rules.specs.Views.{segments_mpd}
 use Rattle.live_meaning.specs.Updates.{Refresh, Reset}
-use Rattle.bridge_steps.specs.Manifests.{values_of}
 use Rattle.bridge_steps.proofs.LiveFrames.{next_by, refreshed, reset_so}
 use Rattle.bridge_steps.proofs.live_frame.next_frame.Goals as goal
 
 pub returns-in_ok-mpd-in-Mpd-clause-state : goal.returns-in_ok-mpd-in-Mpd-clause-state
 returns-in_ok-mpd-in-Mpd-clause-state g c =
     let values = segments_mpd c.in_ok-mpd-in-Mpd.mpd in let x = c.args.frame.now in
-    let read : values_of c.in-Mpd.body ≡ Ok values = ap values_of (sym c.as_slice.ensures) ∙ c.in_ok-mpd-in-Mpd.ensures.mpd in
     next_by _ c.args.session.now x (Refresh values c.in-Mpd.now) c.refresh.result c.taken.result
-    (refreshed x c.in-Mpd.now c.in-Mpd.body values c.in-Mpd.is read) c.refresh.ensures.next c.taken.ensures
+    (refreshed x c.in-Mpd.now c.in-Mpd.body values c.in-Mpd.is c.in_ok-mpd-in-Mpd.ensures.mpd) c.refresh.ensures.next c.taken.ensures
 
 pub returns-in_ok-mpd-in-Reset-clause-state : goal.returns-in_ok-mpd-in-Reset-clause-state
 returns-in_ok-mpd-in-Reset-clause-state g c =
     let values = segments_mpd c.in_ok-mpd-in-Reset.mpd in let x = c.args.frame.now in
-    let read : values_of c.in-Reset.body ≡ Ok values = ap values_of (sym c.as_slice-in-Reset.ensures) ∙ c.in_ok-mpd-in-Reset.ensures.mpd in
     next_by _ c.args.session.now x (Reset values c.in-Reset.now) c.reset.result c.taken-in-Reset.result
-    (reset_so x c.in-Reset.now c.in-Reset.body values c.in-Reset.is read) c.reset.ensures.next c.taken-in-Reset.ensures
+    (reset_so x c.in-Reset.now c.in-Reset.body values c.in-Reset.is c.in_ok-mpd-in-Reset.ensures.mpd) c.reset.ensures.next c.taken-in-Reset.ensures

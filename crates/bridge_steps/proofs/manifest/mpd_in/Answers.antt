@@ -4,11 +4,11 @@ use Rattle.bridge_steps.proofs.manifest.mpd_in.Goals as goal
 
 pub returns-in-Ok-clause-finished : goal.returns-in-Ok-clause-finished
 returns-in-Ok-clause-finished g c = λ some.
-    finished_read c.static_mpds_are_finished.ensures c.args.live (10 ^ c.args.digits) c.args.place.now.url c.args.now c.args.bytes.now
+    finished_read c.static_mpds_are_finished.ensures c.args.live (10 ^ c.args.digits) c.args.place.now.url c.args.now c.args.bytes
     c.in-Ok.ready.presentation c.in-Ok.ensures.ready some
 
 pub returns-in-Ok-clause-listable : goal.returns-in-Ok-clause-listable
 returns-in-Ok-clause-listable g c = λ some.
     listable_read c.segments_can_be_listed.ensures.verified c.args.live
-    (10 ^ c.args.digits) c.args.place.now.url c.args.now c.args.bytes.now
+    (10 ^ c.args.digits) c.args.place.now.url c.args.now c.args.bytes
     c.in-Ok.ready.presentation c.in-Ok.ensures.ready some
