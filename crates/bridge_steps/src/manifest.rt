@@ -5,7 +5,6 @@ ghost use Rattle.bridge_io.specs.Answer.{Gives};
 ghost use Rattle.bridge_io.specs.Fault.{HasCause};
 ghost use Rattle.live_meaning.specs.Laws.{IsTyped};
 ghost use Rattle.mpd_text.specs.Meaning.{reading_of};
-ghost use Rattle.mpd_text.specs.Faults.{refusal};
 ghost use Rattle.mpd_text.specs.Nodes.{root_of};
 ghost use Rattle.mpd_rules.specs.Rules.{typed_mpd_of};
 ghost use Rattle.mpd_rules.specs.Views.{segments_mpd};
@@ -25,7 +24,7 @@ use bridge_report::{Halt, Refusal, Stop, content_of};
 use exact_time::Digits;
 use iso_time::Instant;
 use mpd_rules::{Mpd, rules};
-use mpd_text::{Tree, read_tree};
+use mpd_text::Tree;
 use presentation::{Longest, Presentation, segments_can_be_listed, static_mpds_are_finished};
 use std::alloc::Global;
 use url_parts::Base;
@@ -179,7 +178,7 @@ pub fn values_of(alloc: Global, bytes: Bytes) -> Result<Mpd, Stop>
 pub fn tree_of(alloc: Global, bytes: Bytes) -> Result<Tree, Stop>
     ensures { Gives root_of refused_in result (told_as Refusal.Text (reading_of bytes)) }
 {
-    match tree_from(alloc, bytes) {
+    match Tree::from_bytes(alloc, bytes) {
         Ok(tree) => Ok(tree),
         Err(fault) => Err(Stop::of_text(fault)),
     }
@@ -193,10 +192,4 @@ fn typed_of(alloc: Global, tree: &Tree) -> Result<Mpd, Stop>
         Ok(mpd) => Ok(mpd),
         Err(fault) => Err(Stop::of_rules(fault)),
     }
-}
-
-fn tree_from(alloc: Global, bytes: Bytes) -> Result<Tree, mpd_text::TextFault>
-    ensures { Gives root_of refusal result (reading_of bytes) }
-{
-    read_tree(alloc, bytes.as_slice())
 }
