@@ -1,6 +1,6 @@
 #!/usr/bin/env bash
-# Times the reading of an MPD of 8 MB with 200,000 S elements: mpd_text's `read_tree`, the Rust crate roxmltree 0.16 and libxml2's
-# tree; and `read_tree` with a walk behind it that asks each S for its `t`, `d` and `r` with their places. Each is a program of its
+# Times the reading of an MPD of 8 MB with 200,000 S elements: mpd_text's `Tree::from_bytes`, the Rust crate roxmltree 0.16 and
+# libxml2's tree; and the first with a walk behind it that asks each S for its `t`, `d` and `r` with their places. Each is a program of its
 # own that reads the file; the shortest of eleven runs counts, with its largest memory.
 #
 # It wants `rt`, cargo, python3, and Debian's packages librust-roxmltree-dev and libxml2-utils.
@@ -21,14 +21,14 @@ PY
 # Ours: a program beside copies of the libraries.
 mkdir -p "$work/ours/crates"
 cp -r "$here/crates/bridge_io" "$here/crates/byte_scan" "$here/crates/mpd_text" "$work/ours/crates/"
-printf 'bridge_io: thiserror\nbyte_scan:\nmpd_text: bridge_io byte_scan thiserror\nreads: bridge_io mpd_text\n' > "$work/ours/crates.txt"
+printf 'bridge_io: itoa thiserror\nbyte_scan:\nmpd_text: bridge_io byte_scan memchr thiserror\nreads: bridge_io mpd_text\n' > "$work/ours/crates.txt"
 mkdir -p "$work/ours/crates/reads/src"
 cat > "$work/ours/crates/reads/src/main.rt" <<'RS'
 //! Reads the tree of a file. With the word `walk` it then asks each element of the timeline for its attributes.
 #![tactic(auto)]
 
 use bridge_io::{FolderStore, Name, slurp};
-use mpd_text::{Node, Tree, read_tree};
+use mpd_text::{Node, Tree};
 use std::env;
 use std::process::ExitCode;
 
@@ -74,7 +74,7 @@ fn main(rt: HostRuntime) -> ExitCode {
     let Ok(bytes) = slurp(alloc, &mut store, &name, 8_388_608) else {
         return ExitCode::from(1);
     };
-    match read_tree(alloc, bytes.as_slice()) {
+    match Tree::from_bytes(alloc, bytes) {
         Ok(tree) if is_walk && walk(&tree) == 0 => ExitCode::from(1),
         Ok(_) => ExitCode::from(0),
         Err(_) => ExitCode::from(1),
@@ -98,7 +98,7 @@ fn main() {
 RS
 (cd "$work/rox" && cargo build -q --release --offline)
 
-python3 "$here/bench/measure.py" read_tree "$work/m.mpd" "$ours"
-python3 "$here/bench/measure.py" "read_tree and a walk" "$work/m.mpd" "$ours" walk
+python3 "$here/bench/measure.py" from_bytes "$work/m.mpd" "$ours"
+python3 "$here/bench/measure.py" "from_bytes and a walk" "$work/m.mpd" "$ours" walk
 python3 "$here/bench/measure.py" roxmltree "$work/m.mpd" "$work/rox/target/release/rox"
 python3 "$here/bench/measure.py" xmllint "$work/m.mpd" xmllint --noout --huge m.mpd
