@@ -45,6 +45,11 @@ abbrev pub is_same : Sameness → Rendition → Rendition → Bool
 is_same Key one other = one.codes == other.codes && one.rank == other.rank
 is_same Set one other = one.set == other.set
 
+-- what renditions have in common that are the same
+abbrev pub key_of : Sameness → Rendition → ℕ × ℕ
+key_of Key one = (one.codes, one.rank)
+key_of Set one = (one.set, 0)
+
 -- those of some renditions that are the first of their kind, behind those that were found before
 abbrev pub firsts : Sameness → List Rendition → List Rendition → List Rendition
 firsts sameness found [] = found

@@ -1,11 +1,11 @@
 // Audio groups.
 ghost use Rattle.std.specs.Prelude.{◌≡◌, ◌<◌, IfOk, [], map, length, slice_get, Some, position, count_by, take, unwrap_or};
 ghost use Rattle.std.specs.Option.{option_eq};
-ghost use Rattle.std.specs.List.{list_any};
 ghost use Rattle.presentation.specs.Groups as spec;
 
 use crate::{Group, GroupList, Track};
 use bridge_io::{Kind, NoMemory, Text};
+use indexmap::IndexSet;
 use std::alloc::Global;
 
 /// An audio track among those of its set.
@@ -108,6 +108,16 @@ pub(crate) enum Sameness {
 }
 
 impl Sameness {
+    /// What renditions have in common of which this holds.
+    fn key(self, rendition: Rendition) -> (usize, usize)
+        ensures { result ≡ spec.key_of self rendition }
+    {
+        match self {
+            Sameness::Key => (rendition.codes, rendition.rank),
+            Sameness::Set => (rendition.set, 0),
+        }
+    }
+
     fn holds(self, one: Rendition, other: Rendition) -> bool
         ensures { result ≡ spec.is_same self one other }
     {
@@ -127,18 +137,14 @@ fn firsts(
     ensures { IfOk result (λ found. found.items ≡ spec.firsts sameness [] renditions.now) }
 {
     let mut found = Vec::new(alloc);
+    let mut keys = IndexSet::new(alloc);
     for rendition in renditions {
-        if !is_among(&found, *rendition, sameness) {
+        let (_, is_new) = keys.insert_full(sameness.key(*rendition))?;
+        if is_new {
             found.push(*rendition)?;
         }
     }
     Ok(found)
-}
-
-fn is_among(found: &[Rendition], rendition: Rendition, sameness: Sameness) -> bool
-    ensures { result ≡ list_any (spec.is_same sameness rendition) found.now }
-{
-    found.iter().any(|other| sameness.holds(rendition, *other))
 }
 
 fn group_of(
