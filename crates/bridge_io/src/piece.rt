@@ -1,3 +1,5 @@
+// Pieces of lines.
+
 /// A piece of a line.
 #[derive(Clone, Copy)]
 pub enum Piece<'a> {

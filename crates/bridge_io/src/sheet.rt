@@ -1,4 +1,4 @@
-// A file that is written, with the store that it lies in.
+// What lines are written on.
 ghost use Rattle.bridge_io.specs.Adding.{Adds};
 ghost use Rattle.bridge_io.specs.Pieces.{piece_text, pieces_text};
 
