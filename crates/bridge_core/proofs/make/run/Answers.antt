@@ -24,7 +24,7 @@ unfolding make_outcome
 returns-in-Ok-source_place-clause-ends g c =
     let job = c.args.job.now in let place = c.in-Ok-source_place.place in let read = c.in-Err-mpd_in.ensures in
     let why = c.in-Err-mpd_in.halt in
-    let text = c.as_bytes-bytes.ensures.value ∙ c.as_str.ensures ∙ c.in-Ok.ensures in
+    let text = c.in-Ok-bytes_of.ensures ∙ c.in-Ok.ensures in
     let gives = subst (λ bytes. IfSome (halted why) (λ named. mpd_in (Some NotStatic) (10 ^ job.digits) None place bytes ≡ Err named)) text
     read.mpd in
     at_place source_place place (make_at job) c.halted.result _ _ c.in-Ok-source_place.ensures
