@@ -21,30 +21,29 @@ use Rattle.url_parts.specs.Addresses.{absolute, accepted, accepted_url, chain, i
 use Rattle.url_parts.proofs.Parsed.{resolved_is_address}
 use Rattle.template_ids.specs.{declared.fault.TemplateFault.TemplateFault, declared.identifier.Identifier.Identifier}
 use Rattle.template_ids.specs.{declared.identifier.Identifier.TheVariants.{Dollar, Padded, RepresentationId}, declared.ids.Ids.Ids}
-use Rattle.template_ids.specs.{Identifiers.identifier_of, Templates.{is_dollar, named, padded, parts_of, quantity, replaced}}
-use Rattle.template_ids.specs.Templates.{template_fault, template_of, value_if_ok, value_of}
-use Rattle.timeline.specs.{declared.entry.End.End, declared.entry.SEntry.SEntry, declared.names.Names.Names}
-use Rattle.timeline.specs.{declared.names.RefPart.RefPart, Expansions.SegmentTimeline}
-use Rattle.timeline.specs.{Listed.media_time, Names.{listed_part, part_at, part_of, referred}, OpenEnds.{DurationsEnd, TimelinesEnd}}
+use Rattle.template_ids.specs.{Identifiers.identifier_of, Templates.{is_dollar, named, parts_of, quantity, replaced, template_fault}}
+use Rattle.template_ids.specs.Templates.{template_of, value_if_ok, value_of}
+use Rattle.timeline.specs.{declared.entry.End.End, declared.entry.SEntry.SEntry, declared.names.Names.Names, declared.names.RefPart.RefPart}
+use Rattle.timeline.specs.{Expansions.SegmentTimeline, Listed.media_time, Names.{listed_part, part_at, part_of, referred}}
+use Rattle.timeline.specs.OpenEnds.{DurationsEnd, TimelinesEnd}
 use Rattle.timeline.proofs.OpenEnds.{no_fault}
 use Rattle.mpd_values.specs.{declared.blank.Blank.TheVariants.SpaceOrLineEnd, Blanks.trimmed}
 use Rattle.mpd_text.specs.{Trees.{Attribute, Element, Forest, Head, element, nothing}, Views.{attribute_named, side_by_side}}
 use Rattle.mpd_profile.specs.{declared.listed.Addressing.TheVariants.Segments as OneByOne, declared.listed.Listed.Listed, Heads.is_named}
 use Rattle.mpd_profile.specs.Heads.{value_named}
-use Rattle.mpd_levels.specs.{declared.initialization.Initialization.Initialization, declared.level.Means.Means}
-use Rattle.mpd_levels.specs.{Levels.{elements_used, first_some, list_name, template_name, used}, Readings.{child_named, children_named}, Segments.Segments}
+use Rattle.mpd_levels.specs.{declared.initialization.Initialization.Initialization, declared.level.Means.Means, Levels.elements_used}
+use Rattle.mpd_levels.specs.{Levels.{first_some, list_name, template_name, used}, Readings.{child_named, children_named}, Segments.Segments}
 use Rattle.mpd_levels.specs.Segments.{attributes_by, if_any, initialization_in, initialization_of, of_list, of_template, segments_by}
 use Rattle.mpd_levels.specs.Segments.{segments_of, told, unless_there, url_of, urls_by, urls_in, values_in}
 use Rattle.mpd_rules.specs.{declared.rows.Description.Description, Kept.{Path, is_kept, kept_children, levels_of, path_in, paths_of}}
-use Rattle.mpd_rules.specs.{Kept.{periods_of, representations_of, sets_of}, Readings.{base_in, base_reference}, Typed.TypedMpd}
-use Rattle.mpd_rules.specs.Typed.{bases_below, common_at, description_in}
+use Rattle.mpd_rules.specs.{Kept.{periods_of, representations_of, sets_of}, Readings.{base_in, base_reference}, Typed.bases_below}
+use Rattle.mpd_rules.specs.Typed.{common_at, description_in}
 use Rattle.mpd_rules.proofs.Ranges.{named_some}
 use Rattle.presentation.specs.{declared.fault.PresentationFault.PresentationFault, declared.parts.Content.Content}
 use Rattle.presentation.specs.{Origins.CameFromStaticMpd, Presented.{IsEnded, Presented}, Rows.{Period, Row}, Scales.scale_of}
-use Rattle.presentation.specs.Told.{all_told, at_url, base_of, content_of, end_of, gathered, init_of, init_reference}
-use Rattle.presentation.specs.Told.{init_template_of, initialization_of as initialization_told, media_of, names_of}
-use Rattle.presentation.specs.Told.{one_told, part_with, period_told, runs_of, segments_in, some_init, timeline_by, told_as, told_in_order}
-use Rattle.presentation.specs.Told.{told_of, unless_segments, untold}
+use Rattle.presentation.specs.Told.{all_told, at_url, base_of, content_of, end_of, gathered, init_of, init_reference, init_template_of}
+use Rattle.presentation.specs.Told.{initialization_of as initialization_told, media_of, names_of, one_told, part_with, period_told, runs_of}
+use Rattle.presentation.specs.Told.{segments_in, some_init, timeline_by, told_as, told_in_order, told_of, unless_segments, untold}
 use Rattle.presentation.proofs.{Ending.all_ended, Filling.{all_in_order, ok_under}, Pace.{IsSound, duration_sound, entries_sound}}
 use Rattle.laws_of_playlists.specs.Origins.{AreLocated, AreOfBytes, CameFromMpd, IsByte, IsElementOfBytes, IsFound, IsHeadOfBytes}
 use Rattle.laws_of_playlists.specs.Origins.{IsLocated, IsOfBytes, IsSomeBytes, InitializationsAreLocated, OwnTextsAreAddresses}

@@ -6,9 +6,8 @@ use Rattle.std.specs.{Prelude.{is_none, is_some, option_map}, Option.option_map_
 use Rattle.exact_time.specs.Time.{IsTime}
 use Rattle.mpd_levels.specs.Segments.{Segments}
 use Rattle.mpd_rules.specs.{Typed.TypedMpd, Views.segments_mpd}
-use Rattle.timeline.specs.declared.entry.SEntry.{SEntry}
-use Rattle.timeline.specs.{declared.entry.End.End, declared.names.Names.Names, declared.window.Window.Window, Expansions.SegmentTimeline}
-use Rattle.timeline.specs.{Expansions.Timing, Listed.expansion, Steady.AreLasting}
+use Rattle.timeline.specs.{declared.entry.SEntry.SEntry, declared.entry.End.End, declared.names.Names.Names, declared.window.Window.Window}
+use Rattle.timeline.specs.{Expansions.{SegmentTimeline, Timing}, Listed.expansion, Steady.AreLasting}
 use Rattle.presentation.specs.{declared.parts.Content.Content, Presented.{Presented, content_at, looked_at, window_of}, Scales.scale_of}
 use Rattle.presentation.specs.Told.{presented_of, timeline_by}
 use Rattle.presentation.proofs.{Ending.all_have, FromMpd.is_told, Grids.All-at, Pace.{duration_sound, entries_sound, expansion_has}}

@@ -8,19 +8,16 @@ use Rattle.mpd_rules.specs.{declared.rows.PeriodRow.PeriodRow, declared.rows.Tra
 use Rattle.presentation.specs.{Counting.{refusal, unless_any}, declared.fault.PresentationFault.PresentationFault}
 use Rattle.presentation.specs.{declared.parts.Content.Content, declared.shared.Shared.Shared, declared.told.PeriodContent.PeriodContent}
 use Rattle.presentation.specs.{Presented.IsEnded, Rows.{Row, Period, are_alike, in_order, is_alike, first_rows}, Scales.scale_of}
-use Rattle.presentation.specs.{Shared.{AreOf, AreOfAll, IsShared}, Told.{all_told, content_of, differ_told, differs_told, end_of}}
-use Rattle.presentation.specs.Told.{gathered, one_told, over_told, period_told, presented_if_told, presented_of, needs_now}
-use Rattle.presentation.specs.Told.{segments_in, timeline_by, told_before, told_in_order, told_of, base_of, init_of, initialization_of}
-use Rattle.presentation.specs.Told.{media_of, runs_of}
+use Rattle.presentation.specs.{Shared.{AreOf, AreOfAll, IsShared}, Told.{all_told, content_of, differ_told, differs_told, end_of, gathered}}
+use Rattle.presentation.specs.Told.{one_told, over_told, period_told, presented_if_told, presented_of, needs_now, segments_in, timeline_by}
+use Rattle.presentation.specs.Told.{told_before, told_in_order, told_of, base_of, init_of, initialization_of, media_of, runs_of}
 use Rattle.presentation.proofs.{Printing.if_some, Filling.{all_gathered, all_in_order, length_gathered, length_in_order, ok_under}}
 use Rattle.bridge_io.proofs.AndThen.{steps_of}
 use Rattle.bridge_io.specs.Answer.{and_then}
 use Rattle.url_parts.specs.declared.address.Part.{Part}
-use Rattle.timeline.specs.declared.entry.SEntry.{SEntry}
-use Rattle.timeline.specs.{declared.entry.End.End, declared.names.Names.Names, Expansions.{SegmentTimeline, is_open}, OpenEnds.TimelinesEnd}
-use Rattle.timeline.specs.OpenEnds.{DurationsEnd}
-use Rattle.mpd_levels.specs.{declared.addressing.SegmentRow.SegmentRow, declared.tables.Tables.Tables}
-use Rattle.mpd_levels.specs.Segments.{Segments}
+use Rattle.timeline.specs.{declared.entry.SEntry.SEntry, declared.entry.End.End, declared.names.Names.Names, Expansions.SegmentTimeline}
+use Rattle.timeline.specs.{Expansions.is_open, OpenEnds.{TimelinesEnd, DurationsEnd}}
+use Rattle.mpd_levels.specs.{declared.addressing.SegmentRow.SegmentRow, declared.tables.Tables.Tables, Segments.Segments}
 
 -- ---- keys
 

@@ -12,12 +12,10 @@ use Rattle.url_parts.specs.{declared.address.Part.Part, declared.fault.UrlFault.
 use Rattle.url.specs.{Parser.{Parsed, parse_url}, Parts.Parts}
 use Rattle.bridge_io.proofs.AndThen.{steps_of}
 use Rattle.bridge_io.specs.Answer.{and_then}
-use Rattle.template_ids.specs.{declared.fault.TemplateFault.TemplateFault, Templates.{template_of, template_fault, named, uses_number}}
-use Rattle.template_ids.specs.Templates.{uses_time}
-use Rattle.timeline.specs.declared.entry.SEntry.{SEntry}
-use Rattle.timeline.specs.{declared.entry.End.End, declared.fault.TimeFault.TimeFault, declared.names.Names.Names}
-use Rattle.timeline.specs.{declared.names.RefPart.RefPart, Expansions.SegmentTimeline, Names.{part_at, part_of, referred}}
-use Rattle.timeline.specs.SegmentTimelines.{unless_fault}
+use Rattle.template_ids.specs.{declared.fault.TemplateFault.TemplateFault, Templates.{template_of, template_fault}}
+use Rattle.timeline.specs.{declared.entry.SEntry.SEntry, declared.entry.End.End, declared.fault.TimeFault.TimeFault}
+use Rattle.timeline.specs.{declared.names.Names.Names, declared.names.RefPart.RefPart, Expansions.SegmentTimeline, Names.{part_at, part_of}}
+use Rattle.timeline.specs.{Names.referred, SegmentTimelines.unless_fault}
 use Rattle.mpd_levels.specs.Segments.{Segments}
 use Rattle.mpd_rules.specs.declared.rows.Description.{Description}
 use Rattle.presentation.specs.{declared.fault.PresentationFault.PresentationFault, declared.parts.Content.Content, Told.base_of}

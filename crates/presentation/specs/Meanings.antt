@@ -8,8 +8,7 @@ use Rattle.url.specs.{Parser.{Parsed, parse_url}, Parts.Parts}
 use Rattle.bridge_io.specs.{declared.media.Kind.Kind, declared.media.Kind.TheVariants.{Video, Audio, Text}}
 use Rattle.url_parts.specs.{Addresses.{is_absolute, text_of, url_of}, declared.address.Part.Part}
 use Rattle.template_ids.specs.Templates.{named}
-use Rattle.timeline.specs.declared.entry.SEntry.{SEntry}
-use Rattle.timeline.specs.{declared.entry.End.End, declared.names.Names.Names, declared.names.RefPart.RefPart}
+use Rattle.timeline.specs.{declared.entry.SEntry.SEntry, declared.entry.End.End, declared.names.Names.Names, declared.names.RefPart.RefPart}
 use Rattle.timeline.specs.{declared.window.Window.Window, Expansions.{SegmentTimeline, Timing}, Faults.members_by, Listed.media_time}
 use Rattle.timeline.specs.{Names.count_of, SegmentTimelines.timeline_from, Timelines.expansion_of_timeline}
 use Rattle.meaning.specs.Meanings.{Segment, Entry, Meaning, Track as MeantTrack}
@@ -18,8 +17,8 @@ use Rattle.mpd_rules.specs.{declared.facts.Facts.Facts, declared.rows.Descriptio
 use Rattle.mpd_text.specs.Meaning.{reading_of}
 use Rattle.presentation.specs.{declared.parts.Content.Content, declared.track.Track.Track, Counting.{sections_of, tracks_of}}
 use Rattle.presentation.specs.{Presented.{Presented, content_at, listed_in, window_at, window_of, whole_window}, Rows.{Row, Period}}
-use Rattle.presentation.specs.{Rows.{first_rows, in_order}, Scales.scale_of, Told.{end_of, following_of, init_reference}}
-use Rattle.presentation.specs.Told.{names_of, part_with, segments_in}
+use Rattle.presentation.specs.{Rows.{first_rows, in_order}, Scales.scale_of, Told.{end_of, following_of, init_reference, names_of}}
+use Rattle.presentation.specs.Told.{part_with, segments_in}
 
 -- ---- addresses of any length
 

@@ -1,7 +1,7 @@
 -- How far the segments of an S go on.
 use Rattle.std.proofs.{lemmas.List.{append_assoc, append-nil, map-append, drop-drop, length-append, length-drop}, Common.{inl, inr, ◌≡◌, ℕ}}
-use Rattle.std.proofs.Common.{ap₂, zero, suc, ◌+◌, ◌-◌, ◌*◌, ◌<◌, ◌≤◌, Bool, true, false, cond, List, ◌∷◌, map, ℤ, pos, negsuc, [], ◌+ℤ◌, ◌-ℤ◌}
-use Rattle.std.proofs.Common.{◌*ℤ◌, Option, Some, None, refl, ◌∙◌, sym, ap, subst, arith, ◌^◌, max, ltb, ◌||◌, ◌++◌, length, drop}
+use Rattle.std.proofs.Common.{ap₂, zero, suc, ◌+◌, ◌-◌, ◌*◌, ◌<◌, ◌≤◌, Bool, true, false, cond, List, ◌∷◌, map, ℤ, pos, negsuc, [], ◌+ℤ◌}
+use Rattle.std.proofs.Common.{◌-ℤ◌, ◌*ℤ◌, Option, Some, None, refl, ◌∙◌, sym, ap, subst, arith, ◌^◌, max, ltb, ◌||◌, ◌++◌, length, drop}
 use Rattle.std.proofs.{lemmas.Int.ints, lemmas.Option.IfSome_then, lemmas.Bool.Decides.nat_tests, lemmas.Bool.{cond-true, cond-false}}
 use Rattle.std.proofs.{lemmas.Bool.{or_parts, cases_Bool, cases_lt, eq-eqb, ne_eqb, le-ltb, lt-leb}, Math.Nat.one-le-mul}
 use Rattle.std.proofs.{Math.Nat.mul-le-mul_right, Math.Seq.drop-nil}
@@ -20,18 +20,17 @@ use Rattle.timeline.specs.{declared.timelines.Reach.TheVariants.Nowhere as Witho
 use Rattle.timeline.specs.{Expansions.{Short, lasting, repeated, Endless, repeat_of}, Timelines.{UpTo, placed, extent_from, count_up_to}}
 use Rattle.timeline.specs.Timelines.{members_of, reach_of, reach_of_end, members_from, expansion_of_timeline, reach_of_next}
 use Rattle.timeline.specs.{SegmentTimelines.{timeline_of_entries, timeline_of_members, timeline_if_paired}, Limits.breaks_limits}
-use Rattle.timeline.specs.Steady.{AreKept, AreLasting}
-use Rattle.timeline.specs.{Faults.{ends_open, is_apart, is_unbounded, refusal, segment_fault}, Building.{AreAdded, IsLaidOut, IsFaultOf}}
-use Rattle.timeline.specs.Building.{breaks_in, extent_in, fault_of, former_end, members_so_far, placed_in, runs_in}
-use Rattle.timeline.specs.Reaches.{GoesOn as MoreFollow, IsUpTo, IsReach, AreLaidOut, AreLimitsOf, IsSoFar, IsTheirFault, members_of_entry}
-use Rattle.timeline.specs.{Reaches.{next_of, start_of}, MediaTimelines.{AreMediaRuns, IsLaidTimeline, IsMedia, IsNextRun, IsPushed}}
-use Rattle.timeline.specs.MediaTimelines.{LaysOut, are_passed, expansion_of_laid, timeline_of_laid}
-use Rattle.timeline.specs.{MediaTimelines.{media_end, rest_of, runs_by}, RunSegments.{IsRun, all_extents, placed_run}}
+use Rattle.timeline.specs.{Steady.{AreKept, AreLasting}, Faults.{ends_open, is_apart, is_unbounded, refusal, segment_fault}}
+use Rattle.timeline.specs.Building.{AreAdded, IsLaidOut, IsFaultOf, breaks_in, extent_in, fault_of, former_end, members_so_far, placed_in}
+use Rattle.timeline.specs.{Building.runs_in, Reaches.{GoesOn as MoreFollow, IsUpTo, IsReach, AreLaidOut, AreLimitsOf, IsSoFar}}
+use Rattle.timeline.specs.{Reaches.{IsTheirFault, members_of_entry, next_of, start_of}, MediaTimelines.{AreMediaRuns, IsLaidTimeline}}
+use Rattle.timeline.specs.MediaTimelines.{IsMedia, IsNextRun, IsPushed, LaysOut, are_passed, expansion_of_laid, timeline_of_laid, media_end}
+use Rattle.timeline.specs.{MediaTimelines.{rest_of, runs_by}, RunSegments.{IsRun, all_extents, placed_run}}
 use Rattle.timeline.proofs.Ratios.{steps_to_cover-is, ceiling-is, int_le-mul, int_add-mul, ceiling, ceiling-enough, ceiling-le}
 use Rattle.timeline.proofs.Laid.{refusal_some, IsRun-in, extents-push, extents_after, laid-push, none_follows, none_of, room_after}
-use Rattle.timeline.proofs.{Laid.timed-in, Paced.kept_of, ExpansionsRise.{entries_last, repeated_last}, OpenEnds.{closed_not_open, open_expands}}
-use Rattle.timeline.proofs.Judged.{breaks-mono, head_breaks, is_apart-in}
-use Rattle.timeline.proofs.{Judged.{media_extent-in, run_fault}, LimitLemmas.{breaks_media, abs-lt}}
+use Rattle.timeline.proofs.{Laid.timed-in, Paced.kept_of, ExpansionsRise.{entries_last, repeated_last}, OpenEnds.closed_not_open}
+use Rattle.timeline.proofs.{OpenEnds.open_expands, Judged.{breaks-mono, head_breaks, is_apart-in, media_extent-in, run_fault}}
+use Rattle.timeline.proofs.LimitLemmas.{breaks_media, abs-lt}
 use Rattle.exact_time.proofs.TimeOrder.{at_most-from, not_at_most-from}
 
 positive_from : (count length step : ℕ) → IsCeiling length step count → 0 < length → 0 < count

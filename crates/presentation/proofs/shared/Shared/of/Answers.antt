@@ -1,6 +1,5 @@
 use Rattle.presentation.proofs.shared.Shared.of.Goals as goal
-use Rattle.std.proofs.Common.{◌≡◌, [], drop, arith, append-nil}
-use Rattle.std.proofs.lemmas.List.{drop_all}
+use Rattle.std.proofs.{Common.{◌≡◌, [], drop, arith, append-nil}, lemmas.List.drop_all}
 
 pub returns : goal.returns
 returns c =

@@ -1,6 +1,5 @@
 use Rattle.timeline.proofs.shared_timeline.SharedTimeline.of.Goals as goal
-use Rattle.std.proofs.Common.{◌≡◌, length, ◌∙◌, rules}
-use Rattle.std.proofs.lemmas.List.{take_rest}
+use Rattle.std.proofs.{Common.{◌≡◌, length, ◌∙◌, rules}, lemmas.List.take_rest}
 use Rattle.timeline.specs.MediaTimelines.{rest_of}
 use Rattle.timeline.proofs.Reached.{laid_timeline, lays_out}
 
