@@ -1,4 +1,3 @@
-mod Pushing
 mod Lengths
 pub mod Asked
 pub mod FileNames

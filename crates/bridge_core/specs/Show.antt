@@ -1,15 +1,13 @@
 -- What is told of the tracks and sections of an MPD or of a master.
 use Rattle.bridge_courses.specs.declared.status.Verdict.TheVariants as verdict
-use Rattle.std.specs.Prelude.{ℕ, ◌^◌, ◌==◌, ◌&&◌, ◌||◌, nat_le, Bool, false, List, [], ◌∷◌, ◌++◌, length, codes, decimal, drop, flat_map}
-use Rattle.std.specs.{Prelude.{slice_get, slice_index, if◌then◌else◌, Option, Some, None, option_map, Result, Ok}, Option.option_map_or}
-use Rattle.bridge_io.specs.{Answer.and_then, Outside.Files, declared.media.Kind.Kind, declared.media.Kind.TheVariants.{Video, Audio, Text}}
-use Rattle.hls_writer.specs.Lines.{seconds_bytes}
-use Rattle.presentation.specs.{Counting.{sections_of, tracks_of}, Presented.{Presented, listed_at}, Verifying.length_of}
-use Rattle.presentation.specs.declared.track.Track.{Track}
+use Rattle.std.specs.Prelude.{ℕ, ◌^◌, ◌==◌, ◌&&◌, ◌||◌, nat_le, Bool, false, List, [], ◌∷◌, length, codes, drop, slice_index, if◌then◌else◌}
+use Rattle.std.specs.Prelude.{Option, None, option_map, Result, Ok}
+use Rattle.bridge_io.specs.{Answer.and_then, Outside.Files}
+use Rattle.presentation.specs.Presented.{Presented}
 use Rattle.bridge_courses.specs.declared.status.Verdict.{Verdict}
 use Rattle.bridge_report.specs.{Outcomes.{Outcome, outcome_told}, Reading.{Named, content_of}}
 use Rattle.bridge_playlists.specs.{declared.place.StorePlace.StorePlace, Places.store_place_of, Playlists.presented_in}
-use Rattle.bridge_steps.specs.{Done.counts_line, Endings.placed, Manifests.mpd_in}
+use Rattle.bridge_steps.specs.{Endings.placed, Listing.shown, Manifests.mpd_in}
 use Rattle.bridge_core.specs.declared.show.Show.{Show}
 
 -- ---- which manifest it is
@@ -32,39 +30,6 @@ without_mark bytes = if has_mark bytes then drop 3 bytes else bytes
 
 abbrev pub is_mpd : List ℕ → Bool
 is_mpd bytes = begins_with_tag (without_mark bytes)
-
--- ---- the report
-
-abbrev pub kind_word : Kind → List ℕ
-kind_word Video = codes "video"
-kind_word Audio = codes "audio"
-kind_word Text = codes "text"
-
-abbrev pub language_word : Option (List ℕ) → List ℕ
-language_word None = codes "-"
-language_word (Some language) = language
-
-unfoldable pub entry_text : (track : ℕ) (kind language : List ℕ) (section segments : ℕ) → List ℕ
-entry_text track kind language section segments =
-    codes "track " ++ decimal track ++ codes " " ++ kind ++ codes " " ++ language ++ codes " section " ++ decimal section
-    ++ codes " segments=" ++ decimal segments ++ codes " length="
-
--- a track in a section: how many segments are listed, and how long they last
-abbrev pub entry_line : (digits : ℕ) → Presented → (track section : ℕ) → Track → List ℕ
-entry_line digits p track section t =
-    let listed = listed_at p section track in
-    entry_text track (kind_word t.kind) (language_word t.language) section (length listed)
-    ++ (seconds_bytes digits (length_of (10 ^ digits) listed) ++ codes "\n")
-
-abbrev pub entry_lines : (digits : ℕ) → Presented → (track : ℕ) → Track → List ℕ
-entry_lines digits p track t = flat_map (λ section. entry_line digits p track section t) (sections_of p)
-
--- a track's lines in all sections
-abbrev pub track_lines : (digits : ℕ) → Presented → (track : ℕ) → List ℕ
-track_lines digits p track = option_map_or (entry_lines digits p track) (slice_get p.tracks track) []
-
-abbrev pub shown : (word : List ℕ) (digits : ℕ) → Presented → List ℕ
-shown word digits p = counts_line word p ++ flat_map (track_lines digits p) (tracks_of p)
 
 -- ---- how the command ends
 

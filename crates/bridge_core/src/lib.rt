@@ -6,10 +6,8 @@ mod dash;
 mod follow;
 mod hls;
 mod laws;
-mod listing;
 mod make;
 mod run;
-mod seconds;
 mod show;
 mod source;
 

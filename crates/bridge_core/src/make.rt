@@ -10,13 +10,12 @@ ghost use Rattle.bridge_steps.specs.Endings.{IsPlaced, JobEndsAs, NeverReads, ar
 ghost use Rattle.bridge_core.specs.Make as spec;
 ghost use Rattle.bridge_core.specs.Source.{source_text};
 
-use crate::seconds::push_seconds;
 use crate::source::source_text;
 use bridge_courses::Ending;
 use bridge_io::{Bytes, FileWriter, Ledger, Name, NoMemory, Steps, Store, Text};
 use bridge_playlists::StorePlace;
 use bridge_report::{Refusal, halted};
-use bridge_steps::{Ready, file_in, mpd_in, place_in, write_playlists, written};
+use bridge_steps::{Ready, file_in, mpd_in, place_in, push_seconds, write_playlists, written};
 use exact_time::Digits;
 use hls_writer::OutFault;
 use presentation::answers_allow_listings;

@@ -9,14 +9,14 @@ ghost use Rattle.presentation.specs.Counting.{counted, count_of_all};
 ghost use Rattle.bridge_report.specs.declared.reading.Halt.TheVariants.{ReadFault};
 ghost use Rattle.bridge_report.specs.Reading.{halted};
 ghost use Rattle.bridge_steps.specs.Endings.{JobEndsAs, NeverWrites, around};
+ghost use Rattle.bridge_steps.specs.Listing.{shown};
 ghost use Rattle.bridge_core.specs.Show as spec;
 
-use crate::listing::push_shown;
 use bridge_courses::{Ending, Verdict};
 use bridge_io::{Ledger, Name, NoMemory, Steps, Store, Text};
 use bridge_playlists::{StorePlace, presented_in};
 use bridge_report::{Halt, content_of};
-use bridge_steps::{mpd_in, place_in, told};
+use bridge_steps::{mpd_in, place_in, push_shown, told};
 use exact_time::Digits;
 use iso_time::Instant;
 use presentation::Presentation;
@@ -93,7 +93,7 @@ fn shown(
     digits: Digits,
 ) -> Result<Text, NoMemory>
     requires counted { counted presentation.now ≡ Ok (count_of_all presentation.now) }
-    ensures { IfOk result (λ lines. lines ≡ spec.shown word.now digits presentation.now) }
+    ensures { IfOk result (λ lines. lines ≡ shown word.now digits presentation.now) }
 {
     let mut lines = String::new(alloc);
     push_shown(&mut lines, word, presentation, digits)?;

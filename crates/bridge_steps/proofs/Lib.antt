@@ -1,4 +1,6 @@
 pub mod Files
+mod Lengths
+pub mod Pushing
 pub mod FrameSteps
 pub mod Grown
 pub mod Rest

@@ -1,6 +1,7 @@
 pub mod Done
 pub mod Endings
 pub mod Follow
+pub mod Listing
 pub mod LiveMpds
 pub mod Manifests
 pub mod Playlists

@@ -2,7 +2,7 @@ use Rattle.std.proofs.Common.{◌≡◌, ◌+◌, ◌++◌, flat_map, ap, ◌∙
 use Rattle.std.specs.String.{string_bytes}
 use Rattle.presentation.proofs.Counts.{from_on}
 use Rattle.bridge_core.specs.Source.{run_at, run_text, runs_text, ticks_of}
-use Rattle.bridge_core.proofs.Pushing.{one_more, no_more}
+use Rattle.bridge_steps.proofs.Pushing.{one_more, no_more}
 use Rattle.bridge_core.proofs.source.push_runs.Goals as goal
 
 pub loop-run-preserved : goal.loop-run-preserved

@@ -3,11 +3,11 @@ ghost use Rattle.std.specs.Prelude.{◌≡◌, ◌<◌, ◌++◌, length, codes,
 ghost use Rattle.std.specs.String.{string_bytes};
 ghost use Rattle.hls_writer.specs.Lines.{seconds_bytes};
 ghost use Rattle.presentation.specs.Counting.{counted, count_of_all, sections_of, tracks_of};
-ghost use Rattle.bridge_core.specs.Show as spec;
+ghost use Rattle.bridge_steps.specs.Listing as spec;
 
+use crate::done::push_counts;
 use crate::seconds::push_seconds;
 use bridge_io::Kind;
-use bridge_steps::push_counts;
 use exact_time::Digits;
 use presentation::{Extent, Presentation, Track, answers_allow_listings};
 use std::alloc::AllocError;
@@ -118,7 +118,7 @@ fn push_head(
     )
 }
 
-#[tactic(auto, unfolding(crate::specs::Show::entry_text))]
+#[tactic(auto, unfolding(crate::specs::Listing::entry_text))]
 fn push_words(
     lines: &mut String,
     track: usize,

@@ -1,6 +1,6 @@
 use Rattle.std.proofs.Common.{append_assoc}
-use Rattle.bridge_core.specs.Show.{entry_text}
-use Rattle.bridge_core.proofs.listing.push_words.Goals as goal
+use Rattle.bridge_steps.specs.Listing.{entry_text}
+use Rattle.bridge_steps.proofs.listing.push_words.Goals as goal
 
 pub returns : goal.returns
 unfolding entry_text

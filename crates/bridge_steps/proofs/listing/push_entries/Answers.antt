@@ -2,9 +2,9 @@ use Rattle.std.proofs.Common.{◌+◌, ℕ, List, ◌++◌, ◌∙◌, ap, arith
 use Rattle.std.specs.String.{string_bytes}
 use Rattle.presentation.specs.Counting.{sections_of}
 use Rattle.presentation.proofs.Counts.{from_on}
-use Rattle.bridge_core.specs.Show.{entry_line}
-use Rattle.bridge_core.proofs.Pushing.{one_more}
-use Rattle.bridge_core.proofs.listing.push_entries.Goals as goal
+use Rattle.bridge_steps.specs.Listing.{entry_line}
+use Rattle.bridge_steps.proofs.Pushing.{one_more}
+use Rattle.bridge_steps.proofs.listing.push_entries.Goals as goal
 
 pub loop-section-preserved : goal.loop-section-preserved
 loop-section-preserved c =

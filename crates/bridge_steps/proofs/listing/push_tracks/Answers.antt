@@ -2,9 +2,9 @@ use Rattle.std.proofs.Common.{◌+◌, ◌++◌, ◌∙◌, ap, arith, flat_map,
 use Rattle.std.specs.String.{string_bytes}
 use Rattle.presentation.specs.Counting.{tracks_of}
 use Rattle.presentation.proofs.Counts.{from_on}
-use Rattle.bridge_core.specs.Show.{track_lines}
-use Rattle.bridge_core.proofs.Pushing.{one_more}
-use Rattle.bridge_core.proofs.listing.push_tracks.Goals as goal
+use Rattle.bridge_steps.specs.Listing.{track_lines}
+use Rattle.bridge_steps.proofs.Pushing.{one_more}
+use Rattle.bridge_steps.proofs.listing.push_tracks.Goals as goal
 
 pub loop-track-preserved : goal.loop-track-preserved
 loop-track-preserved c =

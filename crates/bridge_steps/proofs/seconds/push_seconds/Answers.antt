@@ -3,8 +3,8 @@ use Rattle.std.specs.String.{string_bytes}
 use Rattle.iso_time.specs.Digits.{padded_digits}
 use Rattle.hls_writer.proofs.Decimals.{last_digits}
 use Rattle.bridge_steps.proofs.Files.{on_ok_by}
-use Rattle.bridge_core.proofs.Lengths.{seconds_pushed}
-use Rattle.bridge_core.proofs.seconds.push_seconds.Goals as goal
+use Rattle.bridge_steps.proofs.Lengths.{seconds_pushed}
+use Rattle.bridge_steps.proofs.seconds.push_seconds.Goals as goal
 
 pub returns : goal.returns
 returns c =
