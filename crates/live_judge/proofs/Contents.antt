@@ -1,25 +1,25 @@
 -- Where the new segments of a section begin.
-use Rattle.std.proofs.Common.{◌≡◌, ℕ, ◌+◌, ◌<◌, nat_lt, ◌==◌, Bool, true, false, List, [], ◌∷◌, length, take, map, Option, Some, None, refl}
-use Rattle.std.proofs.{Common.{sym, ◌∙◌, ap, subst, arith}, lemmas.Bool.Decides.nat_tests, lemmas.List.length-map}
-use Rattle.std.proofs.lemmas.List.Elements.{filter_agree}
-use Rattle.std.specs.{Prelude.{IfSome, filter, option_map}, Option.option_map_or}
-use Rattle.exact_time.specs.Time.{Time, before}
+use Rattle.std.proofs.Common.{◌≡◌, ℕ, ◌+◌, ◌<◌, nat_lt, ◌==◌, true, false, List, [], length, take, map, Option, Some, None, refl, sym, ◌∙◌}
+use Rattle.std.proofs.{Common.{ap, subst, inl, inr, arith}, lemmas.Bool.Decides.nat_tests, lemmas.List.length-map}
+use Rattle.std.proofs.{lemmas.List.Elements.filter_agree, lemmas.Option.{slice_get-map, slice_get_within}}
+use Rattle.std.specs.Prelude.{IfSome, filter, option_map}
+use Rattle.exact_time.specs.{Time.{Time, before}, Tick.time_of}
 use Rattle.timeline.specs.{declared.window.Window.Window, Expansions.{SegmentTimeline, Timing}, Listed.{IsPlaceAfter, expansion, listed}}
-use Rattle.timeline.specs.Listed.{listed_from}
+use Rattle.timeline.specs.Listed.{listed_from, IsReached}
 use Rattle.presentation.specs.{declared.parts.Content.Content, Presented.{Presented, content_at, listed_at, start_of, window_of}}
-use Rattle.presentation.proofs.{Extents.listed_of, GoingOn.listed_later, Printing.all_listed}
+use Rattle.presentation.proofs.{Extents.{listed_of, reached_of}, GoingOn.listed_later, Printing.all_listed, Grids.All-at}
 use Rattle.followed.specs.Durations.{Last}
+use Rattle.followed.proofs.KeptPlaces.{all_kept}
 use Rattle.live_meaning.specs.{Segments.{Numbering, is_later, segment_with}, States.Track}
-use Rattle.live_judge.specs.New.{StartsNew, new_in, new_timings}
+use Rattle.live_judge.specs.{New.{StartsNew, new_in, new_timings}, declared.track_next.TrackNext.TrackNext, Coming.{IsTrackNext, p_of}}
+use Rattle.live_judge.specs.{Coming.t_of, Sound.{IsPaired, IsSoundTrack}, declared.track.LastKept.LastKept, Shown.{common_shown, last_of}}
+use Rattle.live_judge.specs.Shown.{track_shown}
+use Rattle.live_judge.proofs.New.{new_made, none_earlier}
 
 pub content_there : (o : Option Content) (r : SegmentTimeline) → option_map (λ (content : Content). content.runs) o ≡ Some r
     → (content : Content) × (o ≡ Some content) × (content.runs ≡ r)
 content_there None r is = absurd (cc)
 content_there (Some content) r is = (content, refl, cc)
-
-all_pass : (test : Timing → Bool) (xs : List Timing) → ((x : Timing) → test x ≡ true) → filter test xs ≡ xs
-all_pass test [] all = refl
-all_pass test (x ∷ xs) all = rw (all x) (ap (λ (ys : List Timing). x ∷ ys) (all_pass test xs all))
 
 pub here_by_end : (l : Last) (k place : ℕ) → k ≡ place → (end : Time) → is_later l place k end ≡ before l.end end
 here_by_end l k place same end =
@@ -57,23 +57,61 @@ module _ (p : Presented) (place : ℕ) (of : Track) (t s : ℕ) (l : Last) (last
   pub starts_first : (cursor : ℕ) → of.place < place + s → listed window (take cursor all) ≡ [] → StartsNew p place of t s cursor
   starts_first cursor less none = there cursor
       (all_listed window all cursor none
-      ∙ sym (all_pass (λ x. is_later l of.place (place + s) x.end) (listed window all) (λ x. later_all l (place + s) of.place less x.end))
+      ∙ sym (all_kept (λ x. is_later l of.place (place + s) x.end) (listed window all) (λ j d within. later_all l
+      (place + s) of.place less _))
       ∙ sym new_are)
 
-  pub starts_there : (cursor : ℕ) (r : SegmentTimeline) (w : Window) → StartsNew p place of t s cursor → content.runs ≡ r → w ≡ window
-      → listed_from cursor r w ≡ new_timings p place of t s
-  starts_there cursor r w starts runs same =
-      ap (λ q. listed_from cursor q w) (sym runs) ∙ ap (λ v. listed_from cursor content.runs v) same
-      ∙ (let at : listed_from cursor content.runs window ≡ new_timings p place of t s =
-      subst (λ (o : Option Content). IfSome o (λ c. listed_from cursor c.runs window ≡ new_timings p place of t s)) is starts in at)
-
 -- there are as many new segments as new times
-length-made : (n : Numbering) (place start : ℕ) (o : Option Content) (xs : List Timing) → (o ≡ None → xs ≡ [])
-    → length (option_map_or (λ content. map (segment_with n place start content) xs) o []) ≡ length xs
-length-made n place start None xs none = ap (λ (ys : List Timing). length ys) (sym (none refl))
-length-made n place start (Some content) xs none = length-map xs (segment_with n place start content)
-
 pub length-new : (n : Numbering) (p : Presented) (place : ℕ) (of : Track) (t s : ℕ)
     → length (new_in n p place of t s) ≡ length (new_timings p place of t s)
-length-new n p place of t s = length-made n (place + s) (start_of p s) (content_at p s t) (new_timings p place of t s)
-    (λ none. (rw none refl))
+length-new n p place of t s = elim (new_made n p place of t s) [
+  | inl none ↦ rw (none.1, none.0) refl
+  | inr made ↦ rw made.1 (length-map (new_timings p place of t s) (segment_with n (place + s) (start_of p s) made.0))
+]
+
+-- ---- a track of an update
+
+pub index_within : (l : TrackNext) → IsTrackNext l → l.index < length (p_of l.next.now).tracks
+index_within l is = omega (arith, slice_get_within (l.next.now).tracks.now l.index l.track.now is.there, is.next.alike)
+
+pub paired_there : (l : TrackNext) → IsTrackNext l → IsPaired l.track.now
+paired_there l is = All-at IsPaired (l.next.now).tracks.now l.index l.track.now is.next.live.paired is.there
+
+pub sound_there : (l : TrackNext) → IsTrackNext l → IsSoundTrack (common_shown (l.next.now).standing.now) (t_of l)
+sound_there l is = All-at (IsSoundTrack (common_shown (l.next.now).standing.now)) (map track_shown (l.next.now).tracks.now) l.index
+    (t_of l) is.next.live.sound.tracks
+    (slice_get-map track_shown (l.next.now).tracks.now l.index ∙ ap (option_map track_shown) is.there)
+
+pub reached_there : (l : TrackNext) → IsTrackNext l → (s : ℕ) (r : SegmentTimeline) → s < length (p_of l.next.now).sections
+    → option_map (λ (content : Content). content.runs) (content_at (p_of l.next.now) s l.index) ≡ Some r
+    → IsReached r (window_of (p_of l.next.now) s)
+reached_there l is s r within has =
+    let at = content_there (content_at (p_of l.next.now) s l.index) r has in
+    subst (λ (q : SegmentTimeline). IsReached q (window_of (p_of l.next.now) s)) at.2
+    (reached_of (p_of l.next.now) s l.index at.0 at.1 (is.next.counted s l.index within (index_within l is)))
+
+pub none_before : (l : TrackNext) (s : ℕ) (k : LastKept) → (t_of l).last ≡ Some (last_of k) → (t_of l).place ≡ k.place
+    → (l.next.now).place + s < k.place
+    → new_timings (p_of l.next.now) (l.next.now).place (t_of l) l.index s ≡ []
+none_before l s k last at less = none_earlier (p_of l.next.now) (l.next.now).place (t_of l) l.index s (last_of k) last
+    (omega (arith, at, less))
+
+module _ (l : TrackNext) (s : ℕ) (r : SegmentTimeline) (has : option_map (λ (content : Content). content.runs)
+    (content_at (p_of l.next.now) s l.index) ≡ Some r) where
+  abbrev its : (content : Content) × (content_at (p_of l.next.now) s l.index ≡ Some content) × (content.runs ≡ r)
+  its = content_there (content_at (p_of l.next.now) s l.index) r has
+
+  module _ (k : LastKept) (last : (t_of l).last ≡ Some (last_of k)) (at : (t_of l).place ≡ k.place) where
+    pub cursor_behind : (cursor : ℕ) → (l.next.now).place + s ≡ k.place
+        → IsPlaceAfter (time_of k.end) (expansion r (window_of (p_of l.next.now) s)) cursor
+        → StartsNew (p_of l.next.now) (l.next.now).place (t_of l) l.index s cursor
+    cursor_behind cursor same after =
+        starts_behind (p_of l.next.now) (l.next.now).place (t_of l) l.index s (last_of k) last its.0 its.1 cursor (same ∙ sym at)
+        (rw its.2 after)
+
+    pub cursor_first : (cursor : ℕ) (w : Window) → w ≡ window_of (p_of l.next.now) s → k.place < (l.next.now).place + s
+        → listed w (take cursor (expansion r w)) ≡ []
+        → StartsNew (p_of l.next.now) (l.next.now).place (t_of l) l.index s cursor
+    cursor_first cursor w same less none =
+        starts_first (p_of l.next.now) (l.next.now).place (t_of l) l.index s (last_of k) last its.0 its.1 cursor (omega (arith, at, less))
+        (rw its.2 (subst (λ (v : Window). listed v (take cursor (expansion r v)) ≡ []) same none))

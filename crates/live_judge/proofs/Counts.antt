@@ -1,17 +1,18 @@
 -- What is new of a track, over the sections of an update.
-use Rattle.std.proofs.Common.{◌≡◌, ℕ, ◌+◌, ◌<◌, List, [], ◌∷◌, ◌++◌, length, map, Option, Some, None, refl, sym, ◌∙◌, ap, subst, arith}
+use Rattle.std.proofs.Common.{◌≡◌, ℕ, ◌+◌, ◌<◌, List, [], ◌∷◌, ◌++◌, length, map, Some, refl, sym, ◌∙◌, ap, subst, inl, inr, arith}
 use Rattle.std.proofs.{lemmas.List.nil_from_length, lemmas.List.Concat.length-flat_map, lemmas.List.Sums.sum_by-cons}
-use Rattle.std.proofs.lemmas.Option.{same_Some}
-use Rattle.std.specs.{Prelude.{flat_map, slice_get, sum_by}, Option.option_map_or}
+use Rattle.std.proofs.lemmas.Option.{same_Some, slice_get-map}
+use Rattle.std.specs.Prelude.{flat_map, option_map, slice_get, sum_by}
 use Rattle.timeline.specs.{Expansions.Timing, Steady.IsWithinLimits}
-use Rattle.presentation.specs.{declared.parts.Content.Content, Counting.sections_of, Presented.{content_at, start_of}}
-use Rattle.presentation.proofs.Counts.{from_on, from_on-end, from_on-first}
-use Rattle.live_meaning.specs.{Segments.{Numbering, Segment, id_at, segment_with, timing_of}, Known.ids_of, Histories.numbering_of}
-use Rattle.live_meaning.specs.{States.new_of, Refusals.ids_in}
+use Rattle.presentation.specs.{Counting.sections_of, Presented.start_of}
+use Rattle.presentation.proofs.{Counts.{from_on, from_on-first, from_on-start}, Reached.none_within}
+use Rattle.live_meaning.specs.{Segments.{Segment, id_at, segment_with}, Known.ids_of, Histories.numbering_of, States.new_of}
+use Rattle.live_meaning.specs.Refusals.{ids_in}
 use Rattle.live_meaning.proofs.InForce.{id_there}
-use Rattle.live_judge.specs.{declared.track_next.TrackNext.TrackNext, Coming.{IsTrackNext, c_of, coming_of, p_of, t_of}, New.IsFirstNew}
-use Rattle.live_judge.specs.New.{new_in, new_timings}
-use Rattle.live_judge.proofs.{Contents.length-new, New.new_is, Places.place_there}
+use Rattle.live_judge.specs.{declared.track_next.TrackNext.TrackNext, Coming.{IsTrackNext, c_of, coming_of, p_of, t_of, IsQuietIn}}
+use Rattle.live_judge.specs.{New.{IsFirstNew, new_in, new_timings}, Shown.track_shown, declared.coming.Next.Next}
+use Rattle.live_judge.specs.declared.track.LiveTrack.{LiveTrack}
+use Rattle.live_judge.proofs.{Contents.length-new, New.{new_is, new_made}, Places.place_there}
 
 abbrev pub times_in : TrackNext → ℕ → List Timing
 times_in l s = new_timings (p_of l.next.now) (l.next.now).place (t_of l) l.index s
@@ -31,12 +32,19 @@ sums_same : (f g : ℕ → ℕ) (xs : List ℕ) → ((s : ℕ) → f s ≡ g s) 
 sums_same f g [] same = refl
 sums_same f g (x ∷ xs) same = omega (arith, sum_by-cons f x xs, sum_by-cons g x xs, same x, sums_same f g xs same)
 
+-- there is nothing new before a section
+abbrev pub IsNoneNew : TrackNext → ℕ → Type 0
+IsNoneNew l i = new_of (c_of l) l.index (t_of l) ≡ flat_map (news_in l) (from_on i (length (p_of l.next.now).sections))
+
+pub none_yet : (l : TrackNext) → IsTrackNext l → IsNoneNew l 0
+none_yet l is = new_there l is ∙ ap (flat_map (news_in l)) (sym (from_on-start (length (p_of l.next.now).sections)))
+
 pub count_there : (l : TrackNext) → IsTrackNext l → length (new_of (c_of l) l.index (t_of l))
-    ≡ sum_by (count_in l) (sections_of (p_of l.next.now))
+    ≡ sum_by (count_in l) (from_on 0 (length (p_of l.next.now).sections))
 count_there l is =
-    ap (λ (xs : List Segment). length xs) (new_there l is)
-    ∙ length-flat_map (news_in l) (sections_of (p_of l.next.now))
-    ∙ sums_same (λ s. length (news_in l s)) (count_in l) (sections_of (p_of l.next.now))
+    ap (λ (xs : List Segment). length xs) (none_yet l is)
+    ∙ length-flat_map (news_in l) (from_on 0 (length (p_of l.next.now).sections))
+    ∙ sums_same (λ s. length (news_in l s)) (count_in l) (from_on 0 (length (p_of l.next.now).sections))
     (λ s. length-new (numbering_of (c_of l)) (p_of l.next.now) (l.next.now).place (t_of l) l.index s)
 
 -- ---- the first one
@@ -46,56 +54,49 @@ none_in l s none =
     nil_from_length (news_in l s) (length-new (numbering_of (c_of l)) (p_of l.next.now) (l.next.now).place (t_of l) l.index s
     ∙ ap (λ (xs : List Timing). length xs) none)
 
--- there is nothing new before a section
-abbrev pub IsNoneNew : TrackNext → ℕ → Type 0
-IsNoneNew l i = flat_map (news_in l) (sections_of (p_of l.next.now)) ≡ flat_map (news_in l) (from_on i (length (p_of l.next.now).sections))
-
-first_place : (l : TrackNext) (i : ℕ) → i < length (p_of l.next.now).sections → IsNoneNew l i
-    → flat_map (news_in l) (sections_of (p_of l.next.now)) ≡ news_in l i ++ flat_map (news_in l)
-    (from_on (i + 1) (length (p_of l.next.now).sections))
-first_place l i within before = before ∙ ap (flat_map (news_in l)) (from_on-first i (length (p_of l.next.now).sections) within)
-
 pub none_more : (l : TrackNext) (i : ℕ) → i < length (p_of l.next.now).sections → times_in l i ≡ [] → IsNoneNew l i → IsNoneNew l (i + 1)
 none_more l i within none before =
-    first_place l i within before ∙ ap (λ (xs : List Segment). xs ++ flat_map (news_in l)
-    (from_on (i + 1) (length (p_of l.next.now).sections))) (none_in l i none)
-
-pub none_new : (l : TrackNext) (i : ℕ) → IsTrackNext l → i ≡ length (p_of l.next.now).sections → IsNoneNew l i
-    → new_of (c_of l) l.index (t_of l) ≡ []
-none_new l i is end before =
-    new_there l is ∙ before ∙ ap (λ j. flat_map (news_in l) (from_on j (length (p_of l.next.now).sections))) end
-    ∙ ap (flat_map (news_in l)) (from_on-end (length (p_of l.next.now).sections))
+    before ∙ ap (flat_map (news_in l)) (from_on-first i (length (p_of l.next.now).sections) within) ∙ (rw (none_in l i none) refl)
 
 first_in : (xs ys : List Segment) (x : Segment) → slice_get xs 0 ≡ Some x → slice_get (xs ++ ys) 0 ≡ Some x
 first_in [] ys x at = absurd (cc)
 first_in (y ∷ xs) ys x at = at
 
-module _ (n : Numbering) (place start : ℕ) (t : Timing) where
-  -- the first of some segments, of which a time is the first
-  pub record IsMade (xs : List Segment) : Type 0 where
-    pub segment : Segment
-    pub first : slice_get xs 0 ≡ Some segment
-    pub numbered : segment.section ≡ place + n.resets
-    pub timed : timing_of segment ≡ t
-
-  made : (o : Option Content) (xs : List Timing) → (o ≡ None → xs ≡ []) → slice_get xs 0 ≡ Some t
-      → IsMade (option_map_or (λ content. map (segment_with n place start content) xs) o [])
-  made None xs none at = absurd (let empty = subst (λ (ys : List Timing). slice_get ys 0 ≡ Some t) (none refl) at in cc)
-  made (Some content) [] none at = absurd (cc)
-  made (Some content) (x ∷ xs) none at =
-      record { segment = segment_with n place start content x; first = refl; numbered = refl; timed = same_Some x t at }
-
-pub first_new_is : (l : TrackNext) (i number : ℕ) (t : Timing) → IsTrackNext l → i < length (p_of l.next.now).sections → IsNoneNew l i
+pub first_new_is : (l : TrackNext) (i number : ℕ) (t : Timing) → i < length (p_of l.next.now).sections → IsNoneNew l i
     → slice_get (times_in l i) 0 ≡ Some t → IsWithinLimits t → number ≡ (l.next.now).place + i + (coming_of l.next.now).resets
     → IsFirstNew number t (new_of (c_of l) l.index (t_of l))
-first_new_is l i number t is within before at limits numbered =
-    let one = made (numbering_of (c_of l)) ((l.next.now).place + i) (start_of (p_of l.next.now) i) t
-    (content_at (p_of l.next.now) i l.index) (times_in l i) (λ none. (rw none refl)) at in
-    record {
-      segment = one.segment;
-      first = ap (λ (xs : List Segment). slice_get xs 0) (new_there l is ∙ first_place l i within before)
-          ∙ first_in (news_in l i) (flat_map (news_in l) (from_on (i + 1) (length (p_of l.next.now).sections))) one.segment one.first;
-      numbered = one.numbered ∙ sym numbered;
-      timed = one.timed;
-      limits = limits;
-    }
+first_new_is l i number t within before at limits numbered =
+    let n = numbering_of (c_of l) in
+    let place = (l.next.now).place + i in
+    elim (new_made n (p_of l.next.now) (l.next.now).place (t_of l) l.index i) [
+      | inl none ↦ absurd (let never = subst (λ (xs : List Timing). slice_get xs 0 ≡ Some t) none.0 at in cc)
+      | inr made ↦
+          let make = segment_with n place (start_of (p_of l.next.now) i) made.0 in
+          let there : slice_get (news_in l i) 0 ≡ Some (make t) =
+          ap (λ (xs : List Segment). slice_get xs 0) made.1 ∙ slice_get-map make (times_in l i) 0 ∙ ap (option_map make) at in
+          record {
+            segment = make t;
+            first = ap (λ (xs : List Segment). slice_get xs 0) (before
+                ∙ ap (flat_map (news_in l)) (from_on-first i (length (p_of l.next.now).sections) within))
+                ∙ first_in (news_in l i) (flat_map (news_in l) (from_on (i + 1) (length (p_of l.next.now).sections))) (make t) there;
+            numbered = sym numbered;
+            timed = refl;
+            limits = limits;
+          }
+    ]
+
+-- ---- tracks of which nothing is new
+
+-- nothing is new of the track at a place
+abbrev pub IsQuietAt : Next → ℕ → Type 0
+IsQuietAt n t = (track : LiveTrack) → slice_get n.tracks.now t ≡ Some track → IsQuietIn (p_of n) n.place t (track_shown track)
+
+pub quiet_at : (n : Next) (t : ℕ) (l : TrackNext) → IsTrackNext l → l.next.now ≡ n → l.index ≡ t
+    → slice_get n.tracks.now t ≡ Some l.track.now
+    → new_of (c_of l) l.index (t_of l) ≡ [] → IsQuietAt n t
+quiet_at n t l is next index there none track at =
+    let same : track ≡ l.track.now = same_Some track l.track.now (sym at ∙ there) in
+    rw (← next, ← index, same) (λ s less.
+    let gone : news_in l s ≡ [] = none_within (news_in l) (length (p_of l.next.now).sections) s (sym (new_there l is) ∙ none) less in
+    nil_from_length (times_in l s) (sym (length-new (numbering_of (c_of l)) (p_of l.next.now) (l.next.now).place (t_of l) l.index s)
+    ∙ ap (λ (xs : List Segment). length xs) gone))

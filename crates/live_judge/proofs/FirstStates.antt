@@ -1,34 +1,21 @@
 -- The state that a first MPD leaves is sound.
-use Rattle.std.proofs.Common.{◌≡◌, ℕ, zero, suc, ◌+◌, ◌<◌, ℤ, pos, List, [], ◌∷◌, ◌++◌, map, length, Option, Some, None, Result, Ok, Err}
-use Rattle.std.proofs.{Common.{refl, sym, ◌∙◌, ap, subst, arith, length-append}, lemmas.List.{length-map, nil_from_length}}
-use Rattle.std.proofs.{lemmas.List.Elements.{All-nil, All-cons}, lemmas.List.FromFn.length-range_with_len}
+use Rattle.std.proofs.Common.{◌≡◌, ℕ, ℤ, pos, List, [], ◌∷◌, map, length, Option, Some, None, Result, Ok, Err, refl, sym, ◌∙◌, ap, subst}
+use Rattle.std.proofs.{Common.arith, lemmas.List.length-map, lemmas.List.Elements.All-map, lemmas.List.FromFn.length-range_with_len}
 use Rattle.std.specs.{Prelude.{All, IfSome, filter}, List.range_with_len, Option.option_map_or}
 use Rattle.mpd_rules.specs.Laws.{PeriodIdsDiffer}
-use Rattle.presentation.specs.{declared.fault.PresentationFault.PresentationFault, Counting.{sections_of, tracks_of}, Presented.Following}
-use Rattle.presentation.specs.{Presented.Presented, PresentedLaws.{PresentedAreFew, PresentedAreFollowed, SectionsArePeriods}}
-use Rattle.presentation.specs.Told.{presented_of}
+use Rattle.presentation.specs.{declared.fault.PresentationFault.PresentationFault, Counting.tracks_of, Presented.{Following, Presented}}
+use Rattle.presentation.specs.{PresentedLaws.{PresentedAreFew, PresentedAreFollowed, SectionsArePeriods}, Told.presented_of}
 use Rattle.followed.specs.Durations.{last_behind}
 use Rattle.live_meaning.specs.{Updates.{Terms, Values, unit_of}, Segments.{Segment, listed_of, place_behind, segments_of}, Known.Known}
-use Rattle.live_meaning.specs.{Known.{ids_of, is_new, periods_of}, Histories.{Common, begun_common, begun_past, begun_with, numbering_of}}
-use Rattle.live_meaning.specs.{States.{State, Track, shown, track_of}, Refusals.{Refusal, begun_by as begun_state, begun_of}}
-use Rattle.live_meaning.specs.{Refusals.{first_refusal_of, ids_in}, Laws.IsTyped}
-use Rattle.live_meaning.proofs.{Allowed.{IsFirst, first_allowed}, Ids.AreLast, InForce.{IsInForce, first_in_force}, Orders.listed_numbered}
+use Rattle.live_meaning.specs.{Known.{ids_of, is_new}, Histories.{Common, begun_common, begun_past, begun_with, numbering_of}, States.State}
+use Rattle.live_meaning.specs.{States.{shown, track_of}, Refusals.{Refusal, begun_by as begun_state, begun_of, first_refusal_of, ids_in}}
+use Rattle.live_meaning.specs.Laws.{IsTyped}
+use Rattle.live_meaning.proofs.{Allowed.{IsFirst, first_allowed}, InForce.{IsInForce, first_in_force, known_grown}, Orders.listed_numbered}
 use Rattle.live_meaning.proofs.Tracks.{told-segments}
-use Rattle.live_judge.specs.{FirstStates.{FirstPeriodsStand, FirstStatesAreSound}, Known.StandsAt, Sound.{IsSegmentOf, IsSound}}
-use Rattle.live_judge.specs.Sound.{IsSoundTrack}
-use Rattle.live_judge.proofs.{Forced.{IsNew, mpd_new}, ListedSound.{listed, order}, Reaching.{IsReached, none_reached, reached}}
-use Rattle.live_judge.proofs.Reaching.{sound_reached}
-
--- ---- all tracks
-
-module _ (P : Track → Type 0) (c : Common) (unit : ℕ) where
-  all_tracks : (a n : ℕ) → ((t : ℕ) → t < a + n → P (track_of unit (begun_past c t)))
-      → All P (map (track_of unit) (map (begun_past c) (range_with_len a n)))
-  all_tracks a zero each = All-nil P
-  all_tracks a (suc n) each =
-      All-cons P (track_of unit (begun_past c a)) (map (track_of unit) (map (begun_past c) (range_with_len (a + 1) n)))
-      (each a (omega arith))
-      (all_tracks (a + 1) n (λ t less. each t (omega (arith, less))))
+use Rattle.live_judge.specs.{Changed.first_place, FirstStates.{FirstPeriodsStand, FirstStatesAreSound}, Known.StandsAt, Sound.IsSegmentOf}
+use Rattle.live_judge.specs.Sound.{IsSound, IsSoundTrack}
+use Rattle.live_judge.proofs.{Places.{first_within, stand_by}, Forced.{IsNew, mpd_new, listed, order}, Reaching.{IsReached, none_reached}}
+use Rattle.live_judge.proofs.Reaching.{reached, sound_reached}
 
 pub all_new : (ks : List Known) → filter (is_new []) ks ≡ ks
 all_new [] = refl
@@ -62,16 +49,10 @@ module _ (differ : PeriodIdsDiffer) (sections : SectionsArePeriods) where
     force : IsInForce p c.known p
     force = first_in_force differ sections terms mpd now p typed first
 
-    known_many : length (ids_of c.known) ≡ length (ids_in p)
-    known_many = length-map c.known (λ (k : Known). k.id) ∙ ap (λ (ks : List Known). length ks) (all_new (periods_of p))
-        ∙ length-map (sections_of p) _
-        ∙ length-range_with_len 0 (length p.sections) ∙ sym (length-map p.sections _)
-
     pub stands : StandsAt (ids_of c.known) (ids_in p) 0
-    stands = let last : AreLast (ids_of c.known) (ids_in p) = force.last in
-        let none : last.front ≡ [] = nil_from_length last.front
-        (omega (arith, known_many, ap (λ (xs : List (List ℕ)). length xs) last.split, length-append last.front (ids_in p))) in
-        record { once = last.once; within = omega arith; behind = last.split ∙ ap (λ (xs : List (List ℕ)). xs ++ ids_in p) none }
+    stands =
+        let first : first_place [] (ids_in p) ≡ 0 = omega (arith, first_within [] (ids_in p)) in
+        rw first at (stand_by [] p (rw known_grown at force.last))
 
     many : length p.tracks ≡ length (shown (begun_with c)).tracks
     many = sym (length-map (map (begun_past c) (tracks_of p)) _ ∙ length-map (tracks_of p) _ ∙ length-range_with_len 0 (length p.tracks))
@@ -98,7 +79,8 @@ module _ (differ : PeriodIdsDiffer) (sections : SectionsArePeriods) where
         alike = many;
         few = new.few;
         timed = new.timed;
-        tracks = all_tracks (IsSoundTrack c) c (unit_of terms) 0 (length p.tracks) (λ t less. sound_track t);
+        tracks = All-map (IsSoundTrack c) (track_of (unit_of terms)) (map (begun_past c) (tracks_of p))
+            (All-map (λ past. IsSoundTrack c (track_of (unit_of terms) past)) (begun_past c) (tracks_of p) (λ j d within. sound_track _));
       }
 
   pub first_states_are_sound : PresentedAreFew → PresentedAreFollowed → FirstStatesAreSound

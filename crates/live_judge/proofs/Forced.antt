@@ -1,20 +1,27 @@
 -- What is so of the presentation that is in force from an accepted update on.
-use Rattle.std.proofs.Common.{◌≡◌, ℕ, ◌+◌, ◌<◌, ◌≤◌, ◌||◌, not, Bool, true, false, ℤ, pos, List, [], ◌++◌, drop, length, Option, Some, None}
-use Rattle.std.proofs.{Common.{Ok, refl, sym, ◌∙◌, ap, subst, arith, length-append}, lemmas.List.{append-nil, drop_at}}
-use Rattle.std.proofs.lemmas.Option.{slice_get-map}
-use Rattle.std.specs.{Prelude.{IfSome, filter, if◌then◌else◌, int_lt, option_map, slice_get, unwrap_or}, List.list_any}
+use Rattle.std.proofs.Common.{◌≡◌, ℕ, ◌+◌, ◌<◌, ◌≤◌, ◌||◌, not, Bool, true, false, ℤ, pos, List, [], ◌++◌, length, Option, Some, None, Ok}
+use Rattle.std.proofs.{Common.{refl, sym, ◌∙◌, ap, subst, arith, ◌-ℤ◌, get_or}, lemmas.List.append-nil, lemmas.Option.slice_get-map}
+use Rattle.std.proofs.{lemmas.Bool.and_parts, lemmas.List.Elements.{All-nil, filter_passes}}
+use Rattle.std.specs.{Prelude.{IfSome, filter, if◌then◌else◌, int_lt, option_map, slice_get, unwrap_or, All, is_none}, List.list_any}
 use Rattle.std.specs.Option.{option_map_or}
 use Rattle.mpd_rules.specs.Laws.{are_once}
 use Rattle.presentation.specs.{Counting.sections_of, Presented.{Following, Presented, at_instant, listed_at, looked_at, start_of}}
-use Rattle.presentation.specs.{PresentedLaws.{PresentedAreFew, PresentedAreFollowed}, Told.presented_of}
-use Rattle.live_meaning.specs.{Updates.{Refresh, Reset, Tick, Update, Values}, Segments.{id_at, place_of}, Known.{Known, goes_on, ids_of}}
-use Rattle.live_meaning.specs.{Known.{is_new, known_by, periods_of}, Histories.{Common, availability_start_of, common_with, force_by}}
-use Rattle.live_meaning.specs.{States.State, Refusals.{Changed, are_alike, differs_at, ids_in, is_changed, lack_ids, moved_told, mpd_told}}
-use Rattle.live_meaning.specs.Refusals.{older_than, rewritten_told, starts_otherwise, told_if}
-use Rattle.live_meaning.proofs.{Allowed.{IsAllowed, none_each, told_none}, Grown.get_more, Histories.mapped, Ids.{AreLast, place_is}}
-use Rattle.live_meaning.proofs.{InForce.{IsInForce, IsKnownIn, later_in_force, id_there}, Times.period_timed}
-use Rattle.live_judge.specs.{Changed.AreUnmoved, Known.StandsAt, Sound.{AreTimed, IsSound, StartsAt}}
-use Rattle.live_judge.proofs.{Listing.starts_by, Places.{known_there, place_there, same_stand, stands_there}}
+use Rattle.presentation.specs.{Presented.{content_at, listed_in, whole_window, window_at, window_of}, PresentedLaws.PresentedAreFew}
+use Rattle.presentation.specs.{PresentedLaws.PresentedAreFollowed, Told.presented_of, declared.parts.Content.Content}
+use Rattle.live_meaning.specs.{Updates.{Refresh, Reset, Tick, Update, Values}, Segments.{id_at, place_of, listed_of}, Known.Known}
+use Rattle.live_meaning.specs.{Known.{goes_on, ids_of, is_new, known_by, periods_of}, Histories.{Common, availability_start_of}}
+use Rattle.live_meaning.specs.{Histories.{common_with, force_by, numbering_of}, States.State, Refusals.{Changed, are_alike, differs_at}}
+use Rattle.live_meaning.specs.Refusals.{ids_in, is_changed, lack_ids, moved_told, mpd_told, older_than, rewritten_told, starts_otherwise}
+use Rattle.live_meaning.specs.{Refusals.told_if, Laws.HasRisingPeriods}
+use Rattle.live_meaning.proofs.{Allowed.{IsAllowed, none_each, told_none}, Grown.get_more, Histories.mapped, Ids.place_is}
+use Rattle.live_meaning.proofs.{InForce.{IsInForce, IsKnownIn, later_in_force, id_there}, Times.period_timed, Orders.listed_have}
+use Rattle.live_meaning.proofs.Orders.{periods_are_listed_in_order}
+use Rattle.live_judge.specs.{Changed.AreUnmoved, Known.StandsAt, Sound.{AreTimed, IsSound, StartsAt, IsSegmentOf}}
+use Rattle.live_judge.proofs.{Listing.starts_by, Places.{known_there, last_stands, place_there, same_stand, stands_there}}
+use Rattle.exact_time.specs.Time.{IsAtMost, Time, nanoseconds}
+use Rattle.exact_time.proofs.TimeOrder.{at_most-true}
+use Rattle.timeline.specs.{declared.window.Window.Window, Expansions.Timing, Listed.{expansion, is_listed, is_until}}
+use Rattle.followed.specs.Order.{InOrder}
 
 -- ---- the Periods in force
 
@@ -32,16 +39,11 @@ module _ (known : List Known) (p : Presented) (place : ℕ) (stands : StandsAt (
 
   pub start_known : AreUnmoved known p place → (r : ℕ) → r < length p.sections
       → option_map (λ (k : Known). k.start) (slice_get known (place + r)) ≡ Some (start_of p r)
-  start_known starts r less =
-      let at = known_at_place r less in
-      ap (option_map (λ (k : Known). k.start)) at.1
-      ∙ ap Some (subst (λ (o : Option Known). IfSome o (λ k. k.start ≡ start_of p r)) at.1 (starts r less))
+  start_known starts r less = let at = known_at_place r less in rw at.1 (ap Some (rw at.1 at (starts r less)))
 
   pub starts_stay : (more : List Known) → AreUnmoved known p place → AreUnmoved (known ++ more) p place
   starts_stay more starts r less =
-      let at = known_at_place r less in
-      subst (λ (o : Option Known). IfSome o (λ k. k.start ≡ start_of p r)) (sym (get_more known more (place + r) at.0 at.1))
-      (subst (λ (o : Option Known). IfSome o (λ k. k.start ≡ start_of p r)) at.1 (starts r less))
+      let at = known_at_place r less in rw (get_more known more (place + r) at.0 at.1) (rw at.1 at (starts r less))
 
   pub starts_in : ((r : ℕ) → r < length p.sections → IsKnownIn known p r) → AreUnmoved known p place
   starts_in same r less =
@@ -49,14 +51,6 @@ module _ (known : List Known) (p : Presented) (place : ℕ) (stands : StandsAt (
       let there : known_by known (id_at p r) ≡ slice_get known (place + r) = known_there known (id_at p r)
       ∙ ap (slice_get known) (sym (place_is (ids_of known) (id_at p r)) ∙ place_in r less) in
       subst (λ (o : Option Known). IfSome o (λ k. k.start ≡ start_of p r)) (sym own.1.0 ∙ there) own.1.1.0
-
-pub last_stands : (known : List Known) (p : Presented) (last : AreLast (ids_of known) (ids_in p))
-    → StandsAt (ids_of known) (ids_in p) (length last.front)
-last_stands known p last = record {
-  once = last.once;
-  within = omega (arith, ap (λ (xs : List (List ℕ)). length xs) last.split, length-append last.front (ids_in p));
-  behind = ap (drop (length last.front)) last.split ∙ drop_at last.front (ids_in p) (length last.front) refl;
-}
 
 -- ---- what is so of it
 
@@ -82,15 +76,13 @@ module _ (few : PresentedAreFew) (followed : PresentedAreFollowed) where
   pub mpd_new : (c : Common) (mpd : Values) → IsInForce c.opened c.known c.force
       → presented_of mpd c.terms.url (Some c.instant) ≡ Ok c.force → StartsAt (availability_start_of c.opened) c.force → IsNew c
   mpd_new c mpd force made follows =
-      let stands = last_stands c.known c.force force.last in
+      let stands = last_stands (ids_of c.known) (ids_in c.force) force.last in
       record {
         place = length force.last.front;
         stands = stands;
         starts = starts_in c.known c.force (length force.last.front) stands force.same;
         follows = follows;
-        looked = subst (λ (o : Option Following). IfSome o (λ f. f.instant ≡ c.instant))
-            (sym (followed mpd c.terms.url (Some c.instant) c.force made))
-            (looked_by mpd.facts.live c.instant _ mpd.facts.depth);
+        looked = rw (followed mpd c.terms.url (Some c.instant) c.force made) (looked_by mpd.facts.live c.instant _ mpd.facts.depth);
         alike = force.tracks;
         few = (few mpd c.terms.url (Some c.instant) c.force made).0;
         timed = λ now section track. period_timed (looked_at now c.force) section track force.sound;
@@ -100,8 +92,7 @@ module _ (few : PresentedAreFew) (followed : PresentedAreFollowed) where
 -- ---- of a later MPD's
 
 none_of : (a b c d e f : Bool) → (a || b || not c || not d || not e || f) ≡ false → a ≡ false
-none_of true b c d e f is = absurd (cc)
-none_of false b c d e f is = refl
+none_of a b c d e f is = grind arith
 
 follows_by : (o : Option ℤ) (live : Bool) (now : ℤ) (depth : Option ℕ) (own : ℤ)
     → option_map_or (λ start. int_lt start own || int_lt own start) o live ≡ false
@@ -153,9 +144,8 @@ module _ (s : State) (is : IsSound s) where
       let starts : starts_otherwise c mpd ≡ false =
       none_of (starts_otherwise c mpd) (lack_ids mpd) (are_once (ids_in p)) (goes_on (ids_of c.known) (ids_in p))
       (are_alike c.opened.tracks p.tracks) (list_any (differs_at c p) (sections_of p)) (told_none (is_changed c mpd p) Changed each.1) in
-      subst (λ (o : Option Following). IfSome o (λ f. f.availability_start ≡ availability_start_of c.opened))
-      (sym (followed mpd c.terms.url (Some now) p made))
-      (follows_by mpd.facts.availability_start mpd.facts.live now mpd.facts.depth (availability_start_of c.opened) starts)
+      rw (followed mpd c.terms.url (Some now) p made) (follows_by mpd.facts.availability_start mpd.facts.live now mpd.facts.depth
+      (availability_start_of c.opened) starts)
 
 -- ---- of the one that is in force already
 
@@ -207,3 +197,49 @@ module _ (few : PresentedAreFew) (followed : PresentedAreFollowed) where
   forced s (Tick now) p is allowed =
       let same : looked_at now s.common.force ≡ p = let made = allowed.forced in cc in
       subst (λ (q : Presented). IsNew (common_with s.common (Tick now) q)) same (tick_new s now is)
+
+-- ---- what a presentation in force lists stands in order
+
+listed_pass : (window : Window) (o : Option Content)
+    → All (λ x. is_listed window x ≡ true) (option_map_or (λ content. listed_in window content.runs) o [])
+listed_pass window None = All-nil (λ x. is_listed window x ≡ true)
+listed_pass window (Some content) = filter_passes (is_listed window) (expansion content.runs window)
+
+-- it has ended, unless a static MPD lists it
+ended_by : (o : Option Following) (now own : ℤ) (start : ℕ) (end : Time) → IfSome o (λ f. f.instant ≡ now)
+    → IfSome o (λ f. f.availability_start ≡ own) → is_until (option_map_or (λ f. window_at f start) o whole_window).until end ≡ true
+    → is_none o ≡ false → IsAtMost end (nanoseconds ((now -ℤ own) -ℤ pos start))
+ended_by None now own start end looked follows until followed = absurd (cc)
+ended_by (Some f) now own start end looked follows until followed =
+    rw (looked, follows) at (at_most-true end (nanoseconds ((f.instant -ℤ f.availability_start) -ℤ pos start)) until)
+
+module _ (c : Common) (new : IsNew c) where
+  rising : (t : ℕ) → HasRisingPeriods (numbering_of c) c.force t
+  rising t = record {
+    places = λ r q less within. omega (
+      arith,
+      less,
+      place_in c.known c.force new.place new.stands r (omega
+          (arith, less, within)),
+      place_in c.known c.force new.place new.stands q within,
+    );
+    last = λ r. (new.own r t).0;
+    rise = λ r. (new.own r t).1;
+  }
+
+  pub order : (t : ℕ) → InOrder None (listed_of (numbering_of c) c.force t)
+  order t = periods_are_listed_in_order (numbering_of c) c.force t (rising t)
+
+  pub listed : (t : ℕ) → All (IsSegmentOf c) (listed_of (numbering_of c) c.force t)
+  listed t = listed_have (IsSegmentOf c) (numbering_of c) c.force t (λ r content less at. λ j d within.
+      let x : Timing = get_or (listed_at c.force r t) j d in
+      let pass : is_listed (window_of c.force r) x ≡ true = listed_pass (window_of c.force r) (content_at c.force r t) j d within in
+      let parts = and_parts _ _ pass in
+      record {
+        starts = ap (λ n. option_map (λ (k : Known). k.start) (slice_get c.known n)) (place_in c.known c.force new.place new.stands r less)
+            ∙ start_known c.known c.force new.place new.stands new.starts r less;
+        section = omega arith;
+        listed = (and_parts _ _ parts.0).0;
+        ended = λ followed. ended_by c.force.following c.instant (availability_start_of c.opened)
+            (start_of c.force r) x.end new.looked new.follows parts.1 followed;
+      })

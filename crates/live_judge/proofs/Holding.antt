@@ -1,14 +1,16 @@
 -- Kept segments held against new ones from the back.
-use Rattle.std.proofs.Common.{◌≡◌, ◌⊎◌, ℕ, zero, suc, ◌+◌, ◌-◌, ◌<◌, ◌≤◌, ℤ, min, Bool, true, false, ◌&&◌, List, [], ◌∷◌, ◌++◌, length}
-use Rattle.std.proofs.Common.{take, drop, reverse, map, All, Option, None, Some, refl, sym, ◌∙◌, ap, subst, inl, inr, arith, length-drop}
-use Rattle.std.proofs.{lemmas.Bool.{cases_Bool, cases_lt}, lemmas.List.{length-reverse, length-take, reverse-append, take-append-drop}}
-use Rattle.std.proofs.lemmas.List.Elements.{All-cons, All-filter, All-head, All-nil, All-tail, All-weaker, filter-append}
-use Rattle.std.proofs.lemmas.Option.{same_Some}
-use Rattle.std.specs.{Prelude.{filter, if◌then◌else◌, slice_get}, List.last_or, Option.option_map_or}
+use Rattle.std.proofs.Common.{◌≡◌, ◌⊎◌, ℕ, zero, suc, ◌+◌, ◌-◌, ◌<◌, ℤ, min, Bool, true, ◌&&◌, not, List, [], ◌∷◌, ◌++◌, length, take, drop}
+use Rattle.std.proofs.Common.{reverse, map, All, Option, None, Some, refl, sym, ◌∙◌, ap, inl, inr, arith, length-drop, ◌≤◌, false}
+use Rattle.std.proofs.{Common.length-append, lemmas.Bool.{cases_Bool, cases_lt, not-true}, lemmas.Grind.common_steps}
+use Rattle.std.proofs.{lemmas.List.{length-reverse, reverse-append, take-append-drop, append-nil, drop-drop}, lemmas.Option.same_Some}
+use Rattle.std.proofs.lemmas.List.Elements.{All-cons, All-drop, All-filter, All-head, All-nil, All-tail, All-weaker, filter-append}
+use Rattle.std.specs.{Prelude.{filter, if◌then◌else◌, slice_get, All}, List.last_or, Option.option_or}
 use Rattle.exact_time.specs.{Time.{IsTime, Time, at_most, before, nanoseconds, seconds}, Rounding.IsRising}
 use Rattle.exact_time.proofs.TimeOrder.{IsAtMost-trans, at_most-from, at_most-true, before-from, before-true, before_then_at_most}
-use Rattle.timeline.specs.{declared.window.Window.Window, Expansions.Timing, Listed.{is_after, is_listed, is_until, listed}}
+use Rattle.exact_time.proofs.TimeOrder.{before-is}
+use Rattle.timeline.specs.{declared.window.Window.Window, Expansions.Timing, Listed.{is_after, is_listed, is_until, listed, IsPlaceAfter}}
 use Rattle.timeline.specs.Steady.{ArePaced}
+use Rattle.followed.proofs.KeptPlaces.{all_kept}
 use Rattle.live_meaning.specs.Refusals.{ends_within, first_other, rewritten_by}
 use Rattle.live_judge.specs.{declared.rewritten.Ended.Ended, Rewriting.{IsLastEnded, ends_by, ends_from, held, is_same_as, or_other}}
 
@@ -17,43 +19,22 @@ Found = Option (Option Timing × Timing)
 
 -- ---- the first pair that differs
 
-abbrev either : Found → Found → Found
-either None other = other
-either (Some pair) other = Some pair
-
 abbrev told_at : List Timing → ℕ → Timing → Found
 told_at olds n x = let old = slice_get olds n in if is_same_as old x then None else Some (old, x)
 
 first_front : (olds news more : List Timing) → length olds < length news → first_other olds (news ++ more) ≡ first_other olds news
 first_front olds [] more less = absurd (omega (arith, less))
 first_front [] (x ∷ news) more less = refl
-first_front (o ∷ olds) (x ∷ news) more less = elim (cases_Bool (is_same_as (Some o) x)) [
-  | inl same ↦ rw same (first_front olds news more (omega (arith, less)))
-  | inr other ↦ rw other refl
-]
+first_front (o ∷ olds) (x ∷ news) more less = grind (arith, first_front olds news more)
 
 first_behind : (olds news : List Timing) (x : Timing) → first_other olds (news ++ x ∷ [])
-    ≡ either (first_other olds news) (told_at olds (length news) x)
+    ≡ option_or (first_other olds news) (told_at olds (length news) x)
 first_behind [] [] x = refl
 first_behind (o ∷ olds) [] x = refl
 first_behind [] (y ∷ news) x = refl
-first_behind (o ∷ olds) (y ∷ news) x = elim (cases_Bool (is_same_as (Some o) y)) [
-  | inl same ↦ rw same (first_behind olds news x)
-  | inr other ↦ rw other refl
-]
+first_behind (o ∷ olds) (y ∷ news) x = grind (arith, first_behind olds news x)
 
 -- ---- those that end from a time on are the last ones
-
-module _ {X : Type 0} (p : X → Bool) where
-  pub filter_all : (xs : List X) → All (λ x. p x ≡ true) xs → filter p xs ≡ xs
-  filter_all [] all = refl
-  filter_all (x ∷ xs) all =
-      rw (All-head (λ x. p x ≡ true) x xs all) (ap (λ (ys : List X). x ∷ ys) (filter_all xs (All-tail (λ x. p x ≡ true) x xs all)))
-
-  all_drop : (k : ℕ) (xs : List X) → All (λ x. p x ≡ true) xs → All (λ x. p x ≡ true) (drop k xs)
-  all_drop zero xs all = all
-  all_drop (suc k) [] all = all
-  all_drop (suc k) (x ∷ xs) all = all_drop k xs (All-tail (λ x. p x ≡ true) x xs all)
 
 module _ (f : Time) where
   abbrev Passes : Timing → Type 0
@@ -95,7 +76,7 @@ module _ (f : Time) where
   split_up zero xs up = inl refl
   split_up (suc k) [] up = inl refl
   split_up (suc k) (x ∷ xs) up = elim (cases_Bool (at_most f x.end)) [
-    | inl is ↦ inr (filter_all (λ y. at_most f y.end) (drop k xs) (all_drop (λ y. at_most f y.end) k xs (up.0 is)))
+    | inl is ↦ inr (all_kept (λ y. at_most f y.end) (drop k xs) (All-drop Passes k xs (up.0 is)))
     | inr other ↦ elim (split_up k xs up.1) [ inl none ↦ inl (rw other none) | inr all ↦ inr all ]
   ]
 
@@ -111,8 +92,7 @@ module _ (f : Time) where
       ∙ filter-append (λ x. at_most f x.end) (take k xs) (drop k xs) in
       elim (cases_lt (length olds) (length (drop k xs))) [
         | inl less ↦ elim (split_up k xs up) [
-          | inl none ↦ ap (λ (ys : List Timing). first_other (reverse olds) (reverse ys))
-              (sym (parts ∙ ap (λ (ys : List Timing). ys ++ news) none))
+          | inl none ↦ rw (parts, none) refl
           | inr all ↦
               let long : length (reverse olds) < length (reverse news) = omega (
                 arith,
@@ -121,9 +101,7 @@ module _ (f : Time) where
                 length-reverse news,
                 ap (λ (ys : List Timing). length ys) all,
               ) in
-              sym (ap (λ (ys : List Timing). first_other (reverse olds) (reverse ys)) parts
-              ∙ ap (first_other (reverse olds)) (reverse-append more news)
-              ∙ first_front (reverse olds) (reverse news) (reverse more) long)
+              rw (parts, reverse-append more news) (sym (first_front (reverse olds) (reverse news) (reverse more) long))
         ]
         | inr not_less ↦
             let none : k ≡ 0 = omega (arith, is, not_less, length-drop k xs) in
@@ -132,111 +110,60 @@ module _ (f : Time) where
 
   -- ---- what a walk finds
 
-  either_more : (a b c : Found) → either (either a b) c ≡ either a (either b c)
-  either_more None b c = refl
-  either_more (Some pair) b c = refl
+  or_last : (a : Found) (b : Bool) (pair : Option Timing × Timing) (found : Found)
+      → option_or a (if not b then Some pair else found) ≡ option_or (option_or a (if b then None else Some pair)) found
+  or_last a b pair found = grind arith
 
-  either_none : (a : Found) → either a None ≡ a
-  either_none None = refl
-  either_none (Some pair) = refl
+  or_none : (a : Found) → option_or a None ≡ a
+  or_none a = grind arith
 
-  or_is : (olds : List Timing) (n : ℕ) (x : Timing) (found : Found) → Passes x
-      → or_other olds n f x found ≡ either (told_at (reverse olds) n x) found
-  or_is olds n x found passes = elim (cases_Bool (is_same_as (slice_get (reverse olds) n) x)) [
-    | inl same ↦ rw (passes, same) refl
-    | inr other ↦ rw (passes, other) refl
-  ]
-
-  held_is : (olds : List Timing) (n : ℕ) (xs : List Timing) (found : Found) → n ≤ length xs → IsUp (take n xs)
-      → held olds f n xs found ≡ either (first_other (reverse olds) (reverse (ends_from f (take n xs)))) found
+  held_is : (olds xs : List Timing) (found : Found) → IsUp xs
+      → held olds f xs found ≡ option_or (first_other (reverse olds) (reverse (ends_from f xs))) found
   unfolding held
-  held_is olds zero xs found le up = refl
-  held_is olds (suc n) [] found le up = absurd (omega (arith, le))
-  held_is olds (suc n) (x ∷ xs) found le up =
-      let rest = held_is olds n xs (or_other olds n f x found) (omega (arith, le)) up.1 in
-      let ys = take n xs in
+  held_is olds [] found up = refl
+  held_is olds (x ∷ xs) found up =
+      let rest = held_is olds xs (or_other olds (length xs) f x found) up.1 in
       elim (cases_Bool (at_most f x.end)) [
         | inl passes ↦
-            let all : ends_from f ys ≡ ys = filter_all (λ y. at_most f y.end) ys (up.0 passes) in
-            let long : length (reverse (ends_from f ys)) ≡ n = omega (
-              arith,
-              le,
-              length-reverse (ends_from f ys),
-              ap (λ (zs : List Timing). length zs) all,
-              length-take n xs,
-            ) in
-            let behind : reverse (ends_from f (x ∷ ys)) ≡ reverse (ends_from f ys) ++ x ∷ [] =
-            rw passes (reverse-append (x ∷ []) (ends_from f ys)) in
-            rest ∙ ap (either (first_other (reverse olds) (reverse (ends_from f ys)))) (or_is olds n x found passes)
-            ∙ sym (either_more (first_other (reverse olds) (reverse (ends_from f ys))) (told_at (reverse olds) n x) found)
-            ∙ ap (λ k. either (either (first_other (reverse olds) (reverse (ends_from f ys))) (told_at (reverse olds) k x)) found)
-            (sym long)
-            ∙ ap (λ (o : Found). either o found) (sym (first_behind (reverse olds) (reverse (ends_from f ys)) x))
-            ∙ ap (λ (zs : List Timing). either (first_other (reverse olds) zs) found) (sym behind)
-        | inr other ↦
-            let same : or_other olds n f x found ≡ found = rw other refl in
-            rest ∙ ap (either (first_other (reverse olds) (reverse (ends_from f ys)))) same ∙ (rw other refl)
+            let all = all_kept (λ y. at_most f y.end) xs (up.0 passes) in
+            let behind : reverse (x ∷ xs) ≡ reverse xs ++ x ∷ [] = reverse-append (x ∷ []) xs in
+            let first = first_behind (reverse olds) (reverse xs) x in
+            rest ∙ (rw (passes, all, behind, first, length-reverse xs) (or_last (first_other (reverse olds) (reverse xs))
+            (is_same_as (slice_get (reverse olds) (length xs)) x) (slice_get (reverse olds) (length xs), x) found))
+        | inr other ↦ rest ∙ (rw other refl)
       ]
 
   pub held_last : (olds all : List Timing) (last : Time) (most : ℕ) (ended : Ended) → most ≡ length olds + 1
       → IsLastEnded all last most ended
-      → held olds f ended.count ended.walk None ≡ first_other (reverse olds) (reverse (ends_from f (ends_by last all)))
+      → held olds f (take ended.count ended.walk) None ≡ first_other (reverse olds) (reverse (ends_from f (ends_by last all)))
   held_last olds all last most ended few is =
       let xs = ends_by last all in
-      let k = length xs - ended.count in
       let up : IsUp xs = up_filter (λ x. at_most x.end last) all (up_paced all is.paced) in
-      let long : ended.count ≤ length ended.walk =
-      omega (arith, is.count, ap (λ (ys : List Timing). length ys) is.are, length-take ended.count ended.walk, length-drop k xs) in
-      held_is olds ended.count ended.walk None long (subst IsUp (sym is.are) (up_drop k xs up))
-      ∙ either_none (first_other (reverse olds) (reverse (ends_from f (take ended.count ended.walk))))
-      ∙ ap (λ (ys : List Timing). first_other (reverse olds) (reverse (ends_from f ys))) is.are
-      ∙ from_back olds xs ended.count (omega (arith, is.count, few)) up
+      rw is.are (held_is olds (drop (length xs - ended.count) xs) None (up_drop (length xs - ended.count) xs up) ∙ or_none _
+      ∙ from_back olds xs ended.count (omega (arith, is.count, few)) up)
 
 -- ---- a step of it
 
-pub held_next : (olds : List Timing) (f : Time) (n : ℕ) (x : Timing) (xs : List Timing) (found : Found) → 0 < n
-    → held olds f n (x ∷ xs) found ≡ held olds f (n - 1) xs (or_other olds (n - 1) f x found)
-unfolding held
-held_next olds f zero x xs found some = absurd (omega (arith, some))
-held_next olds f (suc n) x xs found some = let same : suc n - 1 ≡ n = omega arith in rw same refl
+pub take_step : (n : ℕ) (x : Timing) (xs : List Timing) → 0 < n → take n (x ∷ xs) ≡ x ∷ take (n - 1) xs
+take_step zero x xs some = absurd (omega arith)
+take_step (suc n) x xs some = let same : suc n - 1 ≡ n = omega arith in rw same refl
 
-pub held_end : (olds : List Timing) (f : Time) (left : ℕ) (found : Found) → held olds f left [] found ≡ found
-unfolding held
-held_end olds f zero found = refl
-held_end olds f (suc left) found = refl
-
-pub held_none : (olds : List Timing) (f : Time) (xs : List Timing) (found : Found) → held olds f 0 xs found ≡ found
-unfolding held
-held_none olds f xs found = refl
+pub ruleset held_steps = (common_steps, take_step)
 
 -- ---- the rule
 
 module _ {X : Type 0} (p q : X → Bool) where
   pub filter_filter : (xs : List X) → filter p (filter q xs) ≡ filter (λ x. q x && p x) xs
   filter_filter [] = refl
-  filter_filter (x ∷ xs) = elim (cases_Bool (q x)) [
-    | inl is ↦ elim (cases_Bool (p x)) [
-      | inl too ↦ rw (is, too) (ap (λ (ys : List X). x ∷ ys) (filter_filter xs))
-      | inr other ↦ rw (is, other) (filter_filter xs)
-    ]
-    | inr other ↦ rw other (filter_filter xs)
-  ]
+  filter_filter (x ∷ xs) = grind (arith, filter_filter xs)
 
   filter_same : (xs : List X) → All (λ x. p x ≡ q x) xs → filter p xs ≡ filter q xs
   filter_same [] same = refl
   filter_same (x ∷ xs) same =
-      let here = All-head (λ x. p x ≡ q x) x xs same in
-      let rest = filter_same xs (All-tail (λ x. p x ≡ q x) x xs same) in
-      elim (cases_Bool (q x)) [ inl is ↦ rw (here, is) (ap (λ (ys : List X). x ∷ ys) rest) | inr other ↦ rw (here, other) rest ]
+      rw (All-head (λ x. p x ≡ q x) x xs same, filter_same xs (All-tail (λ x. p x ≡ q x) x xs same)) refl
 
 three : (a b d : Bool) → (a ≡ true → b ≡ true → d ≡ true) → (a && b) ≡ ((d && b) && a)
-three true true d is = rw (is refl refl) refl
-three true false true is = refl
-three true false false is = refl
-three false true true is = refl
-three false true false is = refl
-three false false true is = refl
-three false false false is = refl
+three a b d is = grind arith
 
 until_before : (until : Option ℤ) (x last : Time) → IsTime last → at_most x last ≡ true → is_until until last ≡ true
     → is_until until x ≡ true
@@ -273,8 +200,80 @@ pub rewritten_is : (olds xs : List Timing) (first last : Timing) → slice_get o
 rewritten_is [] xs first last at end = absurd (cc)
 rewritten_is (o ∷ olds) xs first last at end =
     let one : o ≡ first = same_Some o first at in
-    let place : length (o ∷ olds) - 1 ≡ length olds = omega arith in
-    let there : last_or None (o ∷ olds) ≡ Some last = last_at o olds ∙ ap (slice_get (o ∷ olds)) (sym place) ∙ end in
-    ap (λ (r : Option Timing). option_map_or (λ last. first_other (reverse (o ∷ olds)) (reverse (filter (ends_within o.end last.end) xs)))
-    r None) there
-    ∙ ap (λ (y : Timing). first_other (reverse (o ∷ olds)) (reverse (filter (ends_within y.end last.end) xs))) one
+    let place : length olds ≡ length (o ∷ olds) - 1 = omega arith in
+    let there : last_or (Some o) olds ≡ Some last = last_at o olds ∙ ap (slice_get (o ∷ olds)) place ∙ end in
+    rw (there, ← one) refl
+
+-- ---- segments that end by a time are the first ones of those that are listed
+
+filter_drop : (p : Timing → Bool) (k : ℕ) (xs : List Timing) → length (filter p xs) ≤ k + length (filter p (drop k xs))
+filter_drop p zero xs = omega arith
+filter_drop p (suc k) [] = omega arith
+filter_drop p (suc k) (x ∷ xs) = grind (arith, filter_drop p k xs)
+
+-- going back adds at most as many
+pub back_adds : (window : Window) (xs : List Timing) (place count : ℕ)
+    → length (listed window (drop (place - count) xs)) ≤ count + length (listed window (drop place xs))
+back_adds window xs place count = elim (cases_lt place count) [
+  | inl less ↦
+      let first : place - count ≡ 0 = omega arith in
+      rw first (omega (arith, less, filter_drop (is_listed window) place xs))
+  | inr not_less ↦
+      let gone : (place - count) + count ≡ place = omega arith in
+      rw (drop-drop count (place - count) xs, gone) at (filter_drop (is_listed window) count (drop (place - count) xs))
+]
+
+-- ---- before and behind a time
+
+none_kept : (test : Timing → Bool) (xs : List Timing) → All (λ x. test x ≡ false) xs → filter test xs ≡ []
+none_kept test [] none = refl
+none_kept test (x ∷ xs) none =
+    rw (All-head (λ x. test x ≡ false) x xs none) (none_kept test xs (All-tail (λ x. test x ≡ false) x xs none))
+
+end_of : (front walk all : List Timing) → all ≡ front ++ walk → walk ≡ drop (length all - length walk) all
+end_of front walk all same = grind (arith, common_steps)
+
+ending : (front behind : List Timing) (count gone : ℕ) → count + gone ≡ length front
+    → take count (drop gone (front ++ behind)) ≡ drop gone front
+ending front behind count gone all = grind (arith, common_steps)
+
+module _ (window : Window) (xs : List Timing) where
+  split_at : (place : ℕ) → listed window xs ≡ listed window (take place xs) ++ listed window (drop place xs)
+  split_at place = ap (listed window) (sym (take-append-drop place xs)) ∙ filter-append (is_listed window) (take place xs) (drop place xs)
+
+  -- where none is listed before a place, all are from there on
+  pub all_from : (place : ℕ) → listed window (take place xs) ≡ [] → listed window xs ≡ listed window (drop place xs)
+  all_from place none = split_at place ∙ ap (λ (ys : List Timing). ys ++ listed window (drop place xs)) none
+
+  pub lengths : (place : ℕ) → length (listed window xs) ≡ length (listed window (take place xs)) + length (listed window (drop place xs))
+  lengths place = ap (λ (ys : List Timing). length ys) (split_at place)
+      ∙ length-append (listed window (take place xs)) (listed window (drop place xs))
+
+  module _ (last : Time) (behind : ℕ) (is : IsPlaceAfter last xs behind) where
+    abbrev later : List Timing
+    later = listed window (drop behind xs)
+
+    abbrev ended : List Timing
+    ended = listed window (take behind xs)
+
+    pub ended_are : ends_by last (listed window xs) ≡ ended
+    ended_are =
+        let own = all_kept (λ x. at_most x.end last) ended (All-filter (is_listed window) (λ x. at_most x.end last ≡ true)
+        (take behind xs) is.none_before) in
+        let none = none_kept (λ x. at_most x.end last) later (All-filter (is_listed window) (λ x. at_most x.end last ≡ false)
+        (drop behind xs) (All-weaker (λ (x : Timing). before last x.end ≡ true) (λ x. at_most x.end last ≡ false)
+        (λ x after. not-true _ (sym (before-is last x.end) ∙ after)) (drop behind xs) is.all_behind)) in
+        ap (ends_by last) (split_at behind) ∙ filter-append (λ x. at_most x.end last) ended later
+        ∙ (rw (own, none) (append-nil ended))
+
+    -- the last `count` of those that end by a time
+    pub taken : (cursor count : ℕ) → length (listed window (drop cursor xs)) ≡ count + length later → count ≤ length ended
+        → take count (listed window (drop cursor xs)) ≡ drop (length (ends_by last (listed window xs)) - count)
+        (ends_by last (listed window xs))
+    taken cursor count counted few =
+        let walk = listed window (drop cursor xs) in
+        let gone : length (listed window xs) - length walk ≡ length ended - count = omega (arith, lengths behind, counted) in
+        let walk_is : walk ≡ drop (length ended - count) (listed window xs) =
+        end_of (listed window (take cursor xs)) walk (listed window xs) (split_at cursor) ∙ ap (λ n. drop n (listed window xs)) gone in
+        rw ended_are (ap (take count) (walk_is ∙ ap (drop (length ended - count)) (split_at behind))
+        ∙ ending ended later count (length ended - count) (omega (arith, few)))

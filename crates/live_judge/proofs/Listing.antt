@@ -1,21 +1,23 @@
 -- An update whose MPD is judged.
 use Rattle.live_judge.specs.declared.coming.Coming.TheVariants as comes
-use Rattle.std.proofs.Common.{◌≡◌, ℕ, suc, ◌≤◌, ◌||◌, ◌&&◌, Bool, true, false, ℤ, pos, List, [], ◌∷◌, ◌++◌, length, map, Option, Some, None}
-use Rattle.std.proofs.{Common.{Ok, Err, Result, refl, sym, ◌∙◌, ap, subst, arith}, lemmas.Bool.and_parts, lemmas.Int.ints}
-use Rattle.std.proofs.lemmas.List.{length-map}
-use Rattle.std.specs.{Prelude.{IfSome, IsSome, flat_map, int_lt, option_map, unwrap_or, if◌then◌else◌}, Option.option_map_or}
-use Rattle.mpd_rules.specs.{Views.segments_mpd, Laws.are_once}
+use Rattle.std.proofs.Common.{◌≡◌, ℕ, suc, ◌≤◌, ◌||◌, Bool, true, false, ℤ, pos, List, [], ◌∷◌, ◌++◌, length, map, Option, Some, None, Ok}
+use Rattle.std.proofs.{Common.{Err, Result, refl, sym, ◌∙◌, ap, subst, arith}, lemmas.Bool.and_parts, lemmas.Int.ints}
+use Rattle.std.proofs.{lemmas.List.{length-map, append-nil, append_assoc}, lemmas.Option.cond_some}
+use Rattle.std.specs.{Prelude.{IfSome, IsSome, flat_map, int_lt, option_map, unwrap_or, if◌then◌else◌, is_some}, Option.option_map_or}
+use Rattle.mpd_rules.specs.Views.{segments_mpd}
 use Rattle.presentation.specs.{declared.fault.PresentationFault.PresentationFault, declared.track.Track.Track as Described}
 use Rattle.presentation.specs.Counting.{count_at, range_at, range_by, range_faults, range_faults_of, sections_of, tracks_of, unless_any}
-use Rattle.presentation.specs.{Presented.{Following, Presented, at_instant, looked_at}, PresentedLaws.PresentedAreFew}
-use Rattle.presentation.specs.{PresentedLaws.PresentedAreFollowed, Told.presented_of}
+use Rattle.presentation.specs.{Presented.{Following, Presented, at_instant, looked_at, is_finished}, PresentedLaws.PresentedAreFew}
+use Rattle.presentation.specs.{PresentedLaws.PresentedAreFollowed, Told.presented_of, Laws.EndsAreCounted}
 use Rattle.timeline.specs.declared.fault.TimeFault.{TimeFault}
-use Rattle.live_meaning.specs.{Updates.{Values, mpd_of}, Known.{Known, goes_on, ids_of, known_with}, Histories.Common}
-use Rattle.live_meaning.specs.{Histories.availability_start_of, Refusals.{Presentation, Refusal, are_alike, ids_in, is_alike}}
+use Rattle.live_meaning.specs.{Updates.{Values, is_reset, mpd_of, Refresh, Reset, Tick, Update}, Known.{Known, ids_of, known_with}}
+use Rattle.live_meaning.specs.{Histories.{Common, availability_start_of, common_with}, Refusals.{Presentation, Refusal, are_alike, ids_in}}
+use Rattle.live_meaning.specs.{Refusals.is_alike, States.State}
 use Rattle.live_judge.specs.{declared.coming.Coming.Coming, declared.standing.Standing.Standing, declared.track.LiveTrack.LiveTrack}
-use Rattle.live_judge.specs.{Changed.{IsPlaceBy, IsPlaceOf, first_place, listed_told}, Coming.{Comes, update_of}, Faults.Tells}
-use Rattle.live_judge.specs.{Faults.{of_presentation, told}, Known.StandsAt, Shown.{common_shown, track_shown}, Sound.{IsLive, StartsAt}}
-use Rattle.live_judge.proofs.Places.{new_stand, place_within, same_stand, unless}
+use Rattle.live_judge.specs.{Changed.{IsPlaceBy, IsPlaceOf, listed_told, AreUnmoved}, Coming.{Comes, update_of, IsNext, IsQuiet, p_of}}
+use Rattle.live_judge.specs.{Coming.{timed_told, told_before}, Faults.{Tells, of_presentation, told}, Known.StandsAt, Shown.common_shown}
+use Rattle.live_judge.specs.{Shown.{track_shown, in_force}, Sound.{IsLive, StartsAt}, declared.coming.Next.Next, Rewriting.kept_told}
+use Rattle.live_judge.proofs.Places.{first_within, new_stand, same_stand}
 
 -- ---- open ends
 
@@ -80,10 +82,6 @@ alike_many [] (other ∷ others) is = absurd (cc)
 alike_many (one ∷ ones) [] is = absurd (cc)
 alike_many (one ∷ ones) (other ∷ others) is = ap suc (alike_many ones others (and_parts (is_alike one other) (are_alike ones others) is).1)
 
-first_within : (known ids : List (List ℕ)) → first_place known ids ≤ length known
-first_within known [] = omega arith
-first_within known (id ∷ ids) = place_within known id
-
 -- ---- what is so of it
 
 pub record IsListed (s : Standing) (tracks : List LiveTrack) (p : Presented) (place : ℕ) : Type 0 where
@@ -103,12 +101,11 @@ module _ (few : PresentedAreFew) (followed : PresentedAreFollowed) (s : Standing
 
     new_listed : IsPlaceOf (common_shown s) mpd force place → IsListed s tracks (looked_at now force) place
     new_listed is =
-        let known = ids_of s.known in
-        let at = unless (are_once (ids_in force) && goes_on known (ids_in force)) (first_place known (ids_in force)) place is.among in
+        let at = cond_some _ _ _ is.among in
         record {
           alike = omega (arith, alike_many s.opened.tracks force.tracks is.alike, live.sound.opened, many);
           few = few_new;
-          within = omega (arith, at.1, first_within known (ids_in force), length-map s.known (λ (k : Known). k.id));
+          within = omega (arith, at.1, first_within (ids_of s.known) (ids_in force), length-map s.known (λ (k : Known). k.id));
           stands = new_stand s.known force place live.stands.once is.among;
           follows =
               subst (λ (o : Option Following). IfSome (option_map (at_instant now) o) (λ f. f.availability_start
@@ -142,12 +139,63 @@ module _ (few : PresentedAreFew) (followed : PresentedAreFollowed) (s : Standing
       subst (λ (p : Presented). IsListed s tracks (looked_at now p) place) (sym same)
       (subst (IsListed s tracks (looked_at now standing)) (sym is) (same_listed now))
 
+-- what comes doesn't depend on the instant
 pub mpd_at : (coming : Coming) (now : ℤ) → mpd_of (update_of coming now) ≡ mpd_of (update_of coming (pos 0))
 mpd_at (comes.Refresh mpd) now = refl
 mpd_at (comes.Reset mpd) now = refl
 mpd_at comes.Tick now = refl
 
+-- nor does whether a new section begins
+pub reset_at : (coming : Coming) (now : ℤ) → is_reset (update_of coming now) ≡ is_reset (update_of coming (pos 0))
+reset_at (comes.Refresh mpd) now = refl
+reset_at (comes.Reset mpd) now = refl
+reset_at comes.Tick now = refl
+
 -- what an MPD breaks doesn't depend on the instant at which it is looked at
 pub told_looked : (c : Common) (o : Option Values) (p : Presented) (now : ℤ) → listed_told c o p ≡ listed_told c o (looked_at now p)
 told_looked c None p now = refl
 told_looked c (Some mpd) p now = refl
+
+-- ---- all refusals before those of addresses
+
+-- all refusals in the order in which they are tried
+pub parts : (s : State) (u : Update) (p : Presented) → told_before s u p
+    ≡ map Presentation (range_faults p) ++ (listed_told s.common (mpd_of u) p ++ (kept_told s.common (mpd_of u) p s.tracks
+    ++ timed_told (is_reset u) (common_with s.common u p) s.tracks))
+parts s (Refresh mpd now) p = simp append_assoc
+parts s (Reset mpd now) p = simp append_assoc
+parts s (Tick now) p = simp append-nil
+
+-- what an MPD breaks doesn't depend on the instant
+pub looked : (c : Common) (coming : Coming) (force : Presented) (now : ℤ)
+    → listed_told c (mpd_of (update_of coming (pos 0))) force ≡ listed_told c (mpd_of (update_of coming now)) (looked_at now force)
+looked c coming force now =
+    told_looked c (mpd_of (update_of coming (pos 0))) force now
+    ∙ ap (λ (o : Option Values). listed_told c o (looked_at now force)) (sym (mpd_at coming now))
+
+-- known Periods begin where they did
+pub unmoved_there : (o : Option Values) (c : Common) (former : ℕ) (p : Presented) (place : ℕ) → IsPlaceBy o c former p place
+    → is_some o ≡ true → AreUnmoved c.known p place
+unmoved_there None c former p place is some = absurd (cc)
+unmoved_there (Some mpd) c former p place is some = is.unmoved
+
+-- what is judged is what it should be
+pub next_is : PresentedAreFew → PresentedAreFollowed → EndsAreCounted → (n : Next) (done : Unit {0}) → IsLive n.standing.now n.tracks.now
+    → is_finished (in_force n.standing.now) ≡ false → int_lt n.now (n.standing.now).instant ≡ false
+    → Comes n.standing.now n.coming n.force.now n.now → Ok done ≡ unless_any (range_faults (p_of n)) tt
+    → IsPlaceBy (mpd_of (update_of n.coming (pos 0))) (common_shown n.standing.now) (n.standing.now).place n.force.now n.place
+    → (n.is_quiet ≡ true → IsQuiet n) → IsNext n
+next_is few followed ends n done live unended forward comes far place quiet =
+    let is = listed few followed n.standing.now n.tracks.now live n.coming n.force.now n.now n.place comes place in
+    record {
+      live = live;
+      unended = unended;
+      forward = forward;
+      counted = λ s t in_sections in_tracks. ends (p_of n) done s t (sym far) in_sections in_tracks;
+      alike = is.alike;
+      few = is.few;
+      within = is.within;
+      stands = is.stands;
+      follows = is.follows;
+      quiet = quiet;
+    }

@@ -1,12 +1,12 @@
 -- What is new, section by section.
-use Rattle.std.proofs.Common.{◌≡◌, ℕ, zero, suc, ◌+◌, ◌<◌, ◌≤◌, ◌==◌, nat_lt, Bool, true, false, List, [], ◌∷◌, ◌++◌, length, map, Option}
-use Rattle.std.proofs.{Common.{Some, None, refl, sym, ◌∙◌, ap, subst, inl, inr, ◌⊎◌, arith}, lemmas.Bool.{cases_Bool, cases_lt}}
-use Rattle.std.proofs.{lemmas.List.map-append, lemmas.List.Elements.{All-nil, All-cons, All-head, All-tail, filter-append}}
+use Rattle.std.proofs.Common.{◌≡◌, ℕ, zero, suc, ◌+◌, ◌<◌, ◌≤◌, Bool, true, List, [], ◌∷◌, ◌++◌, length, map, Option, Some, None, refl, sym}
+use Rattle.std.proofs.{Common.{◌∙◌, ap, subst, inl, inr, ◌⊎◌, arith}, lemmas.Bool.cases_lt, lemmas.Bool.Decides.nat_tests}
+use Rattle.std.proofs.{lemmas.List.map-append, lemmas.List.Elements.{All-head, All-map, All-nil, All-tail, filter-append}}
 use Rattle.std.specs.{Prelude.{All, filter, flat_map}, List.range_with_len, Option.option_map_or}
 use Rattle.timeline.specs.Expansions.{Timing}
 use Rattle.presentation.specs.{declared.parts.Content.Content, Counting.sections_of, Presented.{Presented, content_at, listed_at, start_of}}
-use Rattle.followed.specs.Durations.{Last, duration_behind, durations, last_behind, last_with, told_behind}
-use Rattle.followed.proofs.PrintedSections.{last_section, new_section}
+use Rattle.followed.specs.Durations.{Last, durations, last_behind, last_with, told_behind}
+use Rattle.followed.proofs.{KeptPlaces.all_kept, PrintedSections.{goes_on, last_section, new_section}}
 use Rattle.live_meaning.specs.{Updates.unit_of, Segments.{Kept, Numbering, Segment, behind, id_at, is_later, listed_in_period, place_of}}
 use Rattle.live_meaning.specs.{Segments.segment_with, Histories.{Common, numbering_of}, States.{Track, new_durations, new_of}}
 use Rattle.live_judge.specs.New.{durations_in, new_in, new_timings}
@@ -19,10 +19,7 @@ module _ (n : Numbering) (place start : ℕ) (content : Content) (test : ℕ →
       (map (segment_with n place start content) xs)
       ≡ map (segment_with n place start content) (filter (λ x. test place x) xs)
   filter_made [] = refl
-  filter_made (x ∷ xs) = elim (cases_Bool (test place x)) [
-    | inl is ↦ rw is (ap (λ (ys : List Segment). segment_with n place start content x ∷ ys) (filter_made xs))
-    | inr other ↦ rw other (filter_made xs)
-  ]
+  filter_made (x ∷ xs) = grind (arith, filter_made xs)
 
 -- what is new by a test of places and ends
 later_in : (last : Option Last) (last_place place : ℕ) → Timing → Bool
@@ -32,9 +29,8 @@ behind_is : (last : Option Last) (last_place : ℕ) (n : Numbering) (place start
     → behind last last_place (map (segment_with n place start content) xs) ≡ map (segment_with n place start content)
     (filter (later_in last last_place place) xs)
 unfolding later_in
-behind_is None last_place n place start content [] = refl
-behind_is None last_place n place start content (x ∷ xs) =
-    ap (λ (ys : List Segment). segment_with n place start content x ∷ ys) (behind_is None last_place n place start content xs)
+behind_is None last_place n place start content xs = ap (map (segment_with n place start content)) (sym (all_kept (λ x. true) xs
+    (λ j d within. refl)))
 behind_is (Some l) last_place n place start content xs = filter_made n place start content (λ k x. is_later l last_place k x.end) xs
 
 behind_append : (last : Option Last) (place : ℕ) (xs ys : List Segment) → behind last place (xs ++ ys)
@@ -66,10 +62,7 @@ module _ (c : Common) (place : ℕ) (of : Track) (t : ℕ) where
   in_sections a (suc n) at =
       behind_append of.last of.place (listed_in_period (numbering_of c) c.force t a)
       (flat_map (listed_in_period (numbering_of c) c.force t) (range_with_len (a + 1) n))
-      ∙ ap (λ (xs : List Segment). xs ++ behind of.last of.place (flat_map (listed_in_period (numbering_of c) c.force t)
-      (range_with_len (a + 1) n))) (in_content a (at a (omega arith)) (content_at c.force a t))
-      ∙ ap (λ (ys : List Segment). new_in (numbering_of c) c.force place of t a ++ ys)
-      (in_sections (a + 1) n (λ s less. at s (omega (arith, less))))
+      ∙ (rw (in_content a (at a (omega arith)) (content_at c.force a t), in_sections (a + 1) n (λ s less. at s (omega (arith, less)))) refl)
 
   -- where the Periods in force have the places from one on
   pub new_is : ((s : ℕ) → s < length c.force.sections → place_of (numbering_of c).ids (id_at c.force s) ≡ place + s)
@@ -77,12 +70,6 @@ module _ (c : Common) (place : ℕ) (of : Track) (t : ℕ) where
   new_is at = in_sections 0 (length c.force.sections) (λ s less. at s (omega (arith, less)))
 
 -- ---- printed durations
-
-goes_on : (u : ℕ) (last : Option Last) (all more : List Segment) → told_behind u last (all ++ more)
-    ≡ told_behind u last all ++ told_behind u (last_behind last all) more
-goes_on u last [] more = refl
-goes_on u last (x ∷ all) more = ap (λ (ts : List Kept). record { segment = x; duration = duration_behind u last x } ∷ ts)
-    (goes_on u (Some (last_with last x)) all more)
 
 -- the last one's section, behind some of one section
 section_behind : (l : Last) (number : ℕ) (xs : List Segment) → All (λ (x : Segment). x.section ≡ number) xs → l.section ≤ number
@@ -103,6 +90,14 @@ anew u l m number (x ∷ xs) all less later =
     subst (λ (k : ℕ). All (λ (y : Segment). y.section ≡ k) xs) (sym here) (All-tail (λ (y : Segment). y.section ≡ number) x xs all) in
     new_section u (Some l) x xs (omega arith) others ∙ sym (new_section u (Some m) x xs (omega arith) others)
 
+durations_on : (u : ℕ) (l : Last) (first rest : List Segment) (m : Last) → last_behind (Some l) first ≡ Some m
+    → durations (told_behind u (Some l) (first ++ rest)) ≡ durations (told_behind u (Some l) first)
+    ++ durations (told_behind u (Some m) rest)
+durations_on u l first rest m behind =
+    ap (λ (ts : List Kept). durations ts) (goes_on u (Some l) first rest)
+    ∙ map-append (λ (t : Kept). t.duration) (told_behind u (Some l) first) (told_behind u (last_behind (Some l) first) rest)
+    ∙ ap (λ (o : Option Last). durations (told_behind u (Some l) first) ++ durations (told_behind u o rest)) behind
+
 module _ (u : ℕ) (number : ℕ → ℕ) (list : ℕ → List Segment) (rises : (s r : ℕ) → s < r → number s < number r)
     (own : (s : ℕ) → All (λ (x : Segment). x.section ≡ number s) (list s)) where
   later_sections : (a n : ℕ) (l m : Last) → ((s : ℕ) → a ≤ s → l.section < number s) → ((s : ℕ) → a ≤ s → m.section < number s)
@@ -111,69 +106,52 @@ module _ (u : ℕ) (number : ℕ → ℕ) (list : ℕ → List Segment) (rises :
   later_sections a zero l m below under = refl
   later_sections a (suc n) l m below under =
       let first = list a in
-      let rest = flat_map list (range_with_len (a + 1) n) in
       let next = section_behind l (number a) first (own a) (omega (arith, below a (omega arith))) in
-      ap (λ (ts : List Kept). durations ts) (goes_on u (Some l) first rest)
-      ∙ map-append (λ (t : Kept). t.duration) (told_behind u (Some l) first) (told_behind u (last_behind (Some l) first) rest)
-      ∙ ap (λ (ds : List ℕ). ds ++ durations (told_behind u (last_behind (Some l) first) rest))
-      (anew u l m (number a) first (own a) (below a (omega arith)) (under a (omega arith)))
-      ∙ ap (λ (o : Option Last). durations (told_behind u (Some m) first) ++ durations (told_behind u o rest)) next.1
-      ∙ ap (λ (ds : List ℕ). durations (told_behind u (Some m) first) ++ ds)
-      (later_sections (a + 1) n next.0 m (λ s le. omega (arith, next.2, rises a s (omega (arith, le))))
-      (λ s le. under s (omega (arith, le))))
+      let rest = later_sections (a + 1) n next.0 m (λ s le. omega (arith, next.2, rises a s (omega (arith, le))))
+      (λ s le. under s (omega (arith, le))) in
+      durations_on u l first (flat_map list (range_with_len (a + 1) n)) next.0 next.1
+      ∙ (rw (anew u l m (number a) first (own a) (below a (omega arith)) (under a (omega arith)), rest) refl)
 
   pub by_sections : (a n : ℕ) (l : Last) → ((s : ℕ) → a ≤ s → (list s ≡ []) ⊎ (l.section ≤ number s))
       → durations (told_behind u (Some l) (flat_map list (range_with_len a n)))
       ≡ flat_map (λ s. durations (told_behind u (Some l) (list s))) (range_with_len a n)
   by_sections a zero l low = refl
   by_sections a (suc n) l low = elim (low a (omega arith)) [
-    | inl none ↦
-        ap (λ (xs : List Segment). durations (told_behind u (Some l) (xs ++ flat_map list (range_with_len (a + 1) n)))) none
-        ∙ by_sections (a + 1) n l (λ s le. low s (omega (arith, le)))
-        ∙ ap (λ (xs : List Segment). durations (told_behind u (Some l) xs) ++ flat_map (λ s. durations (told_behind u (Some l) (list s)))
-        (range_with_len (a + 1) n)) (sym none)
+    | inl none ↦ rw (none, by_sections (a + 1) n l (λ s le. low s (omega (arith, le)))) refl
     | inr le ↦
-        let first = list a in
-        let rest = flat_map list (range_with_len (a + 1) n) in
-        let next = section_behind l (number a) first (own a) le in
-        ap (λ (ts : List Kept). durations ts) (goes_on u (Some l) first rest)
-        ∙ map-append (λ (t : Kept). t.duration) (told_behind u (Some l) first) (told_behind u (last_behind (Some l) first) rest)
-        ∙ ap (λ (o : Option Last). durations (told_behind u (Some l) first) ++ durations (told_behind u o rest)) next.1
-        ∙ ap (λ (ds : List ℕ). durations (told_behind u (Some l) first) ++ ds)
-        (later_sections (a + 1) n next.0 l (λ s more. omega (arith, next.2, rises a s (omega (arith, more))))
-        (λ s more. omega (arith, le, rises a s (omega (arith, more)))))
+        let next = section_behind l (number a) (list a) (own a) le in
+        durations_on u l (list a) (flat_map list (range_with_len (a + 1) n)) next.0 next.1
+        ∙ (rw (later_sections (a + 1) n next.0 l (λ s more. omega (arith, next.2, rises a s (omega (arith, more))))
+        (λ s more. omega (arith, le, rises a s (omega (arith, more))))) refl)
   ]
 
 -- ---- those of a track
 
-made_own : (n : Numbering) (place start : ℕ) (content : Content) (xs : List Timing)
-    → All (λ (x : Segment). x.section ≡ place + n.resets) (map (segment_with n place start content) xs)
-made_own n place start content [] = All-nil (λ (x : Segment). x.section ≡ place + n.resets)
-made_own n place start content (x ∷ xs) =
-    All-cons (λ (y : Segment). y.section ≡ place + n.resets) (segment_with n place start content x)
-    (map (segment_with n place start content) xs) refl (made_own n place start content xs)
+module _ (n : Numbering) (p : Presented) (place : ℕ) (of : Track) (t s : ℕ) where
+  abbrev pub AreMade : Type 0
+  AreMade = ((new_timings p place of t s ≡ []) × (new_in n p place of t s ≡ []))
+      ⊎ ((content : Content) × (new_in n p place of t s ≡ map (segment_with n (place + s) (start_of p s) content)
+      (new_timings p place of t s)))
 
-pub new_own : (n : Numbering) (p : Presented) (place : ℕ) (of : Track) (t s : ℕ)
-    → All (λ (x : Segment). x.section ≡ place + s + n.resets) (new_in n p place of t s)
-new_own n p place of t s =
-    elim (content_at p s t) as (λ o. All (λ (x : Segment). x.section ≡ place + s + n.resets)
-    (option_map_or (λ content. map (segment_with n (place + s) (start_of p s) content) (new_timings p place of t s)) o [])) [
-      | None ↦ All-nil (λ (x : Segment). x.section ≡ place + s + n.resets)
-      | Some content ↦ made_own n (place + s) (start_of p s) content (new_timings p place of t s)
-    ]
+  made_by : (o : Option Content) → content_at p s t ≡ o → AreMade
+  made_by None is = inl (rw is refl, rw is refl)
+  made_by (Some content) is = inr (content, rw is refl)
+
+  -- they are made of their times, of which there are none where there is no content
+  pub new_made : AreMade
+  new_made = made_by (content_at p s t) refl
+
+  new_own : All (λ (x : Segment). x.section ≡ place + s + n.resets) (new_in n p place of t s)
+  new_own = elim new_made [
+    | inl none ↦ rw none.1 (All-nil (λ (x : Segment). x.section ≡ place + s + n.resets))
+    | inr made ↦ rw made.1 (All-map (λ (x : Segment). x.section ≡ place + s + n.resets) (segment_with n (place + s) (start_of p s) made.0)
+        (new_timings p place of t s) (λ j d within. refl))
+  ]
 
 none_pass : (l : Last) (last_place place : ℕ) → place < last_place → (xs : List Timing)
     → filter (λ x. is_later l last_place place x.end) xs ≡ []
 none_pass l last_place place less [] = refl
-none_pass l last_place place less (x ∷ xs) =
-    let not_less : nat_lt last_place place ≡ false = grind arith in
-    let other : (last_place == place) ≡ false = grind arith in
-    rw (not_less, other) (none_pass l last_place place less xs)
-
-made_none : (n : Numbering) (place start : ℕ) (o : Option Content) (xs : List Timing) → xs ≡ []
-    → option_map_or (λ content. map (segment_with n place start content) xs) o [] ≡ []
-made_none n place start None xs none = refl
-made_none n place start (Some content) xs none = ap (map (segment_with n place start content)) none
+none_pass l last_place place less (x ∷ xs) = grind (arith, nat_tests, less, none_pass l last_place place less xs)
 
 -- in an earlier Period than the last one's nothing is new
 pub none_earlier : (p : Presented) (place : ℕ) (of : Track) (t s : ℕ) (l : Last) → of.last ≡ Some l → place + s < of.place
@@ -183,8 +161,10 @@ none_earlier p place of t s l last less = rw last (none_pass l of.place (place +
 low_at : (c : Common) (place : ℕ) (of : Track) (t : ℕ) (l : Last) → of.last ≡ Some l → l.section ≤ of.place + c.resets → (s : ℕ)
     → (new_in (numbering_of c) c.force place of t s ≡ []) ⊎ (l.section ≤ place + s + c.resets)
 low_at c place of t l last le s = elim (cases_lt (place + s) of.place) [
-  | inl less ↦ inl (made_none (numbering_of c) (place + s) (start_of c.force s) (content_at c.force s t) (new_timings c.force place of t s)
-      (none_earlier c.force place of t s l last less))
+  | inl less ↦ elim (new_made (numbering_of c) c.force place of t s) [
+    | inl none ↦ inl none.1
+    | inr made ↦ inl (made.1 ∙ (rw (none_earlier c.force place of t s l last less) refl))
+  ]
   | inr not_less ↦ inr (omega arith)
 ]
 

@@ -1,22 +1,23 @@
 -- The printed durations of what is new in a section.
 use Rattle.std.proofs.Common.{◌≡◌, ℕ, zero, suc, ◌+◌, ◌-◌, ◌<◌, ◌≤◌, ◌==◌, ◌&&◌, cond, Bool, true, false, List, [], ◌∷◌, length, map}
-use Rattle.std.proofs.{Common.{Option, Some, None, refl, sym, ◌∙◌, ap, subst, inl, inr, arith}, lemmas.Bool.{cases_Bool, cases_lt}}
-use Rattle.std.proofs.{lemmas.Bool.Decides.nat_tests, lemmas.List.Elements.filter_agree, lemmas.Option.{same_Some, slice_get-map}}
-use Rattle.std.specs.{Prelude.{All, IfSome, filter, flat_map, option_map, slice_get}, Option.option_map_or}
+use Rattle.std.proofs.{Common.{Option, Some, refl, sym, ◌∙◌, ap, subst, inl, inr, arith}, lemmas.Bool.{cases_Bool, cases_lt, eq-eqb}}
+use Rattle.std.proofs.{lemmas.Bool.ne_eqb, lemmas.List.Elements.filter_agree, lemmas.Option.same_Some}
+use Rattle.std.specs.{Prelude.{All, filter, slice_get}, Option.option_map_or}
 use Rattle.exact_time.specs.{Time.{IsAtMost, before, difference}, Tick.time_of, Floor.floor_in, Rounding.rounding_behind}
 use Rattle.exact_time.proofs.Floors.{floor_in-difference_self}
 use Rattle.timeline.specs.{Expansions.Timing, Faults.is_apart, Steady.{ArePaced, IsWithinLimits}}
 use Rattle.presentation.specs.{declared.parts.Content.Content, declared.segments.Behind.Behind, Kept.{ArePacedBehind, durations_behind}}
-use Rattle.presentation.specs.{Presented.{content_at, listed_at, start_of}, Printing.{FollowsNear, extent_of, later_than}}
-use Rattle.presentation.proofs.{Counts.from_on-start, GoingOn.paced_there, Grids.All-at}
+use Rattle.presentation.specs.{Presented.{listed_at, start_of}, Printing.{FollowsNear, extent_of, later_than}}
+use Rattle.presentation.proofs.GoingOn.{paced_there}
 use Rattle.followed.specs.Durations.{Last, durations, told_behind}
 use Rattle.live_meaning.specs.{Updates.{is_reset, unit_of}, Segments.{Numbering, is_later, segment_with}, Histories.numbering_of}
-use Rattle.live_meaning.specs.{States.new_of, Refusals.{Refusal, Step, joint_told, step_behind, told_if}}
+use Rattle.live_meaning.specs.{States.new_of, Refusals.{Step, joint_told, step_behind}}
+use Rattle.live_meaning.proofs.Allowed.{told_none}
 use Rattle.live_judge.specs.{declared.track.LastKept.LastKept, declared.track_next.TrackNext.TrackNext, Coming.{IsJoined, IsTrackNext}}
 use Rattle.live_judge.specs.{Coming.{c_of, coming_of, p_of, t_of, update_of}, New.{IsFirstNew, durations_in}, Shown.{common_shown, last_of}}
 use Rattle.live_judge.specs.{Shown.track_shown, Sound.IsSoundTrack}
-use Rattle.live_judge.proofs.{Contents.here_by_end, Counts.{IsNoneNew, first_new_is, news_in, none_more, times_in}, Firsts.none_at}
-use Rattle.live_judge.proofs.{Joints.{is_self, step_at, step_told, steps_each}, Tracks.none_before}
+use Rattle.live_judge.proofs.{Contents.{here_by_end, none_before, sound_there}, Counts.{IsNoneNew, first_new_is, news_in, none_more}}
+use Rattle.live_judge.proofs.{Counts.{none_yet, times_in}, Firsts.none_at, Joints.{step_at, step_told, steps_each}, New.{AreMade, new_made}}
 
 -- ---- of one section
 
@@ -36,40 +37,22 @@ module _ (u : ℕ) (n : Numbering) (place start : ℕ) where
       let none : floor_in u (difference x.start x.start) ≡ 0 = floor_in-difference_self u x.start in
       let one : floor_in u (difference x.end x.start) ≡ floor_in u (difference x.end x.start) - floor_in u (difference x.start x.start) =
       omega (arith, none) in
-      let rest = going_on content (record { section = place + n.resets; first = x.start; end = x.end }) (is_self (place + n.resets)) xs in
+      let rest = going_on content (record {
+        section = place + n.resets;
+        first = x.start;
+        end =
+            x.end;
+      }) (eq-eqb _ (place + n.resets) refl) xs in
       rw other (ap (λ (ds : List ℕ). floor_in u (difference x.end x.start) ∷ ds) rest
       ∙ ap (λ d. d ∷ durations_behind (rounding_behind x.start u x.end) xs) one)
 
-  of_same : (l : Last) → (l.section == place + n.resets) ≡ true → (o : Option Content) (xs : List Timing) → (o ≡ None → xs ≡ [])
-      → durations (told_behind u (Some l) (option_map_or (λ content. map (segment_with n place start content) xs) o []))
-      ≡ durations_behind (rounding_behind l.first u l.end) xs
-  of_same l same None xs none = ap (λ (ys : List Timing). durations_behind (rounding_behind l.first u l.end) ys) (sym (none refl))
-  of_same l same (Some content) xs none = going_on content l same xs
-
-  of_another : (l : Last) → (l.section == place + n.resets) ≡ false → (o : Option Content) (xs : List Timing) → (o ≡ None → xs ≡ [])
-      → (x : Timing) → slice_get xs 0 ≡ Some x
-      → durations (told_behind u (Some l) (option_map_or (λ content. map (segment_with n place start content) xs) o []))
+  of_another : (content : Content) (l : Last) → (l.section == place + n.resets) ≡ false → (xs : List Timing) (x : Timing)
+      → slice_get xs 0 ≡ Some x → durations (told_behind u (Some l) (map (segment_with n place start content) xs))
       ≡ durations_behind (rounding_behind x.start u x.start) xs
-  of_another l other None xs none x at = absurd (let empty = subst (λ (ys : List Timing). slice_get ys 0 ≡ Some x) (none refl) at in cc)
-  of_another l other (Some content) [] none x at = absurd (cc)
-  of_another l other (Some content) (y ∷ xs) none x at =
+  of_another content l other [] x at = absurd (cc)
+  of_another content l other (y ∷ xs) x at =
       begun_anew content l other y xs ∙ ap (λ (t : Timing). durations_behind (rounding_behind t.start u t.start) (y ∷ xs))
       (same_Some y x at)
-
-told_none : (b : Bool) (refusal : Refusal) → told_if b refusal ≡ [] → b ≡ false
-told_none true refusal none = absurd (cc)
-told_none false refusal none = refl
-
-differs : (n number section : ℕ) → n ≡ number → (n ≡ section → ⊥) → (section == number) ≡ false
-differs n number section same not_same = elim (cases_Bool (section == number)) [
-  | inl is ↦ absurd (not_same (grind (arith, nat_tests, is, same)))
-  | inr other ↦ other
-]
-
-pub sound_there : (l : TrackNext) → IsTrackNext l → IsSoundTrack (common_shown (l.next.now).standing.now) (t_of l)
-sound_there l is = All-at (IsSoundTrack (common_shown (l.next.now).standing.now)) (map track_shown (l.next.now).tracks.now) l.index
-    (t_of l) is.next.live.sound.tracks
-    (slice_get-map track_shown (l.next.now).tracks.now l.index ∙ ap (option_map track_shown) is.there)
 
 -- ---- behind the last segment
 
@@ -85,40 +68,45 @@ module _ (l : TrackNext) (is : IsTrackNext l) (s : ℕ) (within : s < length (p_
   sound = sound_there l is
 
   pub begun : IsAtMost (time_of k.begin) (time_of k.end)
-  begun = subst (λ (o : Option Last). IfSome o (λ last. IsAtMost last.first last.end)) last sound.begun
+  begun = rw last at sound.begun
 
   low : k.section ≤ k.place + resets
-  low = let there = subst (λ (o : Option Last). IfSome o (λ last. last.section ≤ (t_of l).place + resets)) last sound.section in
-      omega (arith, there, at)
+  low = let there = rw last at sound.section in omega (arith, there, at)
 
   as_last : durations_in (c_of l) (l.next.now).place (t_of l) l.index s
       ≡ durations (told_behind (unit_of (c_of l).terms) (Some (last_of k)) (news_in l s))
   as_last = ap (λ (o : Option Last). durations (told_behind (unit_of (c_of l).terms) o (news_in l s))) last
 
+  made : AreMade (numbering_of (c_of l)) (p_of l.next.now) (l.next.now).place (t_of l) l.index s
+  made = new_made (numbering_of (c_of l)) (p_of l.next.now) (l.next.now).place (t_of l) l.index s
+
   pub durations_same : (unit n : ℕ) → unit ≡ unit_of (c_of l).terms → n ≡ number → n ≡ k.section
       → durations_behind (rounding_behind (time_of k.begin) unit (time_of k.end)) (times_in l s)
       ≡ durations_in (c_of l) (l.next.now).place (t_of l) l.index s
   durations_same unit n same is_number here =
-      let one : k.section ≡ number = sym here ∙ is_number in
-      ap (λ v. durations_behind (rounding_behind (time_of k.begin) v (time_of k.end)) (times_in l s)) same
-      ∙ sym (as_last ∙ of_same (unit_of (c_of l).terms) (numbering_of (c_of l)) ((l.next.now).place + s) (start_of (p_of l.next.now) s)
-      (last_of k)
-      (ap (λ m. m == number) one ∙ is_self number) (content_at (p_of l.next.now) s l.index) (times_in l s) (λ none. (rw none refl)))
+      let one : (k.section == number) ≡ true = eq-eqb _ _ (sym here ∙ is_number) in
+      rw (same, as_last) (elim made [
+        | inl none ↦ rw (none.1, none.0) refl
+        | inr is ↦ rw is.1 (sym (going_on (unit_of (c_of l).terms) (numbering_of (c_of l)) ((l.next.now).place + s)
+            (start_of (p_of l.next.now) s) is.0 (last_of k) one (times_in l s)))
+      ])
 
   pub durations_anew : (unit n : ℕ) (x : Timing) → unit ≡ unit_of (c_of l).terms → n ≡ number → (n ≡ k.section → ⊥)
       → slice_get (times_in l s) 0 ≡ Some x
       → durations_behind (rounding_behind x.start unit x.start) (times_in l s) ≡ durations_in (c_of l) (l.next.now).place (t_of l) l.index s
   durations_anew unit n x same is_number other first =
-      ap (λ v. durations_behind (rounding_behind x.start v x.start) (times_in l s)) same
-      ∙ sym (as_last ∙ of_another (unit_of (c_of l).terms) (numbering_of (c_of l)) ((l.next.now).place + s) (start_of (p_of l.next.now) s)
-      (last_of k)
-      (differs n number k.section is_number other) (content_at (p_of l.next.now) s l.index) (times_in l s) (λ none. (rw none refl)) x first)
+      let differs : (k.section == number) ≡ false = ne_eqb _ _ (λ e. other (is_number ∙ sym e)) in
+      rw (same, as_last) (elim made [
+        | inl none ↦ absurd (let never = subst (λ (xs : List Timing). slice_get xs 0 ≡ Some x) none.0 first in cc)
+        | inr is ↦ rw is.1 (sym (of_another (unit_of (c_of l).terms) (numbering_of (c_of l)) ((l.next.now).place + s)
+            (start_of (p_of l.next.now) s) is.0 (last_of k) differs (times_in l s) x first))
+      ])
 
   module _ (x : Timing) (first : slice_get (times_in l s) 0 ≡ Some x) (limits : IsWithinLimits x) (n : ℕ) (is_number : n ≡ number)
       (here : n ≡ k.section) where
     not_before : k.place ≤ (l.next.now).place + s
     not_before = elim (cases_lt ((l.next.now).place + s) k.place) [
-      | inl less ↦ absurd (let never = subst (λ (xs : List Timing). slice_get xs 0 ≡ Some x) (none_before l s k last at less) first in cc)
+      | inl less ↦ absurd (let never = rw (none_before l s k last at less) at first in cc)
       | inr not_less ↦ not_less
     ]
 
@@ -140,14 +128,14 @@ module _ (l : TrackNext) (is : IsTrackNext l) (s : ℕ) (within : s < length (p_
         omega (arith, same, not_before, low, is_number, here)
 
     none_until : (i : ℕ) → i ≤ s → IsNoneNew l i
-    none_until zero le = ap (flat_map (news_in l)) (sym (from_on-start (length (p_of l.next.now).sections)))
+    none_until zero le = none_yet l is
     none_until (suc i) le =
         let next : i + 1 ≡ suc i = omega arith in
         subst (IsNoneNew l) next (none_more l i (omega (arith, le, within)) (none_before l i k last at (omega (arith, le, there)))
         (none_until i (omega (arith, le))))
 
     first_is : IsFirstNew n x (new_of (c_of l) l.index (t_of l))
-    first_is = first_new_is l s n x is within (none_until s (omega arith)) first limits is_number
+    first_is = first_new_is l s n x within (none_until s (omega arith)) first limits is_number
 
     none_stepped : IsJoined l.next.now → step_behind l.index (Some (last_of k)) (new_of (c_of l) l.index (t_of l)) ≡ []
     none_stepped joined =
@@ -159,7 +147,7 @@ module _ (l : TrackNext) (is : IsTrackNext l) (s : ℕ) (within : s < length (p_
     near : IsJoined l.next.now → is_apart (Some (time_of k.end)) (extent_of x) ≡ false
     near joined =
         let none = sym (step_told l.index (last_of k) (new_of (c_of l) l.index (t_of l)) n x first_is) ∙ none_stepped joined in
-        let same : (n == k.section) ≡ true = ap (λ m. m == k.section) here ∙ is_self k.section in
+        let same : (n == k.section) ≡ true = ap (λ m. m == k.section) here ∙ eq-eqb _ k.section refl in
         sym (ap (λ b. b && is_apart (Some (time_of k.end)) (extent_of x)) same)
         ∙ told_none (n == k.section && is_apart (Some (time_of k.end)) (extent_of x)) (Step l.index (time_of k.end) x.start) none
 
@@ -175,8 +163,7 @@ module _ (l : TrackNext) (is : IsTrackNext l) (s : ℕ) (within : s < length (p_
         (listed_at (p_of l.next.now) s l.index)
 
     follows : IsJoined l.next.now → FollowsNear (time_of k.end) (times_in l s)
-    follows joined = subst (λ (o : Option Timing). IfSome o (λ y. is_apart (Some (time_of k.end)) (extent_of y) ≡ false)) (sym first)
-        (near joined)
+    follows joined = rw first (near joined)
 
     pub paced_same : IsJoined l.next.now → (unit : ℕ) (walk : List Timing) → walk ≡ times_in l s → ArePaced walk → All IsWithinLimits walk
         → ArePacedBehind walk (rounding_behind (time_of k.begin) unit (time_of k.end))

@@ -1,8 +1,8 @@
 -- What stays so of a track's segments when some come behind them.
-use Rattle.std.proofs.Common.{◌≡◌, ℕ, zero, suc, ◌+◌, ◌≤◌, true, List, [], ◌∷◌, ◌++◌, drop, Option, Some, None, refl, sym, ◌∙◌, subst, inl}
-use Rattle.std.proofs.{Common.{inr, arith}, lemmas.Bool.{cases_eq, cases_lt, eq-eqb, ne_eqb}, lemmas.Bool.Decides.nat_tests}
-use Rattle.std.proofs.{lemmas.List.{append-nil, append_assoc}, lemmas.List.Elements.{All-nil, All-cons, All-append, All-drop, All-head}}
-use Rattle.std.proofs.lemmas.List.Elements.{All-tail, All-weaker, filter_passes}
+use Rattle.std.proofs.Common.{◌≡◌, ℕ, zero, suc, ◌+◌, ◌≤◌, true, List, [], ◌∷◌, ◌++◌, drop, Option, Some, None, refl, ◌∙◌, subst, inl, inr}
+use Rattle.std.proofs.{Common.{◌⊎◌, arith}, lemmas.Bool.{cases_eq, eq-eqb, ne_eqb}, lemmas.Bool.Decides.nat_tests}
+use Rattle.std.proofs.{lemmas.List.{append-nil, append_assoc, drop_all}, lemmas.Option.IfSome_then}
+use Rattle.std.proofs.lemmas.List.Elements.{All-append, All-cons, All-drop, All-head, All-nil, All-tail, All-weaker, filter_passes}
 use Rattle.std.specs.Prelude.{All, IfSome}
 use Rattle.exact_time.specs.Time.{IsAtMost, IsTime, Time}
 use Rattle.exact_time.proofs.TimeOrder.{IsAtMost-from_before, IsAtMost-trans}
@@ -22,10 +22,6 @@ pub record IsReached (resets : ℕ) (last : Option Last) (place : ℕ) (xs : Lis
   pub lasts : IfSome last Lasts
   pub up_to : AreUpTo last place xs
 
-if_some : {X : Type 0} (o : Option X) (P Q : X → Type 0) → ((x : X) → P x → Q x) → IfSome o P → IfSome o Q
-if_some None P Q f is = tt
-if_some (Some x) P Q f is = f x is
-
 -- ---- one more
 
 lasts_with : (l : Last) (x : Segment) → Lasts l → IsTimed x → Behind l x.section x.end → Lasts (last_with (Some l) x)
@@ -41,16 +37,10 @@ lasts_with l x (lasts, time) timed behind = elim (cases_eq l.section x.section) 
 
 follows : (l : Last) (place resets : ℕ) (x k : Segment) → l.section ≤ place + resets → place ≤ x.value.place → IsNumbered resets x
     → IsUpTo l place k → DoesFollow k x
-follows l place resets x k section later numbered up = elim up [
-  | inl less ↦ inl (omega (arith, less, later))
-  | inr both ↦ elim (cases_lt k.value.place x.value.place) [
-    | inl less ↦ inl less
-    | inr not_less ↦ inr (omega (arith, not_less, both.0, later), omega (arith, not_less, both.0, both.1, later, section, numbered))
-  ]
-]
+follows l place resets x k section later numbered up = grind (arith, section, later, numbered, up)
 
 up_with : (last : Option Last) (x k : Segment) → DoesFollow k x → IsUpTo (last_with last x) x.value.place k
-up_with last x k is = elim is [ inl less ↦ inl less | inr both ↦ inr (both.0, omega (arith, both.1, last_section last x)) ]
+up_with last x k is = grind (arith, is, last_section last x)
 
 ordered_with : (ks : List Segment) (x : Segment) → AreOrdered ks → All (λ k. DoesFollow k x) ks → AreOrdered (ks ++ x ∷ [])
 ordered_with [] x ordered all = (All-nil (DoesFollow x), tt)
@@ -67,7 +57,7 @@ reach : (resets : ℕ) (last : Option Last) (place : ℕ) (ks : List Segment) (x
     → BehindLast last x.section x.end → IsNumbered resets x → IfSome last (λ l. place ≤ x.value.place)
     → IsReached resets (Some (last_with last x)) x.value.place (ks ++ x ∷ [])
 reach resets None place ks x is timed behind numbered later =
-    subst (λ (js : List Segment). IsReached resets (Some (last_with None x)) x.value.place (js ++ x ∷ [])) (sym is.up_to) (record {
+    rw is.up_to (record {
       ordered = (All-nil (DoesFollow x), tt);
       section = omega (arith, numbered);
       lasts = (timed.lasts, timed.end);
@@ -88,36 +78,29 @@ reach resets (Some l) place ks x is timed behind numbered later =
 
 -- ---- more
 
-reach_on : (resets : ℕ) (l : Last) (place : ℕ) (ks xs : List Segment) → l.section ≡ place + resets → IsReached resets (Some l) place ks
-    → InOrder (Some l) xs → All (IsNumbered resets) xs → IsReached resets (last_behind (Some l) xs) (place_behind place xs) (ks ++ xs)
-reach_on resets l place ks [] same is order numbered =
-    subst (λ (ys : List Segment). IsReached resets (Some l) place ys) (sym (append-nil ks)) is
-reach_on resets l place ks (x ∷ xs) same is (timed, behind, order) numbered =
-    let here : IsNumbered resets x = All-head (IsNumbered resets) x xs numbered in
-    let later : place ≤ x.value.place = elim behind [
-      | inl less ↦ omega (arith, less, here, same)
-      | inr both ↦ omega (arith, both.0, here, same)
-    ] in
-    let next = reach resets (Some l) place ks x is timed behind here later in
-    subst (λ (ys : List Segment). IsReached resets (last_behind (Some (last_with (Some l) x)) xs) (place_behind x.value.place xs) ys)
-    (append_assoc ks (x ∷ []) xs)
-    (reach_on resets (last_with (Some l) x) x.value.place (ks ++ x ∷ []) xs (last_section (Some l) x ∙ here) next order
-    (All-tail (IsNumbered resets) x xs numbered))
+-- the last one stands in the section of its place, or none of them stands in an earlier place
+abbrev IsBefore : (resets place : ℕ) → List Segment → Last → Type 0
+IsBefore resets place xs l = (l.section ≡ place + resets) ⊎ All (λ (x : Segment). place ≤ x.value.place) xs
+
+first_later : (resets : ℕ) (last : Option Last) (place : ℕ) (x : Segment) (xs : List Segment) → BehindLast last x.section x.end
+    → IsNumbered resets x → IfSome last (IsBefore resets place (x ∷ xs)) → IfSome last (λ l. place ≤ x.value.place)
+first_later resets None place x xs behind here before = tt
+first_later resets (Some l) place x xs behind here before = elim before [
+  | inl same ↦ elim behind [ inl less ↦ omega (arith, less, here, same) | inr both ↦ omega (arith, both.0, here, same) ]
+  | inr all ↦ All-head (λ (y : Segment). place ≤ y.value.place) x xs all
+]
 
 pub reached : (resets : ℕ) (last : Option Last) (place : ℕ) (ks xs : List Segment) → IsReached resets last place ks → InOrder last xs
-    → All (IsNumbered resets) xs → IfSome last (λ l. All (λ (x : Segment). place ≤ x.value.place) xs)
+    → All (IsNumbered resets) xs → IfSome last (IsBefore resets place xs)
     → IsReached resets (last_behind last xs) (place_behind place xs) (ks ++ xs)
-reached resets last place ks [] is order numbered later =
-    subst (λ (ys : List Segment). IsReached resets last place ys) (sym (append-nil ks)) is
-reached resets last place ks (x ∷ xs) is (timed, behind, order) numbered later =
+reached resets last place ks [] is order numbered before = rw append-nil is
+reached resets last place ks (x ∷ xs) is (timed, behind, order) numbered before =
     let here : IsNumbered resets x = All-head (IsNumbered resets) x xs numbered in
-    let first = if_some last (λ l. All (λ (y : Segment). place ≤ y.value.place) (x ∷ xs)) (λ l. place ≤ x.value.place)
-    (λ l all. All-head (λ (y : Segment). place ≤ y.value.place) x xs all) later in
-    let next = reach resets last place ks x is timed behind here first in
+    let next = reach resets last place ks x is timed behind here (first_later resets last place x xs behind here before) in
     subst (λ (ys : List Segment). IsReached resets (last_behind (Some (last_with last x)) xs) (place_behind x.value.place xs) ys)
     (append_assoc ks (x ∷ []) xs)
-    (reach_on resets (last_with last x) x.value.place (ks ++ x ∷ []) xs (last_section last x ∙ here) next order
-    (All-tail (IsNumbered resets) x xs numbered))
+    (reached resets (Some (last_with last x)) x.value.place (ks ++ x ∷ []) xs next order (All-tail (IsNumbered resets) x xs numbered)
+    (inl (last_section last x ∙ here)))
 
 -- none yet
 pub none_reached : (resets : ℕ) → IsReached resets None 0 []
@@ -127,11 +110,11 @@ none_reached resets = record { ordered = tt; section = tt; lasts = tt; up_to = r
 later_place : (last : Last) (place p : ℕ) (end : Time) → is_later last place p end ≡ true → place ≤ p
 later_place last place p end is = grind (arith, nat_tests, is)
 
-behind_later : (last : Option Last) (place : ℕ) (xs : List Segment)
-    → IfSome last (λ l. All (λ (x : Segment). place ≤ x.value.place) (behind last place xs))
-behind_later None place xs = tt
-behind_later (Some l) place xs =
-    λ j d within. later_place l place _ _ (filter_passes (λ (x : Segment). is_later l place x.value.place x.end) xs j d within)
+behind_later : (resets : ℕ) (last : Option Last) (place : ℕ) (xs : List Segment)
+    → IfSome last (IsBefore resets place (behind last place xs))
+behind_later resets None place xs = tt
+behind_later resets (Some l) place xs =
+    inr (λ j d within. later_place l place _ _ (filter_passes (λ (x : Segment). is_later l place x.value.place x.end) xs j d within))
 
 new_order : (resets : ℕ) (last : Option Last) (place : ℕ) (xs : List Segment) → IfSome last (λ l. l.section ≤ place + resets)
     → All (IsNumbered resets) xs → InOrder None xs → InOrder last (behind last place xs)
@@ -143,12 +126,11 @@ pub reached_behind : (former resets : ℕ) (last : Option Last) (place : ℕ) (k
     → IsReached resets (last_behind last (behind last place xs)) (place_behind place (behind last place xs))
     (ks ++ behind last place xs)
 reached_behind former resets last place ks xs rise is numbered order =
-    let section = if_some last (λ l. l.section ≤ place + former) (λ l. l.section ≤ place + resets)
-    (λ l le. omega (arith, le, rise)) is.section in
+    let section : IfSome last (λ l. l.section ≤ place + resets) = IfSome_then last is.section (λ l le. omega (arith, le, rise)) in
     reached resets last place ks (behind last place xs)
     (record { ordered = is.ordered; section = section; lasts = is.lasts; up_to = is.up_to })
     (new_order resets last place xs section numbered order) (behind_have (IsNumbered resets) last place xs numbered)
-    (behind_later last place xs)
+    (behind_later resets last place xs)
 
 -- ---- without the first ones
 
@@ -158,9 +140,7 @@ ordered_left (suc n) [] ordered = tt
 ordered_left (suc n) (x ∷ xs) (first, ordered) = ordered_left n xs ordered
 
 up_to_left : (last : Option Last) (place n : ℕ) (xs : List Segment) → AreUpTo last place xs → AreUpTo last place (drop n xs)
-up_to_left None place zero xs none = none
-up_to_left None place (suc n) [] none = refl
-up_to_left None place (suc n) (x ∷ xs) none = absurd (cc)
+up_to_left None place n xs none = rw none (drop_all n [] (omega arith))
 up_to_left (Some l) place n xs all = All-drop (IsUpTo l place) n xs all
 
 pub reached_left : (resets : ℕ) (last : Option Last) (place n : ℕ) (xs : List Segment) → IsReached resets last place xs
@@ -180,7 +160,7 @@ sound_reached c track segments is = record {
   segments = segments;
   ordered = is.ordered;
   section = is.section;
-  begun = if_some track.last Lasts (λ l. IsAtMost l.first l.end) (λ l lasts. lasts.0) is.lasts;
-  timed = if_some track.last Lasts (λ l. IsTime l.end) (λ l lasts. lasts.1) is.lasts;
+  begun = IfSome_then track.last is.lasts (λ l lasts. lasts.0);
+  timed = IfSome_then track.last is.lasts (λ l lasts. lasts.1);
   behind = is.up_to;
 }

@@ -1,24 +1,28 @@
 -- What a track keeps of a Period, and what an update's presentation has there.
-use Rattle.std.proofs.Common.{◌≡◌, ◌≤◌, ℕ, ◌+◌, ◌<◌, ◌==◌, ℤ, pos, ◌-ℤ◌, ◌++◌, min, true, false, List, [], ◌∷◌, length, map, IfSome, Option}
-use Rattle.std.proofs.{Common.{None, Some, refl, sym, ◌∙◌, ap, subst, inl, inr, arith}, lemmas.Bool.cases_lt, lemmas.Bool.Decides.nat_tests}
-use Rattle.std.proofs.{lemmas.Int.ints, lemmas.List.length-map, lemmas.Option.{same_Some, slice_get-map, slice_get_within}}
-use Rattle.std.specs.{Prelude.{flat_map, int_lt, option_map, option_to_list, slice_get}, List.last_or, Option.option_map_or}
-use Rattle.exact_time.specs.Time.{IsAtMost, Time, nanoseconds}
+use Rattle.live_judge.specs.declared.coming.Coming.TheVariants as comes
+use Rattle.std.proofs.Common.{◌≡◌, ◌≤◌, ℕ, ◌+◌, ◌<◌, ◌==◌, ℤ, pos, ◌-ℤ◌, min, true, false, List, [], length, map, IfSome, Option, None}
+use Rattle.std.proofs.{Common.{Some, refl, sym, ◌∙◌, ap, subst, inl, inr, arith, ◌*◌, All, Ok}, lemmas.Bool.{cases_lt, ne_eqb}}
+use Rattle.std.proofs.{lemmas.Bool.Decides.nat_tests, lemmas.Int.ints, lemmas.List.length-map, lemmas.Option.{same_Some, slice_get_within}}
+use Rattle.std.proofs.lemmas.List.Elements.{All-from_recursion, All-nil}
+use Rattle.std.specs.{Prelude.{int_lt, option_map, option_to_list, slice_get, is_none, is_some}, List.last_or, Option.option_map_or}
+use Rattle.exact_time.specs.Time.{IsAtMost, Time, nanoseconds, IsTime}
 use Rattle.exact_time.proofs.TimeOrder.{IsAtMost-trans, at_most-from}
 use Rattle.timeline.specs.{declared.window.Window.Window, Expansions.{SegmentTimeline, Timing}, Listed.{expansion, is_until}}
-use Rattle.timeline.specs.OpenEnds.{UntilTells}
-use Rattle.presentation.specs.{declared.parts.Content.Content, Counting.sections_of, Presented.{Following, Presented, at_instant}}
-use Rattle.presentation.specs.Presented.{content_at, start_of, whole_window, window_at, window_of}
-use Rattle.presentation.proofs.Grids.{All-at}
-use Rattle.live_meaning.specs.{Segments.{Segment, id_at, place_of, times_of}, Known.{Known, ids_of}, Refusals.{Refusal, Rewritten}}
-use Rattle.live_meaning.specs.Refusals.{expansion_at, ids_in, latest_in, latest_of, rewritten_by, rewritten_in, rewritten_told}
-use Rattle.live_meaning.specs.Histories.{Common, availability_start_of}
-use Rattle.live_meaning.proofs.{Ids.new_in, InForce.{id_there, known_grown}}
-use Rattle.live_judge.specs.{declared.block.Block.Block, declared.coming.Next.Next, declared.rewritten.Pair.Pair}
-use Rattle.live_judge.specs.{declared.track.LiveTrack.LiveTrack, declared.track_next.TrackNext.TrackNext, Blocks.{IsBlock, in_block}}
-use Rattle.live_judge.specs.{Blocks.segments_in, Changed.AreUnmoved, Coming.{IsTrackNext, p_of, t_of}, Known.StandsAt, Removal.kept_in}
-use Rattle.live_judge.specs.{Rewriting.pair_of, Shown.{common_shown, track_shown}, Sound.{IsSegmentOf, IsSoundTrack}}
-use Rattle.live_judge.proofs.{Blocks.{filter_none, not_eq}, Contents.content_there, Firsts.each, Places.place_before}
+use Rattle.timeline.specs.{OpenEnds.UntilTells, Steady.AreLasting}
+use Rattle.presentation.specs.{declared.parts.Content.Content, Presented.{Following, at_instant, content_at, start_of, whole_window}}
+use Rattle.presentation.specs.{Presented.{window_at, window_of, Presented, looked_at}, Told.presented_of}
+use Rattle.presentation.proofs.{Grids.All-at, Pace.expansion_has}
+use Rattle.live_meaning.specs.{Segments.{Segment, id_at, place_of, times_of}, Known.{Known, ids_of}, Refusals.{Rewritten, expansion_at}}
+use Rattle.live_meaning.specs.{Refusals.{ids_in, latest_in, latest_of, rewritten_by, rewritten_in}, Histories.availability_start_of}
+use Rattle.live_meaning.specs.Updates.{mpd_of}
+use Rattle.live_meaning.proofs.{Ids.new_in, InForce.{id_there, known_grown}, Times.{IsSoundIn, presented_sound}}
+use Rattle.live_judge.specs.{declared.block.Block.Block, declared.rewritten.Pair.Pair, declared.track_next.TrackNext.TrackNext}
+use Rattle.live_judge.specs.{Blocks.{IsBlock, in_block, segments_in}, Changed.AreUnmoved, Coming.{IsTrackNext, p_of, t_of, Comes}}
+use Rattle.live_judge.specs.{Coming.update_of, Removal.kept_in, Rewriting.{pair_of, EndAtTimes}, Shown.common_shown, Sound.IsSegmentOf}
+use Rattle.live_judge.specs.{declared.coming.Coming.Coming, declared.standing.Standing.Standing}
+use Rattle.live_judge.proofs.{Blocks.filter_none, Contents.{content_there, sound_there}, Places.place_before}
+use Rattle.mpd_levels.specs.Segments.{Segments}
+use Rattle.mpd_rules.specs.{Typed.TypedMpd, Views.segments_mpd}
 
 start_is : (o : Option Known) (a b : ℕ) → option_map (λ (k : Known). k.start) o ≡ Some a → IfSome o (λ (k : Known). k.start ≡ b) → a ≡ b
 start_is None a b is same = absurd (cc)
@@ -46,15 +50,10 @@ module _ (l : TrackNext) (is : IsTrackNext l) where
   abbrev known : List Known
   known = (common_shown (l.next.now).standing.now).known
 
-  pub sound_there : IsSoundTrack (common_shown (l.next.now).standing.now) (t_of l)
-  sound_there =
-      All-at (IsSoundTrack (common_shown (l.next.now).standing.now)) (map track_shown (l.next.now).tracks.now) l.index
-      (t_of l) is.next.live.sound.tracks
-      (slice_get-map track_shown (l.next.now).tracks.now l.index ∙ ap (option_map track_shown) is.there)
-
   pub segment_there : (i : ℕ) (x : Segment) → slice_get (segments_in l.track.now) i ≡ Some x
       → IsSegmentOf (common_shown (l.next.now).standing.now) x
-  segment_there i x at = All-at (IsSegmentOf (common_shown (l.next.now).standing.now)) (segments_in l.track.now) i x sound_there.segments at
+  segment_there i x at = All-at (IsSegmentOf (common_shown (l.next.now).standing.now)) (segments_in l.track.now) i x
+      (sound_there l is).segments at
 
   place_known : (i : ℕ) (x : Segment) → slice_get (segments_in l.track.now) i ≡ Some x → x.value.place < length known
   place_known i x at = known_within (slice_get known x.value.place) refl (segment_there i x at).starts
@@ -68,7 +67,7 @@ module _ (l : TrackNext) (is : IsTrackNext l) where
   none_latest place beyond =
       ap (λ (ys : List Segment). latest_of (last_or None ys) ys)
       (filter_none (λ (x : Segment). x.value.place == place) (segments_in l.track.now)
-      (λ i x at. let low = place_known i x at in not_eq x.value.place place (λ same. omega (arith, low, beyond, same))))
+      (λ i x at. let low = place_known i x at in ne_eqb _ _ (λ same. omega (arith, low, beyond, same))))
 
   latest_same : (place : ℕ) → latest_in (min place (length known)) (kept_in l.track.now) ≡ latest_in place (kept_in l.track.now)
   latest_same place = elim (cases_lt place (length known)) [
@@ -79,13 +78,8 @@ module _ (l : TrackNext) (is : IsTrackNext l) where
   module _ (s : ℕ) (within : s < length (p_of l.next.now).sections) where
     place_is : place_of (ids_of known) (id_at (p_of l.next.now) s) ≡ min ((l.next.now).place + s) (length known)
     place_is =
-        let stands : StandsAt (ids_of known ++ new_in (ids_of known) (ids_in (p_of l.next.now))) (ids_in (p_of l.next.now))
-        (l.next.now).place =
-        subst (λ (ids : List (List ℕ)). StandsAt ids (ids_in (p_of l.next.now)) (l.next.now).place)
-        (known_grown known (p_of l.next.now)) is.next.stands in
         place_before (ids_of known) (new_in (ids_of known) (ids_in (p_of l.next.now))) (ids_in (p_of l.next.now)) (l.next.now).place s
-        (id_at (p_of l.next.now) s) stands
-        (id_there (p_of l.next.now).sections s within)
+        (id_at (p_of l.next.now) s) (rw known_grown at is.next.stands) (id_there (p_of l.next.now).sections s within)
         ∙ ap (min ((l.next.now).place + s)) (length-map known (λ (k : Known). k.id))
 
     -- what is told of a section, where its block is held against it
@@ -93,12 +87,7 @@ module _ (l : TrackNext) (is : IsTrackNext l) where
         → option_map pair_of found ≡ rewritten_by (times_of (in_block block l.track.now)) (expansion_at (p_of l.next.now) l.index s)
         → rewritten_in (common_shown (l.next.now).standing.now) (p_of l.next.now) l.index (t_of l) s
         ≡ map (λ pair. Rewritten l.index pair.0 pair.1) (option_to_list (option_map pair_of found))
-    told_in block found one same =
-        let latest : latest_in (place_of (ids_of known) (id_at (p_of l.next.now) s)) (kept_in l.track.now) ≡ in_block block l.track.now =
-        ap (λ n. latest_in n (kept_in l.track.now)) place_is ∙ latest_same ((l.next.now).place + s) ∙ one.are in
-        ap (λ (xs : List Segment). map (λ pair. Rewritten l.index pair.0 pair.1)
-        (option_to_list (rewritten_by (times_of xs) (expansion_at (p_of l.next.now) l.index s)))) latest
-        ∙ ap (λ (o : Option (Option Timing × Timing)). map (λ pair. Rewritten l.index pair.0 pair.1) (option_to_list o)) (sym same)
+    told_in block found one same = rw (place_is, latest_same ((l.next.now).place + s), one.are, same) refl
 
     -- what is kept of a Period has ended by then
     pub until_there : AreUnmoved (l.next.now).standing.now.known (p_of l.next.now) (l.next.now).place → (i : ℕ) (x : Segment)
@@ -125,20 +114,28 @@ module _ (l : TrackNext) (is : IsTrackNext l) where
         ∙ ap (λ (q : SegmentTimeline). expansion q (window_of (p_of l.next.now) s)) at.2
         ∙ sym (tells r w (window_of (p_of l.next.now) s) until).2
 
--- ---- track by track
+-- ---- the segments of an MPD's presentation end at times
 
-abbrev pub rewritten_at : Common → Presented → ℕ → LiveTrack → List Refusal
-rewritten_at c p t x = flat_map (rewritten_in c p t (track_shown x)) (sections_of p)
+at_times : (w : Window) (o : Option Content) → ((content : Content) → o ≡ Some content → AreLasting content.runs.members)
+    → All (λ (x : Timing). IsTime x.end) (option_map_or (λ content. expansion content.runs w) o [])
+at_times w None last = All-nil (λ (x : Timing). IsTime x.end)
+at_times w (Some content) last =
+    All-from_recursion (λ (x : Timing). IsTime x.end) (expansion content.runs w)
+    (expansion_has (λ start end. IsTime end) (λ x lasts. lasts.end_is) content.runs w (last content refl))
 
-pub rewritten_each : (c : Common) (p : Presented) (t : ℕ) (ts : List LiveTrack)
-    → rewritten_told c p t (map track_shown ts) ≡ each (rewritten_at c p) t ts
-unfolding each
-rewritten_each c p t [] = refl
-rewritten_each c p t (x ∷ ts) = ap (λ (xs : List Refusal). rewritten_at c p t x ++ xs) (rewritten_each c p (t + 1) ts)
+made_timed : (mpd : TypedMpd (Option Segments)) (url : List ℕ) (now : ℤ) (p : Presented) → presented_of mpd url (Some now) ≡ Ok p
+    → EndAtTimes (looked_at now p)
+made_timed mpd url now p made t s =
+    at_times (window_of (looked_at now p) s) (content_at p s t)
+    (λ content at. (All-at IsSoundIn p.contents (s * length p.tracks + t) content (presented_sound mpd url (Some now) p made) at).lasting)
 
-pub rewritten_for : (l : TrackNext) (n : Next) (i : ℕ) → l.next.now ≡ n → l.index ≡ i
-    → flat_map (rewritten_in (common_shown (l.next.now).standing.now) (p_of l.next.now) l.index (t_of l)) (sections_of (p_of l.next.now))
-    ≡ rewritten_at (common_shown n.standing.now) (p_of n) i l.track.now
-rewritten_for l n i next index =
-    ap (λ (m : Next). rewritten_at (common_shown m.standing.now) (p_of m) l.index l.track.now) next
-    ∙ ap (λ j. rewritten_at (common_shown n.standing.now) (p_of n) j l.track.now) index
+-- those of an update's MPD do
+pub comes_timed : (s : Standing) (c : Coming) (force : Presented) (now at : ℤ) → Comes s c force now
+    → is_some (mpd_of (update_of c at)) ≡ true → EndAtTimes (looked_at now force)
+comes_timed s (comes.Refresh mpd) force now at made some = made_timed (segments_mpd mpd.now) s.base now force made
+comes_timed s (comes.Reset mpd) force now at made some = made_timed (segments_mpd mpd.now) s.base now force made
+comes_timed s comes.Tick force now at made some = absurd (cc)
+
+pub some_is : {X Y : Type 0} (f : X → Y) (o : Option X) (r : Option Y) → option_map f o ≡ r → is_none o ≡ false → is_some r ≡ true
+some_is f None r is other = absurd (cc)
+some_is f (Some x) r is other = ap is_some (sym is)

@@ -12,33 +12,18 @@ use Rattle.live_judge.specs.{Seconds.{IsSecond, IsSecondNear, second_end}, Times
 
 -- ---- the second one
 
-pub second_at_most : (time : Time) (step : ℕ) → IsAtMost time (ticks_after time step)
-second_at_most time step = IsAtMost-ticks_after step time
+module _ (old : Rounding) (first time end : Time) (unit step : ℕ) (begun : old ≡ rounding_behind first unit time)
+    (same : end ≡ ticks_after time step) where
+  pub second_follows : IsAtMost old.former end
+  second_follows = rw (begun, same) (IsAtMost-ticks_after step time)
 
-pub second_follows : (old : Rounding) (first time end : Time) (unit step : ℕ) → old ≡ rounding_behind first unit time
-    → end ≡ ticks_after time step
-    → IsAtMost old.former end
-second_follows old first time end unit step begun same =
-    subst (λ (t : Time). IsAtMost old.former t) (sym same) (subst (λ (r : Rounding). IsAtMost r.former (ticks_after time step)) (sym begun)
-    (second_at_most time step))
+  pub second_close : IsAtMost (difference (ticks_after time step) time) (seconds 2000000)
+      → IsAtMost (difference end old.former) (seconds 2000000)
+  second_close near = rw (begun, same) near
 
-pub second_close : (old : Rounding) (first time end : Time) (unit step : ℕ) → old ≡ rounding_behind first unit time
-    → end ≡ ticks_after time step
-    → IsAtMost (difference (ticks_after time step) time) (seconds 2000000) → IsAtMost (difference end old.former) (seconds 2000000)
-second_close old first time end unit step begun same near =
-    subst (λ (t : Time). IsAtMost (difference t old.former) (seconds 2000000)) (sym same)
-    (subst (λ (r : Rounding). IsAtMost (difference (ticks_after time step) r.former) (seconds 2000000)) (sym begun) near)
-
-pub second_is : (first : Time) (unit : ℕ) (spans : SpanRun) (old new : Rounding) (end : Time) (printed : ℕ)
-    → old ≡ rounding_behind first unit (time_of spans.first.end)
-    → end ≡ second_end spans → total old + printed ≡ total new → new ≡ record old { former = end }
-    → IsSecond first unit spans printed
-second_is first unit spans old new end printed begun same sum kept =
-    let old_is : total old ≡ total (rounding_behind first unit (time_of spans.first.end)) = ap total begun in
-    let new_is : total new ≡ total (rounding_behind first unit (second_end spans)) =
-    ap total kept ∙ ap (λ (r : Rounding). total (record r { former = end })) begun
-    ∙ ap (λ (t : Time). total (rounding_behind first unit t)) same in
-    omega (arith, old_is, new_is, sum)
+  pub second_is : (new : Rounding) (printed : ℕ) → total old + printed ≡ total new → new ≡ record old { former = end }
+      → total (rounding_behind first unit time) + printed ≡ total (rounding_behind first unit (ticks_after time step))
+  second_is new printed sum kept = rw (kept, same, begun) at sum
 
 by_count : (spans : SpanRun) (others : ℕ) → 0 < others
     → AreNear (time_of spans.first.end) (ends_after (time_of spans.first.end) spans.step others)
@@ -47,19 +32,7 @@ unfolding ends_after
 by_count spans zero some near room = absurd (omega arith)
 by_count spans (suc others) some near room = record { near = near.0; room = omega (arith, ints, room) }
 
-pub second_near : (spans : SpanRun) → 1 < spans.count
-    → AreNear (time_of spans.first.end) (ends_after (time_of spans.first.end) spans.step (spans.count - 1))
-    → ((spans.first.end.n +ℤ pos ((spans.count - 1) * spans.step)) <ℤ pos (2 ^ 64)) → IsSecondNear spans
-second_near spans some near room = by_count spans (spans.count - 1) (omega arith) near room
-
 -- ---- all of them
-
-durations_left : (u : ℕ) (first : Time) (n : ℕ) (xs : List Timing)
-    → map (λ (x : PrintedTiming). x.duration) (with_durations xs (differences n (map (λ x. floor_in u (difference x.end first)) xs)))
-    ≡ differences n (map (λ x. floor_in u (difference x.end first)) xs)
-durations_left u first n [] = refl
-durations_left u first n (x ∷ xs) = ap (λ (ds : List ℕ). (floor_in u (difference x.end first) - n) ∷ ds)
-    (durations_left u first (floor_in u (difference x.end first)) xs)
 
 durations_with : (xs : List Timing) (ds : List ℕ) → length xs ≡ length ds → map (λ (x : PrintedTiming). x.duration) (with_durations xs ds)
     ≡ ds
@@ -71,6 +44,12 @@ durations_with (x ∷ xs) (d ∷ ds) same = ap (λ (es : List ℕ). d ∷ es) (d
 length-differences : (n : ℕ) (ms : List ℕ) → length (differences n ms) ≡ length ms
 length-differences n [] = refl
 length-differences n (m ∷ ms) = ap suc (length-differences m ms)
+
+durations_left : (u : ℕ) (first : Time) (n : ℕ) (xs : List Timing)
+    → map (λ (x : PrintedTiming). x.duration) (with_durations xs (differences n (map (λ x. floor_in u (difference x.end first)) xs)))
+    ≡ differences n (map (λ x. floor_in u (difference x.end first)) xs)
+durations_left u first n xs = durations_with xs _ (sym (length-differences n (map (λ x. floor_in u (difference x.end first)) xs)
+    ∙ length-map xs (λ x. floor_in u (difference x.end first))))
 
 module _ (r : Rounding) (old new : List Timing) (run : SpanRun) (is : PassesRun old run new) where
   equal : List ℕ
@@ -115,17 +94,7 @@ module _ (r : Rounding) (old new : List Timing) (run : SpanRun) (is : PassesRun 
       let one : floor_in r.unit (difference (second_end run) r.first) - total (past_first r old new run is) ≡ second = omega (arith, sum) in
       inr (ap Some one)
 
-  pub second_there : (second : ℕ) → (1 < run.count → IsSecond r.first r.unit run second)
-      → (equal_durations (past_first r old new run is) run.step (run.count - 1) ≡ [])
-      ⊎ (slice_get (equal_durations (past_first r old new run is) run.step (run.count - 1)) 0 ≡ Some second)
-  second_there second told = by_others (run.count - 1) refl second (λ some. told (omega (arith, some)))
-
 -- ---- a run that is passed
-
-second_by : (first first' : Time) (unit unit' : ℕ) (spans : SpanRun) (printed : ℕ) → first ≡ first' → unit ≡ unit'
-    → IsSecond first' unit' spans printed
-    → IsSecond first unit spans printed
-second_by first first' unit unit' spans printed same one is = rw (same, one) is
 
 module _ (first : Time) (unit : ℕ) (r : Rounding) (old new : List Timing) (run : SpanRun) (is : PassesRun old run new)
     (paced : IsPacedBy old r first unit) where
@@ -143,13 +112,14 @@ module _ (first : Time) (unit : ℕ) (r : Rounding) (old new : List Timing) (run
       (IsAtMost-trans r.first r.former (time_of run.first.end) paced.former paced.begun ends_rise)
 
   pub second_fits : 1 < run.count → IsSecondNear run
-  second_fits more = second_near run more (others_near r old new run is paced.paced) is.room
+  second_fits more = by_count run (run.count - 1) (omega (arith, more)) (others_near r old new run is paced.paced) is.room
 
   pub told_second : (second : ℕ) → (1 < run.count → IsSecond first unit run second)
       → (equal_durations (past_first r old new run is) run.step (run.count - 1) ≡ [])
       ⊎ (slice_get (equal_durations (past_first r old new run is) run.step (run.count - 1)) 0 ≡ Some second)
-  told_second second told = second_there r old new run is second
-      (λ more. second_by r.first first r.unit unit run second paced.first_is paced.unit_is (told more))
+  told_second second told =
+      by_others r old new run is (run.count - 1) refl second
+      (λ some. rw (paced.first_is, paced.unit_is) (told (omega (arith, some))))
 
   pub paced_next : IsPacedBy new (past_all r old new run is) first unit
   paced_next = record {

@@ -1,21 +1,27 @@
 -- A state with an accepted update more is sound.
-use Rattle.std.proofs.Common.{◌≡◌, ℕ, ◌+◌, ◌≤◌, Bool, true, false, List, [], ◌∷◌, ◌++◌, drop, length, Option, Some, None, Result, Ok, Err}
-use Rattle.std.proofs.{Common.{refl, sym, ◌∙◌, ap, subst, suc, arith}, lemmas.List.{drop-map, map-append}, lemmas.List.Elements.All-nil}
-use Rattle.std.proofs.lemmas.List.Elements.{All-cons, All-append, All-drop, All-head, All-tail, All-weaker}
+use Rattle.std.proofs.Common.{◌≡◌, ℕ, ◌+◌, ◌≤◌, Bool, false, List, [], ◌∷◌, ◌++◌, drop, length, Option, Some, None, Result, Ok, Err, refl}
+use Rattle.std.proofs.{Common.{sym, ◌∙◌, ap, subst, suc, arith, ◌<◌, ltb, length-append, length-drop}, lemmas.List.{drop-map, map-append}}
+use Rattle.std.proofs.{lemmas.List.length-map, lemmas.List.Elements.{All-nil, All-cons, All-append, All-drop, All-head, All-tail}}
+use Rattle.std.proofs.{lemmas.List.Elements.All-weaker, Math.Nat.{mul-le-mul_left, one-le-pow}, lemmas.Bool.ltb-false}
 use Rattle.std.specs.Prelude.{All, if◌then◌else◌, int_lt, option_map, slice_get}
 use Rattle.bridge_io.specs.Firsts.{first_of}
-use Rattle.presentation.specs.{declared.fault.PresentationFault.PresentationFault, Presented.Presented, PresentedLaws.PresentedAreFew}
-use Rattle.presentation.specs.PresentedLaws.{PresentedAreFollowed}
-use Rattle.followed.specs.Durations.{last_behind}
-use Rattle.live_meaning.specs.{Updates.{Update, is_reset, now_of, unit_of}, Segments.{Kept, Segment, listed_of, place_behind, segments_of}}
-use Rattle.live_meaning.specs.{Known.Known, Histories.{Common, availability_start_of, common_with, force_by, numbering_of}, States.State}
-use Rattle.live_meaning.specs.States.{Track, kept_and_new, new_of, new_told, removed_from, state_with, track_after, tracks_after}
-use Rattle.live_meaning.specs.Refusals.{ClockBack, Refusal, clock_told, ended_told, next_of, next_with, refusal_of, told_by}
+use Rattle.presentation.specs.{declared.fault.PresentationFault.PresentationFault, Presented.{Presented, looked_at}}
+use Rattle.presentation.specs.PresentedLaws.{PresentedAreFew, PresentedAreFollowed}
+use Rattle.followed.specs.Durations.{last_behind, durations}
+use Rattle.live_meaning.specs.{Updates.{Update, is_reset, now_of, unit_of, Refresh, Reset, Tick, mpd_of}, Segments.{Kept, Segment}}
+use Rattle.live_meaning.specs.{Segments.{listed_of, place_behind, segments_of}, Known.{Known, ids_of, known_with}, Histories.Common}
+use Rattle.live_meaning.specs.{Histories.{availability_start_of, common_with, force_by, numbering_of, least_length}, States.{State, Track}}
+use Rattle.live_meaning.specs.States.{kept_and_new, new_of, new_told, removed_from, state_with, track_after, tracks_after}
+use Rattle.live_meaning.specs.Refusals.{ClockBack, Refusal, clock_told, ended_told, next_of, next_with, refusal_of, told_by, Window}
+use Rattle.live_meaning.specs.{Refusals.{count_kept, counts_kept, ids_in, over_in_all, over_in_track, told_if}, Removal.is_available}
 use Rattle.live_meaning.proofs.{Allowed.{IsAllowed, allowed, none_each, told_none}, Grown.get_more, Histories.mapped, Orders.behind_have}
-use Rattle.live_meaning.proofs.{Orders.listed_numbered, Tracks.told-segments}
-use Rattle.live_judge.specs.{Sound.{IsSegmentOf, IsSound, IsSoundTrack}, SoundGoesOn.SoundStatesGoOn}
-use Rattle.live_judge.proofs.{Forced.{IsNew, forced}, ListedSound.{listed, order}, Reaching.{IsReached, lasts_of, reached_behind}}
-use Rattle.live_judge.proofs.{Reaching.{reached_left, sound_reached}, Rewriting.later_ended}
+use Rattle.live_meaning.proofs.{Orders.listed_numbered, Tracks.told-segments, Kept.{few_known, resets_most}}
+use Rattle.live_judge.specs.{Sound.{IsSegmentOf, IsSound, IsSoundTrack}, SoundGoesOn.{SoundStatesGoOn, IsKept, NumbersFit, KeptGoOn}}
+use Rattle.live_judge.specs.{SoundGoesOn.{NumbersGoOn, PeriodsStandOn}, Changed.IsPlaceBy, Known.StandsAt}
+use Rattle.live_judge.proofs.{Forced.{IsNew, forced, listed, order}, Reaching.{IsReached, lasts_of, reached_behind, reached_left}}
+use Rattle.live_judge.proofs.{Reaching.sound_reached, Rewriting.later_ended, Places.{new_stand, same_stand}}
+use Rattle.presentation.proofs.{Ending.none_behind, Reached.none_first}
+use Rattle.followed.proofs.KeptPlaces.{next_is_first}
 
 -- ---- an accepted update
 
@@ -52,8 +58,7 @@ with_next P s u after is next =
     subst P at.3 (next at.0 (taken s u at.0 at.1 at.2))
 
 resets_rise : (b : Bool) (n : ℕ) → n ≤ (if b then n + 1 else n)
-resets_rise true n = omega arith
-resets_rise false n = omega arith
+resets_rise b n = grind arith
 
 -- ---- all tracks
 
@@ -136,3 +141,72 @@ module _ (few : PresentedAreFew) (followed : PresentedAreFollowed) where
   pub sound_states_go_on : SoundStatesGoOn
   sound_states_go_on s u after is next = with_next IsSound s u after next
       (λ p taken. sound s u p is (forced few followed s u p is taken.allowed) taken)
+
+-- ---- the places, the numbers and what is kept behind an accepted update
+
+stands_by : (s : State) (u : Update) (former place : ℕ) (p : Presented) → StandsAt (ids_of s.common.known) (ids_in s.common.force) former
+    → IsPlaceBy (mpd_of u) s.common former p place → IsAllowed s u p → StandsAt (ids_of (known_with s.common.known p)) (ids_in p) place
+stands_by s (Refresh mpd now) former place p stands is allowed = new_stand s.common.known p place stands.once is.among
+stands_by s (Reset mpd now) former place p stands is allowed = new_stand s.common.known p place stands.once is.among
+stands_by s (Tick now) former place p stands is allowed =
+    let force : looked_at now s.common.force ≡ p = let made = allowed.forced in cc in
+    subst (λ (q : Presented). StandsAt (ids_of (known_with s.common.known q)) (ids_in q) place) force
+    (subst (λ n. StandsAt (ids_of (known_with s.common.known (looked_at now s.common.force))) (ids_in s.common.force) n) (sym is)
+    (same_stand s.common.known (looked_at now s.common.force) former stands))
+
+pub periods_stand_on : PeriodsStandOn
+unfolding state_with
+periods_stand_on s u after former place stands is next =
+    with_next (λ (a : State). IsPlaceBy (mpd_of u) s.common former a.common.force place
+    → StandsAt (ids_of a.common.known) (ids_in a.common.force) place) s u after next
+    (λ p taken is. stands_by s u former place p stands is taken.allowed) is
+
+-- ---- numbers
+
+module _ (few : PresentedAreFew) (followed : PresentedAreFollowed) where
+  pub numbers_go_on : NumbersGoOn
+  unfolding state_with
+  numbers_go_on s u after is numbered next =
+      with_next (λ (a : State). NumbersFit a.common) s u after next (λ p taken. record {
+        resets = omega (arith, resets_most (is_reset u) s.common.resets, numbered.resets);
+        periods = omega (arith, few_known s.common.known p, (forced few followed s u p is taken.allowed).few, numbered.periods);
+      })
+
+-- ---- what is kept
+
+module _ (c : Common) (target : 0 < c.target) where
+  kept_after : (t : ℕ) (track : Track) → 0 < length track.kept → count_kept c (kept_and_new c t track) ≤ 20000
+      → IsKept (track_after c t track)
+  kept_after t track some few =
+      let ts : List Kept = kept_and_new c t track in
+      let next = next_is_first 0 (least_length c) (option_map is_available c.force.following) (durations ts) (segments_of ts) in
+      let enough : 0 < least_length c = omega
+      (arith, mul-le-mul_left (unit_of c.terms) target, one-le-pow c.terms.digits 10 (omega arith)) in
+      let all : length (segments_of ts) ≡ length ts = length-map ts (λ (k : Kept). k.segment) in
+      let there : removed_from c ts < length (segments_of ts) =
+      next.some enough (length-map ts (λ (k : Kept). k.duration) ∙ sym all)
+      (omega (arith, some, all, length-append track.kept (new_told c t track))) in
+      record {
+        some = omega (arith, there, all, length-drop (removed_from c ts) ts);
+        few = omega (arith, few, length-drop (removed_from c ts) ts);
+      }
+
+  all_kept : (t : ℕ) (tracks : List Track) → over_in_track t (counts_kept c t tracks) ≡ [] → All IsKept tracks
+      → All IsKept (tracks_after c t tracks)
+  all_kept t [] none all = All-nil IsKept
+  all_kept t (track ∷ tracks) none all =
+      let n : ℕ = count_kept c (kept_and_new c t track) in
+      let later : List _ = over_in_track (t + 1) (counts_kept c (t + 1) tracks) in
+      let few : n ≤ 20000 = ltb-false _ _
+      (told_none (ltb 20000 n) (Window t n) (none_first (told_if (ltb 20000 n) (Window t n)) later none)) in
+      All-cons IsKept (track_after c t track) (tracks_after c (t + 1) tracks)
+      (kept_after t track (All-head IsKept track tracks all).some few)
+      (all_kept (t + 1) tracks (none_behind (told_if (ltb 20000 n) (Window t n)) later none) (All-tail IsKept track tracks all))
+
+pub kept_go_on : KeptGoOn
+unfolding state_with
+kept_go_on s u after target all next =
+    with_next (λ (a : State). All IsKept a.tracks) s u after next (λ p taken.
+    let c : Common = common_with s.common u p in
+    all_kept c target 0 s.tracks (none_first (over_in_track 0 (counts_kept c 0 s.tracks))
+    (over_in_all 0 0 (counts_kept c 0 s.tracks)) taken.allowed.window) all)

@@ -1,18 +1,19 @@
 -- Sums of printed durations, which stop at the last value of a counter.
-use Rattle.std.proofs.Common.{◌≡◌, ℕ, zero, suc, ◌+◌, ◌-◌, ◌^◌, ◌<◌, ◌≤◌, cond, Bool, true, false, List, [], ◌∷◌, ◌++◌, length, sum, Option}
-use Rattle.std.proofs.Common.{Some, refl, ◌∙◌, ap, subst, arith}
-use Rattle.std.specs.Prelude.{IfSome, flat_map, option_map, slice_get}
+use Rattle.std.proofs.Common.{◌≡◌, ℕ, ◌+◌, ◌-◌, ◌^◌, ◌≤◌, cond, Bool, List, length, sum, Option, Some, refl, sym, ◌∙◌, ap, subst, arith, []}
+use Rattle.std.proofs.{Common.{◌∷◌, ◌++◌, map, None}, lemmas.List.Sums.sum_by-cons, lemmas.Grind.common_steps, lemmas.Option.slice_get-map}
+use Rattle.std.specs.Prelude.{IfSome, flat_map, option_map, filter, slice_get}
 use Rattle.exact_time.specs.Tick.{time_of}
-use Rattle.presentation.specs.Counting.{sections_of}
-use Rattle.presentation.proofs.Counts.{from_on, from_on-end, from_on-first}
+use Rattle.presentation.proofs.{Counts.{from_on, from_on-start}, Grids.found}
 use Rattle.followed.specs.Durations.{Last}
-use Rattle.live_meaning.specs.{Updates.is_reset, Segments.id_at, Known.ids_of, Refusals.ids_in, States.new_durations}
+use Rattle.live_meaning.specs.{Updates.{is_reset, unit_of}, Segments.id_at, Known.ids_of, Refusals.{ids_in, LongSegment, Refusal}}
+use Rattle.live_meaning.specs.States.{new_durations}
 use Rattle.live_meaning.proofs.InForce.{id_there}
 use Rattle.live_judge.specs.{declared.times.NewRun.NewRun, declared.track_next.TrackNext.TrackNext, Coming.{IsTrackNext, c_of, coming_of}}
 use Rattle.live_judge.specs.{Coming.{p_of, t_of, update_of}, New.durations_in, Removal.kept_in, Seconds.capped, Shown.last_from}
-use Rattle.live_judge.specs.Times.{IsRun}
-use Rattle.live_judge.proofs.{Keeping.length-kepts, New.durations_are, NewDurations.sound_there, Places.place_there, Removing.sum-append}
-use Rattle.live_judge.proofs.{Removing.sum-cons, Tracks.paired_there}
+use Rattle.live_judge.specs.{Times.{IsRun, IsNextRun, left_of}, declared.times.NewTimes.NewTimes, Long.{is_long, longs_told}}
+use Rattle.live_judge.proofs.{Keeping.length-kepts, New.durations_are, Places.place_there, Contents.{paired_there, sound_there}}
+use Rattle.live_judge.proofs.Walks.{first_append, none_first}
+use Rattle.bridge_io.specs.Firsts.{first_of}
 
 -- ---- sums
 
@@ -21,21 +22,12 @@ pub record IsSoFar (total : ℕ) (left all : List ℕ) : Type 0 where
   pub sums : capped (total + sum left) ≡ capped (sum all)
   pub bound : total ≤ 2 ^ 128 - 1
 
-pub sums_next : (total more next : ℕ) (ds old new all : List ℕ) → old ≡ ds ++ new → more ≡ capped (sum ds) → next ≡ capped (total + more)
-    → IsSoFar total old all → IsSoFar next new all
-sums_next total more next ds old new all same is added before =
-    let both : sum old ≡ sum ds + sum new = ap sum same ∙ sum-append ds new in
-    record { sums = omega (arith, both, is, added, before.sums); bound = omega (arith, added) }
-
-pub sums_all : (total : ℕ) (left all : List ℕ) → left ≡ [] → IsSoFar total left all → total ≡ capped (sum all)
-sums_all total left all none before = let zero_left : sum left ≡ 0 = ap sum none in omega (arith, zero_left, before.sums, before.bound)
-
 -- ---- runs
 
 pub run_sum : (ds : List ℕ) (run : NewRun) (first total : ℕ) → IsRun ds run → first ≡ run.first → total ≡ capped (run.others.total + first)
     → total ≡ capped (sum ds)
 run_sum ds run first total is same added =
-    let all : sum ds ≡ run.first + sum is.others = ap sum is.is ∙ sum-cons run.first is.others in
+    let all : sum ds ≡ run.first + sum is.others = ap sum is.is ∙ sum_by-cons (λ m. m) run.first is.others in
     let others = ap (λ e. e.total) is.summed in
     omega (arith, all, others, same, added)
 
@@ -44,37 +36,20 @@ run_sum ds run first total is same added =
 abbrev pub durs : TrackNext → ℕ → List ℕ
 durs l s = durations_in (c_of l) (l.next.now).place (t_of l) l.index s
 
-abbrev pub all_durs : TrackNext → List ℕ
-all_durs l = flat_map (durs l) (sections_of (p_of l.next.now))
-
-abbrev pub durs_from : TrackNext → ℕ → List ℕ
-durs_from l i = flat_map (durs l) (from_on i (length (p_of l.next.now).sections))
-
-pub durs_next : (l : TrackNext) (i : ℕ) → i < length (p_of l.next.now).sections → durs_from l i ≡ durs l i ++ durs_from l (i + 1)
-durs_next l i within = ap (flat_map (durs l)) (from_on-first i (length (p_of l.next.now).sections) within)
-
-pub durs_end : (l : TrackNext) (i : ℕ) → i ≡ length (p_of l.next.now).sections → durs_from l i ≡ []
-durs_end l i end = ap (durs_from l) end ∙ ap (flat_map (durs l)) (from_on-end (length (p_of l.next.now).sections))
-
-some_there : {X : Type 0} (xs : List X) (i : ℕ) → i < length xs → (x : X) × (slice_get xs i ≡ Some x)
-some_there [] i less = absurd (omega (arith, less))
-some_there (x ∷ xs) zero less = (x, refl)
-some_there (x ∷ xs) (suc i) less = some_there xs i (omega (arith, less))
-
 last_some : (l : TrackNext) → IsTrackNext l → (k : Last) × ((t_of l).last ≡ Some k)
 last_some l is =
     let kept = kept_in l.track.now in
     let paired = paired_there l is in
     let long : length kept ≡ length (l.track.now).facts.items = length-kepts (l.track.now).items.items
     (l.track.now).facts.items paired.paired in
-    let there = some_there kept (length kept - 1) (omega (arith, long, paired.some)) in
+    let there = found kept (length kept - 1) (omega (arith, long, paired.some)) in
     (last_from (time_of (l.track.now).begin) there.0, ap (option_map (last_from (time_of (l.track.now).begin))) there.1)
 
 no_fewer : (b : Bool) (n : ℕ) → n ≤ cond b (n + 1) n
-no_fewer true n = omega arith
-no_fewer false n = omega arith
+no_fewer b n = grind arith
 
-pub durations_there : (l : TrackNext) → IsTrackNext l → new_durations (c_of l) l.index (t_of l) ≡ all_durs l
+pub durations_there : (l : TrackNext) → IsTrackNext l → new_durations (c_of l) l.index (t_of l)
+    ≡ flat_map (durs l) (from_on 0 (length (p_of l.next.now).sections))
 durations_there l is =
     let last = last_some l is in
     let low = subst (λ (o : Option Last). IfSome o (λ k. k.section ≤ (t_of l).place + ((l.next.now).standing.now).resets)) last.1
@@ -85,3 +60,37 @@ durations_there l is =
     (λ s less. place_there (ids_of (c_of l).known) (ids_in (p_of l.next.now)) (l.next.now).place s
     (id_at (p_of l.next.now) s) is.next.stands (id_there (p_of l.next.now).sections s less))
     last.1 (omega (arith, low, more))
+    ∙ ap (flat_map (durs l)) (sym (from_on-start (length (p_of l.next.now).sections)))
+
+-- ---- segments that are longer than the target duration, run by run and section by section
+
+longs_append : (unit target : ℕ) (ds es : List ℕ) → longs_told unit target (ds ++ es) ≡ longs_told unit target ds
+    ++ longs_told unit target es
+longs_append unit target ds es = grind (arith, common_steps)
+
+longs_flat : (unit target : ℕ) (list : ℕ → List ℕ) (xs : List ℕ)
+    → longs_told unit target (flat_map list xs) ≡ flat_map (λ s. longs_told unit target (list s)) xs
+longs_flat unit target list [] = refl
+longs_flat unit target list (x ∷ xs) = longs_append unit target (list x) (flat_map list xs) ∙ (rw (longs_flat unit target list xs) refl)
+
+module _ (unit target : ℕ) (old new : NewTimes) (run : NewRun) (is : IsNextRun old run new) (o : Option ℕ)
+    (first : (ds : List ℕ) → IsRun ds run → slice_get (filter (is_long unit target) ds) 0 ≡ o) where
+  split : longs_told unit target (left_of old) ≡ longs_told unit target is.ds ++ longs_told unit target (left_of new)
+  split = ap (longs_told unit target) is.next ∙ longs_append unit target is.ds (left_of new)
+
+  pub none_in_run : o ≡ None → longs_told unit target (left_of old) ≡ longs_told unit target (left_of new)
+  none_in_run none = split ∙ (rw (none_first (filter (is_long unit target) is.ds) (first is.ds is.tells ∙ none)) refl)
+
+  pub first_in_run : (printed : ℕ) → o ≡ Some printed → first_of (longs_told unit target (left_of old)) ≡ Some (LongSegment target printed)
+  first_in_run printed some = rw (split, first_append, slice_get-map, first is.ds is.tells, some) refl
+
+-- ---- section by section
+
+abbrev pub long_in : TrackNext → ℕ → List Refusal
+long_in l s = longs_told (unit_of (c_of l).terms) (c_of l).target (durs l s)
+
+pub long_there : (l : TrackNext) → IsTrackNext l
+    → longs_told (unit_of (c_of l).terms) (c_of l).target (new_durations (c_of l) l.index (t_of l))
+    ≡ flat_map (long_in l) (from_on 0 (length (p_of l.next.now).sections))
+long_there l is =
+    rw (durations_there l is) (longs_flat (unit_of (c_of l).terms) (c_of l).target (durs l) (from_on 0 (length (p_of l.next.now).sections)))

@@ -1,6 +1,6 @@
 -- What an MPD alone breaks, by the places of its Periods.
 use Rattle.std.specs.Prelude.{◌≡◌, ℕ, ◌+◌, ◌<◌, ◌==◌, not, Bool, true, false, List, [], ◌∷◌, ◌++◌, length, slice_get, Option, Some, None}
-use Rattle.std.specs.{Prelude.{IfSome, ◌&&◌, unsigned_abs}, Option.option_map_or}
+use Rattle.std.specs.{Prelude.{IfSome, ◌&&◌, unsigned_abs, if◌then◌else◌}, Option.option_map_or}
 use Rattle.exact_time.specs.Time.{Time}
 use Rattle.url_parts.specs.declared.address.Part.{Part}
 use Rattle.presentation.specs.Presented.{Presented, start_of}
@@ -15,12 +15,8 @@ first_place known [] = length known
 first_place known (id ∷ ids) = place_of known id
 
 -- the place from which some ids go on, where they do and each stands once
-abbrev pub place_if : Bool → ℕ → Option ℕ
-place_if true place = Some place
-place_if false place = None
-
 abbrev pub place_among : (known ids : List (List ℕ)) → Option ℕ
-place_among known ids = place_if (are_once ids && goes_on known ids) (first_place known ids)
+place_among known ids = if are_once ids && goes_on known ids then Some (first_place known ids) else None
 
 -- attributes by `@presentationTimeOffset` in seconds
 abbrev pub attributes_by : Time → Part → Attributes

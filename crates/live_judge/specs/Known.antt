@@ -1,5 +1,5 @@
 -- The Periods that were seen, as they are kept.
-use Rattle.std.specs.Prelude.{◌≡◌, ℕ, ◌≤◌, Bool, true, false, List, length, map, drop, slice_get, bytes_eq, Option, Some}
+use Rattle.std.specs.Prelude.{◌≡◌, ℕ, ◌≤◌, true, false, List, length, map, drop, slice_get, bytes_eq, Option, Some, None, if◌then◌else◌}
 use Rattle.std.specs.Option.{option_map_or}
 use Rattle.mpd_rules.specs.Laws.{are_once}
 use Rattle.live_meaning.specs.Known.{Attributes, Known}
@@ -15,9 +15,10 @@ known_shown k = record { id = k.id; start = k.start; attributes = map attributes
 abbrev pub IsIndex : (places : List ℕ → Option ℕ) → (ids : List (List ℕ)) → Type 0
 IsIndex places ids = (place : ℕ) (id : List ℕ) → slice_get ids place ≡ Some id → places id ≡ Some place
 
--- an id stands at a place
-abbrev pub is_there : (ids : List (List ℕ)) → (place : ℕ) → (id : List ℕ) → Bool
-is_there ids place id = option_map_or (λ own. bytes_eq own id) (slice_get ids place) false
+-- a place where an id stands
+abbrev pub if_there : (ids : List (List ℕ)) → (id : List ℕ) → Option ℕ → Option ℕ
+if_there ids id None = None
+if_there ids id (Some place) = if option_map_or (λ own. bytes_eq own id) (slice_get ids place) false then Some place else None
 
 -- the ids in force are the known ones from a place on, and no known one stands twice
 pub record StandsAt (known ids : List (List ℕ)) (place : ℕ) : Type 0 where

@@ -11,5 +11,6 @@ pub mod Long
 pub mod Times
 pub mod Blocks
 pub mod Rewriting
+pub mod Walk
 pub mod FirstStates
 pub mod SoundGoesOn

@@ -1,5 +1,5 @@
 -- Kept segments of a Period, held against what a new MPD has there.
-use Rattle.std.specs.Prelude.{◌≡◌, ℕ, zero, suc, ◌-◌, ◌&&◌, not, min, Bool, false, List, [], ◌∷◌, filter, take, drop, reverse, length}
+use Rattle.std.specs.Prelude.{◌≡◌, ℕ, ◌-◌, ◌≤◌, ◌&&◌, not, min, Bool, false, List, [], ◌∷◌, filter, take, drop, reverse, length}
 use Rattle.std.specs.Prelude.{slice_get, All, Option, Some, None, option_map, if◌then◌else◌}
 use Rattle.exact_time.specs.Time.{IsTime, Time, at_most}
 use Rattle.timeline.specs.{Expansions.Timing, Listed.timing_of, Steady.ArePaced}
@@ -28,6 +28,7 @@ ends_from first xs = filter (λ x. at_most first x.end) xs
 pub record IsLastEnded (all : List Timing) (last : Time) (most : ℕ) (ended : Ended) : Type 0 where
   pub paced : ArePaced all
   pub count : ended.count ≡ min most (length (ends_by last all))
+  pub within : ended.count ≤ length ended.walk
   pub are : take ended.count ended.walk ≡ drop (length (ends_by last all) - ended.count) (ends_by last all)
 
 abbrev pub pair_of : Pair → Option Timing × Timing
@@ -43,9 +44,8 @@ abbrev pub or_other : (kept : List Timing) → (left : ℕ) → (first : Time) �
 or_other kept left first new found = let old = slice_get (reverse kept) left in
     if at_most first new.end && not (is_same_as old new) then Some (old, new) else found
 
--- kept segments against so many new ones: the last pair that differs of those that end from a time on
-unfoldable pub held : (kept : List Timing) → (first : Time) → (left : ℕ) → (new : List Timing) → Option (Option Timing × Timing)
+-- kept segments against new ones: the last pair that differs of those that end from a time on
+unfoldable pub held : (kept : List Timing) → (first : Time) → (new : List Timing) → Option (Option Timing × Timing)
     → Option (Option Timing × Timing)
-held kept first zero new found = found
-held kept first (suc left) [] found = found
-held kept first (suc left) (x ∷ xs) found = held kept first left xs (or_other kept left first x found)
+held kept first [] found = found
+held kept first (x ∷ xs) found = held kept first xs (or_other kept (length xs) first x found)

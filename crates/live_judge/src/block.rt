@@ -47,7 +47,8 @@ impl LiveTrack {
         requires paired { length self.now.items.items ≡ length self.now.facts.items }
         requires within { from ≤ length self.now.facts.items }
         requires before { StandBefore place (segments_in self.now) from }
-        ensures { IsEndOf place (segments_in self.now) result }
+        ensures is { IsEndOf place (segments_in self.now) result }
+        ensures within { result ≤ length self.now.facts.items }
     {
         let mut end = from;
         while end < self.facts.len() && self.get(end).1.place <= place {

@@ -1,5 +1,5 @@
 // What an MPD may not change.
-ghost use Rattle.std.specs.Prelude.{◌≡◌, ◌+◌, ◌<◌, ◌≤◌, ◌≤ℤ◌, ◌^◌, not, true, false, pos, drop, flat_map, length, map, IfOk, Some};
+ghost use Rattle.std.specs.Prelude.{◌≡◌, ◌+◌, ◌<◌, ◌≤◌, ◌≤ℤ◌, ◌^◌, not, true, false, pos, drop, length, map, IfOk, Some};
 ghost use Rattle.std.specs.List.{list_all, list_any, starts_with};
 ghost use Rattle.std.specs.Str.{bytes_eq};
 ghost use Rattle.mpd_rules.specs.Laws.{are_once};
@@ -55,7 +55,7 @@ fn check_mpd(standing: &Standing, mpd: &Mpd, force: &Presentation) -> Result<usi
 {
     check_older(standing.published, mpd.publish_time())?;
     let place = check_changed(standing, mpd, force)?;
-    check_moved(&standing.known, force, place)?;
+    check_moved(standing, force, place)?;
     Ok(place)
 }
 
@@ -85,19 +85,19 @@ fn check_changed(
     ensures starts { IfOk result (λ _. rules.starts_otherwise (common_shown standing.now) (segments_mpd mpd.now) ≡ false) }
     ensures alike { IfOk result (λ _. rules.are_alike standing.now.opened.tracks force.now.tracks ≡ true) }
 {
-    if starts_otherwise(standing, mpd) || lack_ids(mpd) {
+    if starts_otherwise(standing, mpd)
+        || lack_ids(mpd)
+        || !are_alike(
+            standing.opened.tracks().as_slice(),
+            force.tracks().as_slice(),
+        )
+    {
         return Err(RefreshFault::Changed);
     }
     let Some(place) = place_among(&standing.known, force.sections().as_slice()) else {
         return Err(RefreshFault::Changed);
     };
-    if !are_alike(
-        standing.opened.tracks().as_slice(),
-        force.tracks().as_slice(),
-    ) {
-        return Err(RefreshFault::Changed);
-    }
-    if have_others(&standing.known, force, place) {
+    if have_others(standing, force, place) {
         return Err(RefreshFault::Changed);
     }
     Ok(place)
@@ -131,6 +131,7 @@ fn lack_ids(mpd: &Mpd) -> bool
 
 /// The place from which Periods go on: the known ones from there on come first, and the others were never seen. There is
 /// none where they don't, or an id stands twice.
+#[tactic(auto, using(crate::proofs::Places::goes_on_first))]
 fn place_among(known: &KnownPeriods, sections: &[Section]) -> Option<usize>
     requires { are_once (ids_of known.now) ≡ true }
     ensures { result ≡ spec.place_among (ids_of known.now) (map (λ section. section.id) sections.now) }
@@ -182,6 +183,7 @@ fn has_id(sections: &[Section], id: &Text) -> bool
     false
 }
 
+#[tactic(auto, using(crate::proofs::Walks::in_lists))]
 fn go_on_from(known: &KnownPeriods, sections: &[Section], place: usize) -> bool
     requires { place ≤ length known.now }
     ensures { result ≡ goes_on_from (ids_of known.now) (map (λ section. section.id) sections.now) place }
@@ -190,6 +192,7 @@ fn go_on_from(known: &KnownPeriods, sections: &[Section], place: usize) -> bool
 }
 
 /// Whether the known Periods from a place on come first.
+#[tactic(auto, using(crate::proofs::Walks::in_lists))]
 fn begin_with(known: &KnownPeriods, sections: &[Section], place: usize) -> bool
     requires { place ≤ length known.now }
     ensures is { result ≡ starts_with bytes_eq (map (λ section. section.id) sections.now) (drop place (ids_of known.now)) }
@@ -209,6 +212,7 @@ fn begin_with(known: &KnownPeriods, sections: &[Section], place: usize) -> bool
 }
 
 /// Whether no id was seen.
+#[tactic(auto, using(crate::proofs::Finding::some_position))]
 fn are_new(known: &KnownPeriods, sections: &[Section]) -> bool
     ensures { result ≡ list_all (λ id. not (list_any (bytes_eq id) (ids_of known.now))) (map (λ section. section.id) sections.now) }
 {
@@ -264,12 +268,14 @@ fn is_same_language(one: &Option<Text>, other: &Option<Text>) -> bool
 // ---- known Periods
 
 /// Whether a known Period has other attributes.
-fn have_others(known: &KnownPeriods, force: &Presentation, place: usize) -> bool
-    requires { place + length force.now.sections < 2 ^ 64 }
-    ensures { result ≡ list_any (spec.has_other known.now force.now place) (sections_of force.now) }
+fn have_others(standing: &Standing, force: &Presentation, place: usize) -> bool
+    requires room { place + length force.now.sections < 2 ^ 64 }
+    requires once { are_once (ids_of standing.now.known) ≡ true }
+    requires among { spec.place_among (ids_of standing.now.known) (rules.ids_in force.now) ≡ Some place }
+    ensures { result ≡ list_any (rules.differs_at (common_shown standing.now) force.now) (sections_of force.now) }
 {
     for section in 0..force.sections().len() {
-        if has_other(known, force, place, section) {
+        if has_other(&standing.known, force, place, section) {
             return true;
         }
     }
@@ -288,6 +294,7 @@ fn has_other(known: &KnownPeriods, force: &Presentation, place: usize, section: 
 }
 
 /// Whether the tracks have these attributes in a section.
+#[tactic(auto, using(crate::proofs::Walks::in_order))]
 fn are_same(kept: &[KeptAttributes], force: &Presentation, section: usize) -> bool
     requires { section < length force.now.sections }
     ensures { result ≡ all_same (map attributes_shown kept.now) (attributes_at force.now section) }
@@ -304,7 +311,10 @@ fn are_same(kept: &[KeptAttributes], force: &Presentation, section: usize) -> bo
         }
         rest = later;
     }
-    rest.is_empty()
+    match rest.split_first() {
+        Some(_) => false,
+        None => true,
+    }
 }
 
 fn is_same(kept: &KeptAttributes, offset: Tick, initialization: &Part) -> bool
@@ -324,12 +334,16 @@ fn is_same_part(one: &Part, other: &Part) -> bool
 
 // ---- when known Periods begin
 
-fn check_moved(known: &KnownPeriods, force: &Presentation, place: usize) -> Result<(), RefreshFault>
-    requires { place + length force.now.sections < 2 ^ 64 }
-    ensures { Judges result (flat_map (spec.moved_at known.now force.now place) (sections_of force.now)) }
+#[tactic(auto, using(crate::proofs::Walks::in_order))]
+fn check_moved(standing: &Standing, force: &Presentation, place: usize) -> Result<(), RefreshFault>
+    requires room { place + length force.now.sections < 2 ^ 64 }
+    requires once { are_once (ids_of standing.now.known) ≡ true }
+    requires among { spec.place_among (ids_of standing.now.known) (rules.ids_in force.now) ≡ Some place }
+    ensures judged { Judges result (rules.moved_told (common_shown standing.now) force.now) }
+    ensures unmoved { IfOk result (λ _. spec.AreUnmoved standing.now.known force.now place) }
 {
     for section in 0..force.sections().len() {
-        check_moved_at(known, force, place, section)?;
+        check_moved_at(&standing.known, force, place, section)?;
     }
     Ok(())
 }

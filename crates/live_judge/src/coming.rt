@@ -118,7 +118,7 @@ impl<'a> Next<'a> {
         ensures { result ≡ true → IsQuiet self.entry.now }
     {
         for track in 0..self.tracks.len() {
-            if !self.of(track).has_nothing_new() {
+            if self.of(track).new_count() > 0 {
                 return false;
             }
         }

@@ -7,7 +7,7 @@ ghost use Rattle.std.specs.Map.{update};
 ghost use Rattle.mpd_rules.specs.Laws.{are_once};
 ghost use Rattle.live_meaning.specs.Known.{attributes_at, attributes_of, ids_of, known_at};
 ghost use Rattle.presentation.specs.Presented.{content_at};
-ghost use Rattle.live_judge.specs.Known.{IsIndex, attributes_shown, is_there, known_shown};
+ghost use Rattle.live_judge.specs.Known.{IsIndex, attributes_shown, if_there, known_shown};
 
 use bridge_io::{NoMemory, Text};
 use exact_time::Nanos;
@@ -96,20 +96,17 @@ impl KnownPeriods {
     pub fn find(&self, id: &str) -> Option<usize>
         ensures { result ≡ position (bytes_eq id.now) (ids_of self.now) }
     {
-        let place = *self.places.get(id)?;
-        if self.has_id(place, id) {
-            Some(place)
-        } else {
-            None
-        }
+        self.if_there(id, self.places.get(id).copied())
     }
 
-    fn has_id(&self, place: usize, id: &str) -> bool
-        ensures { result ≡ is_there (ids_of self.now) place id.now }
+    /// A place where an id stands.
+    #[tactic(auto, using(crate::proofs::Walks::in_lists))]
+    fn if_there(&self, id: &str, place: Option<usize>) -> Option<usize>
+        ensures { result ≡ if_there (ids_of self.now) id.now place }
     {
-        match self.get(place) {
-            Some(period) => period.id.as_str() == id,
-            None => false,
+        match self.get(place?) {
+            Some(period) if period.id.as_str() == id => place,
+            _ => None,
         }
     }
 
@@ -165,6 +162,7 @@ fn place_at(
 }
 
 /// The Periods of a presentation from a section on, as they are known once they are accepted.
+#[tactic(auto, using(crate::proofs::Walks::in_order))]
 pub fn periods_from(
     alloc: Global,
     force: &Presentation,
@@ -196,6 +194,7 @@ fn period_of(alloc: Global, force: &Presentation, section: usize) -> Result<Know
     })
 }
 
+#[tactic(auto, using(crate::proofs::Walks::in_order))]
 fn attributes_of(
     alloc: Global,
     force: &Presentation,

@@ -17,6 +17,7 @@ mod steps;
 mod times;
 mod track;
 mod track_next;
+mod walk;
 
 pub use changed::place_of;
 pub use coming::{Coming, Next};

@@ -1,33 +1,19 @@
 // Segments that are longer than the target duration.
 ghost use Rattle.std.specs.Prelude.{◌≡◌, ◌≤◌, ◌<◌, ◌^◌, List, ℕ, Option, filter, length, map, slice_get};
 ghost use Rattle.live_meaning.specs.Updates.{unit_of};
-ghost use Rattle.live_meaning.specs.Refusals.{LongSegment, long_told};
 ghost use Rattle.live_meaning.specs.States.{new_durations};
-ghost use Rattle.live_judge.specs.Coming.{IsJoined, IsNext, IsTrackNext, c_of, coming_of, p_of, t_of};
+ghost use Rattle.live_judge.specs.Coming.{IsJoined, IsTrackNext, c_of, p_of, t_of};
 ghost use Rattle.live_judge.specs.Faults.{Judges};
 ghost use Rattle.live_judge.specs.New.{durations_in};
 ghost use Rattle.live_judge.specs.Long.{is_long, longs_told};
-ghost use Rattle.live_judge.specs.Shown.{track_shown};
 
 use crate::times::NewRun;
-use crate::{Next, RefreshFault, TrackNext};
-
-impl Next<'_> {
-    /// A new segment that is longer than the target duration.
-    pub(crate) fn check_long(&self) -> Result<(), RefreshFault>
-        requires next { IsNext self.now }
-        requires joined { IsJoined self.now }
-        ensures { Judges result (long_told (coming_of self.entry.now) 0 (map track_shown self.entry.now.tracks.now)) }
-    {
-        for track in 0..self.tracks.len() {
-            self.of(track).check_long()?;
-        }
-        Ok(())
-    }
-}
+use crate::{RefreshFault, TrackNext};
 
 impl TrackNext<'_> {
-    fn check_long(&self) -> Result<(), RefreshFault>
+    /// A new segment that is longer than the target duration.
+    #[tactic(auto, using(crate::proofs::Walks::in_order))]
+    pub(crate) fn check_long(&self) -> Result<(), RefreshFault>
         requires next { IsTrackNext self.now }
         requires joined { IsJoined self.now.next.now }
         ensures { Judges result (longs_told (unit_of (c_of self.entry.now).terms) (c_of self.entry.now).target
@@ -83,6 +69,7 @@ impl NewRun {
 }
 
 /// Whether a duration is longer than the target duration, to the nearest second with halves up.
+#[tactic(auto, using(crate::proofs::Longs::long_is))]
 fn is_long(printed: u64, unit: u32, target: u64) -> bool
     requires { 1 ≤ unit }
     ensures { result ≡ is_long unit target printed }

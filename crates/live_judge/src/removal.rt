@@ -36,6 +36,7 @@ pub fn removed_of(track: &LiveTrack, force: &Presentation, now: Instant, least: 
 }
 
 /// The place of the first segment that is still available, or behind all of them.
+#[tactic(auto, using(crate::proofs::Walks::in_lists))]
 fn unavailable(track: &LiveTrack, force: &Presentation, now: Instant) -> usize
     ensures { result ≡ position_or_len (is_still_available (looked_at now force.now)) track.now.facts.items }
 {

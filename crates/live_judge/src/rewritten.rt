@@ -1,5 +1,5 @@
 // Kept segments that a new MPD has with other times.
-ghost use Rattle.std.specs.Prelude.{◌≡◌, ◌+◌, ◌<◌, ◌≤◌, None, flat_map, is_some, length, map, option_map, true};
+ghost use Rattle.std.specs.Prelude.{◌≡◌, ◌+◌, ◌<◌, ◌≤◌, None, flat_map, is_some, length, map, option_map, take, true};
 ghost use Rattle.exact_time.specs.Tick.{time_of};
 ghost use Rattle.presentation.specs.Counting.{sections_of};
 ghost use Rattle.timeline.specs.Listed.{IsReached, IsWindowOf, expansion, listed, listed_from, timing_of};
@@ -14,6 +14,7 @@ ghost use Rattle.live_judge.specs.Rewriting.{EndAtTimes, IsLastEnded, held, is_s
 ghost use Rattle.live_judge.specs.Shown.{common_shown, track_shown};
 
 use crate::block::Block;
+use crate::walk::Rule;
 use crate::{LiveTrack, Next, RefreshFault, TrackNext};
 use exact_time::Tick;
 use timeline::{Cursor, Runs, Span, TimeWalk, Window, closed_ends};
@@ -48,25 +49,13 @@ impl Next<'_> {
         if self.coming.mpd().is_none() {
             return Ok(());
         }
-        self.check_rewritten()
-    }
-
-    fn check_rewritten(&self) -> Result<(), RefreshFault>
-        requires next { IsNext self.now }
-        requires timed { EndAtTimes (p_of self.now) }
-        requires unmoved { AreUnmoved self.now.standing.now.known (p_of self.now) self.now.place }
-        ensures { Judges result (rewritten_told (common_shown self.entry.now.standing.now) (p_of self.entry.now) 0
-            (map track_shown self.entry.now.tracks.now)) }
-    {
-        for track in 0..self.tracks.len() {
-            self.of(track).check_rewritten()?;
-        }
-        Ok(())
+        self.check_each(Rule::Rewritten)
     }
 }
 
 impl TrackNext<'_> {
-    fn check_rewritten(&self) -> Result<(), RefreshFault>
+    #[tactic(auto, using(crate::proofs::Walks::in_order))]
+    pub(crate) fn check_rewritten(&self) -> Result<(), RefreshFault>
         requires next { IsTrackNext self.now }
         requires timed { EndAtTimes (p_of self.now.next.now) }
         requires unmoved { AreUnmoved self.now.next.now.standing.now.known (p_of self.now.next.now) self.now.next.now.place }
@@ -146,6 +135,7 @@ fn last_ended<'a>(runs: &'a Runs, window: &Window, last: Tick, most: u64) -> End
 }
 
 /// The place from which so many segments are listed, at or before another one.
+#[tactic(auto, using(crate::proofs::Holding::back_adds))]
 fn place_before(runs: &Runs, window: &Window, behind: Cursor, wanted: u64) -> Cursor
     requires window { IsWindowOf runs.now window.now }
     requires reached { IsReached runs.now window.now }
@@ -163,10 +153,12 @@ fn place_before(runs: &Runs, window: &Window, behind: Cursor, wanted: u64) -> Cu
 }
 
 /// The first pair of kept and new segments that differs, both seen from the back, of those that end from a time on.
+#[tactic(auto, using(crate::proofs::Holding::held_steps), unfolding(crate::specs::Rewriting::held))]
 fn last_other(ended: Ended<'_>, first: Tick, track: &LiveTrack, block: Block) -> Option<Pair>
-    requires { IsWithin block track.now }
+    requires block { IsWithin block track.now }
+    requires within { ended.count ≤ length ended.walk }
     ensures { option_map pair_of result ≡ held (times_of (in_block block track.now))
-        (time_of first) ended.entry.count ended.entry.walk None }
+        (time_of first) (take ended.entry.count ended.entry.walk) None }
 {
     let mut walk = ended.walk;
     let mut left = ended.count;

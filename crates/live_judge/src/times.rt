@@ -142,6 +142,7 @@ impl<'a> TrackNext<'a> {
     }
 
     /// How many units the new segments last, by their printed durations. It stops at the last value of a counter.
+    #[tactic(auto, using(crate::proofs::Walks::in_order))]
     pub(crate) fn total(&self) -> u128
         requires next { IsTrackNext self.now }
         requires joined { IsJoined self.now.next.now }

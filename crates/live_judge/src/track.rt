@@ -48,6 +48,7 @@ impl LiveTrack {
     /// The last segment.
     ///
     /// Requires that one is kept, and that the two buffers stand side by side.
+    #[tactic(auto, using(crate::proofs::Keeping::side_by_side))]
     pub fn last(&self) -> LastKept
         requires paired { length self.now.items.items ≡ length self.now.facts.items }
         requires some { 0 < length self.now.facts.items }
@@ -66,6 +67,7 @@ impl LiveTrack {
     /// The segment at a place: what is written of it, and what isn't.
     ///
     /// Requires that the place is in range.
+    #[tactic(auto, using(crate::proofs::Keeping::side_by_side))]
     pub(crate) fn get(&self, place: usize) -> (&MediaItem, &Fact)
         requires paired { length self.now.items.items ≡ length self.now.facts.items }
         requires within { place < length self.now.facts.items }

@@ -1,10 +1,10 @@
 // What an update brings to a track.
-ghost use Rattle.std.specs.Prelude.{◌≡◌, ◌+◌, ◌<◌, ◌≤◌, ◌^◌, [], All, MatchOption, Some, length, option_map, slice_get, true};
+ghost use Rattle.std.specs.Prelude.{◌≡◌, ◌+◌, ◌<◌, ◌≤◌, ◌^◌, [], All, MatchOption, Some, length, option_map, slice_get};
 ghost use Rattle.presentation.specs.Presented.{content_at, start_of, window_of};
 ghost use Rattle.timeline.specs.Listed.{IsReached, IsWindowOf, timing_of};
 ghost use Rattle.timeline.specs.Steady.{ArePaced, IsWithinLimits};
 ghost use Rattle.live_meaning.specs.States.{new_of};
-ghost use Rattle.live_judge.specs.Coming.{IsNext, IsQuietIn, IsTrackNext, c_of, coming_of, p_of, t_of};
+ghost use Rattle.live_judge.specs.Coming.{IsNext, IsTrackNext, c_of, coming_of, p_of, t_of};
 ghost use Rattle.live_judge.specs.New.{IsFirstNew, StartsNew, new_timings};
 
 use crate::{LiveTrack, Next};
@@ -59,6 +59,7 @@ impl<'a> Next<'a> {
     }
 
     /// How many resets there are with this one.
+    #[tactic(auto, using(crate::proofs::Listing::reset_at))]
     fn resets(&self) -> u64
         requires { IsNext self.now }
         ensures resets { result ≡ (coming_of self.entry.now).resets }
@@ -140,21 +141,8 @@ impl<'a> TrackNext<'a> {
         }
     }
 
-    /// Whether nothing is new. It divides.
-    pub(crate) fn has_nothing_new(&self) -> bool
-        requires { IsTrackNext self.now }
-        ensures { result ≡ true → IsQuietIn (p_of self.entry.now.next.now) self.entry.now.next.now.place self.entry.now.index
-            (t_of self.entry.now) }
-    {
-        for section in 0..self.next.force.sections().len() {
-            if self.new_count_in(section) > 0 {
-                return false;
-            }
-        }
-        true
-    }
-
     /// How many segments are new. It divides, however many they are.
+    #[tactic(auto, using(crate::proofs::Walks::in_order))]
     pub fn new_count(&self) -> u128
         requires { IsTrackNext self.now }
         ensures count { result ≡ length (new_of (c_of self.entry.now) self.entry.now.index (t_of self.entry.now)) }
@@ -182,6 +170,7 @@ impl<'a> TrackNext<'a> {
     }
 
     /// The first new segment.
+    #[tactic(auto, using(crate::proofs::Walks::in_order))]
     pub(crate) fn first_new(&self) -> Option<FirstNew>
         requires { IsTrackNext self.now }
         ensures { MatchOption result (new_of (c_of self.entry.now) self.entry.now.index (t_of self.entry.now) ≡ [])

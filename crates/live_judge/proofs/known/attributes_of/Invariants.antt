@@ -3,7 +3,7 @@ use Rattle.std.specs.Prelude.{flat_map}
 use Rattle.live_meaning.specs.Known.{attributes_at}
 use Rattle.presentation.proofs.Counts.{from_on}
 use Rattle.live_judge.specs.Known.{attributes_shown}
-use Rattle.live_judge.proofs.Sameness.{one_of}
+use Rattle.live_judge.proofs.Changing.{one_of}
 use Rattle.live_judge.proofs.known.attributes_of.Given as goal
 
 abbrev pub invariant-loop-track : goal.invariant-loop-track

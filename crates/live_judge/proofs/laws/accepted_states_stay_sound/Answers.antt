@@ -1,5 +1,5 @@
 use Rattle.live_judge.proofs.laws.accepted_states_stay_sound.Goals as goal
-use Rattle.live_judge.proofs.{GoingOn.{kept_go_on, numbers_go_on, periods_stand_on}, SoundGoesOn.sound_states_go_on}
+use Rattle.live_judge.proofs.SoundGoesOn.{kept_go_on, numbers_go_on, periods_stand_on, sound_states_go_on}
 
 pub returns-clause-sound : goal.returns-clause-sound
 returns-clause-sound c = let shown = c.presentations_show_their_mpd.ensures in sound_states_go_on shown.few shown.followed

@@ -1,5 +1,5 @@
-use Rattle.std.proofs.Common.{◌≡◌, ℕ, ◌*◌, ◌^◌, ◌-◌, ◌<◌, ◌≤◌, length, drop, sum}
-use Rattle.followed.specs.Durations.{durations}
+use Rattle.std.proofs.Common.{◌≡◌, ◌*◌, ◌^◌, ◌-◌, ◌≤◌, length, drop, sum}
+use Rattle.followed.specs.{Durations.durations, Places.last_place}
 use Rattle.live_judge.specs.Removal.{kept_in}
 use Rattle.live_judge.proofs.removal.last_place.Given as goal
 
@@ -8,8 +8,7 @@ invariant-loop-place l = record {
   inside : l.place ≤ length l.track.facts.items;
   summed : l.sum ≡ sum (drop l.place (durations (kept_in l.track)));
   bound : l.sum ≤ (length l.track.facts.items - l.place) * 2 ^ 64;
-  last : (later : ℕ) → l.place < later → later ≤ length (durations (kept_in l.track))
-      → sum (drop later (durations (kept_in l.track))) < l.least;
+  last : last_place l.least (durations (kept_in l.track)) ≤ l.place;
 }
 
 abbrev pub decreases-loop-place : goal.decreases-loop-place

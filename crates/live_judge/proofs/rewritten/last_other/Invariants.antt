@@ -1,5 +1,5 @@
 use Rattle.live_judge.proofs.rewritten.last_other.Given as goal
-use Rattle.std.proofs.Common.{◌≡◌, None}
+use Rattle.std.proofs.Common.{◌≡◌, ◌≤◌, None, length, take}
 use Rattle.std.specs.Prelude.{option_map}
 use Rattle.exact_time.specs.Tick.{time_of}
 use Rattle.live_meaning.specs.Segments.{times_of}
@@ -11,6 +11,7 @@ invariant-loop-left l =
     record {
       can : (goal.iterator-loop-left).can_next l.walk;
       finite : (goal.iterator-loop-left).is_finite l.walk;
-      same : held olds (time_of l.first) l.left l.walk (option_map pair_of l.found)
-          ≡ held olds (time_of l.first) l.initial.left l.initial.walk None;
+      within : l.left ≤ length l.walk;
+      same : held olds (time_of l.first) (take l.left l.walk) (option_map pair_of l.found)
+          ≡ held olds (time_of l.first) (take l.initial.left l.initial.walk) None;
     }

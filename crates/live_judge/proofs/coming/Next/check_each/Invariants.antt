@@ -1,6 +1,7 @@
+use Rattle.std.proofs.Common.{◌≡◌, drop, map}
+use Rattle.live_judge.specs.{Shown.track_shown, Walk.{each, told_at, told_by}}
 use Rattle.live_judge.proofs.coming.Next.check_each.Given as goal
-use Rattle.live_judge.specs.Coming.{coming_of}
-use Rattle.live_judge.proofs.{Firsts.IsNoneYet, Rooms.over_at}
 
 abbrev pub invariant-loop-track : goal.invariant-loop-track
-invariant-loop-track l = IsNoneYet (over_at (coming_of l.self)) l.self.tracks.now l.track
+invariant-loop-track l =
+    told_by l.rule l.self 0 (map track_shown l.self.tracks.now) ≡ each (told_at l.rule l.self) l.track (drop l.track l.self.tracks.now)

@@ -1,7 +1,7 @@
-use Rattle.std.proofs.Common.{◌-◌, refl, arith}
-use Rattle.live_judge.specs.Shown.{kept_of}
-use Rattle.live_judge.proofs.Blocks.{of_both, of_more}
 use Rattle.live_judge.proofs.track.LiveTrack.begin_of.Goals as goal
+use Rattle.std.proofs.{Common.{◌-◌, refl, arith}, lemmas.Bool.Decides.nat_tests}
+use Rattle.live_judge.specs.Shown.{kept_of}
+use Rattle.live_judge.proofs.Blocks.{of_more}
 
 pub loop-begin-preserved : goal.loop-begin-preserved
 loop-begin-preserved c =
@@ -10,6 +10,5 @@ loop-begin-preserved c =
     record {
       rises = omega (arith, c.loop-begin.invariant.rises);
       all = of_more c.args.self.now (begin - 1) k c.get.ensures c.args.place c.args.section begin c.args.end refl
-          (of_both c.args.place c.args.section k.segment (omega (arith, c.if-fact-place.false))
-          (omega (arith, c.if-item-section.false))) c.loop-begin.invariant.all;
+          (grind (arith, nat_tests, c.if-fact-place.false, c.if-item-section.false)) c.loop-begin.invariant.all;
     }

@@ -10,13 +10,13 @@ loop-end-preserved c = record {
       (omega (arith, c.if-get-place.true)) c.loop-end.invariant.before;
 }
 
-pub returns-else-get-place : goal.returns-else-get-place
-returns-else-get-place c =
+pub returns-else-get-place-clause-is : goal.returns-else-get-place-clause-is
+returns-else-get-place-clause-is c =
     end_here c.args.self.now c.loop-end.end (kept_of c.get.result.0.now c.get.result.1.now) c.get.ensures c.args.place
     (omega (arith, c.if-get-place.false)) c.loop-end.invariant.before
 
-pub returns-after-loop-end : goal.returns-after-loop-end
-returns-after-loop-end c =
+pub returns-after-loop-end-clause-is : goal.returns-after-loop-end-clause-is
+returns-after-loop-end-clause-is c =
     end_past c.args.self.now c.loop-end.end c.args.place (omega (
       arith,
       c.len.ensures.len,

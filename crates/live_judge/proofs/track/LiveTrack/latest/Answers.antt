@@ -8,14 +8,7 @@ pub returns-then-end-eq0 : goal.returns-then-end-eq0
 returns-then-end-eq0 c =
     let end = c.end_of-end.result in
     none_before_it c.args.self.now c.args.place (record { begin = end; end = end }) c.requires.paired c.requires.ordered
-    c.end_of-end.ensures refl (omega (arith, c.if-end-eq0.true))
-
-pub get-requires-clause-within : goal.get-requires-clause-within
-get-requires-clause-within c =
-    omega (arith, c.end_of-end.ensures.within, c.if-end-eq0.false, segments_long c.args.self.now c.requires.paired)
-
-pub begin_of-begin-requires-clause-within : goal.begin_of-begin-requires-clause-within
-begin_of-begin-requires-clause-within c = omega (arith, c.end_of-end.ensures.within, segments_long c.args.self.now c.requires.paired)
+    c.end_of-end.ensures.is refl (omega (arith, c.if-end-eq0.true))
 
 pub returns : goal.returns
 returns c =
@@ -24,6 +17,6 @@ returns c =
     block_is c.args.self.now c.args.place (record {
       begin = c.begin_of-begin.result;
       end = end;
-    }) c.requires.paired c.requires.ordered c.end_of-end.ensures
+    }) c.requires.paired c.requires.ordered c.end_of-end.ensures.is
     c.get.result.0.now.section c.begin_of-begin.ensures
     (λ w some at. ap (λ (y : Segment). y.section) (is_it c.args.self.now (end - 1) k c.get.ensures (end - 1) w at refl))

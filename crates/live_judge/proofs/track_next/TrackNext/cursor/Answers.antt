@@ -1,8 +1,8 @@
+use Rattle.live_judge.proofs.track_next.TrackNext.cursor.Goals as goal
 use Rattle.std.proofs.Common.{arith, rules}
 use Rattle.presentation.specs.Presented.{window_of}
 use Rattle.live_judge.specs.Coming.{p_of}
-use Rattle.live_judge.proofs.Tracks.{cursor_behind, cursor_first, none_before}
-use Rattle.live_judge.proofs.track_next.TrackNext.cursor.Goals as goal
+use Rattle.live_judge.proofs.Contents.{cursor_behind, cursor_first, none_before}
 
 pub returns-then-self : goal.returns-then-self
 returns-then-self c =

@@ -1,6 +1,6 @@
-use Rattle.std.proofs.Common.{arith}
-use Rattle.live_judge.proofs.KeptCounts.{kept_there}
 use Rattle.live_judge.proofs.track_next.TrackNext.kept_count.Goals as goal
+use Rattle.std.proofs.Common.{arith}
+use Rattle.live_judge.proofs.Removing.{kept_there}
 
 pub returns-clause-kept : goal.returns-clause-kept
 returns-clause-kept c =

@@ -23,12 +23,10 @@ returns c =
     let last = timing_of other.segment in
     let some : block.begin < block.end = omega (arith, inside.rises, c.if-block.false) in
     let long = block_long block track inside in
-    let begin : block.begin + 0 ≡ block.begin = omega arith in
-    let end : block.begin + (block.end - block.begin - 1) ≡ block.end - 1 = omega (arith, some) in
     let place : length olds - 1 ≡ block.end - block.begin - 1 = omega (arith, long) in
-    let at_first = time_at block track inside 0 one (omega (arith, some)) (ap (slice_get (kept_in track)) begin ∙ c.get.ensures) in
-    let at_last = ap (slice_get olds) place ∙ time_at block track inside (block.end - block.begin - 1) other (omega (arith, some))
-    (ap (slice_get (kept_in track)) end ∙ c.get-2.ensures) in
+    let at_first = time_at block track inside 0 block.begin one (omega arith) (omega (arith, some)) c.get.ensures in
+    let at_last = rw (← place) at (time_at block track inside (block.end - block.begin - 1) (block.end - 1) other (omega (arith, some))
+    (omega (arith, some)) c.get-2.ensures) in
     let begins = (segment_there l c.requires.next block.begin one.segment (segment_at track block.begin one c.get.ensures)).listed in
     let there = segment_at track (block.end - 1) other c.get-2.ensures in
     let within : is_until w.until last.end ≡ true =

@@ -1,7 +1,7 @@
+use Rattle.live_judge.proofs.track_next.TrackNext.runs.Goals as goal
 use Rattle.presentation.specs.Presented.{start_of}
 use Rattle.live_judge.specs.Coming.{p_of}
-use Rattle.live_judge.proofs.Tracks.{index_within, reached_there}
-use Rattle.live_judge.proofs.track_next.TrackNext.runs.Goals as goal
+use Rattle.live_judge.proofs.Contents.{index_within, reached_there}
 
 pub runs-requires-clause-track : goal.runs-requires-clause-track
 runs-requires-clause-track c = index_within c.args.self.now c.requires.next
