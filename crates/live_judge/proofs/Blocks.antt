@@ -1,5 +1,5 @@
 -- The last kept segments of a Period.
-use Rattle.std.proofs.Common.{◌≡◌, ◌⊎◌, ℕ, zero, suc, ◌+◌, ◌-◌, ◌<◌, ◌≤◌, ◌==◌, Bool, true, false, List, [], ◌∷◌, length, take, drop, map}
+use Rattle.std.proofs.Common.{◌≡◌, ◌⊎◌, ℕ, zero, suc, ◌+◌, ◌-◌, ◌<◌, ◌≤◌, ◌==◌, Bool, true, false, List, [], ◌∷◌, length, take, drop}
 use Rattle.std.proofs.{Common.{reverse, Option, None, Some, refl, sym, ◌∙◌, ap, inl, inr, arith, length-drop}, lemmas.Bool.cases_lt}
 use Rattle.std.proofs.{lemmas.Bool.false_from_ne_true, lemmas.Bool.Decides.nat_tests, lemmas.Grind.common_steps, lemmas.List.get_or-reverse}
 use Rattle.std.proofs.{lemmas.List.{length-map, length-reverse, length-take}, lemmas.Option.{gets, same_Some, slice_get-map}}

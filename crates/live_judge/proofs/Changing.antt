@@ -1,5 +1,5 @@
 -- What an MPD changes, by the places of its Periods.
-use Rattle.std.proofs.Common.{◌≡◌, ℕ, zero, suc, ◌+◌, ◌<◌, ◌||◌, ◌==◌, not, Bool, true, false, List, [], length, Option, Some, None, refl}
+use Rattle.std.proofs.Common.{◌≡◌, ℕ, zero, suc, ◌+◌, ◌<◌, ◌||◌, ◌==◌, not, Bool, true, List, [], length, Option, Some, None, refl}
 use Rattle.std.proofs.{Common.{sym, ◌∙◌, ap, arith, ◌∷◌, map}, lemmas.Bool.{eqb-true, not-false}, lemmas.Option.slice_get-map}
 use Rattle.std.specs.{Prelude.{IfSome, flat_map, option_map, option_to_list, slice_get, is_some}, List.{list_any, range_with_len}}
 use Rattle.mpd_rules.specs.{Laws.are_once, declared.rows.PeriodRow.PeriodRow, Typed.period_with}

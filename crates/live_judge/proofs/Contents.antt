@@ -6,7 +6,7 @@ use Rattle.std.specs.Prelude.{IfSome, filter, option_map}
 use Rattle.exact_time.specs.{Time.{Time, before}, Tick.time_of}
 use Rattle.timeline.specs.{declared.window.Window.Window, Expansions.{SegmentTimeline, Timing}, Listed.{IsPlaceAfter, expansion, listed}}
 use Rattle.timeline.specs.Listed.{listed_from, IsReached}
-use Rattle.presentation.specs.{declared.parts.Content.Content, Presented.{Presented, content_at, listed_at, start_of, window_of}}
+use Rattle.presentation.specs.{declared.parts.Content.Content, Presented.{Presented, content_at, start_of, window_of}}
 use Rattle.presentation.proofs.{Extents.{listed_of, reached_of}, GoingOn.listed_later, Printing.all_listed, Grids.All-at}
 use Rattle.followed.specs.Durations.{Last}
 use Rattle.followed.proofs.KeptPlaces.{all_kept}
@@ -39,9 +39,7 @@ module _ (p : Presented) (place : ℕ) (of : Track) (t s : ℕ) (l : Last) (last
   all = expansion content.runs window
 
   new_are : new_timings p place of t s ≡ filter (λ x. is_later l of.place (place + s) x.end) (listed window all)
-  new_are = (let by : new_timings p place of t s ≡ filter (λ x. is_later l of.place (place + s) x.end) (listed_at p s t) = rw last refl in
-      by)
-      ∙ ap (filter (λ x. is_later l of.place (place + s) x.end)) (listed_of p s t content is)
+  new_are = rw last (ap (filter (λ x. is_later l of.place (place + s) x.end)) (listed_of p s t content is))
 
   there : (cursor : ℕ) → listed_from cursor content.runs window ≡ new_timings p place of t s → StartsNew p place of t s cursor
   there cursor same = subst (λ (o : Option Content). IfSome o (λ c. listed_from cursor c.runs window ≡ new_timings p place of t s))

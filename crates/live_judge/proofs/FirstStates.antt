@@ -1,7 +1,7 @@
 -- The state that a first MPD leaves is sound.
 use Rattle.std.proofs.Common.{◌≡◌, ℕ, ℤ, pos, List, [], ◌∷◌, map, length, Option, Some, None, Result, Ok, Err, refl, sym, ◌∙◌, ap, subst}
 use Rattle.std.proofs.{Common.arith, lemmas.List.length-map, lemmas.List.Elements.All-map, lemmas.List.FromFn.length-range_with_len}
-use Rattle.std.specs.{Prelude.{All, IfSome, filter}, List.range_with_len, Option.option_map_or}
+use Rattle.std.specs.{Prelude.{All, IfSome, filter}, Option.option_map_or}
 use Rattle.mpd_rules.specs.Laws.{PeriodIdsDiffer}
 use Rattle.presentation.specs.{declared.fault.PresentationFault.PresentationFault, Counting.tracks_of, Presented.{Following, Presented}}
 use Rattle.presentation.specs.{PresentedLaws.{PresentedAreFew, PresentedAreFollowed, SectionsArePeriods}, Told.presented_of}

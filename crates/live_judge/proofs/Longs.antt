@@ -2,7 +2,7 @@
 use Rattle.std.proofs.Common.{◌≡◌, ℕ, ◌+◌, ◌*◌, ◌/◌, ◌%◌, ◌<◌, ◌≤◌, Bool, true, false, leb, nat_lt, List, [], ◌∷◌, Some, refl, sym, ◌∙◌, ap}
 use Rattle.std.proofs.{Common.{inl, inr, arith}, Math.Nat.mul-le-mul_left, lemmas.Bool.cases_lt, lemmas.Bool.Decides.nat_tests}
 use Rattle.std.proofs.lemmas.List.Elements.{All-head}
-use Rattle.std.specs.Prelude.{All, filter, slice_get, None, nat_le, if◌then◌else◌}
+use Rattle.std.specs.Prelude.{filter, slice_get, None, nat_le, if◌then◌else◌}
 use Rattle.exact_time.specs.Equal.{greatest}
 use Rattle.live_judge.specs.{Long.is_long, declared.times.NewRun.NewRun, Times.IsRun}
 

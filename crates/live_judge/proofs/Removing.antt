@@ -1,5 +1,5 @@
 -- What is removed is found from what is kept, and how long the new segments last.
-use Rattle.std.proofs.Common.{◌≡◌, ℕ, ◌+◌, ◌-◌, ◌≤◌, min, max, Bool, true, false, not, List, [], ◌∷◌, ◌++◌, length, sum, Option, Some, None}
+use Rattle.std.proofs.Common.{◌≡◌, ℕ, ◌+◌, ◌-◌, ◌≤◌, min, Bool, true, false, not, List, [], ◌∷◌, ◌++◌, length, sum, Option, Some, None}
 use Rattle.std.proofs.{Common.{refl, ◌∙◌, ap, inl, inr, arith, ◌*◌, ◌^◌, ◌<◌, drop, sym, length-append}, lemmas.Bool.{cases_Bool, cases_lt}}
 use Rattle.std.proofs.{lemmas.Bool.Decides.nat_tests, lemmas.List.{length-map, map-append}, lemmas.List.Sums.prefix_len-le-length}
 use Rattle.std.proofs.{lemmas.List.Sums.sum_by-cons, lemmas.Grind.common_steps, lemmas.Option.{gets, slice_get-map}}

@@ -58,18 +58,7 @@ module _ (r : Rounding) (old new : List Timing) (run : SpanRun) (is : PassesRun 
   as_long : (first : ℕ) → length (timings_of run) ≡ length (first ∷ equal)
   unfolding equal
   as_long first =
-      let ends : length (map (λ (x : Timing). x.end) (timings_of run))
-      ≡ length (time_of run.first.end ∷ ends_after (time_of run.first.end) run.step (run.count - 1)) =
-      ap (λ (ts : List Time). length ts) is.ends in
-      let others = length-differences (total (past_first r old new run is))
-      (map (λ end. floor_in r.unit (difference end r.first)) (ends_after (time_of run.first.end) run.step (run.count - 1))) in
-      omega (
-        arith,
-        ends,
-        others,
-        length-map (timings_of run) (λ (x : Timing). x.end),
-        length-map (ends_after (time_of run.first.end) run.step (run.count - 1)) (λ end. floor_in r.unit (difference end r.first)),
-      )
+      simp (length-differences, length-map) (simp length-map at (ap (λ (ts : List Time). length ts) is.ends))
 
   pub run_split : (first : ℕ) → total r + first ≡ total (past_first r old new run is)
       → durations_behind r old ≡ (first ∷ equal_durations (past_first r old new run is) run.step (run.count - 1))

@@ -1,16 +1,15 @@
 -- Sums of printed durations, which stop at the last value of a counter.
-use Rattle.std.proofs.Common.{◌≡◌, ℕ, ◌+◌, ◌-◌, ◌^◌, ◌≤◌, cond, Bool, List, length, sum, Option, Some, refl, sym, ◌∙◌, ap, subst, arith, []}
-use Rattle.std.proofs.{Common.{◌∷◌, ◌++◌, map, None}, lemmas.List.Sums.sum_by-cons, lemmas.Grind.common_steps, lemmas.Option.slice_get-map}
+use Rattle.std.proofs.Common.{◌≡◌, ℕ, ◌+◌, ◌-◌, ◌^◌, ◌≤◌, List, length, sum, Option, Some, refl, sym, ◌∙◌, ap, subst, arith, [], ◌∷◌, ◌++◌}
+use Rattle.std.proofs.{Common.None, lemmas.List.Sums.sum_by-cons, lemmas.Grind.common_steps, lemmas.Option.slice_get-map}
 use Rattle.std.specs.Prelude.{IfSome, flat_map, option_map, filter, slice_get}
 use Rattle.exact_time.specs.Tick.{time_of}
 use Rattle.presentation.proofs.{Counts.{from_on, from_on-start}, Grids.found}
 use Rattle.followed.specs.Durations.{Last}
-use Rattle.live_meaning.specs.{Updates.{is_reset, unit_of}, Segments.id_at, Known.ids_of, Refusals.{ids_in, LongSegment, Refusal}}
-use Rattle.live_meaning.specs.States.{new_durations}
+use Rattle.live_meaning.specs.{Updates.unit_of, Segments.id_at, Known.ids_of, Refusals.{ids_in, LongSegment, Refusal}, States.new_durations}
 use Rattle.live_meaning.proofs.InForce.{id_there}
 use Rattle.live_judge.specs.{declared.times.NewRun.NewRun, declared.track_next.TrackNext.TrackNext, Coming.{IsTrackNext, c_of, coming_of}}
-use Rattle.live_judge.specs.{Coming.{p_of, t_of, update_of}, New.durations_in, Removal.kept_in, Seconds.capped, Shown.last_from}
-use Rattle.live_judge.specs.{Times.{IsRun, IsNextRun, left_of}, declared.times.NewTimes.NewTimes, Long.{is_long, longs_told}}
+use Rattle.live_judge.specs.{Coming.{p_of, t_of}, New.durations_in, Removal.kept_in, Seconds.capped, Shown.last_from, Times.IsRun}
+use Rattle.live_judge.specs.{Times.{IsNextRun, left_of}, declared.times.NewTimes.NewTimes, Long.{is_long, longs_told}}
 use Rattle.live_judge.proofs.{Keeping.length-kepts, New.durations_are, Places.place_there, Contents.{paired_there, sound_there}}
 use Rattle.live_judge.proofs.Walks.{first_append, none_first}
 use Rattle.bridge_io.specs.Firsts.{first_of}
@@ -45,17 +44,13 @@ last_some l is =
     let there = found kept (length kept - 1) (omega (arith, long, paired.some)) in
     (last_from (time_of (l.track.now).begin) there.0, ap (option_map (last_from (time_of (l.track.now).begin))) there.1)
 
-no_fewer : (b : Bool) (n : ℕ) → n ≤ cond b (n + 1) n
-no_fewer b n = grind arith
-
 pub durations_there : (l : TrackNext) → IsTrackNext l → new_durations (c_of l) l.index (t_of l)
     ≡ flat_map (durs l) (from_on 0 (length (p_of l.next.now).sections))
 durations_there l is =
     let last = last_some l is in
     let low = subst (λ (o : Option Last). IfSome o (λ k. k.section ≤ (t_of l).place + ((l.next.now).standing.now).resets)) last.1
     (sound_there l is).section in
-    let more : ((l.next.now).standing.now).resets ≤ (coming_of l.next.now).resets =
-    no_fewer (is_reset (update_of (l.next.now).coming (l.next.now).now)) ((l.next.now).standing.now).resets in
+    let more : ((l.next.now).standing.now).resets ≤ (coming_of l.next.now).resets = grind arith in
     durations_are (c_of l) (l.next.now).place (t_of l) l.index last.0
     (λ s less. place_there (ids_of (c_of l).known) (ids_in (p_of l.next.now)) (l.next.now).place s
     (id_at (p_of l.next.now) s) is.next.stands (id_there (p_of l.next.now).sections s less))

@@ -1,7 +1,7 @@
 use Rattle.std.proofs.Common.{◌-◌, refl, ap, arith}
 use Rattle.live_meaning.specs.Segments.{Segment}
 use Rattle.live_judge.specs.Shown.{kept_of}
-use Rattle.live_judge.proofs.Blocks.{block_is, is_it, none_before_it, segments_long}
+use Rattle.live_judge.proofs.Blocks.{block_is, is_it, none_before_it}
 use Rattle.live_judge.proofs.track.LiveTrack.latest.Goals as goal
 
 pub returns-then-end-eq0 : goal.returns-then-end-eq0

@@ -1,10 +1,9 @@
 use Rattle.live_judge.proofs.track_next.TrackNext.rewritten.Goals as goal
 use Rattle.std.proofs.Common.{◌≡◌, ◌+◌, ◌-◌, ◌<◌, List, None, true, All, length, reverse, refl, sym, ◌∙◌, ap, subst, arith}
-use Rattle.std.specs.Prelude.{slice_get}
 use Rattle.exact_time.specs.Time.{IsTime}
 use Rattle.timeline.specs.{declared.window.Window.Window, Expansions.Timing, Listed.{expansion, is_until, listed}}
 use Rattle.live_meaning.specs.{Segments.{times_of, timing_of}, Refusals.{expansion_at, first_other, rewritten_by}}
-use Rattle.live_judge.specs.{Blocks.in_block, Coming.p_of, Removal.kept_in, Shown.kept_of}
+use Rattle.live_judge.specs.{Blocks.in_block, Coming.p_of, Shown.kept_of}
 use Rattle.live_judge.proofs.{Blocks.{block_long, segment_at, time_at}, Holding.{held_last, rewritten_is, within_are}}
 use Rattle.live_judge.proofs.Rewriting.{expansion_is, segment_there, until_there}
 
