@@ -4,7 +4,6 @@ use Rattle.std.proofs.{Common.{sym, ◌∙◌, ap, subst, suc, arith, ◌<◌, l
 use Rattle.std.proofs.{lemmas.List.length-map, lemmas.List.Elements.{All-nil, All-cons, All-append, All-drop, All-head, All-tail}}
 use Rattle.std.proofs.{lemmas.List.Elements.All-weaker, Math.Nat.{mul-le-mul_left, one-le-pow}, lemmas.Bool.ltb-false}
 use Rattle.std.specs.Prelude.{All, if◌then◌else◌, int_lt, option_map, slice_get}
-use Rattle.bridge_io.specs.Firsts.{first_of}
 use Rattle.presentation.specs.{declared.fault.PresentationFault.PresentationFault, Presented.{Presented, looked_at}}
 use Rattle.presentation.specs.PresentedLaws.{PresentedAreFew, PresentedAreFollowed}
 use Rattle.followed.specs.Durations.{last_behind, durations}
@@ -19,7 +18,7 @@ use Rattle.live_meaning.proofs.{Orders.listed_numbered, Tracks.told-segments, Ke
 use Rattle.live_judge.specs.{Sound.{IsSegmentOf, IsSound, IsSoundTrack}, SoundGoesOn.{SoundStatesGoOn, IsKept, NumbersFit, KeptGoOn}}
 use Rattle.live_judge.specs.{SoundGoesOn.{NumbersGoOn, PeriodsStandOn}, Changed.IsPlaceBy, Known.StandsAt}
 use Rattle.live_judge.proofs.{Forced.{IsNew, forced, listed, order}, Reaching.{IsReached, lasts_of, reached_behind, reached_left}}
-use Rattle.live_judge.proofs.{Reaching.sound_reached, Rewriting.later_ended, Places.{new_stand, same_stand}}
+use Rattle.live_judge.proofs.{Reaching.sound_reached, Rewriting.later_ended, Places.{new_stand, same_stand}, Walks.none_from_first}
 use Rattle.presentation.proofs.{Ending.none_behind, Reached.none_first}
 use Rattle.followed.proofs.KeptPlaces.{next_is_first}
 
@@ -29,15 +28,11 @@ pub record IsTaken (s : State) (u : Update) (p : Presented) : Type 0 where
   pub allowed : IsAllowed s u p
   pub forward : int_lt (now_of u) s.common.instant ≡ false
 
-none_at_first : (rs : List Refusal) → first_of rs ≡ None → rs ≡ []
-none_at_first [] none = refl
-none_at_first (r ∷ rs) none = absurd (cc)
-
 taken : (s : State) (u : Update) (p : Presented) → refusal_of s u ≡ None → force_by s.common.terms s.common.force u ≡ Ok p → IsTaken s u p
 unfolding refusal_of
 taken s u p none made =
     let by : List Refusal = told_by s u (force_by s.common.terms s.common.force u) in
-    let all = none_each [] (ended_told s.common) (clock_told s.common (now_of u)) by (none_at_first _ none) in
+    let all = none_each [] (ended_told s.common) (clock_told s.common (now_of u)) by (none_from_first _ none) in
     record {
       allowed = allowed s u p none made;
       forward = told_none (int_lt (now_of u) s.common.instant) (ClockBack s.common.instant (now_of u)) all.2;

@@ -11,7 +11,7 @@ use Rattle.live_judge.specs.{declared.times.NewRun.NewRun, declared.track_next.T
 use Rattle.live_judge.specs.{Coming.{p_of, t_of}, New.durations_in, Removal.kept_in, Seconds.capped, Shown.last_from, Times.IsRun}
 use Rattle.live_judge.specs.{Times.{IsNextRun, left_of}, declared.times.NewTimes.NewTimes, Long.{is_long, longs_told}}
 use Rattle.live_judge.proofs.{Keeping.length-kepts, New.durations_are, Places.place_there, Contents.{paired_there, sound_there}}
-use Rattle.live_judge.proofs.Walks.{first_append, none_first}
+use Rattle.live_judge.proofs.Walks.{first_append, none_from_first}
 use Rattle.bridge_io.specs.Firsts.{first_of}
 
 -- ---- sums
@@ -74,7 +74,7 @@ module _ (unit target : ℕ) (old new : NewTimes) (run : NewRun) (is : IsNextRun
   split = ap (longs_told unit target) is.next ∙ longs_append unit target is.ds (left_of new)
 
   pub none_in_run : o ≡ None → longs_told unit target (left_of old) ≡ longs_told unit target (left_of new)
-  none_in_run none = split ∙ (rw (none_first (filter (is_long unit target) is.ds) (first is.ds is.tells ∙ none)) refl)
+  none_in_run none = split ∙ (rw (none_from_first (filter (is_long unit target) is.ds) (first is.ds is.tells ∙ none)) refl)
 
   pub first_in_run : (printed : ℕ) → o ≡ Some printed → first_of (longs_told unit target (left_of old)) ≡ Some (LongSegment target printed)
   first_in_run printed some = rw (split, first_append, slice_get-map, first is.ds is.tells, some) refl

@@ -24,9 +24,9 @@ get_min xs k = grind (arith, slice_get_past)
 pub sum-append : (ns ms : List ℕ) → sum (ns ++ ms) ≡ sum ns + sum ms
 sum-append ns ms = sum_by-append (λ m. m) ns ms
 
-pub none_first : {X : Type 0} (xs : List X) → slice_get xs 0 ≡ None → xs ≡ []
-none_first [] none = refl
-none_first (x ∷ xs) none = absurd (cc)
+pub none_from_first : {X : Type 0} (xs : List X) → slice_get xs 0 ≡ None → xs ≡ []
+none_from_first [] none = refl
+none_from_first (x ∷ xs) none = absurd (cc)
 
 -- a step in a list, and one of places in order
 pub ruleset in_lists = (common_steps, drop_step, first_append, slice_get-map, drop-map, take_rest)
