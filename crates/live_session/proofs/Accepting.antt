@@ -1,294 +1,277 @@
 -- What an accepted update leaves.
-use Rattle.std.proofs.Common.{◌≡◌, ℕ, ◌+◌, ◌*◌, ◌^◌, ◌<◌, ◌≤◌, cond, Bool, true, false, ℤ, List, [], ◌∷◌, ◌++◌, map, length, sum, All}
-use Rattle.std.proofs.{Common.{Option, Some, None, Ok, refl, sym, ◌∙◌, ap, subst, arith}, lemmas.List.Elements.{All-nil, All-cons}}
-use Rattle.std.proofs.lemmas.List.Elements.{All-append, All-head, All-tail, All-weaker}
-use Rattle.std.specs.Prelude.{unwrap_or}
-use Rattle.exact_time.specs.declared.tick.Tick.{Tick}
-use Rattle.iso_time.specs.Instant.{IsWritable}
+use Rattle.std.proofs.Common.{◌≡◌, ℕ, ◌+◌, ◌*◌, ◌<◌, ◌≤◌, ℤ, List, [], ◌∷◌, ◌++◌, map, length, sum, All, get_or}
+use Rattle.std.proofs.Common.{Option, Some, None, Ok, Result, refl, sym, ◌∙◌, ap, subst, arith, length-append, length-drop}
+use Rattle.std.proofs.lemmas.{Result.err_from_is_err_and, List.length-map}
+use Rattle.std.proofs.lemmas.List.Elements.{All-nil, All-cons, All-head, All-tail, All-append, All-drop, All-map}
+use Rattle.std.specs.Prelude.{unwrap_or, IsErrAnd, MatchResult}
+use Rattle.exact_time.specs.{Tick.time_of, declared.tick.Tick.Tick}
 use Rattle.hls_writer.specs.declared.items.MediaItem.{MediaItem}
-use Rattle.presentation.proofs.{Ending.none_behind, Reached.none_first}
 use Rattle.presentation.specs.Presented.{Presented, looked_at}
-use Rattle.live_meaning.specs.{Updates.{Terms, Update, is_reset, now_of}, Segments.Kept, Known.{Known, ids_of, known_with}}
-use Rattle.live_meaning.specs.{Histories.{Common, common_with}, Removal.removed_of, States.{State, Track, new_count, state_with}}
-use Rattle.live_meaning.specs.{States.{track_after, tracks_after}, Refusals.{appended_by, counts_kept, ids_in, makes_segments, next_of}}
-use Rattle.live_meaning.specs.Refusals.{over_in_all, over_in_track}
-use Rattle.live_meaning.proofs.{Allowed.{IsAllowed, allowed}, Kept.few_known}
-use Rattle.live_judge.specs.{declared.standing.Standing.Standing, declared.track.Fact.Fact, declared.track.LiveTrack.LiveTrack}
-use Rattle.live_judge.specs.{Known.{StandsAt, known_shown}, Shown.{common_shown, in_force, kept_of, kepts_of, state_shown, track_shown}}
-use Rattle.live_judge.specs.{Sound.{IsPaired, IsSound}, SoundGoesOn.SoundStatesGoOn}
-use Rattle.live_session.specs.{declared.change.Plan.Plan, Changes.{IsPlan, IsTrimmable, changed, force_of, newest_with, track_grown}}
-use Rattle.live_session.specs.{Changes.tracks_grown, Growth.{grown, inside_of, trimmed}, Kept.{AreSideBySide, with_all, without_front}}
-use Rattle.live_session.specs.{Making.all_kept, Sessions.{IsNumbered, IsSession}, Written.IsWritten}
-use Rattle.live_session.proofs.{FirstTracks.{AreDated, IsDated, all_written, kept_with, same_shown}, Limits.{IsGrownOf, IsKeptOf}}
-use Rattle.live_session.proofs.{Limits.{all_after, all_grown, all_kept_after, few_new}, Pushing.length-kepts, Refusing.appended_all}
-use Rattle.live_session.proofs.Refusing.{gives_accepted}
+use Rattle.live_meaning.specs.{Updates.{Update, mpd_of, unit_of}, Segments.Kept, Known.{Known, ids_of}, Histories.{Common, common_with}}
+use Rattle.live_meaning.specs.{States.{State, Track, kept_and_new, new_count, new_of, new_told, removed_from, state_with, track_after}}
+use Rattle.live_meaning.specs.{States.tracks_after, Refusals.{ids_in, next_of}}
+use Rattle.live_meaning.specs.Laws.{HistoriesGoOn, NumbersStaySmall, Shows}
+use Rattle.live_meaning.proofs.Tracks.{length-told}
+use Rattle.live_judge.specs.{declared.coming.Coming.Coming, declared.fault.RefreshFault.RefreshFault, declared.standing.Standing.Standing}
+use Rattle.live_judge.specs.declared.fault.RefreshFault.TheVariants.{Memory}
+use Rattle.live_judge.specs.{declared.track.Fact.Fact, declared.track.LiveTrack.LiveTrack, Coming.update_of, Known.{StandsAt, known_shown}}
+use Rattle.live_judge.specs.{Shown.{common_shown, kepts_of, state_shown, track_of, track_shown}, Sound.{IsLive, IsPaired}}
+use Rattle.live_judge.specs.SoundGoesOn.{IsKept, KeptGoOn, NumbersGoOn, SoundStatesGoOn}
+use Rattle.live_judge.proofs.Keeping.{length-kepts}
+use Rattle.live_session.specs.{declared.change.Plan.Plan, declared.made.MadeTrack.MadeTrack, declared.session.Appended.Appended}
+use Rattle.live_session.specs.{Changes.{CanGoOn, IsLeft, IsPlan, IsRefused, IsTaken, changed, force_of, newest_with}, Kept.{AreSideBySide, with_all}}
+use Rattle.live_session.specs.{Growth.{HaveRoom, IsTrimmable, grown, inside_of, track_grown, tracks_grown, trimmed}, Making.all_kept}
+use Rattle.live_session.specs.{Sessions.{IsReached, IsSession}, Written.{AreDated, IsDated, IsWritten}}
+use Rattle.live_session.proofs.{Lists.{at_all, of_shown, same_by}, Pushing.kept_with, Refusing.{gives_accepted, now_at, refused_wanting}}
 
--- ---- dates
+-- ---- a session
 
-kepts_dated : (items : List MediaItem) (facts : List Fact) → All (λ (item : MediaItem). IsWritable item.date) items
-    → All IsDated (kepts_of items facts)
-kepts_dated [] facts all = All-nil IsDated
-kepts_dated (i ∷ items) [] all = All-nil IsDated
-kepts_dated (i ∷ items) (f ∷ facts) all =
-    All-cons IsDated (kept_of i f) (kepts_of items facts) (All-head (λ (item : MediaItem). IsWritable item.date) i items all)
-    (kepts_dated items facts (All-tail (λ (item : MediaItem). IsWritable item.date) i items all))
+paired_there : (t : LiveTrack) → AreSideBySide t → IsKept (track_shown t) → IsPaired t
+paired_there t paired kept =
+    let some = kept.some in
+    let few = kept.few in
+    let many = length-kepts t.items.items t.facts.items paired in record { paired = paired; some = omega (arith, many); few = omega (arith, many) }
 
-dated_before : (tracks : List LiveTrack) → All IsWritten tracks → All AreDated (map track_shown tracks)
-dated_before [] all = All-nil AreDated
-dated_before (t ∷ tracks) all =
-    All-cons AreDated (track_shown t) (map track_shown tracks)
-    (kepts_dated t.items.items t.facts.items (All-head IsWritten t tracks all).dates)
-    (dated_before tracks (All-tail IsWritten t tracks all))
+pub live : {s : Standing} {tracks : List LiveTrack} → IsSession s tracks → IsLive s tracks
+live {s} {tracks} is = record {
+  sound = is.reached.sound;
+  stands = is.stands;
+  starts = is.starts;
+  resets = is.reached.numbers.resets;
+  periods = is.reached.numbers.periods;
+  accepted = is.accepted;
+  paired = λ k d within. paired_there (get_or tracks k d) (is.paired k d within)
+      (of_shown IsKept track_shown tracks is.reached.kept k d within);
+}
 
-all_dated : (tracks : List Track) (news : List (List Kept)) → All AreDated tracks → All (All IsDated) news
+pub written : (tracks : List LiveTrack) (t : ℕ) (track : LiveTrack) → All AreSideBySide tracks → All AreDated (map track_shown tracks)
+    → t < length tracks → track ≡ get_or tracks t track → IsWritten track
+written tracks t track paired dated within is = record {
+  paired = subst AreSideBySide (sym is) (paired t track within);
+  dates = subst (λ (x : LiveTrack). AreDated (track_shown x)) (sym is) (of_shown AreDated track_shown tracks dated t track within);
+}
+
+-- tracks with the same inside, whatever room there is
+abbrev Inside : Type 0
+Inside = List MediaItem × List Fact × ℕ × Tick
+
+pub same_shown : (new old : List LiveTrack) → map inside_of new ≡ map inside_of old → map track_shown new ≡ map track_shown old
+same_shown new old same = same_by inside_of (λ (q : Inside). track_of q.2 (time_of q.3) (kepts_of q.0 q.1)) new old same
+
+pub same_paired : (new old : List LiveTrack) → map inside_of new ≡ map inside_of old → All AreSideBySide old → All AreSideBySide new
+same_paired new old same paired =
+    of_shown (λ (q : Inside). length q.0 ≡ length q.1) inside_of new
+    (subst (All (λ (q : Inside). length q.0 ≡ length q.1)) (sym same)
+    (All-map (λ (q : Inside). length q.0 ≡ length q.1) inside_of old paired))
+
+pub same_state : (s : Standing) (new old : List LiveTrack) → map inside_of new ≡ map inside_of old → state_shown s new ≡ state_shown s old
+same_state s new old same =
+    ap (λ (ts : List Track). let state : State = record { common = common_shown s; tracks = ts } in state) (same_shown new old same)
+
+pub same_session : (s : Standing) (new old : List LiveTrack) → map inside_of new ≡ map inside_of old → IsSession s old → IsSession s new
+same_session s new old same is = record {
+  reached = subst IsReached (sym (same_state s new old same)) is.reached;
+  paired = same_paired new old same is.paired;
+  stands = is.stands;
+  starts = is.starts;
+  accepted = is.accepted;
+  readable = is.readable;
+  counted_first = is.counted_first;
+  target = is.target;
+}
+
+-- a refusal leaves it
+pub refused : {state old new : State} {u : Update} {e : RefreshFault} {before after : ℕ} (r : Result Appended RefreshFault)
+    → IsErrAnd r (λ x. x ≡ e) → state ≡ old → new ≡ state → IsRefused state u e before after
+    → MatchResult r (λ n. IsTaken old u n.0 new before after) (λ fault. IsLeft old u fault new before after)
+refused {state} {old} {new} {u} {e} {before} {after} r told view same is =
+    let p = err_from_is_err_and r told in
+    rw (p.1, p.2) (record { same = same ∙ view; refusal = subst (λ s. IsRefused s u e before after) view is })
+
+-- ---- what was kept of the tracks of a state before their fronts were removed
+
+record IsWithin (track : Track) : Type 0 where
+  some : 0 < length track.kept
+  listed : track.first + length track.kept ≤ 200000000000
+
+module _ (c : Common) where
+  before_one : (t : ℕ) (track : Track) → IsWithin (track_after c t track)
+      → IsTrimmable (track_grown c t track) × (length (new_of c t track) ≤ 200000000000)
+  before_one t track is =
+      let some = is.some in
+      let listed = is.listed in
+      let ks = kept_and_new c t track in
+      let cut = length-drop (removed_from c ks) ks in
+      let more = length-append track.kept (new_told c t track) in
+      let told = length-told (unit_of c.terms) track.last (new_of c t track) in
+      (record { some = omega (arith, cut); fits = omega (arith, cut) }, omega (arith, cut, more, told))
+
+  before_all : (t : ℕ) (tracks : List Track) → All IsWithin (tracks_after c t tracks) → All IsTrimmable (tracks_grown c t tracks)
+  before_all t [] all = All-nil IsTrimmable
+  before_all t (track ∷ tracks) all =
+      All-cons IsTrimmable (track_grown c t track) (tracks_grown c (t + 1) tracks)
+      (before_one t track (All-head IsWithin (track_after c t track) (tracks_after c (t + 1) tracks) all)).0
+      (before_all (t + 1) tracks (All-tail IsWithin (track_after c t track) (tracks_after c (t + 1) tracks) all))
+
+  few_new : (t : ℕ) (tracks : List Track) → All IsWithin (tracks_after c t tracks) → new_count c t tracks ≤ length tracks * 200000000000
+  few_new t [] all = omega arith
+  few_new t (track ∷ tracks) all =
+      omega (
+        arith,
+        (before_one t track (All-head IsWithin (track_after c t track) (tracks_after c (t + 1) tracks) all)).1,
+        few_new (t + 1) tracks (All-tail IsWithin (track_after c t track) (tracks_after c (t + 1) tracks) all),
+      )
+
+  dated_after : (t : ℕ) (tracks : List Track) → All AreDated (tracks_grown c t tracks) → All AreDated (tracks_after c t tracks)
+  dated_after t [] all = All-nil AreDated
+  dated_after t (track ∷ tracks) all =
+      All-cons AreDated (track_after c t track) (tracks_after c (t + 1) tracks)
+      (All-drop IsDated (removed_from c (kept_and_new c t track)) (kept_and_new c t track)
+      (All-head AreDated (track_grown c t track) (tracks_grown c (t + 1) tracks) all))
+      (dated_after (t + 1) tracks (All-tail AreDated (track_grown c t track) (tracks_grown c (t + 1) tracks) all))
+
+pub grown_dated : (tracks : List Track) (news : List (List Kept)) → All AreDated tracks → All (All IsDated) news
     → All AreDated (grown tracks news)
-all_dated tracks [] all new = all
-all_dated [] (n ∷ news) all new = All-nil AreDated
-all_dated (t ∷ tracks) (n ∷ news) all new =
+grown_dated tracks [] all new = all
+grown_dated [] (n ∷ news) all new = All-nil AreDated
+grown_dated (t ∷ tracks) (n ∷ news) all new =
     All-cons AreDated (with_all t n) (grown tracks news)
     (subst (All IsDated) (sym (kept_with t n))
     (All-append IsDated t.kept n (All-head AreDated t tracks all) (All-head (All IsDated) n news new)))
-    (all_dated tracks news (All-tail AreDated t tracks all) (All-tail (All IsDated) n news new))
+    (grown_dated tracks news (All-tail AreDated t tracks all) (All-tail (All IsDated) n news new))
 
--- ---- how many are kept
-
-kept_before : (accepted : ℕ) (tracks : List LiveTrack) → All IsPaired tracks → All (IsNumbered accepted) tracks
-    → All (IsKeptOf accepted) (map track_shown tracks)
-kept_before accepted [] paired numbered = All-nil (IsKeptOf accepted)
-kept_before accepted (t ∷ tracks) paired numbered =
-    let own = All-head IsPaired t tracks paired in
-    let many = length-kepts t.items.items t.facts.items own.paired in
-    All-cons (IsKeptOf accepted) (track_shown t) (map track_shown tracks)
-    (record {
-      some = omega (arith, own.some, own.paired, many);
-      few = omega (arith, own.few, own.paired, many);
-      numbered = omega (arith, All-head (IsNumbered accepted) t tracks numbered, many);
-    })
-    (kept_before accepted tracks (All-tail IsPaired t tracks paired) (All-tail (IsNumbered accepted) t tracks numbered))
-
-paired_after : (accepted : ℕ) (tracks : List LiveTrack) → All AreSideBySide tracks → All (IsKeptOf accepted) (map track_shown tracks)
-    → All IsPaired tracks
-paired_after accepted [] paired all = All-nil IsPaired
-paired_after accepted (t ∷ tracks) paired all =
-    let own : length t.items.items ≡ length t.facts.items = All-head AreSideBySide t tracks paired in
-    let kept = All-head (IsKeptOf accepted) (track_shown t) (map track_shown tracks) all in
-    let many = length-kepts t.items.items t.facts.items own in
-    All-cons IsPaired t tracks (record {
-      paired = own;
-      some = omega (arith, kept.some, own, many);
-      few = omega
-          (arith, kept.few, own, many);
-    })
-    (paired_after accepted tracks (All-tail AreSideBySide t tracks paired)
-    (All-tail (IsKeptOf accepted) (track_shown t) (map track_shown tracks) all))
-
-numbered_after : (accepted : ℕ) (tracks : List LiveTrack) → All AreSideBySide tracks → All (IsKeptOf accepted) (map track_shown tracks)
-    → All (IsNumbered accepted) tracks
-numbered_after accepted [] paired all = All-nil (IsNumbered accepted)
-numbered_after accepted (t ∷ tracks) paired all =
-    let own : length t.items.items ≡ length t.facts.items = All-head AreSideBySide t tracks paired in
-    let kept = All-head (IsKeptOf accepted) (track_shown t) (map track_shown tracks) all in
-    All-cons (IsNumbered accepted) t tracks (omega (arith, kept.numbered, length-kepts t.items.items t.facts.items own))
-    (numbered_after accepted tracks (All-tail AreSideBySide t tracks paired)
-    (All-tail (IsKeptOf accepted) (track_shown t) (map track_shown tracks) all))
-
--- ---- what stands beside the tracks
+trimmed_all : (s : Standing) (t : ℕ) (tracks : List Track)
+    → map (trimmed s) (tracks_grown (common_shown s) t tracks) ≡ tracks_after (common_shown s) t tracks
+trimmed_all s t [] = refl
+trimmed_all s t (track ∷ tracks) = ap (λ (xs : List Track). track_after (common_shown s) t track ∷ xs) (trimmed_all s (t + 1) tracks)
 
 newest_force : (newest former : Option Presented) (opened : Presented)
     → unwrap_or (newest_with newest former) opened ≡ unwrap_or newest (unwrap_or former opened)
 newest_force None former opened = refl
 newest_force (Some p) former opened = refl
 
-resets_most : (b : Bool) (n : ℕ) → cond b (n + 1) n ≤ n + 1
-resets_most true n = omega arith
-resets_most false n = omega arith
-
-common_by : (terms : Terms) (opened force : Presented) (published : Option ℤ) (known : List Known) (resets target : ℕ) (instant : ℤ)
-    (accepted : ℕ) → Common
-common_by terms opened force published known resets target instant accepted = record {
-  terms = terms;
-  opened = opened;
-  force = force;
-  published = published;
-  known = known;
-  resets = resets;
-  target = target;
-  instant = instant;
-  accepted = accepted;
-}
-
-abbrev state_by : Common → List Track → State
-state_by c tracks = record { common = c; tracks = tracks }
-
--- what goes with its front removed
-module _ (s : Standing) (c : Common) (force : in_force s ≡ c.force) (digits : s.digits ≡ c.terms.digits)
-    (target : s.target ≡ c.target) where
-  trimmed_one : (t : ℕ) (track : Track) → trimmed s (track_grown c t track) ≡ track_after c t track
-  trimmed_one t track =
-      let x = track_grown c t track in
-      ap (λ (p : Presented). without_front (removed_of p.following (3 * s.target * 10 ^ s.digits) x.kept) x) force
-      ∙ ap (λ n. without_front (removed_of c.force.following (3 * n * 10 ^ s.digits) x.kept) x) target
-      ∙ ap (λ d. without_front (removed_of c.force.following (3 * c.target * 10 ^ d) x.kept) x) digits
-
-  trimmed_all : (t : ℕ) (tracks : List Track) → map (trimmed s) (tracks_grown c t tracks) ≡ tracks_after c t tracks
-  trimmed_all t [] = refl
-  trimmed_all t (track ∷ tracks) =
-      ap (λ (x : Track). x ∷ map (trimmed s) (tracks_grown c (t + 1) tracks)) (trimmed_one t track)
-      ∙ ap (λ (xs : List Track). track_after c t track ∷ xs) (trimmed_all (t + 1) tracks)
-
 -- ---- what is planned
 
-module _ (s : Standing) (tracks : List LiveTrack) (session : IsSession s tracks) (u : Update) (newest : Option Presented) (plan : Plan)
-    (before after : ℕ)
-    (is : IsPlan s tracks u (now_of u) (looked_at (now_of u) (force_of s newest)) plan before after) where
+pub of_slice : {s : Standing} {slice tracks : List LiveTrack} {coming : Coming} {now : ℤ} {force : Presented} {plan : Plan}
+    {before after : ℕ} → slice ≡ tracks → IsPlan s slice coming now force plan before after
+    → IsPlan s tracks coming now force plan before after
+of_slice same is = rw (← same) is
+
+module _ {s : Standing} {tracks : List LiveTrack} {coming : Coming} {now : ℤ} {force : Presented} {plan : Plan} {before after : ℕ}
+    (is : IsPlan s tracks coming now force plan before after) (session : IsSession s tracks) where
+  abbrev u : Update
+  u = update_of coming now
+
   abbrev p : Presented
-  p = looked_at (now_of u) (force_of s newest)
+  p = looked_at now force
 
   abbrev state : State
   state = state_shown s tracks
 
   abbrev c : Common
-  c = common_with state.common u p
+  c = common_with (common_shown s) u p
 
   abbrev news : List (List Kept)
   news = all_kept plan.made.items
 
-  -- what stands then beside the tracks
-  abbrev pub new : Standing
-  new = changed (record s { known = s.known ++ map known_shown plan.periods.items }) newest plan.change
+  abbrev then : State
+  then = record { common = c; tracks = tracks_after c 0 state.tracks }
 
-  pub force_is : in_force new ≡ p
-  force_is =
-      ap (λ (q : Presented). looked_at plan.change.instant q) (newest_force newest s.newest s.opened)
-      ∙ ap (λ i. looked_at i (force_of s newest)) is.instant
+  pub wanting : (mpd_of u ≡ None → new_count c 0 state.tracks ≡ 0 → ⊥) → IsRefused state u Memory before after
+  wanting never =
+      refused_wanting state u before after (is.made.counted ∙ ap (λ n. before + n) (sym is.appended))
+      (λ tick none. never tick (sym is.appended ∙ none))
 
-  common_is : common_shown new ≡ c
-  unfolding common_by
-  common_is =
-      ap (λ x. common_by state.common.terms s.opened x plan.change.published new.known plan.change.resets s.target plan.change.instant
-      (s.accepted + 1)) force_is
-      ∙ ap (λ x. common_by state.common.terms s.opened p x new.known plan.change.resets s.target plan.change.instant
-      (s.accepted + 1)) is.published
-      ∙ ap (λ x. common_by state.common.terms s.opened p c.published x plan.change.resets s.target plan.change.instant
-      (s.accepted + 1)) is.known
-      ∙ ap (λ x. common_by state.common.terms s.opened p c.published c.known x s.target plan.change.instant (s.accepted + 1)) is.resets
-      ∙ ap (λ x. common_by state.common.terms s.opened p c.published c.known c.resets s.target x (s.accepted + 1)) is.instant
+  next : next_of state u ≡ Ok then
+  unfolding state_with
+  next = gives_accepted state u p is.forced is.accepted
 
-  may : IsAllowed state u p
-  may = allowed state u p is.accepted is.forced
+  module _ (goes_on : HistoriesGoOn) (small : NumbersStaySmall) (keeps : KeptGoOn) (few_so_far : s.accepted < 10000000)
+      (room : List LiveTrack) where
+    shows : Shows session.reached.terms (session.reached.history ++ u ∷ []) then
+    shows = goes_on session.reached.terms session.reached.history u state then session.reached.shows next
 
-  appended_is : appended_by state u ≡ new_count c 0 state.tracks
-  appended_is = appended_all state u p is.forced (ap makes_segments is.accepted)
+    kept : All IsKept (tracks_after c 0 state.tracks)
+    kept = keeps state u then session.target session.reached.kept next
 
-  pub few_made : sum (map length news) < 2 ^ 63
-  few_made =
-      let few = few_new c state.tracks
-      (none_behind (over_in_track 0 (counts_kept c 0 state.tracks)) (over_in_all 0 0 (counts_kept c 0 state.tracks)) may.window) in
-      omega (arith, few, is.numbered, appended_is)
-
-  grown_all : All (IsGrownOf c (s.accepted + 1)) (tracks_grown c 0 state.tracks)
-  grown_all = all_grown c s.accepted 0 state.tracks
-      (none_first (over_in_track 0 (counts_kept c 0 state.tracks)) (over_in_all 0 0 (counts_kept c 0 state.tracks)) may.window)
-      (kept_before s.accepted tracks session.live.paired session.numbered)
-
-  pub trimmable : All IsTrimmable (grown state.tracks news)
-  trimmable = subst (All IsTrimmable) (sym is.grown_is)
-      (All-weaker (IsGrownOf c (s.accepted + 1)) IsTrimmable
-      (λ track has. record { some = has.some; fits = omega (arith, has.numbered, session.live.accepted) })
-      (tracks_grown c 0 state.tracks) grown_all)
-
-  module _ (final : List LiveTrack) (shown : map track_shown final ≡ map (trimmed new) (grown state.tracks news))
-      (paired : All AreSideBySide final) where
-    tracks_are : map track_shown final ≡ tracks_after c 0 state.tracks
-    tracks_are = shown ∙ ap (map (trimmed new)) is.grown_is ∙ trimmed_all new c force_is refl refl 0 state.tracks
-
-    state_is : state_shown new final ≡ state_with state u p
-    unfolding state_with
-    state_is =
-        ap (λ x. state_by x (map track_shown final)) common_is ∙ ap (state_by c) tracks_are
-
-    pub goes : next_of state u ≡ Ok (state_shown new final)
-    goes = gives_accepted state u p is.forced is.accepted ∙ ap Ok (sym state_is)
-
-    kept_all : All (IsKeptOf (s.accepted + 1)) (map track_shown final)
-    kept_all = subst (All (IsKeptOf (s.accepted + 1))) (sym tracks_are)
-        (all_kept_after c session.target (s.accepted + 1) 0 state.tracks grown_all)
-
-    dated_all : All AreDated (map track_shown final)
-    dated_all = subst (All AreDated) (sym tracks_are)
-        (all_after IsDated c 0 state.tracks
-        (subst (All AreDated) is.grown_is (all_dated state.tracks news (dated_before tracks session.written) is.dates)))
-
-    pub session_after : SoundStatesGoOn → s.accepted < 10000000 → IsSession new final
-    session_after sound room = record {
-      live = record {
-        sound = sound state u (state_shown new final) session.live.sound goes;
-        stands = subst (λ (ks : List Known). StandsAt (ids_of ks) (ids_in (in_force new)) plan.change.place) (sym is.known)
-            (subst (λ (q : Presented). StandsAt (ids_of (known_with s.known p)) (ids_in q) plan.change.place) (sym force_is) is.stands);
-        starts = session.live.starts;
-        resets = omega (arith, session.live.resets, is.resets, resets_most (is_reset u) s.resets);
-        periods = omega (arith, session.live.periods, ap (λ (ks : List Known). length ks) is.known, few_known s.known p, is.few);
-        accepted = omega (arith, room);
-        paired = paired_after (s.accepted + 1) final paired kept_all;
-      };
-      readable = session.readable;
-      counted_first = session.counted_first;
-      target = session.target;
-      written = all_written final paired dated_all;
-      numbered = numbered_after (s.accepted + 1) final paired kept_all;
+    within : All IsWithin (tracks_after c 0 state.tracks)
+    within = λ k d inside. record {
+      some = (kept k d inside).some;
+      listed = at_all (λ (track : Track). track.first + length track.kept ≤ 200000000000) (tracks_after c 0 state.tracks)
+          (λ t track at. let listed = (small session.reached.terms (session.reached.history ++ u ∷ []) then t track shows at).1.listed in
+          omega (arith, listed)) k d inside;
     }
 
--- ---- as it was
+    pub can_go_on : (standing : Standing) (made : List MadeTrack) → standing.target ≡ s.target
+        → map inside_of room ≡ map inside_of tracks → made ≡ plan.made.items → HaveRoom room made
+        → CanGoOn standing room plan.made.items
+    can_go_on standing made target same made_is has = record {
+      few = omega (arith, is.made.numbered, few_new c 0 state.tracks within, session.reached.sound.opened, session.reached.few);
+      room = subst (HaveRoom room) made_is has;
+      many = omega (arith, is.many, length-map tracks track_shown, ap (λ xs. length xs) (same_shown room tracks same), length-map room track_shown);
+      paired = same_paired room tracks same session.paired;
+      target = omega (arith, target, session.target);
+      can = subst (λ ts. All IsTrimmable (grown ts news)) (sym (same_shown room tracks same))
+          (subst (All IsTrimmable) (sym is.made.grown_is) (before_all c 0 state.tracks within));
+    }
 
--- tracks with the same inside, whatever room there is
-module _ (P : LiveTrack → Type 0) (keeps : (x y : LiveTrack) → inside_of x ≡ inside_of y → P y → P x) where
-  inside_all : (new old : List LiveTrack) → map inside_of new ≡ map inside_of old → All P old → All P new
-  inside_all [] old is all = All-nil P
-  inside_all (x ∷ new) [] is all = absurd (cc)
-  inside_all (x ∷ new) (y ∷ old) is all =
-      let first : inside_of x ≡ inside_of y = cc in
-      let rest : map inside_of new ≡ map inside_of old = cc in
-      All-cons P x new (keeps x y first (All-head P y old all)) (inside_all new old rest (All-tail P y old all))
+    module _ (newest : Option Presented) (forced : force ≡ force_of s newest) (standing : Standing) (known : List Known)
+        (known_is : known ≡ s.known ++ map known_shown plan.periods.items)
+        (standing_is : standing ≡ changed (record s { known = known }) newest plan.change) where
+      abbrev new : Standing
+      new = changed (record s { known = s.known ++ map known_shown plan.periods.items }) newest plan.change
 
-abbrev Inside : Type 0
-Inside = List MediaItem × List Fact × ℕ × Tick
+      new_is : standing ≡ new
+      new_is = standing_is ∙ ap (λ ks. changed (record s { known = ks }) newest plan.change) known_is
 
-keeps_paired : (x y : LiveTrack) → inside_of x ≡ inside_of y → IsPaired y → IsPaired x
-keeps_paired x y same is =
-    let items = ap (λ (q : Inside). length q.0) same in
-    let facts = ap (λ (q : Inside). length q.1) same in
-    record { paired = omega (arith, items, facts, is.paired); some = omega (arith, facts, is.some); few = omega (arith, facts, is.few) }
+      common_is : common_shown new ≡ c
+      common_is =
+          let forces = newest_force newest s.newest s.opened in
+          let at = now_at coming now in
+          let instant = is.instant in
+          let published = is.published in
+          let seen = is.known in let resets = is.resets in cc
 
-keeps_written : (x y : LiveTrack) → inside_of x ≡ inside_of y → IsWritten y → IsWritten x
-keeps_written x y same is = record {
-  paired = omega (arith, ap (λ (q : Inside). length q.0) same, ap (λ (q : Inside). length q.1) same, is.paired);
-  dates = subst (λ (items : List MediaItem). All (λ (item : MediaItem). IsWritable item.date) items)
-      (sym (ap (λ (q : Inside). q.0) same)) is.dates;
-}
+      module _ (final : List LiveTrack) (paired : All AreSideBySide final) (same : map inside_of room ≡ map inside_of tracks)
+          (shown : map track_shown final ≡ map (trimmed standing) (grown (map track_shown room) news)) where
+        tracks_are : map track_shown final ≡ tracks_after c 0 state.tracks
+        tracks_are =
+            shown ∙ ap (λ x. map (trimmed x) (grown (map track_shown room) news)) new_is
+            ∙ ap (λ ts. map (trimmed new) (grown ts news)) (same_shown room tracks same) ∙ ap (map (trimmed new)) is.made.grown_is
+            ∙ subst (λ (k : Common). map (trimmed new) (tracks_grown k 0 state.tracks) ≡ tracks_after k 0 state.tracks) common_is
+            (trimmed_all new 0 state.tracks)
 
-keeps_numbered : (accepted : ℕ) (x y : LiveTrack) → inside_of x ≡ inside_of y → IsNumbered accepted y → IsNumbered accepted x
-keeps_numbered accepted x y same is = omega (arith, ap (λ (q : Inside). length q.0) same, ap (λ (q : Inside). q.2) same, is)
+        state_is : then ≡ state_shown new final
+        state_is =
+            ap (λ (ts : List Track). let x : State = record { common = c; tracks = ts } in x) (sym tracks_are)
+            ∙ ap (λ (k : Common). let x : State = record { common = k; tracks = map track_shown final } in x) (sym common_is)
 
-pub same_state : (s : Standing) (new old : List LiveTrack) → map inside_of new ≡ map inside_of old → state_shown s new ≡ state_shown s old
-same_state s new old is = ap (λ (tracks : List Track). state_by (common_shown s) tracks) (same_shown new old is)
+        pub taken : (count : ℕ) → count ≡ sum (map length news) → IsTaken state u count (state_shown standing final) before after
+        taken count counted = subst (λ (x : Standing). IsTaken state u count (state_shown x final) before after) (sym new_is)
+            (record {
+              next = next ∙ ap (λ (x : State). Ok x) state_is;
+              appended = counted ∙ is.made.numbered ∙ sym is.appended;
+              counted = is.made.counted ∙ ap (λ n. before + n) (sym is.appended);
+            })
 
-pub same_session : (s : Standing) (new old : List LiveTrack) → map inside_of new ≡ map inside_of old → IsSession s old → IsSession s new
-same_session s new old is session = record {
-  live = record {
-    sound = subst IsSound (sym (same_state s new old is)) session.live.sound;
-    stands = session.live.stands;
-    starts = session.live.starts;
-    resets = session.live.resets;
-    periods = session.live.periods;
-    accepted = session.live.accepted;
-    paired = inside_all IsPaired keeps_paired new old is session.live.paired;
-  };
-  readable = session.readable;
-  counted_first = session.counted_first;
-  target = session.target;
-  written = inside_all IsWritten keeps_written new old is session.written;
-  numbered = inside_all (IsNumbered s.accepted) (keeps_numbered s.accepted) new old is session.numbered;
-}
-
-pub side_by_side : (s : Standing) (tracks : List LiveTrack) → IsSession s tracks → All AreSideBySide tracks
-side_by_side s tracks session = All-weaker IsPaired AreSideBySide (λ x is. is.paired) tracks session.live.paired
+        pub session_after : SoundStatesGoOn → NumbersGoOn → IsSession standing final
+        session_after sound numbers = subst (λ (x : Standing). IsSession x final) (sym new_is) (record {
+          reached = subst IsReached state_is (record {
+            terms = session.reached.terms;
+            history = session.reached.history ++ u ∷ [];
+            shows = shows;
+            sound = sound state u then session.reached.sound next;
+            numbers = numbers state u then session.reached.sound session.reached.numbers next;
+            few = session.reached.few;
+            kept = kept;
+            dated = dated_after c 0 state.tracks
+                (subst (All AreDated) is.made.grown_is (grown_dated state.tracks news session.reached.dated is.made.dates));
+          });
+          paired = paired;
+          stands = subst (λ (k : Common). StandsAt (ids_of k.known) (ids_in k.force) plan.change.place) (sym common_is) is.stands;
+          starts = session.starts;
+          accepted = omega (arith, few_so_far);
+          readable = session.readable;
+          counted_first = session.counted_first;
+          target = session.target;
+        })

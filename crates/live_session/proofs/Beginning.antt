@@ -1,43 +1,36 @@
--- What a first MPD begins, and why it is refused.
-use Rattle.timeline.specs.declared.fault.ListFault.TheVariants as list_fault
-use Rattle.timeline.specs.declared.names.Names.TheVariants as names
+-- Why a first MPD is refused, and what it appends.
 use Rattle.presentation.specs.declared.fault.PresentationFault.TheVariants as presented
 use Rattle.live_judge.specs.declared.fault.RefreshFault.TheVariants as faults
-use Rattle.std.proofs.Common.{◌≡◌, ℕ, zero, suc, ◌+◌, ◌≤◌, ◌<◌, ℤ, Bool, true, false, not, nat_lt, ◌==◌, ◌&&◌, ◌||◌, List, [], ◌∷◌, ◌++◌}
-use Rattle.std.proofs.Common.{map, flat_map, length, sum, All, Option, Some, None, Result, Ok, Err, refl, sym, ◌∙◌, ap, subst, arith}
-use Rattle.std.proofs.{lemmas.Bool.{le-ltb, lt-ltb, ltb-false}, lemmas.List.Concat.length-flat_map, lemmas.List.Elements.All-nil}
-use Rattle.std.proofs.{lemmas.List.Elements.{All-cons, All-append, All-head}, lemmas.List.Sums.sum_by-cons}
-use Rattle.std.specs.{Prelude.{IfSome, slice_get, sum_by, if◌then◌else◌}, List.{list_any, range_with_len}, Option.option_map_or}
-use Rattle.bridge_io.specs.Firsts.{first_of}
-use Rattle.timeline.specs.{Expansions.{Timing, SegmentTimeline}, declared.fault.TimeFault.TimeFault, declared.window.Window.Window}
-use Rattle.timeline.specs.{Listed.{IsReached, answered_count, part_of_timing}, declared.names.RefPart.RefPart, declared.names.Names.Names}
-use Rattle.timeline.specs.Names.{listed_part, own_part, part_at, part_of, referred}
-use Rattle.template_ids.specs.Templates.{named}
-use Rattle.url_parts.specs.{Addresses.resolve, declared.fault.UrlFault.TheVariants.Refused, declared.address.Part.Part}
-use Rattle.url_parts.specs.{declared.fault.UrlFault.UrlFault, declared.range.Range.Range}
+use Rattle.std.proofs.Common.{◌≡◌, ℕ, zero, suc, ◌+◌, ◌-◌, ◌≤◌, ◌<◌, ℤ, Bool, true, false, not, nat_lt, ◌==◌, ◌&&◌, ◌||◌, List, [], ◌∷◌, ◌++◌}
+use Rattle.std.proofs.Common.{map, flat_map, filter, length, sum, All, Option, Some, None, Result, Ok, Err, refl, sym, ◌∙◌, ap, subst, arith}
+use Rattle.std.proofs.lemmas.{Bool.{le-ltb, lt-ltb, ltb-false}, List.{Concat.length-flat_map, Elements.{All-nil, All-cons, All-append}}}
+use Rattle.std.proofs.lemmas.{List.{Elements.All-head, Sums.{sum-map, sum_by-cons}, length-map, map-append}}
+use Rattle.std.specs.{Prelude.{IfSome, replicate, sum_by, if◌then◌else◌}, List.{list_any, range_with_len}, Option.option_map_or}
+use Rattle.bridge_io.specs.{Firsts.first_of}
+use Rattle.timeline.specs.{Expansions.Timing, declared.fault.TimeFault.TimeFault, declared.window.Window.Window}
+use Rattle.timeline.specs.Listed.{IsReached, answered_count}
 use Rattle.presentation.specs.{declared.fault.PresentationFault.PresentationFault, declared.parts.Content.Content, Counting.count_at}
 use Rattle.presentation.specs.Counting.{count_faults, count_of_all, count_of_track, counted, faults_of_count, is_long, is_over}
 use Rattle.presentation.specs.Counting.{limit_faults, listed_count, number_in, place_at, refusal, section_faults, sections_of, track_faults}
 use Rattle.presentation.specs.{Counting.{tracks_of, unless_any, whole_track_faults}, Presented.{Presented, content_at, is_finished}}
-use Rattle.presentation.specs.{Presented.{listed_at, listed_in, window_of}, Printing.IsCounted, Told.presented_of, Verifying.fault_at}
-use Rattle.presentation.specs.Verifying.{part_fault, part_faults, url_faults, url_faults_at, url_faults_of}
+use Rattle.presentation.specs.{Presented.{listed_at, listed_in, window_of}, Printing.IsCounted, Told.presented_of}
+use Rattle.presentation.specs.Verifying.{part_faults, url_faults, url_faults_at, url_faults_of}
 use Rattle.presentation.proofs.{Counts.{from_on, from_on-end, from_on-first}, Reached.{all_reached, none_later}}
-use Rattle.live_meaning.specs.{Updates.{Terms, Values}, Histories.{begun_common, begun_with}, States.shown, Refusals.NotDynamic}
-use Rattle.live_meaning.specs.Refusals.{Presentation, Refusal, Window as Windowed, begun_of, counts_listed, first_appended_by}
-use Rattle.live_meaning.specs.Refusals.{first_refusal_of, first_told_by, is_of_address, makes_segments, over_in_all, over_in_track, told_if}
-use Rattle.live_meaning.specs.Refusals.{window_told}
+use Rattle.live_meaning.specs.{Updates.{Terms, Values, unit_of}, Segments.{Segment, listed_of, listed_in_period}, States.{Track, new_count}}
+use Rattle.live_meaning.specs.{Histories.{Common, begun_common, begun_past, begun_with, numbering_of}, States.{shown, track_of}}
+use Rattle.live_meaning.specs.Refusals.{NotDynamic, Presentation, Refusal, Window as Windowed, begun_of, counts_listed, first_appended_by}
+use Rattle.live_meaning.specs.Refusals.{first_refusal_of, first_told_by, makes_segments, over_in_all, over_in_track, told_if, urls_in}
+use Rattle.live_meaning.specs.Refusals.{urls_told, window_told}
 use Rattle.live_judge.specs.{declared.fault.RefreshFault.RefreshFault, Faults.{Judges, Tells, of_presentation, told}}
 use Rattle.live_judge.proofs.Firsts.{none_told, told_first}
-use Rattle.live_session.specs.{Begun.first_judged, Making.IsNotMade, Sessions.CountsRefused}
+use Rattle.live_session.specs.{Begun.{IsUnbegun, empty_tracks, first_judged}, Growth.tracks_grown, Kept.empty_track, Making.AreUnmade}
+use Rattle.live_session.specs.Sessions.{CountsRefused}
+use Rattle.live_session.proofs.{Addresses.{all_flat, same_over, urls_make}, Refusing.{some_as, told_as}, Sections.filter_all}
 
 -- ---- faults of counts
 
 abbrev IsTold : PresentationFault → Type 0
 IsTold fault = refusal fault ≡ Some fault
-
-pub all_flat : {X Y : Type 0} (P : Y → Type 0) (f : X → List Y) (xs : List X) → ((x : X) → All P (f x)) → All P (flat_map f xs)
-all_flat P f [] each = All-nil P
-all_flat P f (x ∷ xs) each = All-append P (f x) (flat_map f xs) (each x) (all_flat P f xs each)
 
 all_if : (P : PresentationFault → Type 0) (b : Bool) (fault : PresentationFault) → P fault → All P (if b then fault ∷ [] else [])
 all_if P true fault is = All-cons P fault [] is (All-nil P)
@@ -189,109 +182,49 @@ none_too_many p t none end before =
     ∙ ap (λ ts. over_in_track (length p.tracks) (map (many p) ts)) (from_on-end (length p.tracks)))
     (all_within p none)
 
--- ---- addresses
+-- ---- tracks of which nothing was listed
 
-abbrev pub IsOfAddress : PresentationFault → Type 0
-IsOfAddress fault = is_of_address fault ≡ true
+filtered_none : (s t : ℕ) (xs : List Timing) (o : Option Content)
+    → option_map_or (λ content. part_faults content.runs s t (length xs - length (filter (λ (x : Timing). true) xs)) (filter (λ x. true) xs)) o []
+    ≡ option_map_or (λ content. part_faults content.runs s t 0 xs) o []
+filtered_none s t xs None = refl
+filtered_none s t xs (Some content) =
+    let all = filter_all xs in
+    let none : length xs - length (filter (λ (x : Timing). true) xs) ≡ 0 = omega (arith, ap (λ (ys : List Timing). length ys) all) in
+    rw (none, all) refl
 
-at_address : (s t k : ℕ) (range : Option Range) (r : Result (List ℕ) UrlFault) → All IsOfAddress (part_fault s t k (part_at range r))
-at_address s t k range (Ok address) = All-nil IsOfAddress
-at_address s t k range (Err fault) = All-cons IsOfAddress (fault_at s t k (list_fault.Url fault)) [] refl (All-nil IsOfAddress)
+made_many : (make : Content → Timing → Segment) (list : Content → List Timing) (o : Option Content)
+    → length (option_map_or (λ content. map (make content) (option_map_or list o [])) o []) ≡ length (option_map_or list o [])
+made_many make list None = refl
+made_many make list (Some content) = length-map (list content) (make content)
 
-listed_address : (s t k : ℕ) (base : List ℕ) (o : Option RefPart) → All IsOfAddress (part_fault s t k (listed_part base o))
-listed_address s t k base None = All-nil IsOfAddress
-listed_address s t k base (Some part) = at_address s t k part.range (referred base part.reference)
+module _ (c : Common) where
+  pub first_urls : (a n : ℕ) → urls_told c c.force a (replicate n empty_track) ≡ map Presentation (flat_map (url_faults_of c.force) (range_with_len a n))
+  first_urls a zero = refl
+  first_urls a (suc n) =
+      ap (λ fs. map Presentation fs ++ urls_told c c.force (a + 1) (replicate n empty_track))
+      (same_over (urls_in c c.force a empty_track) (url_faults_at c.force a) 0 (length c.force.sections)
+      (λ s low high. filtered_none s a (listed_at c.force s a) (content_at c.force s a)))
+      ∙ ap (λ rs. map Presentation (url_faults_of c.force a) ++ rs) (first_urls (a + 1) n)
+      ∙ sym (map-append Presentation (url_faults_of c.force a) (flat_map (url_faults_of c.force) (range_with_len (a + 1) n)))
 
-own_address : (s t k : ℕ) (o : Option Part) → All IsOfAddress (part_fault s t k (own_part o))
-own_address s t k None = All-cons IsOfAddress (fault_at s t k (list_fault.Url Refused)) [] refl (All-nil IsOfAddress)
-own_address s t k (Some part) = All-nil IsOfAddress
+  listed_all : (t : ℕ) → length (listed_of (numbering_of c) c.force t) ≡ many c.force t
+  listed_all t =
+      length-flat_map (listed_in_period (numbering_of c) c.force t) (sections_of c.force)
+      ∙ sums_alike (λ s. length (listed_in_period (numbering_of c) c.force t s)) (λ s. length (listed_at c.force s t)) 0 (length c.force.sections)
+      (λ s least within. made_many _ (λ content. listed_in (window_of c.force s) content.runs) (content_at c.force s t))
+      ∙ sym (length-flat_map (λ s. listed_at c.force s t) (sections_of c.force))
 
-name_address : (s t k : ℕ) (names : Names) (place number time : ℕ) → All IsOfAddress (part_fault s t k (part_of names place number time))
-name_address s t k (names.Template media id bandwidth base) place number time =
-    at_address s t k None (resolve base (named media (record { id = id; bandwidth = bandwidth; number = number; time = time })))
-name_address s t k (names.List parts base) place number time = listed_address s t k base (slice_get parts place)
-name_address s t k (names.Shared parts base) place number time = listed_address s t k base (slice_get parts place)
-name_address s t k (names.Addresses parts) place number time = own_address s t k (slice_get parts place)
+  pub first_count : (a n : ℕ) → new_count c a (replicate n empty_track) ≡ sum_by (many c.force) (range_with_len a n)
+  first_count a zero = refl
+  first_count a (suc n) = omega (arith, listed_all a, first_count (a + 1) n, sum_by-cons (many c.force) a (range_with_len (a + 1) n))
 
-pub parts_address : (timeline : SegmentTimeline) (s t k : ℕ) (xs : List Timing) → All IsOfAddress (part_faults timeline s t k xs)
-parts_address timeline s t k [] = All-nil IsOfAddress
-parts_address timeline s t k (x ∷ xs) =
-    All-append IsOfAddress (part_fault s t k (part_of_timing timeline x)) (part_faults timeline s t (k + 1) xs)
-    (name_address s t k timeline.names _ _ _) (parts_address timeline s t (k + 1) xs)
-
-content_address : (s t : ℕ) (xs : List Timing) (o : Option Content)
-    → All IsOfAddress (option_map_or (λ content. part_faults content.runs s t 0 xs) o [])
-content_address s t xs None = All-nil IsOfAddress
-content_address s t xs (Some content) = parts_address content.runs s t 0 xs
-
-all_address : (p : Presented) → All IsOfAddress (url_faults p)
-all_address p =
-    all_flat IsOfAddress (url_faults_of p) (tracks_of p)
-    (λ t. all_flat IsOfAddress (url_faults_at p t) (sections_of p) (λ s. content_address s t (listed_at p s t) (content_at p s t)))
-
-pub first_makes : (fs : List PresentationFault) → All IsOfAddress fs → makes_segments (first_of (map Presentation fs)) ≡ true
-first_makes [] all = refl
-first_makes (f ∷ fs) all = All-head IsOfAddress f fs all
-
-pub first_mapped : (fs : List PresentationFault) (f : PresentationFault) → slice_get fs 0 ≡ Some f
-    → first_of (map Presentation fs) ≡ Some (Presentation f)
-first_mapped [] f is = absurd (cc)
-first_mapped (g ∷ fs) f is = let same : g ≡ f = cc in ap (λ (x : PresentationFault). Some (Presentation x)) same
-
-pub address_of : (fs : List PresentationFault) (f : PresentationFault) → All IsOfAddress fs → slice_get fs 0 ≡ Some f
-    → is_of_address f ≡ true
-address_of [] f all is = absurd (cc)
-address_of (g ∷ fs) f all is = let same : g ≡ f = cc in subst IsOfAddress same (All-head IsOfAddress g fs all)
+  pub first_grown : (a n : ℕ)
+      → tracks_grown c a (replicate n empty_track) ≡ map (track_of (unit_of c.terms)) (map (begun_past c) (range_with_len a n))
+  first_grown a zero = refl
+  first_grown a (suc n) = ap (λ (ts : List Track). track_of (unit_of c.terms) (begun_past c a) ∷ ts) (first_grown (a + 1) n)
 
 -- ---- why a first MPD is refused
-
-pub told_as : (e : PresentationFault) (P : Refusal → Type 0) → IfSome (refusal e) (λ f. P (Presentation f))
-    → IfSome (told (of_presentation e)) P
-told_as presented.Memory P h = tt
-told_as (presented.PeriodsDiffer place) P h = h
-told_as presented.Limit P h = h
-told_as (presented.NoSegments section track) P h = h
-told_as (presented.Url f spot) P h = h
-told_as (presented.Template f place) P h = h
-told_as (presented.Timeline f place) P h = h
-told_as presented.NeedsNow P h = h
-
-pub counts_same : (n before after : ℕ) (e : RefreshFault) → after ≡ before → CountsRefused n before after e
-counts_same n before after faults.Memory same = (omega arith, omega arith)
-counts_same n before after (faults.Presentation (presented.Url f spot)) same = (omega arith, omega arith)
-counts_same n before after (faults.Presentation (presented.PeriodsDiffer place)) same = same
-counts_same n before after (faults.Presentation presented.Limit) same = same
-counts_same n before after (faults.Presentation (presented.NoSegments section track)) same = same
-counts_same n before after (faults.Presentation (presented.Template f place)) same = same
-counts_same n before after (faults.Presentation (presented.Timeline f place)) same = same
-counts_same n before after (faults.Presentation presented.NeedsNow) same = same
-counts_same n before after (faults.Presentation presented.Memory) same = same
-counts_same n before after (faults.ClockBack former now) same = same
-counts_same n before after (faults.Older former new) same = same
-counts_same n before after faults.Changed same = same
-counts_same n before after (faults.Moved section) same = same
-counts_same n before after (faults.Rewritten track kept new) same = same
-counts_same n before after (faults.Step track end start) same = same
-counts_same n before after (faults.LongSegment target printed) same = same
-counts_same n before after faults.NotDynamic same = same
-counts_same n before after faults.Ended same = same
-counts_same n before after (faults.Window track count) same = same
-counts_same n before after (faults.Uneven track first last) same = same
-
-pub counts_made : (n before after : ℕ) (e : PresentationFault) → before ≤ after → after ≤ before + n → IfSome (refusal e) IsOfAddress
-    → CountsRefused n before after (of_presentation e)
-counts_made n before after presented.Memory least most is = (least, most)
-counts_made n before after (presented.Url f spot) least most is = (least, most)
-counts_made n before after (presented.PeriodsDiffer place) least most is = absurd (cc)
-counts_made n before after presented.Limit least most is = absurd (cc)
-counts_made n before after (presented.NoSegments section track) least most is = absurd (cc)
-counts_made n before after (presented.Template f place) least most is = absurd (cc)
-counts_made n before after (presented.Timeline f place) least most is = absurd (cc)
-counts_made n before after presented.NeedsNow least most is = absurd (cc)
-
-pub some_as : {X : Type 0} (o : Option X) (P Q : X → Type 0) → ((x : X) → P x → Q x) → IfSome o P → IfSome o Q
-some_as None P Q f is = tt
-some_as (Some x) P Q f is = f x is
 
 module _ (terms : Terms) (mpd : Values) (now : ℤ) where
   begun_refused : (o : Option Refusal) → first_refusal_of terms mpd now ≡ o → IfSome o (λ r. begun_of terms mpd now ≡ Err r)
@@ -299,12 +232,12 @@ module _ (terms : Terms) (mpd : Values) (now : ℤ) where
   begun_refused None is = tt
   begun_refused (Some r) is = rw is refl
 
+  -- by its presentation
   refused_by : (fault : PresentationFault) → presented_of mpd terms.url (Some now) ≡ Err fault
       → first_refusal_of terms mpd now ≡ Some (Presentation fault)
   unfolding first_refusal_of
   refused_by fault is = ap (λ r. first_of (first_told_by mpd r)) is
 
-  -- by its presentation
   pub refused_presented : (e : PresentationFault) → IfSome (refusal e) (λ f. presented_of mpd terms.url (Some now) ≡ Err f)
       → IfSome (told (of_presentation e)) (λ r. begun_of terms mpd now ≡ Err r)
   refused_presented e refused =
@@ -313,6 +246,9 @@ module _ (terms : Terms) (mpd : Values) (now : ℤ) where
       (λ f is. begun_refused (Some (Presentation f)) (refused_by f is)) refused)
 
   module _ (p : Presented) (made : presented_of mpd terms.url (Some now) ≡ Ok p) where
+    abbrev c : Common
+    c = begun_common terms mpd now p
+
     refusal_is : first_refusal_of terms mpd now ≡ first_of (first_judged mpd p ++ map Presentation (url_faults p))
     unfolding first_refusal_of
     refusal_is = ap (λ r. first_of (first_told_by mpd r)) made
@@ -323,32 +259,29 @@ module _ (terms : Terms) (mpd : Values) (now : ℤ) where
         begun_refused (told e) (refusal_is ∙ (told_first e (first_judged mpd p) (map Presentation (url_faults p)) tells).0)
 
     module _ (none : first_judged mpd p ≡ []) where
-      refusal_left : first_refusal_of terms mpd now ≡ first_of (map Presentation (url_faults p))
+      refusal_left : first_refusal_of terms mpd now ≡ first_of (urls_told c p 0 (empty_tracks p))
       refusal_left = refusal_is ∙ ap (λ (rs : List Refusal). first_of (rs ++ map Presentation (url_faults p))) none
+          ∙ ap first_of (sym (first_urls c 0 (length p.tracks)))
 
-      pub appended : first_appended_by terms mpd now ≡ sum (counts_listed p)
+      pub appended : first_appended_by terms mpd now ≡ new_count c 0 (empty_tracks p)
       unfolding first_appended_by
       appended =
           let makes : makes_segments (first_refusal_of terms mpd now) ≡ true = ap makes_segments refusal_left
-          ∙ first_makes (url_faults p) (all_address p) in rw (made, makes) refl
+          ∙ urls_make c p 0 (empty_tracks p) in
+          let many_are : sum (counts_listed p) ≡ new_count c 0 (empty_tracks p) = sum-map (many p) (tracks_of p)
+          ∙ sym (first_count c 0 (length p.tracks)) in
+          rw (made, makes) many_are
 
       -- by that
-      pub refused_made : (e : PresentationFault) (before after : ℕ) → IsNotMade (url_faults p) (sum (counts_listed p)) e before after
-          → IfSome (told (of_presentation e)) (λ r. begun_of terms mpd now ≡ Err r)
-      refused_made e before after is =
-          told_as e (λ r. begun_of terms mpd now ≡ Err r)
-          (some_as (refusal e) (λ f. slice_get (url_faults p) 0 ≡ Some f) (λ f. begun_of terms mpd now ≡ Err (Presentation f))
-          (λ f at. begun_refused (Some (Presentation f)) (refusal_left ∙ first_mapped (url_faults p) f at)) is.refused)
+      pub refused_made : (e : RefreshFault) (before after : ℕ) → AreUnmade c (empty_tracks p) e before after
+          → IsUnbegun terms mpd now e before after
+      refused_made e before after is = record {
+        refused = some_as (told e) (λ r. first_of (urls_told c p 0 (empty_tracks p)) ≡ Some r) (λ r. begun_of terms mpd now ≡ Err r)
+            (λ r first. begun_refused (Some r) (refusal_left ∙ first)) is.refused;
+        counted = subst (λ n. CountsRefused n before after e) (sym appended) is.counted;
+      }
 
-      pub counted_made : (e : PresentationFault) (before after : ℕ) → IsNotMade (url_faults p) (sum (counts_listed p)) e before after
-          → CountsRefused (first_appended_by terms mpd now) before after (of_presentation e)
-      counted_made e before after is =
-          rw appended (counts_made (sum (counts_listed p)) before after e is.least is.most_made
-          (some_as (refusal e) (λ f. slice_get (url_faults p) 0 ≡ Some f) IsOfAddress
-          (λ f at. address_of (url_faults p) f (all_address p) at) is.refused))
-
-      pub gives_begun : url_faults p ≡ [] → begun_of terms mpd now ≡ Ok (shown (begun_with (begun_common terms mpd now p)))
+      pub gives_begun : urls_told c p 0 (empty_tracks p) ≡ [] → begun_of terms mpd now ≡ Ok (shown (begun_with c))
       unfolding begun_of
       gives_begun urls =
-          let accepted : first_refusal_of terms mpd now ≡ None = refusal_left ∙ ap (λ fs. first_of (map Presentation fs)) urls in
-          rw (accepted, made) refl
+          let accepted : first_refusal_of terms mpd now ≡ None = refusal_left ∙ ap first_of urls in rw (accepted, made) refl

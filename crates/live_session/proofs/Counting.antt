@@ -64,3 +64,8 @@ reset_at comes.Tick now = refl
 pub resets_at : (coming : Coming) (now : ℤ) (resets : ℕ)
     → resets_with resets (update_of coming (pos 0)) ≡ resets_with resets (update_of coming now)
 resets_at coming now resets = ap (λ b. if b then resets + 1 else resets) (reset_at coming now)
+
+pub resets_most : (coming : Coming) (resets : ℕ) → resets_with resets (update_of coming (pos 0)) ≤ resets + 1
+resets_most (comes.Refresh mpd) resets = omega arith
+resets_most (comes.Reset mpd) resets = omega arith
+resets_most comes.Tick resets = omega arith

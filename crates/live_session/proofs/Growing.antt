@@ -1,8 +1,8 @@
 -- Lists of tracks that are changed one after another.
-use Rattle.std.proofs.Common.{◌≡◌, ℕ, zero, suc, ◌+◌, ◌<◌, List, [], ◌∷◌, ◌++◌, map, length, take, drop, All, Some, refl, sym, ◌∙◌, ap}
+use Rattle.std.proofs.Common.{◌≡◌, ℕ, zero, suc, ◌+◌, ◌<◌, ◌≤◌, List, [], ◌∷◌, ◌++◌, map, length, take, drop, All, Some, refl, sym, ◌∙◌, ap}
 use Rattle.std.proofs.{Common.{subst, inl, inr, arith}, lemmas.Bool.cases_eq, lemmas.List.Elements.{All-cons, All-head, All-tail}}
-use Rattle.std.proofs.lemmas.Option.{same_Some}
-use Rattle.std.specs.Prelude.{slice_get, slice_set}
+use Rattle.std.proofs.lemmas.{Option.{same_Some, slice_get-get_or, slice_get-map}, List.{length-map, length-set, map-set}}
+use Rattle.std.specs.Prelude.{get_or, option_map, slice_get, slice_set}
 use Rattle.live_judge.specs.declared.track.LiveTrack.{LiveTrack}
 use Rattle.live_session.specs.{declared.made.MadeTrack.MadeTrack, Growth.{grown, inside_of}, Kept.{HasRoom, with_all}}
 use Rattle.live_meaning.specs.{Segments.Kept, States.Track}
@@ -22,20 +22,45 @@ length-grown (t ∷ ts) [] = refl
 length-grown (t ∷ ts) (n ∷ ns) = ap suc (length-grown ts ns)
 
 -- the first ones are changed
-pub changed_to : {X : Type 0} (f : X → X) (i : ℕ) (xs : List X) (x : X) → slice_get xs i ≡ Some x
+changed_to : {X : Type 0} (f : X → X) (i : ℕ) (xs : List X) (x : X) → slice_get xs i ≡ Some x
     → slice_set (map f (take i xs) ++ drop i xs) i (f x) ≡ map f (take (i + 1) xs) ++ drop (i + 1) xs
 changed_to f i [] x is = absurd (cc)
 changed_to f zero (y ∷ ys) x is = let e : x ≡ y = cc in ap (λ z. f z ∷ ys) e
 changed_to f (suc i) (y ∷ ys) x is = let e : suc i + 1 ≡ suc (i + 1) = omega arith in rw e (ap (λ zs. f y ∷ zs) (changed_to f i ys x is))
 
-pub get_changed : {X : Type 0} (f : X → X) (i : ℕ) (xs : List X) → slice_get (map f (take i xs) ++ drop i xs) i ≡ slice_get xs i
+get_changed : {X : Type 0} (f : X → X) (i : ℕ) (xs : List X) → slice_get (map f (take i xs) ++ drop i xs) i ≡ slice_get xs i
 get_changed f zero xs = refl
 get_changed f (suc i) [] = refl
 get_changed f (suc i) (y ∷ ys) = get_changed f i ys
 
-pub all_changed : {X : Type 0} (f : X → X) (xs : List X) → map f (take (length xs) xs) ++ drop (length xs) xs ≡ map f xs
-all_changed f [] = refl
-all_changed f (x ∷ xs) = ap (λ ys. f x ∷ ys) (all_changed f xs)
+all_changed : {X : Type 0} (f : X → X) (n : ℕ) (xs : List X) → length xs ≤ n → map f (take n xs) ++ drop n xs ≡ map f xs
+all_changed f zero [] least = refl
+all_changed f zero (x ∷ xs) least = absurd (omega arith)
+all_changed f (suc n) [] least = refl
+all_changed f (suc n) (x ∷ xs) least = ap (λ ys. f x ∷ ys) (all_changed f n xs (omega arith))
+
+module _ {X Y : Type 0} (show : X → Y) (f : Y → Y) (old : List X) where
+  -- those before a place are
+  pub record AreChanged (k : ℕ) (new : List X) : Type 0 where
+    pub many : length new ≡ length old
+    pub shown : map show new ≡ map f (take k (map show old)) ++ drop k (map show old)
+
+  module _ (k : ℕ) (new : List X) where
+    pub still_at : (x : X) → AreChanged k new → k < length new → x ≡ get_or new k x → slice_get (map show old) k ≡ Some (show x)
+    still_at x are within at =
+        sym (get_changed f k (map show old)) ∙ ap (λ ys. slice_get ys k) (sym are.shown) ∙ slice_get-map show new k
+        ∙ ap (option_map show) (slice_get-get_or new k x within ∙ ap Some (sym at))
+
+    pub changed_next : (x y : X) → AreChanged k new → k < length new → x ≡ get_or new k x → show y ≡ f (show x)
+        → AreChanged (k + 1) (slice_set new k y)
+    changed_next x y are within at is = record {
+      many = length-set new k y ∙ are.many;
+      shown = map-set show new k y ∙ ap (slice_set (map show new) k) is ∙ ap (λ ys. slice_set ys k (f (show x))) are.shown
+          ∙ changed_to f k (map show old) (show x) (still_at x are within at);
+    }
+
+    pub all_changes : AreChanged k new → length old ≤ k → map show new ≡ map f (map show old)
+    all_changes are least = are.shown ∙ all_changed f k (map show old) (omega (arith, length-map old show))
 
 -- ---- one of them is changed
 

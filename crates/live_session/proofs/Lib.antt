@@ -12,14 +12,12 @@ pub mod Told
 pub mod TrackMaking
 pub mod Trimming
 pub mod Beginning
-pub mod FirstTracks
 pub mod Started
 pub mod Accepting
 pub mod Counting
-pub mod Following
 pub mod Joining
 pub mod Knowing
-pub mod Limits
+pub mod Lists
 pub mod NewTracks
 pub mod Planning
 pub mod Presenting

@@ -1,15 +1,32 @@
 -- The playlist of a track by what is written of its segments.
-use Rattle.std.proofs.{Common.{◌≡◌, List, [], ◌∷◌, ◌++◌, map, length, All, Some, None, refl, ap, arith}, lemmas.List.Elements.All-tail}
+use Rattle.std.proofs.Common.{◌≡◌, List, [], ◌∷◌, ◌++◌, map, length, All, Some, None, refl, sym, ◌∙◌, ap, arith}
+use Rattle.std.proofs.lemmas.List.Elements.{All-cons, All-head, All-nil, All-tail}
 use Rattle.std.specs.Prelude.{slice_get}
-use Rattle.hls_writer.specs.{declared.items.MediaItem.MediaItem, Items.item_of, Playlists.Item}
-use Rattle.live_meaning.specs.Playlists.{first_section, item_of as item_shown}
-use Rattle.live_judge.specs.{declared.track.Fact.Fact, Shown.kepts_of}
+use Rattle.iso_time.specs.Instant.{IsWritable}
+use Rattle.hls_writer.specs.{declared.items.MediaHead.MediaHead, declared.items.MediaItem.MediaItem, Items.{head_of, item_of, items_text}}
+use Rattle.hls_writer.specs.Playlists.{Item, followed_text}
+use Rattle.live_meaning.specs.Playlists.{FollowedPlaylist, first_section, item_of as item_shown, live_text}
+use Rattle.live_judge.specs.{declared.track.Fact.Fact, Shown.{kept_of, kepts_of}}
+use Rattle.live_session.specs.Written.{IsDated}
 
 pub items_are : (items : List MediaItem) (facts : List Fact) → length items ≡ length facts
     → map item_shown (kepts_of items facts) ≡ map item_of items
 items_are [] facts same = refl
 items_are (i ∷ items) [] same = absurd (omega arith)
 items_are (i ∷ items) (f ∷ facts) same = ap (λ (xs : List Item). item_of i ∷ xs) (items_are items facts (omega arith))
+
+pub text_is : (head : MediaHead) (items : List MediaItem) (facts : List Fact) (playlist : FollowedPlaylist) → length items ≡ length facts
+    → head_of head ≡ playlist.head → map item_shown (kepts_of items facts) ≡ playlist.items → items_text head items ≡ live_text playlist
+text_is head items facts playlist same first rest =
+    ap (λ h. followed_text h (map item_of items)) first ∙ ap (followed_text playlist.head) (sym (items_are items facts same) ∙ rest)
+
+pub items_dated : (items : List MediaItem) (facts : List Fact) → length items ≡ length facts → All IsDated (kepts_of items facts)
+    → All (λ (item : MediaItem). IsWritable item.date) items
+items_dated [] facts same all = All-nil (λ (item : MediaItem). IsWritable item.date)
+items_dated (i ∷ items) [] same all = absurd (omega arith)
+items_dated (i ∷ items) (f ∷ facts) same all =
+    All-cons (λ (item : MediaItem). IsWritable item.date) i items (All-head IsDated (kept_of i f) (kepts_of items facts) all)
+    (items_dated items facts (omega arith) (All-tail IsDated (kept_of i f) (kepts_of items facts) all))
 
 pub first_there : (items : List MediaItem) (facts : List Fact) (item : MediaItem) → length items ≡ length facts
     → slice_get items 0 ≡ Some item → item.section ≡ first_section (kepts_of items facts)
@@ -24,3 +41,7 @@ first_none (i ∷ items) facts none = absurd (cc)
 pub all_behind : {X : Type 0} (P : X → Type 0) (xs ys : List X) → All P (xs ++ ys) → All P ys
 all_behind P [] ys all = all
 all_behind P (x ∷ xs) ys all = all_behind P xs ys (All-tail P x (xs ++ ys) all)
+
+pub all_before : {X : Type 0} (P : X → Type 0) (xs ys : List X) → All P (xs ++ ys) → All P xs
+all_before P [] ys all = All-nil P
+all_before P (x ∷ xs) ys all = All-cons P x xs (All-head P x (xs ++ ys) all) (all_before P xs ys (All-tail P x (xs ++ ys) all))

@@ -5,7 +5,6 @@ use Rattle.std.proofs.{Common.{sym, ◌∙◌, ap, subst, arith, append_assoc}, 
 use Rattle.std.proofs.{lemmas.List.map-append, lemmas.List.Elements.All-push}
 use Rattle.std.specs.{Prelude.{false, option_map, slice_get, IfSome, IsSome}, Result.result_unwrap_or, Option.option_map_or}
 use Rattle.exact_time.specs.Rounding.{Rounding, differences}
-use Rattle.iso_time.specs.Instant.{IsWritable}
 use Rattle.url_parts.specs.declared.address.Part.{Part}
 use Rattle.timeline.specs.{declared.window.Window.Window, declared.fault.ListFault.ListFault, Expansions.{SegmentTimeline, Timing}}
 use Rattle.timeline.specs.{declared.fault.TimeFault.TimeFault, Listed.{IsReached, answered_count, is_out_of_range, part_of_timing}}
@@ -20,6 +19,7 @@ use Rattle.live_judge.specs.declared.track.LastKept.{LastKept}
 use Rattle.live_session.specs.{declared.made.Made.Made, declared.maker.Maker.Maker, declared.maker.Section.Section, Made.all_made}
 use Rattle.live_session.specs.{Made.{kept_as, made_kept}, Making.{IsKeptNext, IsMadeBehind, IsNotMade, IsRefused, IsSection}}
 use Rattle.live_session.specs.{Making.{IsSectionMakeable, StandsBefore, behind_in, end_in, number_of}, New.{faults_by, left_to_make}}
+use Rattle.live_session.specs.Written.{IsDated}
 use Rattle.live_session.specs.New.{later_listed, new_faults_in, new_in, new_timings, numbers_of, segments_in, shown_by, track_at}
 use Rattle.live_session.proofs.{Told.{kept_at, segment_at, told_there}, Sections.times_are}
 
@@ -50,7 +50,7 @@ pub record SoFar (m : Maker) (s t : ℕ) (last : Option LastKept) (listed : ℕ)
   pub faults : new_faults_in (shown_by m) m.place (track_at last) t s ≡ part_faults content.runs s t (listed + k) (times_of left.left)
   pub number : k + length left.left ≡ length (new_in (numbers_of m) (shown_by m) m.place (track_at last) t s)
   pub counted : after ≡ before + k
-  pub dates : All (λ x. IsWritable x.segment.value.date) old → All (λ x. IsWritable x.segment.value.date) made
+  pub dates : All IsDated old → All IsDated made
 
 module _ (m : Maker) (s t : ℕ) (last : Option LastKept) (content : Content) (is : content_at (shown_by m) s t ≡ Some content)
     (reached : IfSome last (λ l. l.place ≤ m.place + s)) where
@@ -143,8 +143,8 @@ next_made meant m s t last listed content old made left new k before mid after n
       number = omega (arith, so_far.number, ap (λ ys. length ys) is.next);
       counted = omega (arith, so_far.counted, is.counted);
       dates = λ d. rw pushed
-          (All-push (λ q. IsWritable q.segment.value.date) (all_made made) (at x) (so_far.dates d)
-          (subst (λ (q : Kept). IsWritable q.segment.value.date) kept_is is.writable));
+          (All-push IsDated (all_made made) (at x) (so_far.dates d)
+          (subst IsDated kept_is is.writable));
     }
 
 -- none is left

@@ -1,155 +1,137 @@
 -- What is planned of an update, and why it is refused.
-use Rattle.live_judge.specs.declared.coming.Coming.TheVariants as comes
-use Rattle.live_judge.specs.declared.fault.RefreshFault.TheVariants as fault
-use Rattle.std.proofs.Common.{◌≡◌, false, true, ℕ, ◌+◌, ◌-◌, ◌<◌, ◌≤◌, ℤ, pos, List, [], ◌∷◌, ◌++◌, map, length, sum, Some, None, Result}
-use Rattle.std.proofs.Common.{Ok, Err, refl, sym, ◌∙◌, ap, subst, inl, inr, arith}
-use Rattle.std.specs.{Prelude.{IfSome, MatchResult, unwrap_or}, List.range_with_len}
+use Rattle.std.proofs.Common.{◌≡◌, false, true, ℕ, ◌+◌, ◌-◌, ℤ, List, [], ◌∷◌, ◌++◌, map, length, None, Result, Ok, Err, refl, sym, ◌∙◌}
+use Rattle.std.proofs.Common.{ap, subst, inl, inr, arith}
+use Rattle.std.specs.{Prelude.{MatchResult}, List.range_with_len}
 use Rattle.bridge_io.specs.Firsts.{first_of}
 use Rattle.presentation.specs.{Counting.range_faults, Presented.{Presented, is_finished, looked_at}}
 use Rattle.presentation.proofs.{Ending.none_behind, Reached.none_first}
-use Rattle.live_meaning.specs.{Updates.{Update, is_reset, mpd_of, now_of}, Known.{ids_of, known_at, known_with}, Histories.Common}
-use Rattle.live_meaning.specs.{Histories.{common_with, published_by}, States.{State, new_count}, Refusals.{Ended, Presentation}}
-use Rattle.live_meaning.specs.Refusals.{appended_by, clock_told, counts_kept, ended_told, ids_in, joint_told, long_told, makes_segments}
-use Rattle.live_meaning.specs.Refusals.{mpd_told, urls_told, window_told}
-use Rattle.live_judge.specs.{declared.coming.Coming.Coming, declared.coming.Next.Next, declared.fault.RefreshFault.RefreshFault}
-use Rattle.live_judge.specs.{declared.standing.Standing.Standing, declared.track.LiveTrack.LiveTrack, Coming.{IsJoined, IsNext, timed_told}}
-use Rattle.live_judge.specs.{Coming.{told_before, update_of}, Faults.{Tells, told}, Known.{StandsAt, known_shown}, Shown.common_shown}
-use Rattle.live_judge.specs.Shown.{in_force, state_shown, track_shown}
+use Rattle.live_meaning.specs.{Updates.{Update, is_reset, mpd_of, now_of}, Known.{ids_of, known_at}, Histories.published_by, States.State}
+use Rattle.live_meaning.specs.Refusals.{Ended, Presentation, appended_by, clock_told, counts_kept, ended_told, ids_in, joint_told, long_told}
+use Rattle.live_meaning.specs.Refusals.{makes_segments, mpd_told, urls_told, window_told}
 use Rattle.live_meaning.proofs.Allowed.{told_none}
+use Rattle.live_judge.specs.{declared.coming.Coming.Coming, declared.coming.Next.Next, declared.fault.RefreshFault.RefreshFault}
+use Rattle.live_judge.specs.{declared.standing.Standing.Standing, declared.track.LiveTrack.LiveTrack, Known.{StandsAt, known_shown}}
+use Rattle.live_judge.specs.{Coming.{IsJoined, IsNext, coming_of, p_of, timed_told, told_before, update_of}, Faults.Tells}
+use Rattle.live_judge.specs.Shown.{common_shown, in_force, state_shown}
 use Rattle.live_judge.proofs.Listing.{mpd_at}
-use Rattle.live_session.specs.{declared.change.Plan.Plan, Changes.{AreUnmade, IsPlan, IsPresented, IsPlanOf, IsRefused, IsUnplanned}}
-use Rattle.live_session.specs.{Changes.{first_new, new_in_all, resets_with, tracks_grown}, Growth.grown, Making.all_kept}
-use Rattle.live_session.specs.Sessions.{CountsRefused}
-use Rattle.live_session.proofs.{Counting.resets_at, Knowing.{comes_same, known_are, seen as seen_all}, NewTracks.urls_make}
-use Rattle.live_session.proofs.Refusing.{accepted_made, appended_new, refused_judged, refused_made, refused_wanting}
+use Rattle.live_session.specs.{declared.change.Plan.Plan, Changes.{IsPlan, IsPlanOf, IsPresented, IsRefused, IsUnplanned, first_new, new_in_all}}
+use Rattle.live_session.specs.Changes.{shown_in}
+use Rattle.live_session.proofs.{Counting.resets_at, Knowing.{comes_same, known_are, seen as seen_all}, Addresses.urls_make}
+use Rattle.live_session.proofs.Refusing.{appended_new, now_at, refused_early, refused_judged, refused_made, refused_there, refused_wanting}
 
 none_mapped : {X Y : Type 0} (f : X → Y) (xs : List X) → map f xs ≡ [] → xs ≡ []
 none_mapped f [] none = refl
 none_mapped f (x ∷ xs) none = absurd (cc)
 
-pub now_at : (coming : Coming) (now : ℤ) → now_of (update_of coming now) ≡ now
-now_at (comes.Refresh mpd) now = refl
-now_at (comes.Reset mpd) now = refl
-now_at comes.Tick now = refl
+abbrev IsTimely : Standing → ℤ → Type 0
+IsTimely s now = ended_told (common_shown s) ++ clock_told (common_shown s) now ≡ []
 
-module _ (s : Standing) (tracks : List LiveTrack) (coming : Coming) (force : Presented) (now : ℤ)
-    (timely : ended_told (common_shown s) ++ clock_told (common_shown s) now ≡ []) (presented : IsPresented s coming now force) where
-  abbrev u : Update
-  u = update_of coming now
+abbrev IsJudged : Standing → List LiveTrack → Coming → Presented → ℤ → Type 0
+IsJudged s tracks coming force now = told_before (state_shown s tracks) (update_of coming now) (looked_at now force) ≡ []
 
-  abbrev p : Presented
-  p = looked_at now force
+pub unended : (s : Standing) (now : ℤ) → IsTimely s now → is_finished (in_force s) ≡ false
+unended s now timely = told_none (is_finished (in_force s)) Ended (none_first (ended_told (common_shown s)) (clock_told (common_shown s) now) timely)
 
+pub timely_there : (s : Standing) (coming : Coming) (now : ℤ) → IsTimely s now
+    → ended_told (common_shown s) ++ clock_told (common_shown s) (now_of (update_of coming now)) ≡ []
+timely_there s coming now timely = ap (λ i. ended_told (common_shown s) ++ clock_told (common_shown s) i) (now_at coming now) ∙ timely
+
+pub refused_now : (s : Standing) (tracks : List LiveTrack) (coming : Coming) (now : ℤ) (e : RefreshFault) (steps : ℕ)
+    → Tells e (ended_told (common_shown s) ++ clock_told (common_shown s) now)
+    → IsRefused (state_shown s tracks) (update_of coming now) e steps steps
+refused_now s tracks coming now e steps tells =
+    refused_early (state_shown s tracks) (update_of coming now) steps steps e
+    (subst (λ i. Tells e (ended_told (common_shown s) ++ clock_told (common_shown s) i)) (sym (now_at coming now)) tells) refl
+
+pub judged_refused : (s : Standing) (tracks : List LiveTrack) (coming : Coming) (force : Presented) (now : ℤ) → IsTimely s now
+    → IsPresented s coming now force → (e : RefreshFault) (before : ℕ)
+    → Tells e (told_before (state_shown s tracks) (update_of coming now) (looked_at now force))
+    → IsRefused (state_shown s tracks) (update_of coming now) e before before
+judged_refused s tracks coming force now timely presented e before tells =
+    refused_judged (state_shown s tracks) (update_of coming now) before before (timely_there s coming now timely) (looked_at now force)
+    presented.forced e tells refl
+
+-- ---- as it is judged
+
+module _ (n : Next) where
   abbrev state : State
-  state = state_shown s tracks
+  state = state_shown n.standing.now n.tracks.now
 
-  abbrev c : Common
-  c = common_with state.common u p
+  abbrev u : Update
+  u = update_of n.coming n.now
 
-  none : ended_told state.common ++ clock_told state.common (now_of u) ≡ []
-  none = ap (λ i. ended_told state.common ++ clock_told state.common i) (now_at coming now) ∙ timely
+  joined_own : IsJudged n.standing.now n.tracks.now n.coming n.force.now n.now → IsJoined n
+  joined_own judged =
+      let c = coming_of n in
+      none_first (joint_told (is_reset u) c (shown_in n)) (long_told c 0 (shown_in n))
+      (none_first (joint_told (is_reset u) c (shown_in n) ++ long_told c 0 (shown_in n)) (window_told (counts_kept c 0 (shown_in n)))
+      (none_behind (map Presentation (range_faults (p_of n)) ++ mpd_told state (mpd_of u) (p_of n)) (timed_told (is_reset u) c (shown_in n))
+      judged))
 
-  pub unended : is_finished (in_force s) ≡ false
-  unended = told_none (is_finished (in_force s)) Ended (none_first (ended_told (common_shown s)) (clock_told (common_shown s) now) timely)
+  module _ (is : IsNext n) (timely : IsTimely n.standing.now n.now) (presented : IsPresented n.standing.now n.coming n.now n.force.now)
+      (judged : IsJudged n.standing.now n.tracks.now n.coming n.force.now n.now) (before after : ℕ) where
+    none : ended_told state.common ++ clock_told state.common (now_of u) ≡ []
+    none = timely_there n.standing.now n.coming n.now timely
 
-  pub judged_refused : (e : RefreshFault) (before : ℕ) → Tells e (told_before state u p) → IsRefused state u e before before
-  judged_refused e before tells = refused_judged state u before before none p presented.forced e tells refl
+    makes : makes_segments (first_of (urls_told (coming_of n) (p_of n) 0 (shown_in n))) ≡ true
+    makes = urls_make (coming_of n) (p_of n) 0 (shown_in n)
 
-  module _ (n : Next) (is : IsNext n) (judged : told_before state u p ≡ [])
-      (of_s : n.standing.now ≡ s) (of_tracks : n.tracks.now ≡ tracks) (of_coming : n.coming ≡ coming) (of_force : n.force.now ≡ force)
-      (of_now : n.now ≡ now) where
-    -- what holds of the parts of one holds of those of the other
-    move : (F : Standing → List LiveTrack → Coming → Presented → ℤ → Type 0) → F n.standing.now n.tracks.now n.coming n.force.now n.now
-        → F s tracks coming force now
-    move F has =
-        subst (λ x. F s tracks coming force x) of_now
-        (subst (λ x. F s tracks coming x n.now) of_force (subst (λ x. F s tracks x n.force.now n.now) of_coming
-        (subst (λ x. F s x n.coming n.force.now n.now) of_tracks (subst (λ x. F x n.tracks.now n.coming n.force.now n.now) of_s has))))
-
-    back : (F : Standing → List LiveTrack → Coming → Presented → ℤ → Type 0) → F s tracks coming force now
-        → F n.standing.now n.tracks.now n.coming n.force.now n.now
-    back F has =
-        subst (λ x. F x n.tracks.now n.coming n.force.now n.now) (sym of_s)
-        (subst (λ x. F s x n.coming n.force.now n.now) (sym of_tracks) (subst (λ x. F s tracks x n.force.now n.now) (sym of_coming)
-        (subst (λ x. F s tracks coming x n.now) (sym of_force) (subst (λ x. F s tracks coming force x) (sym of_now) has))))
-
-    abbrev common_at : Standing → Coming → Presented → ℤ → Common
-    common_at s t f i = common_with (common_shown s) (update_of t i) (looked_at i f)
-
-    pub joined : IsJoined n
-    joined = back (λ s ts t f i. joint_told (is_reset (update_of t i)) (common_at s t f i) (map track_shown ts) ≡ [])
-        (none_first (joint_told (is_reset u) c state.tracks) (long_told c 0 state.tracks)
-        (none_first (joint_told (is_reset u) c state.tracks ++ long_told c 0 state.tracks) (window_told (counts_kept c 0 state.tracks))
-        (none_behind (map Presentation (range_faults p) ++ mpd_told state (mpd_of u) p) (timed_told (is_reset u) c state.tracks) judged)))
-
-    makes : makes_segments (first_of (urls_told c p 0 state.tracks)) ≡ true
-    makes = move (λ s ts t f i. makes_segments (first_of (urls_told (common_at s t f i) (looked_at i f) 0 (map track_shown ts))) ≡ true)
-        (urls_make n is)
-
-    unmade_refused : (e : RefreshFault) (before after : ℕ) → AreUnmade n e before after → IsRefused state u e before after
-    unmade_refused e before after are =
-        refused_made state u before after none p presented.forced judged makes e
-        (move (λ s ts t f i. IfSome (told e)
-        (λ r. first_of (urls_told (common_at s t f i) (looked_at i f) 0 (map track_shown ts)) ≡ Some r)) are.refused)
-        (move (λ s ts t f i. 0 < new_count (common_at s t f i) 0 (map track_shown ts)) are.some)
-        (move (λ s ts t f i. CountsRefused (new_count (common_at s t f i) 0 (map track_shown ts)) before after e) are.counted)
+    appended : appended_by state u ≡ new_in_all n
+    appended = appended_new state u before after none (p_of n) presented.forced judged makes
 
     -- an instant alone brings no Period
-    seen_at : mpd_of u ≡ None → length (n.standing.now).known - n.place ≡ length (n.force.now).sections
-    seen_at none = seen_all n is (back (λ s ts t f i. f ≡ unwrap_or s.newest s.opened)
-        (comes_same s coming force now now presented.comes none))
+    seen_at : mpd_of u ≡ None → first_new n ≡ length (n.force.now).sections
+    seen_at tick = seen_all n is (comes_same n.standing.now n.coming n.force.now n.now n.now presented.comes tick)
 
-    module _ (before after : ℕ) where
-      appended : appended_by state u ≡ new_count c 0 state.tracks
-      appended = appended_new state u before after none p presented.forced judged makes
+    unplanned_refused : (e : RefreshFault) → IsUnplanned n e before after → IsRefused state u e before after
+    unplanned_refused e (inl are) =
+        refused_made state u before after none (p_of n) presented.forced judged makes e are.unmade.refused are.some are.unmade.counted
+    unplanned_refused e (inr (memory, many, never)) =
+        subst (λ x. IsRefused state u x before after) (sym memory)
+        (refused_wanting state u before after (many ∙ ap (λ k. before + k) (sym appended)) (λ tick _. never (seen_at tick)))
 
-      counted : after ≡ before + new_in_all n → after ≡ before + appended_by state u
-      counted many = move (λ s ts t f i. after ≡ before + new_count (common_at s t f i) 0 (map track_shown ts)) many
-          ∙ ap (λ k. before + k) (sym appended)
+    plan_is : (plan : Plan) → IsPlanOf n plan before after → IsPlan n.standing.now n.tracks.now n.coming n.now n.force.now plan before after
+    plan_is plan has = record {
+      forced = presented.forced;
+      accepted = refused_there state u before after none (p_of n) presented.forced judged makes ∙ ap first_of has.made.made.urls;
+      known = known_are n is (map known_shown plan.periods.items) has.periods;
+      stands = subst (λ k. StandsAt (ids_of (coming_of n).known) (ids_in (p_of n)) k) (sym has.place) is.stands;
+      published = has.published ∙ ap (published_by (n.standing.now).published) (sym (mpd_at n.coming n.now));
+      instant = has.instant;
+      resets = has.resets ∙ resets_at n.coming n.now (n.standing.now).resets;
+      made = has.made.made;
+      many = has.made.many;
+      appended = appended;
+      unmade = has.made.none;
+      seen = λ tick. none_mapped known_shown plan.periods.items
+          (has.periods ∙ (let left : length (n.force.now).sections - first_new n ≡ 0 = omega (arith, seen_at tick) in
+          ap (λ k. map (known_at n.force.now) (range_with_len (first_new n) k)) left));
+    }
 
-      wanting : (e : RefreshFault) → e ≡ fault.Memory → after ≡ before + new_in_all n → (first_new n ≡ length (n.force.now).sections → ⊥)
-          → IsRefused state u e before after
-      wanting e memory many never =
-          subst (λ x. IsRefused state u x before after) (sym memory)
-          (refused_wanting state u before after (counted many) (λ tick _. never (seen_at tick)))
+    planned_own : (r : Result Plan RefreshFault)
+        → MatchResult r (λ plan. IsPlanOf n plan before after) (λ e. IsUnplanned n e before after)
+        → MatchResult r (λ plan. IsPlan n.standing.now n.tracks.now n.coming n.now n.force.now plan before after)
+        (λ e. IsRefused state u e before after)
+    planned_own (Ok plan) has = plan_is plan has
+    planned_own (Err e) has = unplanned_refused e has
 
-      unplanned_refused : (e : RefreshFault) → IsUnplanned n e before after → IsRefused state u e before after
-      unplanned_refused e (inl unmade) = unmade_refused e before after unmade
-      unplanned_refused e (inr (memory, many, never)) = wanting e memory many never
+-- ---- the same of the arguments
 
-      plan_is : (plan : Plan) → IsPlanOf n plan before after → IsPlan s tracks u now p plan before after
-      plan_is plan has =
-          let are = has.made in
-          record {
-            forced = presented.forced;
-            accepted = accepted_made state u before after none p presented.forced judged makes
-                (move (λ s ts t f i. urls_told (common_at s t f i) (looked_at i f) 0 (map track_shown ts) ≡ []) are.urls);
-            known = move (λ s ts t f i. s.known ++ map known_shown plan.periods.items ≡ known_with s.known (looked_at i f))
-                (known_are n is (map known_shown plan.periods.items) has.periods);
-            stands = subst (λ k. StandsAt (ids_of (known_with s.known p)) (ids_in p) k) (sym has.place)
-                (move (λ s ts t f i. StandsAt (ids_of (known_with s.known (looked_at i f))) (ids_in (looked_at i f)) n.place) is.stands);
-            few = move (λ s ts t f i. length f.sections ≤ 1000) is.few;
-            published = move (λ s ts t f i. plan.change.published ≡ published_by s.published
-                (mpd_of (update_of t (pos 0)))) has.published ∙ ap (published_by s.published) (sym (mpd_at coming now));
-            instant = has.instant ∙ of_now;
-            resets = move (λ s ts t f i. plan.change.resets ≡ resets_with s.resets (update_of t (pos 0))) has.resets
-                ∙ resets_at coming now s.resets;
-            many = move (λ s ts t f i. length plan.made.items ≤ length ts) are.many;
-            grown_is = move (λ s ts t f i. grown (map track_shown ts) (all_kept plan.made.items) ≡ tracks_grown (common_at s t f i) 0
-                (map track_shown ts)) are.grown_is;
-            numbered = move (λ s ts t f i. sum (map length (all_kept plan.made.items)) ≡ new_count (common_at s t f i) 0
-                (map track_shown ts)) are.numbered ∙ sym appended;
-            dates = are.dates;
-            unmade = λ nothing. are.none (back (λ s ts t f i. new_count (common_at s t f i) 0 (map track_shown ts) ≡ 0)
-                (sym appended ∙ nothing));
-            seen = λ tick. none_mapped known_shown plan.periods.items
-                (has.periods ∙ (let left : length (n.force.now).sections - first_new n ≡ 0 = omega (arith, seen_at tick) in
-                ap (λ k. map (known_at n.force.now) (range_with_len (first_new n) k)) left));
-            counted = counted are.counted;
-          }
+module _ (n : Next) (s : Standing) (tracks : List LiveTrack) (coming : Coming) (force : Presented) (now : ℤ) (of_s : n.standing.now ≡ s)
+    (of_tracks : n.tracks.now ≡ tracks) (of_coming : n.coming ≡ coming) (of_force : n.force.now ≡ force) (of_now : n.now ≡ now) where
+  move : (F : Standing → List LiveTrack → Coming → Presented → ℤ → Type 0) → F n.standing.now n.tracks.now n.coming n.force.now n.now
+      → F s tracks coming force now
+  move F has = rw (← of_s, ← of_tracks, ← of_coming, ← of_force, ← of_now) has
 
-      pub planned : (r : Result Plan RefreshFault)
-          → MatchResult r (λ plan. IsPlanOf n plan before after) (λ e. IsUnplanned n e before after)
-          → MatchResult r (λ plan. IsPlan s tracks u now p plan before after) (λ e. IsRefused state u e before after)
-      planned (Ok plan) has = plan_is plan has
-      planned (Err e) has = unplanned_refused e has
+  pub joined : IsJudged s tracks coming force now → IsJoined n
+  joined = move (λ s ts t f i. IsJudged s ts t f i → IsJoined n) (joined_own n)
+
+  pub planned : IsNext n → IsTimely s now → IsPresented s coming now force → IsJudged s tracks coming force now
+      → (before after : ℕ) (r : Result Plan RefreshFault)
+      → MatchResult r (λ plan. IsPlanOf n plan before after) (λ e. IsUnplanned n e before after)
+      → MatchResult r (λ plan. IsPlan s tracks coming now force plan before after)
+      (λ e. IsRefused (state_shown s tracks) (update_of coming now) e before after)
+  planned is timely presented judged before after r has =
+      move (λ s ts t f i. IsTimely s i → IsPresented s t i f → IsJudged s ts t f i
+      → MatchResult r (λ plan. IsPlan s ts t i f plan before after) (λ e. IsRefused (state_shown s ts) (update_of t i) e before after))
+      (λ timely presented judged. planned_own n is timely presented judged before after r has) timely presented judged

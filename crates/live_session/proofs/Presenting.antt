@@ -9,7 +9,7 @@ use Rattle.live_meaning.specs.{Updates.{Values, mpd_of}, Histories.force_by, Ref
 use Rattle.live_judge.specs.{declared.coming.Coming.Coming, declared.standing.Standing.Standing, Coming.update_of, Faults.of_presentation}
 use Rattle.live_judge.specs.{Faults.told, Shown.{common_shown, in_force}}
 use Rattle.live_session.specs.Changes.{IsPresented, IsUnpresented, force_of}
-use Rattle.live_session.proofs.Beginning.{some_as, told_as}
+use Rattle.live_session.proofs.Refusing.{some_as, told_as}
 
 -- ---- looked at at another instant
 

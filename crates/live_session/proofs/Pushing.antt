@@ -111,6 +111,10 @@ grown unit track (x ∷ xs) =
     ∙ ap (λ (ks : List Kept). made ks track.first (last_behind (Some (last_with track.last x)) xs) (place_behind x.value.place xs))
     (append_assoc track.kept (k ∷ []) (told_behind unit (Some (last_with track.last x)) xs))
 
+pub kept_with : (track : Track) (ks : List Kept) → (with_all track ks).kept ≡ track.kept ++ ks
+kept_with track [] = sym (append-nil track.kept)
+kept_with track (k ∷ ks) = kept_with (with_kept track k) ks ∙ append_assoc track.kept (k ∷ []) ks
+
 -- ---- without the front
 
 get_drop : {X : Type 0} (n m : ℕ) (xs : List X) → slice_get (drop n xs) m ≡ slice_get xs (n + m)

@@ -1,20 +1,26 @@
 -- The new segments of a track, section by section, and those of all tracks.
-use Rattle.std.proofs.Common.{◌≡◌, ℕ, zero, suc, ◌+◌, ◌-◌, ◌^◌, ◌<◌, ◌≤◌, List, [], ◌∷◌, ◌++◌, map, flat_map, length, drop, All, Option}
+use Rattle.std.proofs.Common.{◌≡◌, ℕ, suc, ◌+◌, ◌-◌, ◌^◌, ◌<◌, ◌≤◌, List, [], ◌∷◌, ◌++◌, map, flat_map, length, drop, All, Option, sum}
 use Rattle.std.proofs.Common.{Some, None, refl, sym, ◌∙◌, ap, subst, inl, inr, arith, append_assoc, length-append, zero-add}
-use Rattle.std.proofs.{lemmas.Bool.cases_lt, lemmas.List.{append-nil, map-append}, lemmas.List.Elements.{All-nil, All-push}}
-use Rattle.std.specs.{Prelude.{option_map, slice_get, IfSome}, List.range_with_len}
+use Rattle.std.proofs.{lemmas.Bool.cases_lt, lemmas.List.{append-nil, drop_all, map-append, Elements.{All-nil, All-push}}}
+use Rattle.std.proofs.lemmas.List.Sums.{sum_by-cons}
+use Rattle.std.specs.{Prelude.{option_map, slice_get, true, IfSome}, List.range_with_len}
+use Rattle.bridge_io.specs.Firsts.{first_of}
 use Rattle.exact_time.specs.Time.{IsAtMost}
-use Rattle.iso_time.specs.Instant.{IsWritable}
 use Rattle.presentation.specs.{declared.fault.PresentationFault.PresentationFault, Counting.refusal, Presented.Presented}
 use Rattle.followed.specs.Durations.{Last, duration_behind, last_behind, last_with, told_behind}
-use Rattle.live_meaning.specs.{Segments.{Kept, Numbering, Segment, segments_of}, States.Track}
-use Rattle.live_meaning.proofs.Tracks.{told-segments}
-use Rattle.live_judge.specs.{declared.track.LastKept.LastKept, declared.track.LiveTrack.LiveTrack, Shown.{last_of, track_shown}}
+use Rattle.live_meaning.specs.{Updates.unit_of, Segments.{Kept, Numbering, Segment, segments_of}, Histories.Common}
+use Rattle.live_meaning.specs.{States.{Track, new_count, new_of, new_told}, Refusals.{Presentation, is_of_address, urls_told}}
+use Rattle.live_meaning.proofs.Tracks.{length-told, told-segments}
+use Rattle.live_judge.specs.{declared.track.LastKept.LastKept, declared.track.LiveTrack.LiveTrack, Faults.of_presentation}
+use Rattle.live_judge.specs.{declared.fault.RefreshFault.TheVariants.Memory, Shown.{last_of, track_shown}}
+use Rattle.live_judge.proofs.Firsts.{rest_at}
 use Rattle.live_session.specs.{declared.made.MadeTrack.MadeTrack, declared.maker.Maker.Maker, Kept.no_place, Made.all_made}
-use Rattle.live_session.specs.{Making.{IsMadeBehind, IsNotMade, IsSectionMakeable, all_kept, first_section, number_of}, New.IsBegun}
-use Rattle.live_session.specs.New.{joins, new_all, new_among, new_counted, new_faults, new_faults_among, new_faults_in, new_faults_of}
-use Rattle.live_session.specs.New.{new_in, new_kept, numbers_of, shown_by, track_at}
-use Rattle.live_session.proofs.Sections.{Stood, joins_next, none_faults, none_new, skip, stands, stands_next}
+use Rattle.live_session.specs.{Growth.{grown, tracks_grown}, Making.{AreMade, AreUnmade, IsMadeBehind, IsMakerFor, IsNotMade}}
+use Rattle.live_session.specs.{Making.{IsSectionMakeable, all_kept, first_section, number_of}, New.{IsBegun, joins, new_all, new_among}}
+use Rattle.live_session.specs.{New.{new_faults_among, new_faults_in, new_faults_of, new_in, numbers_of, shown_by, track_at}, Written.IsDated}
+use Rattle.live_session.proofs.{Addresses.{all_by, first_address, first_mapped, urls_by, urls_of}, Pushing.grown as pushed_all}
+use Rattle.live_session.proofs.{Refusing.{counts_made, some_as, told_as}, Sections.{Stood, joins_next, none_faults, none_new, skip, stands}}
+use Rattle.live_session.proofs.Sections.{stands_next}
 
 -- ---- segments with their durations
 
@@ -83,7 +89,7 @@ module _ (m : Maker) (t : ℕ) (last : Option LastKept) where
     pub faults : new_faults_of p m.place track t ≡ new_faults_among p m.place track t (range_with_len s (count - s))
     pub stood : Stood track.last (segments_of made) (number_of m s)
     pub counted : after ≡ before + length (segments_of made)
-    pub dates : All (λ k. IsWritable k.segment.value.date) made
+    pub dates : All IsDated made
 
   none_between : {X : Type 0} (f : ℕ → List X) → ((s : ℕ) → s < first_section m.place last → f s ≡ [])
       → flat_map f (range_with_len 0 count) ≡ flat_map f (range_with_len (first_section m.place last) (count - first_section m.place last))
@@ -105,7 +111,7 @@ module _ (m : Maker) (t : ℕ) (last : Option LastKept) where
     faults = none_between (new_faults_in p m.place track t) (λ s less. faults_before m t s last less);
     stood = inl refl;
     counted = omega arith;
-    dates = All-nil (λ (k : Kept). IsWritable k.segment.value.date);
+    dates = All-nil IsDated;
   }
 
   pub section_makeable : (s : ℕ) (made : List Kept) (before after : ℕ) → TrackSoFar s made before after → first_section m.place last ≤ s
@@ -234,69 +240,121 @@ module _ (m : Maker) (t : ℕ) (last : Option LastKept) (track : Track) (same : 
 
 -- ---- all tracks
 
-module _ (m : Maker) (tracks : List LiveTrack) where
+-- what is new of tracks with its durations
+abbrev all_told : Common → (t : ℕ) → List Track → List (List Kept)
+all_told c t [] = []
+all_told c t (track ∷ tracks) = new_told c t track ∷ all_told c (t + 1) tracks
+
+module _ (c : Common) where
+  grown_told : (t : ℕ) (tracks : List Track) → grown tracks (all_told c t tracks) ≡ tracks_grown c t tracks
+  grown_told t [] = refl
+  grown_told t (track ∷ tracks) = rw (pushed_all (unit_of c.terms) track (new_of c t track), grown_told (t + 1) tracks) refl
+
+  told_numbered : (t : ℕ) (tracks : List Track) → sum (map length (all_told c t tracks)) ≡ new_count c t tracks
+  told_numbered t [] = refl
+  told_numbered t (track ∷ tracks) =
+      omega (
+        arith,
+        length-told (unit_of c.terms) track.last (new_of c t track),
+        told_numbered (t + 1) tracks,
+        sum_by-cons (λ (k : ℕ). k) (length (new_told c t track)) (map length (all_told c (t + 1) tracks)),
+      )
+
+pub wanting : (c : Common) (tracks : List Track) (before after : ℕ) → before ≤ after → after ≤ before + new_count c 0 tracks
+    → AreUnmade c tracks Memory before after
+wanting c tracks before after least most = record { refused = tt; counted = (least, most) }
+
+module _ (c : Common) (tracks : List LiveTrack) where
   abbrev shown_from : ℕ → List Track
   shown_from t = map track_shown (drop t tracks)
 
-  abbrev unit : ℕ
-  unit = 10 ^ m.digits
-
   -- those of the tracks before one were made
   pub record AllSoFar (t : ℕ) (made : List MadeTrack) (before after : ℕ) : Type 0 where
-    pub kept : all_kept made ++ new_kept unit (numbers_of m) (shown_by m) m.place t (shown_from t)
-        ≡ new_kept unit (numbers_of m) (shown_by m) m.place 0 (map track_shown tracks)
-    pub faults : new_faults (shown_by m) m.place 0 (map track_shown tracks) ≡ new_faults (shown_by m) m.place t (shown_from t)
-    pub counted : after + new_counted (numbers_of m) (shown_by m) m.place t (shown_from t)
-        ≡ before + new_counted (numbers_of m) (shown_by m) m.place 0 (map track_shown tracks)
+    pub kept : all_kept made ++ all_told c t (shown_from t) ≡ all_told c 0 (map track_shown tracks)
+    pub urls : urls_told c c.force 0 (map track_shown tracks) ≡ urls_told c c.force t (shown_from t)
+    pub counted : after + new_count c t (shown_from t) ≡ before + new_count c 0 (map track_shown tracks)
     pub least : before ≤ after
-    pub dates : All (All (λ k. IsWritable k.segment.value.date)) (all_kept made)
+    pub dates : All (All IsDated) (all_kept made)
 
-  drop_first : {X : Type 0} (t : ℕ) (xs : List X) (x : X) → slice_get xs t ≡ Some x → drop t xs ≡ x ∷ drop (t + 1) xs
-  drop_first t [] x is = absurd (cc)
-  drop_first zero (y ∷ ys) x is = let e : y ≡ x = cc in ap (λ z. z ∷ ys) e
-  drop_first (suc t) (y ∷ ys) x is = let e : suc t + 1 ≡ suc (t + 1) = omega arith in rw e (drop_first t ys x is)
+  pub no_track_yet : (before : ℕ) → AllSoFar 0 [] before before
+  no_track_yet before = record { kept = refl; urls = refl; counted = refl; least = omega arith; dates = All-nil (All IsDated) }
 
-  module _ (t : ℕ) (track : LiveTrack) (is : slice_get tracks t ≡ Some track) where
+  module _ (m : Maker) (for : IsMakerFor c m) (t : ℕ) (track : LiveTrack) (is : slice_get tracks t ≡ Some track) where
     shown_first : shown_from t ≡ track_shown track ∷ shown_from (t + 1)
-    shown_first = ap (map track_shown) (drop_first t tracks track is)
+    shown_first = ap (map track_shown) (rest_at (λ i x. []) tracks t track is)
+
+    abbrev own : List Segment
+    own = new_all (numbers_of m) (shown_by m) m.place (track_shown track) t
+
+    all_is : new_of c t (track_shown track) ≡ own
+    all_is = all_by c (shown_by m) m.resets m.availability_start m.place for.force for.resets for.start for.places t (track_shown track)
+
+    urls_are : urls_of c c.force t (track_shown track) ≡ new_faults_of (shown_by m) m.place (track_shown track) t
+    urls_are = urls_by c (shown_by m) m.resets m.availability_start m.place for.force for.resets for.start for.places t (track_shown track)
 
     pub track_next : (made : List MadeTrack) (next : MadeTrack) (before mid after : ℕ) → AllSoFar t made before mid
-        → IsMadeBehind unit (track_shown track).last (new_all (numbers_of m) (shown_by m) m.place (track_shown track) t)
-        (new_faults_of (shown_by m) m.place (track_shown track) t) [] (all_made next.segments.items) mid after
+        → IsMadeBehind (10 ^ m.digits) (track_shown track).last own (new_faults_of (shown_by m) m.place (track_shown track) t) []
+        (all_made next.segments.items) mid after
         → AllSoFar (t + 1) (made ++ next ∷ []) before after
     track_next made next before mid after so_far made_is =
-        let rest = new_kept unit (numbers_of m) (shown_by m) m.place (t + 1) (shown_from (t + 1)) in
+        let rest = all_told c (t + 1) (shown_from (t + 1)) in
         let pushed : all_kept (made ++ next ∷ []) ≡ all_kept made ++ all_made next.segments.items ∷ [] =
         map-append (λ (x : MadeTrack). all_made x.segments.items) made (next ∷ []) in
+        let told : all_made next.segments.items ≡ new_told c t (track_shown track) = made_is.made_is
+        ∙ ap (λ d. told_behind (10 ^ d) (track_shown track).last own) for.digits
+        ∙ ap (told_behind (unit_of c.terms) (track_shown track).last) (sym all_is) in
         record {
           kept = ap (λ kss. kss ++ rest) pushed ∙ append_assoc (all_kept made) (all_made next.segments.items ∷ []) rest
-              ∙ ap (λ ks. all_kept made ++ ks ∷ rest) made_is.made_is
-              ∙ ap (λ ts. all_kept made ++ new_kept unit (numbers_of m) (shown_by m) m.place t ts) (sym shown_first) ∙ so_far.kept;
-          faults = so_far.faults ∙ ap (new_faults (shown_by m) m.place t) shown_first
-              ∙ ap (λ fs. fs ++ new_faults (shown_by m) m.place (t + 1) (shown_from (t + 1))) made_is.none;
-          counted = omega (arith, so_far.counted, made_is.counted, ap (new_counted (numbers_of m) (shown_by m) m.place t) shown_first);
+              ∙ ap (λ ks. all_kept made ++ ks ∷ rest) told ∙ ap (λ ts. all_kept made ++ all_told c t ts) (sym shown_first) ∙ so_far.kept;
+          urls = so_far.urls ∙ ap (urls_told c c.force t) shown_first
+              ∙ ap (λ fs. map Presentation fs ++ urls_told c c.force (t + 1) (shown_from (t + 1))) (urls_are ∙ made_is.none);
+          counted = omega (
+            arith,
+            so_far.counted,
+            made_is.counted,
+            ap (new_count c t) shown_first,
+            ap (λ (xs : List Segment). length xs) all_is,
+          );
           least = omega (arith, so_far.least, made_is.counted);
           dates = rw pushed
-              (All-push (All (λ (k : Kept). IsWritable k.segment.value.date)) (all_kept made) (all_made next.segments.items) so_far.dates
-              (made_is.dates (All-nil (λ (k : Kept). IsWritable k.segment.value.date))));
+              (All-push (All IsDated) (all_kept made) (all_made next.segments.items) so_far.dates (made_is.dates (All-nil IsDated)));
         }
 
     pub track_refused : (made : List MadeTrack) (before mid after : ℕ) (fault : PresentationFault) → AllSoFar t made before mid
-        → IsNotMade (new_faults_of (shown_by m) m.place (track_shown track) t)
-        (length (new_all (numbers_of m) (shown_by m) m.place (track_shown track) t)) fault mid after
-        → IsNotMade (new_faults (shown_by m) m.place 0 (map track_shown tracks))
-        (new_counted (numbers_of m) (shown_by m) m.place 0 (map track_shown tracks)) fault before after
-    track_refused made before mid after fault so_far not_made = record {
-      refused = first_stays (refusal fault) (new_faults_of (shown_by m) m.place (track_shown track) t)
-          (new_faults (shown_by m) m.place (t + 1) (shown_from (t + 1)))
-          (new_faults (shown_by m) m.place 0 (map track_shown tracks))
-          (so_far.faults ∙ ap (new_faults (shown_by m) m.place t) shown_first) not_made.refused;
-      least = omega (arith, so_far.least, not_made.least);
-      most_made = omega (arith, so_far.counted, not_made.most_made, ap (new_counted (numbers_of m) (shown_by m) m.place t) shown_first);
-    }
+        → IsNotMade (new_faults_of (shown_by m) m.place (track_shown track) t) (length own) fault mid after
+        → AreUnmade c (map track_shown tracks) (of_presentation fault) before after
+    track_refused made before mid after fault so_far not_made =
+        let here = urls_of c c.force t (track_shown track) in
+        let first : IfSome (refusal fault) (λ f. slice_get here 0 ≡ Some f) =
+        subst (λ fs. IfSome (refusal fault) (λ f. slice_get fs 0 ≡ Some f)) (sym urls_are) not_made.refused in
+        record {
+          refused = told_as fault (λ r. first_of (urls_told c c.force 0 (map track_shown tracks)) ≡ Some r)
+              (some_as (refusal fault) (λ f. slice_get here 0 ≡ Some f)
+              (λ f. first_of (urls_told c c.force 0 (map track_shown tracks)) ≡ Some (Presentation f))
+              (λ f at. ap first_of (so_far.urls ∙ ap (urls_told c c.force t) shown_first)
+              ∙ first_mapped here (urls_told c c.force (t + 1) (shown_from (t + 1))) f at) first);
+          counted = counts_made (new_count c 0 (map track_shown tracks)) before after fault (omega (arith, so_far.least, not_made.least))
+              (omega (
+                arith,
+                so_far.counted,
+                not_made.most_made,
+                ap (new_count c t) shown_first,
+                ap (λ (xs : List Segment). length xs) all_is,
+              ))
+              (some_as (refusal fault) (λ f. slice_get here 0 ≡ Some f) (λ f. is_of_address f ≡ true)
+              (λ f at. first_address c c.force t (track_shown track) f at) first);
+        }
 
-  drop_all : {X : Type 0} (t : ℕ) (xs : List X) → length xs ≤ t → drop t xs ≡ []
-  drop_all zero [] least = refl
-  drop_all zero (x ∷ xs) least = absurd (omega arith)
-  drop_all (suc t) [] least = refl
-  drop_all (suc t) (x ∷ xs) least = drop_all t xs (omega arith)
+  pub tracks_made : (t : ℕ) (made : List MadeTrack) (before after : ℕ) → length tracks ≤ t → AllSoFar t made before after
+      → AreMade c (map track_shown tracks) made before after
+  tracks_made t made before after least so_far =
+      let end : shown_from t ≡ [] = ap (map track_shown) (drop_all t tracks least) in
+      let kept : all_kept made ≡ all_told c 0 (map track_shown tracks) = sym (append-nil (all_kept made))
+      ∙ ap (λ ts. all_kept made ++ all_told c t ts) (sym end) ∙ so_far.kept in
+      record {
+        grown_is = ap (grown (map track_shown tracks)) kept ∙ grown_told c 0 (map track_shown tracks);
+        urls = so_far.urls ∙ ap (urls_told c c.force t) end;
+        numbered = ap (λ ks. sum (map length ks)) kept ∙ told_numbered c 0 (map track_shown tracks);
+        dates = so_far.dates;
+        counted = omega (arith, so_far.counted, ap (new_count c t) end);
+      }

@@ -2,7 +2,8 @@
 use Rattle.std.specs.Prelude.{◌≡◌, ℕ, ◌+◌, ◌*◌, ◌^◌, ◌<◌, List, [], ◌∷◌, length, slice_get, Some}
 use Rattle.exact_time.specs.declared.tick.Tick.{Tick}
 use Rattle.hls_writer.specs.declared.items.MediaItem.{MediaItem}
-use Rattle.live_meaning.specs.{Removal.removed_of, Segments.Kept, States.Track}
+use Rattle.followed.specs.Durations.{last_behind}
+use Rattle.live_meaning.specs.{Removal.removed_of, Segments.{Kept, place_behind}, Histories.Common, States.{Track, kept_and_new, new_of}}
 use Rattle.live_judge.specs.{declared.standing.Standing.Standing, declared.track.Fact.Fact, declared.track.LiveTrack.LiveTrack}
 use Rattle.live_judge.specs.Shown.{in_force}
 use Rattle.live_session.specs.{declared.made.MadeTrack.MadeTrack, Kept.{HasRoom, with_all, without_front}}
@@ -22,12 +23,24 @@ grown tracks [] = tracks
 grown [] (new ∷ news) = []
 grown (track ∷ tracks) (new ∷ news) = with_all track new ∷ grown tracks news
 
+-- with what an update lists behind their last segments, the first of them with a place
+abbrev pub track_grown : Common → (t : ℕ) → Track → Track
+track_grown c t track = record {
+  kept = kept_and_new c t track;
+  first = track.first;
+  last = last_behind track.last (new_of c t track);
+  place = place_behind track.place (new_of c t track);
+}
+
+abbrev pub tracks_grown : Common → (t : ℕ) → List Track → List Track
+tracks_grown c t [] = []
+tracks_grown c t (track ∷ tracks) = track_grown c t track ∷ tracks_grown c (t + 1) tracks
+
 -- without what isn't available any more
 abbrev pub trimmed : Standing → Track → Track
 trimmed s track = without_front (removed_of (in_force s).following (3 * s.target * 10 ^ s.digits) track.kept) track
 
--- some are kept, side by side, and their places fit a number
-pub record CanTrim (track : LiveTrack) : Type 0 where
-  pub paired : length track.items.items ≡ length track.facts.items
-  pub some : 0 < length track.items.items
-  pub fits : track.first + length track.items.items < 2 ^ 63
+-- some are kept, and their places fit a number
+pub record IsTrimmable (track : Track) : Type 0 where
+  pub some : 0 < length track.kept
+  pub fits : track.first + length track.kept < 2 ^ 63

@@ -1,6 +1,7 @@
 -- What is so of segments as they are made one by one.
-use Rattle.std.specs.Prelude.{◌≡◌, ◌⊎◌, ℕ, ◌+◌, ◌-◌, ◌^◌, ◌<◌, ◌≤◌, pos, neg_ℤ, ◌==◌, All, List, [], ◌∷◌, ◌++◌, length, map, slice_get}
+use Rattle.std.specs.Prelude.{◌≡◌, ◌⊎◌, ℕ, ◌+◌, ◌-◌, ◌^◌, ◌<◌, ◌≤◌, pos, neg_ℤ, ◌==◌, All, List, [], ◌∷◌, ◌++◌, length, map, slice_get, sum}
 use Rattle.std.specs.Prelude.{Option, Some, None, IfSome, Result, Ok, Err, MatchOption, MatchResult, IsSome, if◌then◌else◌}
+use Rattle.bridge_io.specs.Firsts.{first_of}
 use Rattle.exact_time.specs.{Time.{IsAtMost, IsTime, Time, seconds}, declared.tick.Tick.Tick}
 use Rattle.iso_time.specs.Instant.{IsWritable}
 use Rattle.url_parts.specs.declared.address.Part.{Part}
@@ -9,12 +10,14 @@ use Rattle.followed.specs.Durations.{Last, last_behind, told_behind}
 use Rattle.presentation.specs.{declared.fault.PresentationFault.PresentationFault, declared.parts.Content.Content}
 use Rattle.presentation.specs.{declared.segments.Behind.Behind, Counting.refusal, Presented.{listed_at, start_of}, Printing.GoesOn}
 use Rattle.presentation.specs.Printing.{IsAtEnd, PrintedRest}
-use Rattle.live_meaning.specs.Segments.{Kept, Segment, segments_of}
-use Rattle.live_judge.specs.{declared.track.LastKept.LastKept, declared.track.LiveTrack.LiveTrack, Shown.track_shown}
+use Rattle.live_meaning.specs.{Segments.{Kept, Segment, id_at, place_of, segments_of}, Known.ids_of, Histories.{Common, availability_start_of}}
+use Rattle.live_meaning.specs.{States.{Track, new_count}, Refusals.urls_told}
+use Rattle.live_judge.specs.{declared.fault.RefreshFault.RefreshFault, declared.track.LastKept.LastKept, declared.track.LiveTrack.LiveTrack}
+use Rattle.live_judge.specs.{Faults.told, Shown.track_shown}
 use Rattle.live_session.specs.{declared.made.Made.Made, declared.made.MadeTrack.MadeTrack, declared.maker.Maker.Maker}
-use Rattle.live_session.specs.{declared.maker.Section.Section, Kept.AreSideBySide, Made.{all_made, kept_as, made_kept}, New.IsBegun}
-use Rattle.live_session.specs.New.{joins, later_listed, left_to_make, new_all, new_counted, new_faults, new_in, new_kept, numbers_of}
-use Rattle.live_session.specs.New.{shown_by, track_at}
+use Rattle.live_session.specs.{declared.maker.Section.Section, Growth.{grown, tracks_grown}, Kept.AreSideBySide, Written.IsDated}
+use Rattle.live_session.specs.{Made.{all_made, kept_as, made_kept}, New.{IsBegun, joins, later_listed, left_to_make, new_all, new_in}}
+use Rattle.live_session.specs.{New.{numbers_of, shown_by, track_at}, Sessions.CountsRefused}
 
 -- ---- where a section begins
 
@@ -90,7 +93,7 @@ pub record IsMadeBehind (unit : ℕ) (last : Option Last) (new : List Segment) (
     (before after : ℕ) : Type 0 where
   pub made_is : made ≡ old ++ told_behind unit (last_behind last (segments_of old)) new
   pub none : faults ≡ []
-  pub dates : All (λ k. IsWritable k.segment.value.date) old → All (λ k. IsWritable k.segment.value.date) made
+  pub dates : All IsDated old → All IsDated made
   pub counted : after ≡ before + length new
 
 -- the first fault is told, unless memory is wanting, and at most so many were made
@@ -126,8 +129,23 @@ AreMakeable m tracks = (t : ℕ) (track : LiveTrack) → slice_get tracks t ≡ 
 abbrev pub all_kept : List MadeTrack → List (List Kept)
 all_kept made = map (λ (track : MadeTrack). all_made track.segments.items) made
 
-pub record AreMade (m : Maker) (tracks : List LiveTrack) (made : List MadeTrack) (before after : ℕ) : Type 0 where
-  pub kept : all_kept made ≡ new_kept (10 ^ m.digits) (numbers_of m) (shown_by m) m.place 0 (map track_shown tracks)
-  pub none : new_faults (shown_by m) m.place 0 (map track_shown tracks) ≡ []
-  pub dates : All (All (λ k. IsWritable k.segment.value.date)) (all_kept made)
-  pub counted : after ≡ before + new_counted (numbers_of m) (shown_by m) m.place 0 (map track_shown tracks)
+-- it is to make what is new of a presentation in force, whose Periods have the places from its own one on
+pub record IsMakerFor (c : Common) (m : Maker) : Type 0 where
+  pub force : shown_by m ≡ c.force
+  pub digits : m.digits ≡ c.terms.digits
+  pub resets : m.resets ≡ c.resets
+  pub start : m.availability_start ≡ availability_start_of c.opened
+  pub places : (s : ℕ) → s < length c.force.sections → place_of (ids_of c.known) (id_at c.force s) ≡ m.place + s
+
+-- What is new was made of tracks, and each segment has an address.
+pub record AreMade (c : Common) (tracks : List Track) (made : List MadeTrack) (before after : ℕ) : Type 0 where
+  pub grown_is : grown tracks (all_kept made) ≡ tracks_grown c 0 tracks
+  pub urls : urls_told c c.force 0 tracks ≡ []
+  pub numbered : sum (map length (all_kept made)) ≡ new_count c 0 tracks
+  pub dates : All (All IsDated) (all_kept made)
+  pub counted : after ≡ before + new_count c 0 tracks
+
+-- The first segment without an address is told, unless memory is wanting.
+pub record AreUnmade (c : Common) (tracks : List Track) (fault : RefreshFault) (before after : ℕ) : Type 0 where
+  pub refused : IfSome (told fault) (λ refusal. first_of (urls_told c c.force 0 tracks) ≡ Some refusal)
+  pub counted : CountsRefused (new_count c 0 tracks) before after fault

@@ -1,6 +1,6 @@
 -- Which segments an update lists behind those that were listed before: Period by Period, where the Periods have the places from
 -- a first one on.
-use Rattle.std.specs.Prelude.{◌≡◌, ℕ, ◌+◌, ◌-◌, ◌^◌, ◌<◌, ◌≤◌, true, List, [], ◌∷◌, ◌++◌, map, filter, flat_map, length, Option, Some, None}
+use Rattle.std.specs.Prelude.{◌≡◌, ℕ, ◌+◌, ◌-◌, ◌^◌, ◌<◌, ◌≤◌, true, List, [], ◌∷◌, map, filter, flat_map, length, Option, Some, None}
 use Rattle.std.specs.{Prelude.{option_map, false, IfSome}, Option.option_map_or}
 use Rattle.exact_time.specs.{Tick.time_of, Time.IsAtMost, declared.tick.Tick.Tick}
 use Rattle.timeline.specs.{Expansions.{SegmentTimeline, Timing}, Faults.is_apart}
@@ -9,8 +9,8 @@ use Rattle.presentation.specs.{declared.fault.PresentationFault.PresentationFaul
 use Rattle.presentation.specs.{declared.segments.Behind.Behind, Counting.sections_of, Kept.{printed_rest, rounding_at}, Presented.Presented}
 use Rattle.presentation.specs.{Presented.{content_at, listed_at, looked_at, start_of}, Printing.{IsCounted, PrintedRest, later_than}}
 use Rattle.presentation.specs.Verifying.{part_faults}
-use Rattle.followed.specs.Durations.{Last, told_behind}
-use Rattle.live_meaning.specs.{Segments.{Kept, Numbering, Segment, is_later, segment_with}, Refusals.extent_of, States.Track}
+use Rattle.followed.specs.Durations.{Last}
+use Rattle.live_meaning.specs.{Segments.{Numbering, Segment, is_later, segment_with}, Refusals.extent_of, States.Track}
 use Rattle.live_judge.specs.{declared.track.LastKept.LastKept, Shown.last_of}
 use Rattle.live_session.specs.{declared.maker.Maker.Maker, Kept.no_place}
 
@@ -35,15 +35,6 @@ new_among n p k track t sections = flat_map (new_in n p k track t) sections
 abbrev pub new_all : Numbering → Presented → (k : ℕ) → Track → (t : ℕ) → List Segment
 new_all n p k track t = new_among n p k track t (sections_of p)
 
--- of all tracks with their durations, the first of which has a place
-abbrev pub new_kept : (unit : ℕ) → Numbering → Presented → (k t : ℕ) → List Track → List (List Kept)
-new_kept unit n p k t [] = []
-new_kept unit n p k t (track ∷ tracks) = told_behind unit track.last (new_all n p k track t) ∷ new_kept unit n p k (t + 1) tracks
-
-abbrev pub new_counted : Numbering → Presented → (k t : ℕ) → List Track → ℕ
-new_counted n p k t [] = 0
-new_counted n p k t (track ∷ tracks) = length (new_all n p k track t) + new_counted n p k (t + 1) tracks
-
 -- ---- those without an address
 
 -- a segment's place is that among the listed ones
@@ -58,10 +49,6 @@ new_faults_among p k track t sections = flat_map (new_faults_in p k track t) sec
 
 abbrev pub new_faults_of : Presented → (k : ℕ) → Track → (t : ℕ) → List PresentationFault
 new_faults_of p k track t = new_faults_among p k track t (sections_of p)
-
-abbrev pub new_faults : Presented → (k t : ℕ) → List Track → List PresentationFault
-new_faults p k t [] = []
-new_faults p k t (track ∷ tracks) = new_faults_of p k track t ++ new_faults p k (t + 1) tracks
 
 -- ---- how they go on behind the last one
 

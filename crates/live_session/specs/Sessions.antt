@@ -1,26 +1,36 @@
 -- What a session keeps true, and what its calls say.
 use Rattle.live_judge.specs.declared.fault.RefreshFault.TheVariants as fault
-use Rattle.std.specs.Prelude.{◌≡◌, ℕ, ◌+◌, ◌*◌, ◌≤◌, ℤ, All, List, [], ◌∷◌, ◌++◌, length, IfSome, MatchResult, None, Some, Option, Result}
+use Rattle.std.specs.Prelude.{◌≡◌, ℕ, ◌+◌, ◌≤◌, ℤ, All, List, [], ◌∷◌, ◌++◌, length, IfSome, MatchResult, None, Some, Option, Result}
 use Rattle.std.specs.{Prelude.{Ok, Err}, Option.option_map_or}
 use Rattle.iso_time.specs.Instant.{IsReadable}
 use Rattle.presentation.specs.{declared.fault.PresentationFault.TheVariants.Url, Counting.{count_of_all, counted}}
-use Rattle.live_meaning.specs.{Updates.{Refresh, Terms, Tick, Update, Values}, States.State, Refusals.update_refusal, Playlists.live_text}
-use Rattle.live_meaning.specs.{Playlists.playlist_of, Laws.Shows}
+use Rattle.live_meaning.specs.{Updates.{Refresh, Terms, Tick, Update, Values}, Known.ids_of, Histories.availability_start_of, States.State}
+use Rattle.live_meaning.specs.{Refusals.{ids_in, update_refusal}, Playlists.{live_text, playlist_of}, Laws.Shows}
 use Rattle.live_judge.specs.{declared.fault.RefreshFault.RefreshFault, declared.standing.Standing.Standing}
-use Rattle.live_judge.specs.{declared.track.LiveTrack.LiveTrack, Faults.told, Sound.IsLive}
-use Rattle.live_session.specs.Written.{IsWritten}
+use Rattle.live_judge.specs.{declared.track.LiveTrack.LiveTrack, Faults.told, Known.StandsAt, Shown.{in_force, state_shown}, Sound.IsSound}
+use Rattle.live_judge.specs.SoundGoesOn.{IsKept, NumbersFit}
+use Rattle.live_session.specs.{Kept.AreSideBySide, Written.AreDated}
 
--- each accepted update listed at most 20,000 segments of it
-abbrev pub IsNumbered : (accepted : ℕ) → LiveTrack → Type 0
-IsNumbered accepted track = track.first + length track.items.items ≤ 20000 * accepted
+-- Accepted updates of typed MPDs leave it. Of each of its tracks, at most 200, segments are kept whose dates can be written.
+pub record IsReached (s : State) : Type 0 where
+  pub terms : Terms
+  pub history : List Update
+  pub shows : Shows terms history s
+  pub sound : IsSound s
+  pub numbers : NumbersFit s.common
+  pub few : length s.common.opened.tracks ≤ 200
+  pub kept : All IsKept s.tracks
+  pub dated : All AreDated s.tracks
 
 pub record IsSession (s : Standing) (tracks : List LiveTrack) : Type 0 where
-  pub live : IsLive s tracks
+  pub reached : IsReached (state_shown s tracks)
+  pub paired : All AreSideBySide tracks
+  pub stands : StandsAt (ids_of s.known) (ids_in (in_force s)) s.place
+  pub starts : s.availability_start ≡ availability_start_of s.opened
+  pub accepted : s.accepted ≤ 10000000
   pub readable : IsReadable s.availability_start
   pub counted_first : counted s.opened ≡ Ok (count_of_all s.opened)
   pub target : 1 ≤ s.target
-  pub written : All IsWritten tracks
-  pub numbered : All (IsNumbered s.accepted) tracks
 
 -- ---- what is made
 

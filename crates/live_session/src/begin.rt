@@ -8,14 +8,14 @@ ghost use Rattle.presentation.specs.Counting.{count_faults, sections_of};
 ghost use Rattle.presentation.specs.Presented.{listed_at, looked_at};
 ghost use Rattle.presentation.specs.Printing.{IsCounted};
 ghost use Rattle.live_meaning.specs.Refusals.{counts_listed, window_told};
+ghost use Rattle.live_meaning.specs.Histories.{Common};
 ghost use Rattle.live_meaning.specs.Known.{ids_of, periods_of};
 ghost use Rattle.live_meaning.specs.Updates.{Terms};
-ghost use Rattle.live_judge.specs.Faults.{Judges};
+ghost use Rattle.live_judge.specs.Faults.{Judges, of_presentation};
 ghost use Rattle.live_judge.specs.Shown.{track_shown};
 ghost use Rattle.live_session.specs.Begun as spec;
 ghost use Rattle.live_session.specs.Kept.{AreSideBySide, empty_track};
-ghost use Rattle.live_session.specs.Making.{IsNotMade};
-ghost use Rattle.live_session.specs.New.{new_counted, new_faults};
+ghost use Rattle.live_session.specs.Making.{AreUnmade};
 
 use crate::growth::{grow_all, make_room};
 use crate::kept::empty_track;
@@ -99,10 +99,9 @@ pub(crate) fn first_tracks<L: Ledger>(
     requires few { length opened.now.sections ≤ 1000 }
     requires counted { (s t : ℕ) → s < length opened.now.sections → t < length opened.now.tracks
         → IsCounted (looked_at now opened.now) s t }
-    ensures { let p = looked_at now opened.now in let n = spec.first_numbers availability_start in MatchResult result
-        (λ tracks. spec.AreFirst (10 ^ digits) n p tracks.items steps.old steps.new)
-        (λ fault. IsNotMade (new_faults p 0 0 (spec.empty_tracks p)) (new_counted n p 0 0 (spec.empty_tracks p)) fault
-        steps.old steps.new) }
+    ensures { (c : Common) → spec.IsFirst c opened.now now digits availability_start → MatchResult result
+        (λ tracks. spec.AreFirst c tracks.items steps.old steps.new)
+        (λ fault. AreUnmade c (spec.empty_tracks c.force) (of_presentation fault) steps.old steps.new) }
 {
     let mut tracks = empty_tracks(alloc, opened.tracks().len())?;
     let maker = Maker {

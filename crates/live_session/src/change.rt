@@ -9,7 +9,7 @@ ghost use Rattle.live_meaning.specs.Histories.{published_by};
 ghost use Rattle.live_meaning.specs.Known.{ids_of, known_at};
 ghost use Rattle.live_meaning.specs.Refusals.{clock_told, ended_told};
 ghost use Rattle.live_meaning.specs.Updates.{mpd_of};
-ghost use Rattle.live_judge.specs.Coming.{IsJoined, IsNext, update_of};
+ghost use Rattle.live_judge.specs.Coming.{IsJoined, IsNext, coming_of, update_of};
 ghost use Rattle.live_judge.specs.Faults.{told};
 ghost use Rattle.live_judge.specs.Known.{known_shown};
 ghost use Rattle.live_judge.specs.Shown.{common_shown, state_shown, track_shown};
@@ -17,7 +17,8 @@ ghost use Rattle.live_judge.specs.declared.fault.RefreshFault.TheVariants.{Memor
 ghost use Rattle.live_session.specs.Changes as spec;
 ghost use Rattle.live_session.specs.Growth.{HaveRoom, grown, trimmed};
 ghost use Rattle.live_session.specs.Kept.{AreSideBySide};
-ghost use Rattle.live_session.specs.Making.{all_kept};
+ghost use Rattle.live_session.specs.Making.{IsMakerFor, all_kept};
+ghost use Rattle.live_session.specs.New.{CanMake};
 ghost use Rattle.live_session.specs.Sessions.{IsSession};
 
 use crate::growth::{count_made, grow_all, trim_all};
@@ -94,9 +95,9 @@ pub(crate) fn prepare<'a, L: Ledger>(
     requires session { IsSession standing.now tracks.now }
     requires timely { ended_told (common_shown standing.now) ++ clock_told (common_shown standing.now) now ≡ [] }
     requires presented { spec.IsPresented standing.now coming now force.now }
-    ensures { let u = update_of coming.entry now in MatchResult result
-        (λ plan. spec.IsPlan standing.now tracks.now u now (looked_at now force.now) plan steps.old steps.new)
-        (λ fault. spec.IsRefused (state_shown standing.now tracks.now) u fault steps.old steps.new) }
+    ensures { MatchResult result
+        (λ plan. spec.IsPlan standing.now tracks.now coming.entry now force.now plan steps.old steps.new)
+        (λ fault. spec.IsRefused (state_shown standing.now tracks.now) (update_of coming.entry now) fault steps.old steps.new) }
 {
     match Next::judge(standing, tracks, coming, force, now) {
         Ok(next) => plan_of(alloc, &next, steps),
@@ -141,7 +142,7 @@ fn made_of<L: Ledger>(
     requires joined { IsJoined next.now }
     requires readable { IsReadable (next.now.standing.now).availability_start }
     ensures { MatchResult result (λ made. spec.AreNewOf next.entry.now made.items steps.old steps.new)
-        (λ fault. spec.AreUnmade next.entry.now fault steps.old steps.new) }
+        (λ fault. spec.AreNotMade next.entry.now fault steps.old steps.new) }
 {
     if !has_new(next) {
         return Ok(Vec::new(alloc));
@@ -166,7 +167,9 @@ fn has_new(next: &Next<'_>) -> bool
 fn maker_of<'a>(alloc: Global, next: &Next<'a>) -> Maker<'a>
     requires next { IsNext next.now }
     requires readable { IsReadable (next.now.standing.now).availability_start }
-    ensures { spec.IsMakerOf next.entry.now result }
+    ensures made_for { IsMakerFor (coming_of next.entry.now) result }
+    ensures can { CanMake result }
+    ensures all { length result.presentation.now.tracks ≡ length next.entry.now.tracks.now }
 {
     let standing = next.standing;
     Maker {
@@ -250,12 +253,7 @@ pub(crate) fn advance(standing: &mut Standing, newest: Option<Presentation>, cha
 
 /// Adds what was made of the tracks, and removes from their fronts what isn't available any more. It tells how many were added.
 pub(crate) fn go_on(standing: &Standing, tracks: &mut Vec<LiveTrack>, made: Vec<MadeTrack>) -> u64
-    requires few { sum (map length (all_kept made.items)) < 2 ^ 63 }
-    requires room { HaveRoom tracks.old.items made.items }
-    requires many { length made.items ≤ length tracks.old.items }
-    requires paired { All AreSideBySide tracks.old.items }
-    requires target { 1 ≤ standing.now.target }
-    requires can { All spec.IsTrimmable (grown (map track_shown tracks.old.items) (all_kept made.items)) }
+    requires { spec.CanGoOn standing.now tracks.old.items made.items }
     ensures count { result ≡ sum (map length (all_kept made.items)) }
     ensures shown { map track_shown tracks.new.items
         ≡ map (trimmed standing.now) (grown (map track_shown tracks.old.items) (all_kept made.items)) }

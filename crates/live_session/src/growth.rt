@@ -2,7 +2,7 @@
 ghost use Rattle.std.specs.Prelude.{◌≡◌, ◌*◌, ◌+◌, ◌<◌, ◌≤◌, ◌^◌, [], All, IsOk, OnOk, length, map, sum};
 ghost use Rattle.live_judge.specs.Shown.{track_shown};
 ghost use Rattle.live_session.specs.Growth as spec;
-ghost use Rattle.live_session.specs.Kept.{AreSideBySide};
+ghost use Rattle.live_session.specs.Kept.{AreSideBySide, without_front};
 ghost use Rattle.live_session.specs.Making.{all_kept};
 
 use crate::kept::{push_all, remove, reserve};
@@ -54,15 +54,35 @@ pub(crate) fn grow_all(tracks: &mut Vec<LiveTrack>, made: Vec<MadeTrack>)
 /// Removes from the front of each track what isn't available any more, unless too little is left.
 pub(crate) fn trim_all(standing: &Standing, tracks: &mut Vec<LiveTrack>)
     requires target { 1 ≤ standing.now.target }
-    requires can { All spec.CanTrim tracks.old.items }
+    requires paired { All AreSideBySide tracks.old.items }
+    requires can { All spec.IsTrimmable (map track_shown tracks.old.items) }
     ensures shown { map track_shown tracks.new.items ≡ map (spec.trimmed standing.now) (map track_shown tracks.old.items) }
     ensures paired { All AreSideBySide tracks.new.items }
 {
-    let least = three_targets(standing);
     for track in 0..tracks.len() {
-        let count = removed_of(&tracks[track], standing.force(), standing.instant, least);
-        remove(&mut tracks[track], count);
+        trim(standing, &mut tracks[track]);
     }
+}
+
+/// Removes from the front of a track what isn't available any more, unless too little is left.
+fn trim(standing: &Standing, track: &mut LiveTrack)
+    requires target { 1 ≤ standing.now.target }
+    requires paired { AreSideBySide track.old }
+    requires can { spec.IsTrimmable (track_shown track.old) }
+    ensures shown { track_shown track.new ≡ spec.trimmed standing.now (track_shown track.old) }
+    ensures paired { AreSideBySide track.new }
+{
+    let count = unavailable_of(standing, track);
+    remove(track, count);
+}
+
+/// How many of its segments aren't available any more, or may go where three target durations are to be left.
+fn unavailable_of(standing: &Standing, track: &LiveTrack) -> usize
+    requires { AreSideBySide track.now }
+    ensures { spec.trimmed standing.now (track_shown track.now) ≡ without_front result (track_shown track.now) }
+{
+    let least = three_targets(standing);
+    removed_of(track, standing.force(), standing.instant, least)
 }
 
 /// Three target durations in units of the last decimal: so long is what stays at least.

@@ -1,15 +1,17 @@
 // The new segments of a presentation, made track by track.
-ghost use Rattle.std.specs.Prelude.{◌≡◌, ◌+◌, ◌^◌, ◌<◌, [], length, map, IfSome, MatchResult};
+ghost use Rattle.std.specs.Prelude.{◌≡◌, ◌+◌, ◌^◌, ◌<◌, [], length, map, IfOk, IfSome, MatchResult};
 ghost use Rattle.iso_time.specs.Instant.{IsReadable, IsWritable};
 ghost use Rattle.exact_time.specs.Tick.{time_of};
 ghost use Rattle.presentation.specs.Presented.{content_at, start_of, window_of};
 ghost use Rattle.presentation.specs.Verifying.{fault_at};
+ghost use Rattle.live_judge.specs.Faults.{of_presentation};
 ghost use Rattle.live_judge.specs.Shown.{track_shown};
+ghost use Rattle.live_meaning.specs.Histories.{Common};
 ghost use Rattle.live_meaning.specs.Segments.{whole_nanos};
 ghost use Rattle.live_session.specs.Made.{all_made, date_of, kept_as, made_kept};
 ghost use Rattle.live_session.specs.Making as spec;
 ghost use Rattle.live_session.specs.Paced.{IsDatable};
-ghost use Rattle.live_session.specs.New.{CanMake, new_all, new_counted, new_faults, new_faults_in, new_faults_of};
+ghost use Rattle.live_session.specs.New.{CanMake, new_all, new_faults_in, new_faults_of};
 ghost use Rattle.live_session.specs.New.{new_in, numbers_of, shown_by, track_at};
 
 use crate::kept::last_kept;
@@ -61,10 +63,10 @@ impl<'a> Maker<'a> {
         requires can { CanMake self.now }
         requires tracks { spec.AreMakeable self.now tracks.now }
         requires many { length tracks.now ≡ length self.now.presentation.now.tracks }
-        ensures { MatchResult result (λ made. spec.AreMade self.entry.now tracks.now made.items steps.old steps.new)
-            (λ fault. spec.IsNotMade (new_faults (shown_by self.entry.now) self.entry.now.place 0 (map track_shown tracks.now))
-            (new_counted (numbers_of self.entry.now) (shown_by self.entry.now) self.entry.now.place 0 (map track_shown tracks.now)) fault
-            steps.old steps.new) }
+        ensures many { IfOk result (λ made. length made.items ≡ length tracks.now) }
+        ensures made { (c : Common) → spec.IsMakerFor c self.entry.now → MatchResult result
+            (λ made. spec.AreMade c (map track_shown tracks.now) made.items steps.old steps.new)
+            (λ fault. spec.AreUnmade c (map track_shown tracks.now) (of_presentation fault) steps.old steps.new) }
     {
         let mut all = Vec::new(self.alloc);
         for track in 0..tracks.len() {

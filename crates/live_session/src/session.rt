@@ -16,6 +16,7 @@ ghost use Rattle.live_meaning.specs.Updates.{Refresh, Reset, Terms, Tick, Update
 ghost use Rattle.live_judge.specs.Coming.{update_of};
 ghost use Rattle.live_judge.specs.Faults.{told};
 ghost use Rattle.live_judge.specs.declared.fault.RefreshFault.TheVariants.{Memory};
+ghost use Rattle.live_session.specs.Begun.{IsBegunBy, IsFirstMpd, IsUnbegun};
 ghost use Rattle.live_session.specs.Changes.{IsLeft, IsTaken};
 ghost use Rattle.live_session.specs.Sessions.{Counts, Goes, refresh_by, text_of};
 
@@ -88,13 +89,33 @@ impl Session {
         ensures counted { let terms : Terms = record { url = base.now; digits = digits } in
             Counts (first_appended_by terms (segments_mpd mpd.now) now) steps.old steps.new result }
     {
-        histories_go_on();
-        first_states_are_sound();
-        playlists_are_never_empty();
         period_ids_differ();
         presentations_show_their_mpd();
         let opened = Presentation::from_mpd(alloc, mpd, base, Some(now))?;
         check_first(mpd, &opened)?;
+        Session::begun(alloc, mpd, base, now, digits, opened, steps)
+    }
+
+    /// The session that a first MPD begins of which nothing is refused but the address of a segment.
+    fn begun<L: Ledger>(
+        alloc: Global,
+        mpd: &Mpd,
+        base: &Base,
+        now: Instant,
+        digits: Digits,
+        opened: Presentation,
+        steps: &mut Steps<L>,
+    ) -> Result<Session, RefreshFault>
+        requires now { IsReadable now }
+        requires first { let terms : Terms = record { url = base.now; digits = digits } in
+            IsFirstMpd terms (segments_mpd mpd.now) now opened }
+        ensures { let terms : Terms = record { url = base.now; digits = digits } in MatchResult result
+            (λ session. IsBegunBy terms (segments_mpd mpd.now) now session steps.old steps.new)
+            (λ fault. IsUnbegun terms (segments_mpd mpd.now) now fault steps.old steps.new) }
+    {
+        histories_go_on();
+        first_states_are_sound();
+        playlists_are_never_empty();
         let tracks = first_tracks(alloc, &opened, now, digits, start_of(mpd), steps)?;
         let standing = first_standing(alloc, mpd, base, now, digits, opened)?;
         Ok(Session {
@@ -167,6 +188,8 @@ impl Session {
         ensures { let u = update_of coming.entry now in MatchResult result (λ n. IsTaken self.old u n.0 self.new steps.old steps.new)
             (λ fault. IsLeft self.old u fault self.new steps.old steps.new) }
     {
+        histories_go_on();
+        playlists_are_never_empty();
         accepted_states_stay_sound();
         self.standing.check_now(now)?;
         let newest = presented(self.alloc, &self.standing, coming, now)?;

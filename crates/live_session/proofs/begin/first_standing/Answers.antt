@@ -1,15 +1,19 @@
 use Rattle.live_session.proofs.begin.first_standing.Goals as goal
-use Rattle.std.proofs.Common.{◌∙◌, ◌^◌, ap, map, refl}
+use Rattle.std.proofs.Common.{◌∙◌, ◌^◌, List, ap, map, refl}
+use Rattle.mpd_rules.specs.Laws.{are_once}
 use Rattle.mpd_rules.specs.Views.{segments_mpd}
 use Rattle.presentation.specs.Presented.{Presented, looked_at}
-use Rattle.live_meaning.specs.{Updates.Terms, Histories.longest_in, Removal.target_of}
+use Rattle.live_meaning.specs.{Updates.Terms, Histories.longest_in, Known.{Known, ids_of, periods_of}, Removal.target_of}
 use Rattle.live_judge.specs.Known.{known_shown}
-use Rattle.live_session.proofs.FirstTracks.{first_common, first_known, first_once}
+use Rattle.live_judge.proofs.FirstStates.{all_new}
+use Rattle.live_session.proofs.Started.{first_common, first_known}
 
 pub extend-requires : goal.extend-requires
 extend-requires c =
-    first_once c.args.opened c.new-known.result
-    (map known_shown c.in_ok-periods_from.field-0.items) c.new-known.ensures c.in_ok-periods_from.ensures c.requires.once
+    let p = c.args.opened in
+    ap (λ (ks : List Known). are_once (ids_of ks))
+    (first_known p c.new-known.result (map known_shown c.in_ok-periods_from.field-0.items) c.new-known.ensures c.in_ok-periods_from.ensures
+    ∙ all_new (periods_of p)) ∙ c.requires.once
 
 pub returns : goal.returns
 returns c =

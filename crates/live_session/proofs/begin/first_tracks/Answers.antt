@@ -1,89 +1,62 @@
 use Rattle.live_session.proofs.begin.first_tracks.Goals as goal
-use Rattle.std.proofs.Common.{◌≡◌, ◌∙◌, All, arith, ap, length, map, refl, replicate, subst, sym}
-use Rattle.live_judge.specs.Shown.{track_shown}
-use Rattle.live_session.specs.{declared.maker.Maker.Maker, Growth.HaveRoom, Kept.{AreSideBySide, empty_track}}
-use Rattle.live_session.proofs.FirstTracks.{empty_makeable, first_are, made_many, same_many, same_paired, same_shown}
+use Rattle.std.proofs.{Common.{◌∙◌, List, All, arith, ap, length, map, subst, sym}, lemmas.Result.err_from_is_err_and}
+use Rattle.live_meaning.specs.States.{Track, new_count}
+use Rattle.live_judge.specs.{Faults.of_presentation, Shown.track_shown}
+use Rattle.live_session.specs.Begun.{empty_tracks}
+use Rattle.live_session.specs.{Growth.HaveRoom, Kept.{AreSideBySide}, Making.AreUnmade}
+use Rattle.live_session.proofs.{Accepting.{same_paired, same_shown}, Started.{empty_makeable, first_are, first_slice}, TrackMaking.wanting}
+
+pub returns-in_err-tracks : goal.returns-in_err-tracks
+returns-in_err-tracks g c = λ common is.
+    let p = err_from_is_err_and c.from_residual.result c.from_residual.ensures.1 in
+    rw (p.1, p.2) (wanting _ _ c.args.steps.now c.args.steps.now (omega arith) (omega arith))
 
 pub make_all-requires-clause-tracks : goal.make_all-requires-clause-tracks
 make_all-requires-clause-tracks g c =
-    let m : Maker =
-    record {
-      alloc = c.args.alloc;
-      presentation = c.args.opened;
-      now = c.args.now;
-      digits = c.args.digits;
-      place = 0;
-      resets =
-          0;
-      availability_start = c.args.availability_start;
-    } in
-    empty_makeable m c.as_slice.result.now c.len.result (ap (map track_shown) c.as_slice.ensures.value ∙ c.in_ok-tracks.ensures.shown)
+    empty_makeable c.as_slice.result.now c.len.result (ap (map track_shown) c.as_slice.ensures.value ∙ c.in_ok-tracks.ensures.shown)
     (subst (All AreSideBySide) (sym c.as_slice.ensures.value) c.in_ok-tracks.ensures.paired)
 
+pub returns-in-Err : goal.returns-in-Err
+returns-in-Err g c = λ common is.
+    subst (λ (ts : List Track). AreUnmade common ts (of_presentation c.in-Err.fault) c.args.steps.now c.make_all.new.steps)
+    (first_slice common c.args.opened.now c.args.now c.as_slice.result.now c.in_ok-tracks.tracks.items c.len.result c.as_slice.ensures.value
+    c.in_ok-tracks.ensures.shown (omega (arith, c.len.ensures, ap (λ xs. length xs) c.tracks.ensures)) is.force)
+    (c.in-Err.ensures.made common
+    (record { force = is.force; digits = is.printed; resets = is.resets; start = is.starts; places = is.places }))
+
 pub make_room-requires : goal.make_room-requires
-make_room-requires g c =
-    let m : Maker =
-    record {
-      alloc = c.args.alloc;
-      presentation = c.args.opened;
-      now = c.args.now;
-      digits = c.args.digits;
-      place = 0;
-      resets =
-          0;
-      availability_start = c.args.availability_start;
-    } in
-    omega (
-      arith,
-      made_many m c.as_slice.result.now c.in-Ok.made.items c.args.steps.now c.make_all.new.steps c.in-Ok.ensures,
-      ap (λ xs. length xs) c.as_slice.ensures.value,
-      ap (λ xs. length xs) c.as_slice-2.ensures.value,
-    )
+make_room-requires g c = omega (
+  arith,
+  c.in-Ok.ensures.many,
+  ap (λ xs. length xs) c.as_slice.ensures.value,
+  ap (λ xs. length xs) c.as_slice-2.ensures.value,
+)
+
+pub returns-in_err-make_room : goal.returns-in_err-make_room
+returns-in_err-make_room g c = λ common is.
+    let empty = first_slice common c.args.opened.now c.args.now c.as_slice.result.now c.in_ok-tracks.tracks.items c.len.result
+    c.as_slice.ensures.value c.in_ok-tracks.ensures.shown (omega (arith, c.len.ensures, ap (λ xs. length xs) c.tracks.ensures)) is.force in
+    let made = c.in-Ok.ensures.made common
+    (record { force = is.force; digits = is.printed; resets = is.resets; start = is.starts; places = is.places }) in
+    let many = ap (new_count common 0) empty in
+    let p = err_from_is_err_and c.from_residual-in_err-make_room.result c.from_residual-in_err-make_room.ensures.1 in
+    rw (p.1, p.2) (wanting common (empty_tracks common.force) c.args.steps.now c.make_all.new.steps (omega (arith, made.counted))
+    (omega (arith, made.counted, many)))
 
 pub grow_all-requires-clause-room : goal.grow_all-requires-clause-room
 grow_all-requires-clause-room g c = subst (HaveRoom c.make_room.new.tracks.items) c.as_slice-2.ensures.value c.in_ok-make_room.ensures.room
-
-pub grow_all-requires-clause-tracks : goal.grow_all-requires-clause-tracks
-grow_all-requires-clause-tracks g c =
-    let m : Maker =
-    record {
-      alloc = c.args.alloc;
-      presentation = c.args.opened;
-      now = c.args.now;
-      digits = c.args.digits;
-      place = 0;
-      resets =
-          0;
-      availability_start = c.args.availability_start;
-    } in
-    omega (
-      arith,
-      made_many m c.as_slice.result.now c.in-Ok.made.items c.args.steps.now c.make_all.new.steps c.in-Ok.ensures,
-      ap (λ xs. length xs) c.as_slice.ensures.value,
-      same_many c.make_room.new.tracks.items c.in_ok-tracks.tracks.items c.in_ok-make_room.ensures.same,
-    )
 
 pub grow_all-requires-clause-paired : goal.grow_all-requires-clause-paired
 grow_all-requires-clause-paired g c =
     same_paired c.make_room.new.tracks.items c.in_ok-tracks.tracks.items c.in_ok-make_room.ensures.same c.in_ok-tracks.ensures.paired
 
 pub returns : goal.returns
-returns g c =
-    let m : Maker =
-    record {
-      alloc = c.args.alloc;
-      presentation = c.args.opened;
-      now = c.args.now;
-      digits = c.args.digits;
-      place = 0;
-      resets =
-          0;
-      availability_start = c.args.availability_start;
-    } in
-    let count : c.len.result ≡ length c.args.opened.now.tracks = omega (arith, c.len.ensures, ap (λ xs. length xs) c.tracks.ensures) in
-    let empty = ap (map track_shown) c.as_slice.ensures.value ∙ c.in_ok-tracks.ensures.shown ∙ ap (λ n. replicate n empty_track) count in
-    first_are m refl c.as_slice.result.now c.make_room.new.tracks.items c.grow_all.new.tracks.items c.in-Ok.made.items c.args.steps.now
-    c.make_all.new.steps c.in-Ok.ensures empty
-    c.grow_all.ensures.shown
+returns g c = λ common is.
+    first_are common c.as_slice.result.now c.make_room.new.tracks.items c.grow_all.new.tracks.items c.in-Ok.made.items c.args.steps.now
+    c.make_all.new.steps
+    (first_slice common c.args.opened.now c.args.now c.as_slice.result.now c.in_ok-tracks.tracks.items c.len.result c.as_slice.ensures.value
+    c.in_ok-tracks.ensures.shown (omega (arith, c.len.ensures, ap (λ xs. length xs) c.tracks.ensures)) is.force)
     (same_shown c.make_room.new.tracks.items c.in_ok-tracks.tracks.items c.in_ok-make_room.ensures.same
-    ∙ sym (ap (map track_shown) c.as_slice.ensures.value)) c.grow_all.ensures.paired
+    ∙ sym (ap (map track_shown) c.as_slice.ensures.value)) c.grow_all.ensures.shown c.grow_all.ensures.paired
+    (c.in-Ok.ensures.made common
+    (record { force = is.force; digits = is.printed; resets = is.resets; start = is.starts; places = is.places }))

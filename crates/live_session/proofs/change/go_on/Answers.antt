@@ -1,11 +1,9 @@
 use Rattle.live_session.proofs.change.go_on.Goals as goal
 use Rattle.std.proofs.Common.{◌∙◌, All, ap, map, subst, sym}
-use Rattle.live_session.specs.{Changes.IsTrimmable, Growth.trimmed}
-use Rattle.live_session.proofs.Limits.{can_trim_all}
+use Rattle.live_session.specs.Growth.{IsTrimmable, trimmed}
 
 pub trim_all-requires-clause-can : goal.trim_all-requires-clause-can
-trim_all-requires-clause-can c = can_trim_all c.grow_all.new.tracks.items c.grow_all.ensures.paired
-    (subst (All IsTrimmable) (sym c.grow_all.ensures.shown) c.requires.can)
+trim_all-requires-clause-can c = subst (All IsTrimmable) (sym c.grow_all.ensures.shown) c.requires.can
 
 pub returns-clause-shown : goal.returns-clause-shown
 returns-clause-shown c = c.trim_all.ensures.shown ∙ ap (map (trimmed c.args.standing.now)) c.grow_all.ensures.shown

@@ -1,7 +1,8 @@
 use Rattle.live_session.proofs.change.made_of.Goals as goal
-use Rattle.std.proofs.{Common.{rules, ◌≡◌, List, false, true, sym, subst}, lemmas.Result.err_from_is_err_and}
-use Rattle.live_session.specs.{declared.made.MadeTrack.MadeTrack, Changes.AreNewOf}
-use Rattle.live_session.proofs.{Counting.{none_there, some_there}, NewTracks.{all_made, makeable, none_made, not_made}}
+use Rattle.std.proofs.{Common.{rules, ◌≡◌, ◌<◌, List, false, true, sym, subst, arith}, lemmas.Result.err_from_is_err_and}
+use Rattle.live_judge.specs.Coming.{coming_of}
+use Rattle.live_session.specs.{declared.made.MadeTrack.MadeTrack, Changes.{AreNewOf, new_in_all}}
+use Rattle.live_session.proofs.{Counting.{none_there, some_there}, NewTracks.{makeable, none_made}}
 
 pub returns-then-not-has_new : goal.returns-then-not-has_new
 returns-then-not-has_new g c =
@@ -11,20 +12,26 @@ returns-then-not-has_new g c =
     (none_made n c.requires.next c.args.steps.now (none_there n c.has_new.result c.has_new.ensures off))
 
 pub make_all-requires-clause-tracks : goal.make_all-requires-clause-tracks
-make_all-requires-clause-tracks g c = makeable c.args.next.now c.requires.next c.maker_of.result c.maker_of.ensures c.requires.joined
+make_all-requires-clause-tracks g c =
+    makeable c.args.next.now c.requires.next c.maker_of.result c.maker_of.ensures.made_for c.requires.joined
 
 pub returns-in_err-make_all : goal.returns-in_err-make_all
 returns-in_err-make_all g c =
     let n = c.args.next.now in
     let on : c.has_new.result ≡ true = search rules in
     let p = err_from_is_err_and c.from_residual.result c.from_residual.ensures.1 in
-    rw (p.1, p.2) (not_made n c.requires.next c.maker_of.result c.maker_of.ensures c.in_err-make_all.field-0.0 c.args.steps.now
-    c.make_all.new.steps
-    (some_there n c.has_new.result c.has_new.ensures on) c.in_err-make_all.ensures)
+    rw (p.1, p.2) (record {
+      unmade = c.in_err-make_all.ensures.made (coming_of n) c.maker_of.ensures.made_for;
+      some = some_there n c.has_new.result c.has_new.ensures on;
+    })
 
 pub returns : goal.returns
 returns g c =
     let n = c.args.next.now in
     let on : c.has_new.result ≡ true = search rules in
-    all_made n c.requires.next c.maker_of.result c.maker_of.ensures c.in_ok-make_all.field-0.items c.args.steps.now c.make_all.new.steps
-    (some_there n c.has_new.result c.has_new.ensures on) c.in_ok-make_all.ensures
+    let some : 0 < new_in_all n = some_there n c.has_new.result c.has_new.ensures on in
+    record {
+      made = c.in_ok-make_all.ensures.made (coming_of n) c.maker_of.ensures.made_for;
+      many = omega (arith, c.in_ok-make_all.ensures.many);
+      none = λ none. absurd (omega (arith, some, none));
+    }

@@ -1,14 +1,28 @@
-use Rattle.std.proofs.Common.{◌∙◌, refl}
-use Rattle.live_session.proofs.Counting.{resets_at}
+use Rattle.std.proofs.Common.{◌∙◌, arith, refl}
+use Rattle.live_session.proofs.{Counting.{resets_at, resets_most}, NewTracks.places}
 use Rattle.live_session.proofs.change.maker_of.Goals as goal
 
-pub returns : goal.returns
-returns c = let n = c.args.next.now in record {
-  presentation = refl;
-  now = refl;
+pub returns-clause-made_for : goal.returns-clause-made_for
+returns-clause-made_for c = let n = c.args.next.now in record {
+  force = refl;
   digits = refl;
-  place = refl;
   resets = c.resets_with.ensures ∙ resets_at n.coming n.now (n.standing.now).resets;
   start = c.requires.next.live.starts;
+  places = places n c.requires.next;
+}
+
+pub returns-clause-can : goal.returns-clause-can
+returns-clause-can c = let n = c.args.next.now in let is = c.requires.next in record {
   readable = c.requires.readable;
+  counted = is.counted;
+  fits = omega (
+    arith,
+    is.within,
+    is.few,
+    is.live.periods,
+    is.live.accepted,
+    is.live.resets,
+    c.resets_with.ensures,
+    resets_most n.coming (n.standing.now).resets,
+  );
 }

@@ -1,16 +1,17 @@
-use Rattle.live_session.proofs.Planning.{joined, judged_refused, planned, unended}
+use Rattle.live_session.proofs.{Accepting.live, Planning.{joined, judged_refused, planned, unended}}
 use Rattle.live_session.proofs.change.prepare.Goals as goal
 
+pub judge-requires-clause-live : goal.judge-requires-clause-live
+judge-requires-clause-live g c = live c.requires.session
+
 pub judge-requires-clause-unended : goal.judge-requires-clause-unended
-judge-requires-clause-unended g c = unended c.args.standing.now c.args.tracks.now c.args.coming c.args.force.now c.args.now
-    c.requires.timely c.requires.presented
+judge-requires-clause-unended g c = unended c.args.standing.now c.args.now c.requires.timely
 
 pub plan_of-requires-clause-joined : goal.plan_of-requires-clause-joined
 plan_of-requires-clause-joined g c =
     let is = c.in-Ok.ensures.next in
-    joined c.args.standing.now c.args.tracks.now c.args.coming c.args.force.now c.args.now c.requires.timely c.requires.presented
-    c.in-Ok.next is.0 c.in-Ok.ensures.judged
-    is.1 is.2 is.3 is.4 is.5
+    joined c.in-Ok.next c.args.standing.now c.args.tracks.now c.args.coming c.args.force.now c.args.now is.1 is.2 is.3 is.4 is.5
+    c.in-Ok.ensures.judged
 
 pub returns-in-Err : goal.returns-in-Err
 returns-in-Err g c =
@@ -20,6 +21,5 @@ returns-in-Err g c =
 pub returns-in-Ok : goal.returns-in-Ok
 returns-in-Ok g c =
     let is = c.in-Ok.ensures.next in
-    planned c.args.standing.now c.args.tracks.now c.args.coming c.args.force.now c.args.now c.requires.timely c.requires.presented
-    c.in-Ok.next is.0 c.in-Ok.ensures.judged
-    is.1 is.2 is.3 is.4 is.5 c.args.steps.now c.plan_of.new.steps c.plan_of.result c.plan_of.ensures
+    planned c.in-Ok.next c.args.standing.now c.args.tracks.now c.args.coming c.args.force.now c.args.now is.1 is.2 is.3 is.4 is.5 is.0
+    c.requires.timely c.requires.presented c.in-Ok.ensures.judged c.args.steps.now c.plan_of.new.steps c.plan_of.result c.plan_of.ensures

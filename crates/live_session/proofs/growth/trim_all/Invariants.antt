@@ -1,13 +1,11 @@
 use Rattle.live_session.proofs.growth.trim_all.Given as goal
-use Rattle.std.proofs.Common.{◌≡◌, ◌++◌, ◌≤◌, ℕ, All, length, map, take, drop}
-use Rattle.std.specs.Prelude.{slice_get}
+use Rattle.std.proofs.Common.{All}
 use Rattle.live_judge.specs.Shown.{track_shown}
 use Rattle.live_session.specs.{Growth.trimmed, Kept.AreSideBySide}
+use Rattle.live_session.proofs.Growing.{AreChanged}
 
 abbrev pub invariant-loop-track : goal.invariant-loop-track
-invariant-loop-track l = let init = map track_shown l.fn.tracks.items in record {
-  many : length l.tracks.items ≡ length l.fn.tracks.items;
-  shown : map track_shown l.tracks.items ≡ map (trimmed l.fn.standing) (take l.track init) ++ drop l.track init;
+invariant-loop-track l = record {
+  changed : AreChanged track_shown (trimmed l.fn.standing) l.fn.tracks.items l.track l.tracks.items;
   paired : All AreSideBySide l.tracks.items;
-  later : (t : ℕ) → l.track ≤ t → slice_get l.tracks.items t ≡ slice_get l.fn.tracks.items t;
 }

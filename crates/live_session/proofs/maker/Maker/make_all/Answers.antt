@@ -1,6 +1,15 @@
 use Rattle.live_session.proofs.maker.Maker.make_all.Goals as goal
-use Rattle.std.proofs.{Common.{◌≡◌, ◌∙◌, Some, ap, arith, slice_get, sym}, lemmas.Option.slice_get-get_or}
-use Rattle.live_session.proofs.TrackMaking.{track_next, track_refused}
+use Rattle.std.proofs.Common.{◌≡◌, ◌∙◌, Some, ap, arith, length, length-append, map, slice_get, sym}
+use Rattle.std.proofs.lemmas.{Option.slice_get-get_or, Result.err_from_is_err_and}
+use Rattle.live_judge.specs.Shown.{track_shown}
+use Rattle.live_session.specs.declared.made.MadeTrack.{MadeTrack}
+use Rattle.live_session.proofs.TrackMaking.{no_track_yet, track_next, track_refused, tracks_made, wanting}
+
+pub loop-track-init : goal.loop-track-init
+loop-track-init g c = record {
+  count = ap (λ xs. length xs) c.new-all.ensures.items;
+  so_far = λ common is. rw c.new-all.ensures.items (no_track_yet common c.args.tracks.now c.args.steps.now);
+}
 
 pub make_track-requires-clause-kept : goal.make_track-requires-clause-kept
 make_track-requires-clause-kept g c =
@@ -8,17 +17,37 @@ make_track-requires-clause-kept g c =
     let at : slice_get tracks t ≡ Some track = slice_get-get_or tracks t track (omega arith) ∙ ap Some (sym c.index-tracks-track.is) in
     c.requires.tracks t track at
 
-pub returns-in-Err : goal.returns-in-Err
-returns-in-Err g c = let tracks = c.args.tracks.now in let l = c.loop-track in let track = c.index-tracks-track.result in
+pub returns-in-Err-clause-made : goal.returns-in-Err-clause-made
+returns-in-Err-clause-made g c = λ common is.
+    let tracks = c.args.tracks.now in let l = c.loop-track in let track = c.index-tracks-track.result in
     let at : slice_get tracks l.track ≡ Some track = slice_get-get_or tracks l.track track (omega arith)
     ∙ ap Some (sym c.index-tracks-track.is) in
-    track_refused c.args.self.now tracks l.track track at l.all.items c.args.steps.now l.steps c.make_track.new.steps c.in-Err.fault
-    l.invariant c.in-Err.ensures
+    track_refused common tracks c.args.self.now is l.track track at l.all.items c.args.steps.now l.steps c.make_track.new.steps c.in-Err.fault
+    (l.invariant.so_far common is) c.in-Err.ensures
+
+pub returns-in_err-push-in-Ok-clause-made : goal.returns-in_err-push-in-Ok-clause-made
+returns-in_err-push-in-Ok-clause-made g c = λ common is.
+    let tracks = c.args.tracks.now in let l = c.loop-track in let track = c.index-tracks-track.result in
+    let at : slice_get tracks l.track ≡ Some track = slice_get-get_or tracks l.track track (omega arith)
+    ∙ ap Some (sym c.index-tracks-track.is) in
+    let next = track_next common tracks c.args.self.now is l.track track at l.all.items
+    (record { segments = c.in-Ok.segments }) c.args.steps.now l.steps c.make_track.new.steps (l.invariant.so_far common is) c.in-Ok.ensures in
+    let p = err_from_is_err_and c.from_residual.result c.from_residual.ensures.1 in
+    rw (p.1, p.2) (wanting common (map track_shown tracks) c.args.steps.now c.make_track.new.steps next.least
+    (omega (arith, next.counted)))
 
 pub loop-track-preserved : goal.loop-track-preserved
-loop-track-preserved g c = let tracks = c.args.tracks.now in let l = c.loop-track in let track = c.index-tracks-track.result in
+loop-track-preserved g c =
+    let tracks = c.args.tracks.now in let l = c.loop-track in let track = c.index-tracks-track.result in
     let at : slice_get tracks l.track ≡ Some track = slice_get-get_or tracks l.track track (omega arith)
     ∙ ap Some (sym c.index-tracks-track.is) in
-    rw c.in_ok-push-in-Ok.ensures.items
-    (track_next c.args.self.now tracks l.track track at l.all.items
-    (record { segments = c.in-Ok.segments }) c.args.steps.now l.steps c.make_track.new.steps l.invariant c.in-Ok.ensures)
+    record {
+      count = omega (arith, l.invariant.count, ap (λ xs. length xs) c.in_ok-push-in-Ok.ensures.items, length-append {A = MadeTrack});
+      so_far = λ common is. rw c.in_ok-push-in-Ok.ensures.items
+          (track_next common tracks c.args.self.now is l.track track at l.all.items
+          (record { segments = c.in-Ok.segments }) c.args.steps.now l.steps c.make_track.new.steps (l.invariant.so_far common is) c.in-Ok.ensures);
+    }
+
+pub returns-clause-made : goal.returns-clause-made
+returns-clause-made g c = λ common is. let l = c.loop-track in
+    tracks_made common c.args.tracks.now l.track l.all.items c.args.steps.now l.steps (omega arith) (l.invariant.so_far common is)

@@ -1,5 +1,11 @@
+use Rattle.std.proofs.Common.{◌≡◌, length}
+use Rattle.live_meaning.specs.Histories.{Common}
+use Rattle.live_session.specs.Making.{IsMakerFor}
 use Rattle.live_session.proofs.TrackMaking.{AllSoFar}
 use Rattle.live_session.proofs.maker.Maker.make_all.Given as goal
 
 abbrev pub invariant-loop-track : goal.invariant-loop-track
-invariant-loop-track g l = AllSoFar l.fn.self l.fn.tracks l.track l.all.items l.fn.steps l.steps
+invariant-loop-track g l = record {
+  count : length l.all.items ≡ l.track;
+  so_far : (c : Common) → IsMakerFor c l.fn.self → AllSoFar c l.fn.tracks l.track l.all.items l.fn.steps l.steps;
+}
