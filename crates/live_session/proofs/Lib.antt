@@ -23,3 +23,4 @@ pub mod Planning
 pub mod Presenting
 pub mod Refusing
 pub mod Telling
+pub mod Walks

@@ -6,9 +6,11 @@ use Rattle.std.specs.{Prelude.{true, false, IfSome}, List.range_with_len, Option
 use Rattle.exact_time.specs.{Time.{Time, before}, Tick.time_of}
 use Rattle.timeline.specs.Expansions.{Timing}
 use Rattle.presentation.specs.{declared.parts.Content.Content, Presented.{Presented, content_at, listed_at, start_of}, Printing.FollowsNear}
+use Rattle.presentation.specs.Presented.{listed_in, window_of}
 use Rattle.presentation.specs.Printing.{GoesOn, later_than}
 use Rattle.followed.specs.Durations.{Last, last_behind, last_with}
 use Rattle.followed.proofs.PrintedSections.{last_section}
+use Rattle.live_meaning.proofs.Tracks.{last_goes_on}
 use Rattle.live_meaning.specs.{Segments.{Numbering, Segment, is_later, segment_with}, States.Track}
 use Rattle.live_judge.specs.{declared.track.LastKept.LastKept, Shown.last_of}
 use Rattle.live_session.specs.{Making.{IsBelow, StandsBefore, behind_in, end_in}, New.{IsBegun, faults_by, joins, later_listed}}
@@ -84,32 +86,34 @@ joins_there : (n : Numbering) (place start : ℕ) (content : Content) (l : LastK
 joins_there n place start content l [] here joined = tt
 joins_there n place start content l (x ∷ xs) here joined = joined (sym here)
 
-joined_at : (n : Numbering) (k : ℕ) (p : Presented) (s t : ℕ) (content : Content) (l : LastKept) → content_at p s t ≡ Some content
-    → l.place ≡ k + s → l.section ≡ k + s + n.resets
+joined_in : (n : Numbering) (k : ℕ) (p : Presented) (s : ℕ) (l : LastKept) (xs : List Timing) (o : Option Content) → (o ≡ None → xs ≡ [])
+    → l.section ≡ k + s + n.resets → joins (Some (last_of l)) (option_map_or (segments_in n k p s xs) o []) → FollowsNear (time_of l.end) xs
+joined_in n k p s l xs None none same joined = subst (FollowsNear (time_of l.end)) (sym (none refl)) tt
+joined_in n k p s l xs (Some content) none same joined = joins_there n (k + s) (start_of p s) content l xs same joined
+
+joined_at : (n : Numbering) (k : ℕ) (p : Presented) (s t : ℕ) (l : LastKept) → l.place ≡ k + s → l.section ≡ k + s + n.resets
     → joins (Some (last_of l)) (new_in n p k (track_at (Some l)) t s)
     → FollowsNear (time_of l.end) (later_than (time_of l.end) (listed_at p s t))
-joined_at n k p s t content l is here same joined =
+joined_at n k p s t l here same joined =
     let xs : List Timing = later_than (time_of l.end) (listed_at p s t) in
     let e : end_in (k + s) (Some l) ≡ Some l.end = rw (eq-eqb l.place (k + s) here) refl in
     let new : new_timings p k (track_at (Some l)) t s ≡ xs = times_are p k t s (Some l) (omega arith)
     ∙ ap (λ o. later_listed o (listed_at p s t)) e in
-    joins_there n (k + s) (start_of p s) content l xs same
-    (subst (λ (ys : List Segment). joins (Some (last_of l)) ys)
-    (ap (λ (o : Option Content). option_map_or (segments_in n k p s (new_timings p k (track_at (Some l)) t s)) o []) is
-    ∙ ap (λ ys. map (segment_with n (k + s) (start_of p s) content) ys) new)
-    joined)
+    joined_in n k p s l xs (content_at p s t)
+    (λ none. ap (λ (o : Option Content). later_than (time_of l.end) (option_map_or (λ content. listed_in (window_of p s) content.runs) o []))
+    none) same
+    (subst (λ (ys : List Timing). joins (Some (last_of l)) (option_map_or (segments_in n k p s ys) (content_at p s t) [])) new joined)
 
-pub goes_on_there : (n : Numbering) (k : ℕ) (p : Presented) (s t : ℕ) (content : Content) (last : Option LastKept)
-    → content_at p s t ≡ Some content
+pub goes_on_there : (n : Numbering) (k : ℕ) (p : Presented) (s t : ℕ) (last : Option LastKept)
     → IfSome last (λ l. l.place ≤ k + s) → IsBegun n.resets (track_at last) → joins (track_at last).last (new_in n p k (track_at last) t s)
     → IfSome (behind_in (k + s + n.resets) last) (λ b. (end_in (k + s) last ≡ Some b.former) × GoesOn (listed_at p s t) b)
-goes_on_there n k p s t content None is reached begun joined = tt
-goes_on_there n k p s t content (Some l) is reached begun joined = elim (cases_eq l.section (k + s + n.resets)) [
+goes_on_there n k p s t None reached begun joined = tt
+goes_on_there n k p s t (Some l) reached begun joined = elim (cases_eq l.section (k + s + n.resets)) [
   | inl same ↦
       let numbered = begun.numbered in
       let here : l.place ≡ k + s = omega (arith, numbered) in
       rw (eq-eqb l.section (k + s + n.resets) same, eq-eqb l.place (k + s) here)
-      (refl, record { begun = begun.begun; near = joined_at n k p s t content l is here same joined })
+      (refl, record { begun = begun.begun; near = joined_at n k p s t l here same joined })
   | inr other ↦ rw (ne_eqb l.section (k + s + n.resets) other) tt
 ]
 
@@ -161,10 +165,6 @@ pub stands : (track : Option Last) (so_far : List Segment) (number : ℕ) → St
     → StandsBefore track (last_behind track so_far) number
 stands track so_far number (inl none) = inl (ap (last_behind track) none)
 stands track so_far number (inr below) = inr below
-
-last_goes_on : (last : Option Last) (all more : List Segment) → last_behind last (all ++ more) ≡ last_behind (last_behind last all) more
-last_goes_on last [] more = refl
-last_goes_on last (x ∷ all) more = last_goes_on (Some (last_with last x)) all more
 
 below_more : (last : Option Last) (number : ℕ) → IsBelow last number → IsBelow last (number + 1)
 below_more None number below = tt

@@ -1,16 +1,15 @@
 -- The new segments of a track, section by section, and those of all tracks.
 use Rattle.std.proofs.Common.{◌≡◌, ℕ, suc, ◌+◌, ◌-◌, ◌^◌, ◌<◌, ◌≤◌, List, [], ◌∷◌, ◌++◌, map, flat_map, length, drop, All, Option, sum}
-use Rattle.std.proofs.Common.{Some, None, refl, sym, ◌∙◌, ap, subst, inl, inr, arith, append_assoc, length-append, zero-add}
+use Rattle.std.proofs.Common.{Some, None, refl, sym, ◌∙◌, ap, subst, inl, inr, arith, append_assoc, zero-add}
 use Rattle.std.proofs.{lemmas.Bool.cases_lt, lemmas.List.{append-nil, drop_all, map-append, Elements.{All-nil, All-push}}}
 use Rattle.std.proofs.lemmas.List.Sums.{sum_by-cons}
 use Rattle.std.specs.{Prelude.{option_map, slice_get, true, IfSome}, List.range_with_len}
 use Rattle.bridge_io.specs.Firsts.{first_of}
-use Rattle.exact_time.specs.Time.{IsAtMost}
 use Rattle.presentation.specs.{declared.fault.PresentationFault.PresentationFault, Counting.refusal, Presented.Presented}
-use Rattle.followed.specs.Durations.{Last, duration_behind, last_behind, last_with, told_behind}
+use Rattle.followed.specs.Durations.{told_behind}
 use Rattle.live_meaning.specs.{Updates.unit_of, Segments.{Kept, Numbering, Segment, segments_of}, Histories.Common}
 use Rattle.live_meaning.specs.{States.{Track, new_count, new_of, new_told}, Refusals.{Presentation, is_of_address, urls_told}}
-use Rattle.live_meaning.proofs.Tracks.{length-told, told-segments}
+use Rattle.live_meaning.proofs.Tracks.{length-told}
 use Rattle.live_judge.specs.{declared.track.LastKept.LastKept, declared.track.LiveTrack.LiveTrack, Faults.of_presentation}
 use Rattle.live_judge.specs.{declared.fault.RefreshFault.TheVariants.Memory, Shown.{last_of, track_shown}}
 use Rattle.live_judge.proofs.Firsts.{rest_at}
@@ -20,20 +19,10 @@ use Rattle.live_session.specs.{Making.{IsSectionMakeable, all_kept, first_sectio
 use Rattle.live_session.specs.{New.{new_faults_among, new_faults_in, new_faults_of, new_in, numbers_of, shown_by, track_at}, Written.IsDated}
 use Rattle.live_session.proofs.{Addresses.{all_by, first_address, first_mapped, urls_by, urls_of}, Pushing.grown as pushed_all}
 use Rattle.live_session.proofs.{Refusing.{counts_made, some_as, told_as}, Sections.{Stood, joins_next, none_faults, none_new, skip, stands}}
-use Rattle.live_session.proofs.Sections.{stands_next}
+use Rattle.live_session.proofs.{Sections.stands_next, Walks.{IsOnWay, last_made, segments_told, way_begun, way_done, way_next, way_refused}}
+use Rattle.live_session.proofs.Walks.{way_segments}
 
--- ---- segments with their durations
-
-pub told_more : (unit : ℕ) (last : Option Last) (all more : List Segment)
-    → told_behind unit last (all ++ more) ≡ told_behind unit last all ++ told_behind unit (last_behind last all) more
-told_more unit last [] more = refl
-told_more unit last (x ∷ all) more =
-    ap (λ (ks : List Kept). record { segment = x; duration = duration_behind unit last x } ∷ ks)
-    (told_more unit (Some (last_with last x)) all more)
-
-segments-append : (ks ls : List Kept) → segments_of (ks ++ ls) ≡ segments_of ks ++ segments_of ls
-segments-append [] ls = refl
-segments-append (k ∷ ks) ls = ap (λ (xs : List Segment). k.segment ∷ xs) (segments-append ks ls)
+-- ---- from a section on
 
 range_first : (s n : ℕ) → s < n → range_with_len s (n - s) ≡ s ∷ range_with_len (s + 1) (n - (s + 1))
 range_first s n less = let e : n - s ≡ suc (n - (s + 1)) = omega arith in ap (range_with_len s) e
@@ -61,12 +50,6 @@ numbered_there : (m : Maker) (s : ℕ) (last : Option LastKept) → first_sectio
 numbered_there m s None least begun = tt
 numbered_there m s (Some l) least begun = let numbered = begun.numbered in omega (arith, numbered)
 
-first_stays : (o : Option PresentationFault) (xs ys all : List PresentationFault) → all ≡ xs ++ ys → IfSome o (λ f. slice_get xs 0 ≡ Some f)
-    → IfSome o (λ f. slice_get all 0 ≡ Some f)
-first_stays None xs ys all same first = tt
-first_stays (Some f) [] ys all same first = absurd (cc)
-first_stays (Some f) (x ∷ xs) ys all same first = ap (λ fs. slice_get fs 0) same ∙ first
-
 -- ---- a track
 
 module _ (m : Maker) (t : ℕ) (last : Option LastKept) where
@@ -82,14 +65,17 @@ module _ (m : Maker) (t : ℕ) (last : Option LastKept) where
   abbrev count : ℕ
   count = length m.presentation.now.sections
 
+  abbrev left_from : ℕ → List Segment
+  left_from s = new_among n p m.place track t (range_with_len s (count - s))
+
+  abbrev untold_from : ℕ → List PresentationFault
+  untold_from s = new_faults_among p m.place track t (range_with_len s (count - s))
+
   -- those of the sections before one were made
   pub record TrackSoFar (s : ℕ) (made : List Kept) (before after : ℕ) : Type 0 where
-    pub segments : new_all n p m.place track t ≡ segments_of made ++ new_among n p m.place track t (range_with_len s (count - s))
-    pub told : made ≡ told_behind (10 ^ m.digits) track.last (segments_of made)
-    pub faults : new_faults_of p m.place track t ≡ new_faults_among p m.place track t (range_with_len s (count - s))
+    pub way : IsOnWay (10 ^ m.digits) track.last [] (new_all n p m.place track t) (left_from s) (new_faults_of p m.place track t)
+        (untold_from s) made before after
     pub stood : Stood track.last (segments_of made) (number_of m s)
-    pub counted : after ≡ before + length (segments_of made)
-    pub dates : All IsDated made
 
   none_between : {X : Type 0} (f : ℕ → List X) → ((s : ℕ) → s < first_section m.place last → f s ≡ [])
       → flat_map f (range_with_len 0 count) ≡ flat_map f (range_with_len (first_section m.place last) (count - first_section m.place last))
@@ -106,137 +92,87 @@ module _ (m : Maker) (t : ℕ) (last : Option LastKept) where
 
   pub none_yet : (before : ℕ) → TrackSoFar (first_section m.place last) [] before before
   none_yet before = record {
-    segments = none_between (new_in n p m.place track t) (λ s less. new_before m t s last less);
-    told = refl;
-    faults = none_between (new_faults_in p m.place track t) (λ s less. faults_before m t s last less);
+    way = way_begun (10 ^ m.digits) track.last [] (new_all n p m.place track t) (left_from (first_section m.place last))
+        (new_faults_of p m.place track t) (untold_from (first_section m.place last)) before
+        (none_between (new_in n p m.place track t) (λ s less. new_before m t s last less))
+        (none_between (new_faults_in p m.place track t) (λ s less. faults_before m t s last less));
     stood = inl refl;
-    counted = omega arith;
-    dates = All-nil IsDated;
   }
 
-  pub section_makeable : (s : ℕ) (made : List Kept) (before after : ℕ) → TrackSoFar s made before after → first_section m.place last ≤ s
-      → s < count
-      → IsBegun m.resets track → joins track.last (new_all n p m.place track t) → IsSectionMakeable m s t last made
-  section_makeable s made before after so_far least less begun near = record {
-    reached = within_place m s last least;
-    begun = begun;
-    near = joins_next n p m.place t s track (segments_of made) (new_among n p m.place track t (range_with_len (s + 1) (count - (s + 1))))
-        (subst (λ (xs : List Segment). joins track.last xs)
-        (so_far.segments ∙ ap (λ ss. segments_of made ++ new_among n p m.place track t ss) (range_first s count less)) near) so_far.stood;
-    stands = stands track.last (segments_of made) (number_of m s) so_far.stood;
-  }
+  module _ {s : ℕ} {made : List Kept} {before mid : ℕ} (so_far : TrackSoFar s made before mid) where
+    pub track_made : count ≤ s → IsMadeBehind (10 ^ m.digits) track.last (new_all n p m.place track t) (new_faults_of p m.place track t) []
+        made before mid
+    track_made least =
+        way_done so_far.way (ap (new_among n p m.place track t) (range_end s count least))
+        (ap (new_faults_among p m.place track t) (range_end s count least))
 
-  pub section_made : (s : ℕ) (made next : List Kept) (before mid after : ℕ) → TrackSoFar s made before mid → first_section m.place last ≤ s
-      → s < count → IsBegun m.resets track
-      → IsMadeBehind (10 ^ m.digits) track.last (new_in n p m.place track t s) (new_faults_in p m.place track t s) made next mid after
-      → TrackSoFar (s + 1) next before after
-  section_made s made next before mid after so_far least less begun is =
-      let new : List Segment = new_in n p m.place track t s in
-      let rest : List Segment = new_among n p m.place track t (range_with_len (s + 1) (count - (s + 1))) in
-      let told_new : List Kept = told_behind (10 ^ m.digits) (last_behind track.last (segments_of made)) new in
-      let segs : segments_of next ≡ segments_of made ++ new =
-      ap segments_of is.made_is ∙ segments-append made told_new
-      ∙ ap (λ xs. segments_of made ++ xs) (told-segments (10 ^ m.digits) (last_behind track.last (segments_of made)) new) in
-      record {
-        segments = so_far.segments ∙ ap (λ ss. segments_of made ++ new_among n p m.place track t ss) (range_first s count less)
-            ∙ sym (append_assoc (segments_of made) new rest) ∙ ap (λ xs. xs ++ rest) (sym segs);
-        told = is.made_is ∙ ap (λ ks. ks ++ told_new) so_far.told ∙ sym (told_more (10 ^ m.digits) track.last (segments_of made) new)
-            ∙ ap (told_behind (10 ^ m.digits) track.last) (sym segs);
-        faults = so_far.faults ∙ ap (new_faults_among p m.place track t) (range_first s count less)
-            ∙ ap (λ fs. fs ++ new_faults_among p m.place track t (range_with_len (s + 1) (count - (s + 1)))) is.none;
-        stood = subst (λ (xs : List Segment). Stood track.last xs (number_of m (s + 1))) (sym segs)
-            (let e : m.place + s + m.resets + 1 ≡ number_of m (s + 1) = omega arith in
-            subst (λ i. Stood track.last (segments_of made ++ new) i) e
-            (stands_next n p m.place t s track (segments_of made) (numbered_there m s last least begun) so_far.stood));
-        counted = omega (
-          arith,
-          so_far.counted,
-          is.counted,
-          ap (λ (xs : List Segment). length xs) segs,
-          length-append
-              (segments_of made) new,
-        );
-        dates = is.dates so_far.dates;
-      }
+    module _ (less : s < count) where
+      abbrev new : List Segment
+      new = new_in n p m.place track t s
 
-  -- a section of which a segment has no address
-  pub section_refused : (s : ℕ) (made : List Kept) (before mid after : ℕ) (fault : PresentationFault) → TrackSoFar s made before mid
-      → s < count
-      → IsNotMade (new_faults_in p m.place track t s) (length (new_in n p m.place track t s)) fault mid after
-      → IsNotMade (new_faults_of p m.place track t) (length (new_all n p m.place track t)) fault before after
-  section_refused s made before mid after fault so_far less is =
-      let new : List Segment = new_in n p m.place track t s in
-      let rest : List Segment = new_among n p m.place track t (range_with_len (s + 1) (count - (s + 1))) in
-      record {
-        refused = first_stays (refusal fault) (new_faults_in p m.place track t s)
-            (new_faults_among p m.place track t (range_with_len (s + 1) (count - (s + 1)))) (new_faults_of p m.place track t)
-            (so_far.faults ∙ ap (new_faults_among p m.place track t) (range_first s count less)) is.refused;
-        least = omega (arith, so_far.counted, is.least);
-        most_made = omega (
-          arith,
-          so_far.counted,
-          is.most_made,
-          ap (λ (xs : List Segment). length xs)
-              (so_far.segments ∙ ap (λ ss. segments_of made ++ new_among n p m.place track t ss) (range_first s count less)),
-          length-append (segments_of made) (new ++ rest),
-          length-append new rest,
-        );
-      }
+      left_here : left_from s ≡ new ++ left_from (s + 1)
+      left_here = ap (new_among n p m.place track t) (range_first s count less)
 
-  pub track_made : (s : ℕ) (made : List Kept) (before after : ℕ) → TrackSoFar s made before after → count ≤ s
-      → IsMadeBehind (10 ^ m.digits) track.last (new_all n p m.place track t) (new_faults_of p m.place track t) [] made before after
-  track_made s made before after so_far least =
-      let all : new_all n p m.place track t ≡ segments_of made =
-      so_far.segments ∙ ap (λ ss. segments_of made ++ new_among n p m.place track t ss) (range_end s count least)
-      ∙ append-nil (segments_of made) in
-      record {
-        made_is = so_far.told ∙ ap (told_behind (10 ^ m.digits) track.last) (sym all);
-        none = so_far.faults ∙ ap (new_faults_among p m.place track t) (range_end s count least);
-        dates = λ _. so_far.dates;
-        counted = omega (arith, so_far.counted, ap (λ (xs : List Segment). length xs) all);
-      }
+      untold_here : untold_from s ≡ new_faults_in p m.place track t s ++ untold_from (s + 1)
+      untold_here = ap (new_faults_among p m.place track t) (range_first s count less)
+
+      -- a section of which a segment has no address
+      pub section_refused : (fault : PresentationFault) (after : ℕ) → IsNotMade (new_faults_in p m.place track t s) (length new) fault mid after
+          → IsNotMade (new_faults_of p m.place track t) (length (new_all n p m.place track t)) fault before after
+      section_refused fault after is =
+          way_refused so_far.way new (left_from (s + 1)) (new_faults_in p m.place track t s) (untold_from (s + 1)) left_here untold_here after
+          fault is
+
+      module _ (least : first_section m.place last ≤ s) (begun : IsBegun m.resets track) where
+        pub section_makeable : joins track.last (new_all n p m.place track t) → IsSectionMakeable m s t last made
+        section_makeable near = record {
+          reached = within_place m s last least;
+          begun = begun;
+          near = joins_next n p m.place t s track (segments_of made) (left_from (s + 1))
+              (subst (λ (xs : List Segment). joins track.last xs)
+              (sym (way_segments so_far.way) ∙ ap (λ xs. segments_of made ++ xs) left_here) near) so_far.stood;
+          stands = stands track.last (segments_of made) (number_of m s) so_far.stood;
+        }
+
+        pub section_made : (next : List Kept) (after : ℕ)
+            → IsMadeBehind (10 ^ m.digits) track.last new (new_faults_in p m.place track t s) made next mid after
+            → TrackSoFar (s + 1) next before after
+        section_made next after is = record {
+          way = way_next so_far.way new (left_from (s + 1)) (new_faults_in p m.place track t s) (untold_from (s + 1)) left_here untold_here
+              after next is;
+          stood =
+              let segs : segments_of next ≡ segments_of made ++ new = ap segments_of is.made_is
+              ∙ segments_told (10 ^ m.digits) (last_made track.last made) made new in
+              let e : m.place + s + m.resets + 1 ≡ number_of m (s + 1) = omega arith in
+              subst (λ (xs : List Segment). Stood track.last xs (number_of m (s + 1))) (sym segs)
+              (subst (λ i. Stood track.last (segments_of made ++ new) i) e
+              (stands_next n p m.place t s track (segments_of made) (numbered_there m s last least begun) so_far.stood));
+        }
 
 -- ---- a track by what is kept of it
 
-as_track : (P : Option Last → ℕ → Type 0) (last : Option LastKept) (track : Track) → option_map last_of last ≡ track.last
-    → no_place last ≡ track.place
-    → P (option_map last_of last) (no_place last) → P track.last track.place
-as_track P last track same there h = subst (λ q. P track.last q) there (subst (λ (l : Option Last). P l (no_place last)) same h)
-
 module _ (m : Maker) (t : ℕ) (last : Option LastKept) (track : Track) (same : option_map last_of last ≡ track.last)
     (there : no_place last ≡ track.place) where
-  abbrev of : Option Last → ℕ → Track
-  of l q = record { kept = []; first = 0; last = l; place = q }
-
   pub begun_as : IsBegun m.resets track → IsBegun m.resets (track_at last)
-  begun_as begun = record {
-    begun = subst (λ (l : Option Last). IfSome l (λ x. IsAtMost x.first x.end)) (sym same) begun.begun;
-    numbered = subst (λ (l : Option Last). IfSome l (λ x. x.section ≤ no_place last + m.resets)) (sym same)
-        (subst (λ q. IfSome track.last (λ x. x.section ≤ q + m.resets)) (sym there) begun.numbered);
-  }
+  begun_as begun = rw (same, there) (record { begun = begun.begun; numbered = begun.numbered })
 
   pub joins_as : joins track.last (new_all (numbers_of m) (shown_by m) m.place track t)
       → joins (track_at last).last (new_all (numbers_of m) (shown_by m) m.place (track_at last) t)
-  joins_as near = subst (λ (l : Option Last). joins l (new_all (numbers_of m) (shown_by m) m.place (of l (no_place last)) t)) (sym same)
-      (subst (λ q. joins track.last (new_all (numbers_of m) (shown_by m) m.place (of track.last q) t)) (sym there) near)
+  joins_as near = rw (same, there) near
 
-  pub made_as : (made : List Kept) (before after : ℕ)
+  pub made_as : {made : List Kept} {before after : ℕ}
       → IsMadeBehind (10 ^ m.digits) (track_at last).last (new_all (numbers_of m) (shown_by m) m.place (track_at last) t)
       (new_faults_of (shown_by m) m.place (track_at last) t) [] made before after
       → IsMadeBehind (10 ^ m.digits) track.last (new_all (numbers_of m) (shown_by m) m.place track t)
       (new_faults_of (shown_by m) m.place track t) [] made before after
-  made_as made before after is =
-      as_track (λ l q. IsMadeBehind (10 ^ m.digits) l (new_all (numbers_of m) (shown_by m) m.place (of l q) t)
-      (new_faults_of (shown_by m) m.place (of l q) t) [] made before after) last track same there is
+  made_as is = rw (← same, ← there) is
 
-  pub not_made_as : (fault : PresentationFault) (before after : ℕ)
+  pub not_made_as : {fault : PresentationFault} {before after : ℕ}
       → IsNotMade (new_faults_of (shown_by m) m.place (track_at last) t)
       (length (new_all (numbers_of m) (shown_by m) m.place (track_at last) t)) fault before after
-      → IsNotMade (new_faults_of (shown_by m) m.place track t)
-      (length (new_all (numbers_of m) (shown_by m) m.place track t)) fault before after
-  not_made_as fault before after is =
-      as_track (λ l q. IsNotMade (new_faults_of (shown_by m) m.place (of l q) t)
-      (length (new_all (numbers_of m) (shown_by m) m.place (of l q) t)) fault before after) last track same there is
+      → IsNotMade (new_faults_of (shown_by m) m.place track t) (length (new_all (numbers_of m) (shown_by m) m.place track t)) fault before
+      after
+  not_made_as is = rw (← same, ← there) is
 
 -- ---- all tracks
 

@@ -1,14 +1,14 @@
 -- What is so of segments as they are made one by one.
 use Rattle.std.specs.Prelude.{◌≡◌, ◌⊎◌, ℕ, ◌+◌, ◌-◌, ◌^◌, ◌<◌, ◌≤◌, pos, neg_ℤ, ◌==◌, All, List, [], ◌∷◌, ◌++◌, length, map, slice_get, sum}
-use Rattle.std.specs.Prelude.{Option, Some, None, IfSome, Result, Ok, Err, MatchOption, MatchResult, IsSome, if◌then◌else◌}
+use Rattle.std.specs.Prelude.{option_map, Option, Some, None, IfSome, Result, Ok, Err, MatchOption, MatchResult, IsSome, if◌then◌else◌}
 use Rattle.bridge_io.specs.Firsts.{first_of}
 use Rattle.exact_time.specs.{Time.{IsAtMost, IsTime, Time, seconds}, declared.tick.Tick.Tick}
 use Rattle.iso_time.specs.Instant.{IsWritable}
 use Rattle.url_parts.specs.declared.address.Part.{Part}
 use Rattle.timeline.specs.{declared.fault.ListFault.ListFault, Listed.part_of_timing, Names.list_refusal, Expansions.Timing}
 use Rattle.followed.specs.Durations.{Last, last_behind, told_behind}
-use Rattle.presentation.specs.{declared.fault.PresentationFault.PresentationFault, declared.parts.Content.Content}
-use Rattle.presentation.specs.{declared.segments.Behind.Behind, Counting.refusal, Presented.{listed_at, start_of}, Printing.GoesOn}
+use Rattle.presentation.specs.{declared.fault.PresentationFault.PresentationFault}
+use Rattle.presentation.specs.{declared.segments.Behind.Behind, Counting.refusal, Presented.{content_at, listed_at, start_of}, Printing.GoesOn}
 use Rattle.presentation.specs.Printing.{IsAtEnd, PrintedRest}
 use Rattle.live_meaning.specs.{Segments.{Kept, Segment, id_at, place_of, segments_of}, Known.ids_of, Histories.{Common, availability_start_of}}
 use Rattle.live_meaning.specs.{States.{Track, new_count}, Refusals.urls_told}
@@ -47,9 +47,10 @@ abbrev pub GoesOnIn : Maker → (section track : ℕ) → Option LastKept → Ty
 GoesOnIn m s t last = IfSome (behind_in (number_of m s) last) (λ b.
     (end_in (m.place + s) last ≡ Some b.former) × GoesOn (listed_at (shown_by m) s t) b)
 
-pub record IsSection (m : Maker) (s t : ℕ) (last : Option LastKept) (section : Section) (content : Content) : Type 0 where
+pub record IsSection (m : Maker) (s t : ℕ) (last : Option LastKept) (section : Section) : Type 0 where
+  pub runs : option_map (λ content. content.runs) (content_at (shown_by m) s t) ≡ Some section.segments.timeline
   pub left : section.segments
-      ≡ left_to_make (behind_in (number_of m s) last) (10 ^ m.digits) content.runs
+      ≡ left_to_make (behind_in (number_of m s) last) (10 ^ m.digits) section.segments.timeline
       (later_listed (end_in (m.place + s) last) (listed_at (shown_by m) s t))
   pub count : section.count ≡ length (later_listed (end_in (m.place + s) last) (listed_at (shown_by m) s t))
   pub before : section.before ≡ length (listed_at (shown_by m) s t) - section.count

@@ -159,8 +159,7 @@ impl<'a> Maker<'a> {
         requires section { section < length self.now.presentation.now.sections }
         requires track { track < length self.now.presentation.now.tracks }
         requires goes_on { spec.GoesOnIn self.now section track last }
-        ensures section { IfSome (content_at (shown_by self.entry.now) section track)
-            (spec.IsSection self.entry.now section track last result) }
+        ensures section { spec.IsSection self.entry.now section track last result }
         ensures fits { result.before + result.count < 2 ^ 64 }
     {
         let presentation = self.presentation;

@@ -14,41 +14,34 @@ loop-section-init g c = record {
 
 pub make_section-requires-clause-stands : goal.make_section-requires-clause-stands
 make_section-requires-clause-stands g c =
-    let m = c.args.self.now in let t = c.args.track in let last = c.last_kept-last.result in let l = c.loop-section in let shown =
-    track_shown c.args.kept.now in
+    let m = c.args.self.now in let t = c.args.track in let last = c.last_kept-last in let l = c.loop-section in
+    let shown = track_shown c.args.kept.now in
     let same = ap (λ xs. length xs) c.sections.ensures in
-    section_makeable m t last l.section (all_made l.made.items) c.args.steps.now l.steps l.invariant.so_far l.invariant.least (omega arith)
-    (begun_as m t last shown c.last_kept-last.ensures.last c.last_kept-last.ensures.place c.requires.kept.begun)
-    (joins_as m t last shown c.last_kept-last.ensures.last c.last_kept-last.ensures.place c.requires.kept.near)
+    section_makeable m t last.result l.invariant.so_far (omega arith) l.invariant.least
+    (begun_as m t last.result shown last.ensures.last last.ensures.place c.requires.kept.begun)
+    (joins_as m t last.result shown last.ensures.last last.ensures.place c.requires.kept.near)
 
 pub returns-in-Err : goal.returns-in-Err
 returns-in-Err g c =
-    let m = c.args.self.now in let t = c.args.track in let last = c.last_kept-last.result in let l = c.loop-section in let shown =
-    track_shown c.args.kept.now in
+    let m = c.args.self.now in let t = c.args.track in let last = c.last_kept-last in
     let same = ap (λ xs. length xs) c.sections.ensures in
-    not_made_as m t last shown c.last_kept-last.ensures.last c.last_kept-last.ensures.place c.in-Err.fault c.args.steps.now
-    c.make_section.new.steps
-    (section_refused m t last l.section
-    (all_made l.made.items) c.args.steps.now l.steps c.make_section.new.steps c.in-Err.fault l.invariant.so_far
-    (omega arith) c.in-Err.ensures)
+    not_made_as m t last.result (track_shown c.args.kept.now) last.ensures.last last.ensures.place
+    (section_refused m t last.result c.loop-section.invariant.so_far (omega arith) c.in-Err.fault c.make_section.new.steps c.in-Err.ensures)
 
 pub loop-section-preserved : goal.loop-section-preserved
 loop-section-preserved g c =
-    let m = c.args.self.now in let t = c.args.track in let last = c.last_kept-last.result in let l = c.loop-section in let shown =
-    track_shown c.args.kept.now in
+    let m = c.args.self.now in let t = c.args.track in let last = c.last_kept-last in let l = c.loop-section in
     let same = ap (λ xs. length xs) c.sections.ensures in
     record {
-      so_far = section_made m t last l.section (all_made l.made.items)
-          (all_made c.make_section.new.made.items) c.args.steps.now l.steps c.make_section.new.steps l.invariant.so_far l.invariant.least
-          (omega arith)
-          (begun_as m t last shown c.last_kept-last.ensures.last c.last_kept-last.ensures.place c.requires.kept.begun) c.in-Ok.ensures;
+      so_far = section_made m t last.result l.invariant.so_far (omega arith) l.invariant.least
+          (begun_as m t last.result (track_shown c.args.kept.now) last.ensures.last last.ensures.place c.requires.kept.begun)
+          (all_made c.make_section.new.made.items) c.make_section.new.steps c.in-Ok.ensures;
       least = let least = l.invariant.least in omega arith;
     }
 
 pub returns : goal.returns
 returns g c =
-    let m = c.args.self.now in let t = c.args.track in let last = c.last_kept-last.result in let l = c.loop-section in let shown =
-    track_shown c.args.kept.now in
+    let last = c.last_kept-last in
     let same = ap (λ xs. length xs) c.sections.ensures in
-    made_as m t last shown c.last_kept-last.ensures.last c.last_kept-last.ensures.place (all_made l.made.items) c.args.steps.now l.steps
-    (track_made m t last l.section (all_made l.made.items) c.args.steps.now l.steps l.invariant.so_far (omega arith))
+    made_as c.args.self.now c.args.track last.result (track_shown c.args.kept.now) last.ensures.last last.ensures.place
+    (track_made c.args.self.now c.args.track last.result c.loop-section.invariant.so_far (omega arith))

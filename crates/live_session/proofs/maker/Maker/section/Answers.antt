@@ -1,9 +1,9 @@
 use Rattle.live_session.proofs.maker.Maker.section.Goals as goal
-use Rattle.std.proofs.Common.{◌≡◌, ◌+◌, ◌^◌, ◌∙◌, ap, sym, subst, length, Option, IfSome, arith, refl}
+use Rattle.std.proofs.Common.{◌≡◌, ◌+◌, ◌^◌, ◌∙◌, Some, ap, sym, length, arith, refl}
 use Rattle.timeline.specs.Expansions.{SegmentTimeline}
-use Rattle.presentation.specs.{declared.parts.Content.Content, Presented.{content_at, listed_at, listed_in}}
-use Rattle.live_session.specs.{Making.{IsSection, behind_in, end_in, number_of}, New.{later_listed, left_to_make, shown_by}}
-use Rattle.live_session.proofs.Making.{counted_there, listed_there, with_content}
+use Rattle.presentation.specs.{Presented.{listed_at, listed_in}, Printing.PrintedRest}
+use Rattle.live_session.specs.{Making.{behind_in, end_in, number_of}, New.{later_listed, left_to_make, shown_by}}
+use Rattle.live_session.proofs.Making.{counted_there, listed_there}
 
 pub of-requires-clause-goes_on : goal.of-requires-clause-goes_on
 of-requires-clause-goes_on c = let m = c.args.self.now in let s = c.args.section in let t = c.args.track in let last = c.args.last in
@@ -16,30 +16,21 @@ of-requires-clause-goes_on c = let m = c.args.self.now in let s = c.args.section
 
 pub returns-clause-section : goal.returns-clause-section
 returns-clause-section c = let m = c.args.self.now in let s = c.args.section in let t = c.args.track in let last = c.args.last in
-    let unit = 10 ^ m.digits in
     let b : c.behind_in-behind.result ≡ behind_in (number_of m s) last = c.behind_in-behind.ensures
     ∙ ap (λ n. behind_in n last) c.number.ensures in
-    let e : c.end_in-end.result ≡ end_in (m.place + s) last = c.end_in-end.ensures in
     let l : listed_in c.window-window.result c.runs-runs.result.now ≡ listed_at (shown_by m) s t =
     listed_there (shown_by m) s t c.runs-runs.result.now c.window-window.result c.runs-runs.ensures.content c.window-window.ensures in
     let new : later_listed c.end_in-end.result (listed_in c.window-window.result c.runs-runs.result.now)
-    ≡ later_listed (end_in (m.place + s) last) (listed_at (shown_by m) s t) = rw (e, l) refl in
-    let count : c.count_from-count.result ≡ length (later_listed (end_in (m.place + s) last) (listed_at (shown_by m) s t)) =
-    c.count_from-count.ensures ∙ ap (λ xs. length xs) c.begin_at.ensures ∙ ap (λ xs. length xs) new in
-    with_content (content_at (shown_by m) s t) (λ content. content.runs) c.runs-runs.result.now
-    (IfSome (content_at (shown_by m) s t)
-    (IsSection m s t last (record { segments = c.of.result; before = c.saturating_sub.result; count = c.count_from-count.result })))
-    c.runs-runs.ensures.content
-    (λ content is same. subst
-    (λ (o : Option Content). IfSome o
-    (IsSection m s t last (record { segments = c.of.result; before = c.saturating_sub.result; count = c.count_from-count.result })))
-    (sym is)
-    (record {
-      left = c.of.ensures ∙ ap (λ xs. left_to_make c.behind_in-behind.result unit c.runs-runs.result.now xs) new
-          ∙ ap (λ b. left_to_make b unit c.runs-runs.result.now (later_listed (end_in (m.place + s) last) (listed_at (shown_by m) s t))) b
-          ∙ ap (λ (tl : SegmentTimeline). left_to_make (behind_in (number_of m s) last) unit tl
-          (later_listed (end_in (m.place + s) last) (listed_at (shown_by m) s t))) (sym same);
-      count = count;
+    ≡ later_listed (end_in (m.place + s) last) (listed_at (shown_by m) s t) = rw (c.end_in-end.ensures, l) refl in
+    let same : c.of.result.timeline ≡ c.runs-runs.result.now = ap (λ (q : PrintedRest). q.timeline) c.of.ensures in
+    record {
+      runs = c.runs-runs.ensures.content ∙ ap (λ (tl : SegmentTimeline). Some tl) (sym same);
+      left = c.of.ensures ∙ ap (λ xs. left_to_make c.behind_in-behind.result (10 ^ m.digits) c.runs-runs.result.now xs) new
+          ∙ ap (λ b. left_to_make b
+          (10 ^ m.digits) c.runs-runs.result.now (later_listed (end_in (m.place + s) last) (listed_at (shown_by m) s t))) b
+          ∙ ap (λ (tl : SegmentTimeline). left_to_make (behind_in (number_of m s) last)
+          (10 ^ m.digits) tl (later_listed (end_in (m.place + s) last) (listed_at (shown_by m) s t))) (sym same);
+      count = c.count_from-count.ensures ∙ ap (λ xs. length xs) c.begin_at.ensures ∙ ap (λ xs. length xs) new;
       before = omega (
         arith,
         c.saturating_sub.ensures,
@@ -49,4 +40,4 @@ returns-clause-section c = let m = c.args.self.now in let s = c.args.section in 
             c.window-window.ensures (c.requires.can.counted s t c.requires.section c.requires.track) c.count.ensures,
         ap (λ xs. length xs) l,
       );
-    }))
+    }
