@@ -1,28 +1,28 @@
 -- Why a first MPD is refused, and what it appends.
 use Rattle.presentation.specs.declared.fault.PresentationFault.TheVariants as presented
 use Rattle.live_judge.specs.declared.fault.RefreshFault.TheVariants as faults
-use Rattle.std.proofs.Common.{◌≡◌, ℕ, zero, suc, ◌+◌, ◌-◌, ◌≤◌, ◌<◌, ℤ, Bool, true, false, not, nat_lt, ◌==◌, ◌&&◌, ◌||◌, List, [], ◌∷◌, ◌++◌}
-use Rattle.std.proofs.Common.{map, flat_map, filter, length, sum, All, Option, Some, None, Result, Ok, Err, refl, sym, ◌∙◌, ap, subst, arith}
-use Rattle.std.proofs.lemmas.{Bool.{le-ltb, lt-ltb, ltb-false}, List.{Concat.length-flat_map, Elements.{All-nil, All-cons, All-append}}}
+use Rattle.std.proofs.Common.{◌≡◌, ℕ, zero, suc, ◌+◌, ◌-◌, ◌≤◌, ◌<◌, ℤ, Bool, true, false, not, nat_lt, ◌==◌, ◌&&◌, List, [], ◌∷◌, ◌++◌}
+use Rattle.std.proofs.Common.{map, flat_map, filter, length, sum, All, Option, Some, None, Result, Ok, Err, refl, sym, ◌∙◌, ap, subst, inl, inr, arith}
+use Rattle.std.proofs.lemmas.{Bool.{cases_Bool, le-ltb, lt-ltb, ltb-false, or_parts}, List.{Concat.length-flat_map, Elements.{All-nil, All-cons, All-append}}}
 use Rattle.std.proofs.lemmas.{List.{Elements.All-head, Sums.{sum-map, sum_by-cons}, length-map, map-append}}
-use Rattle.std.specs.{Prelude.{IfSome, replicate, sum_by, if◌then◌else◌}, List.{list_any, range_with_len}, Option.option_map_or}
+use Rattle.std.specs.{Prelude.{IfSome, replicate, sum_by, if◌then◌else◌}, List.{range_with_len}, Option.option_map_or}
 use Rattle.bridge_io.specs.{Firsts.first_of}
 use Rattle.timeline.specs.{Expansions.Timing, declared.fault.TimeFault.TimeFault, declared.window.Window.Window}
 use Rattle.timeline.specs.Listed.{IsReached, answered_count}
 use Rattle.presentation.specs.{declared.fault.PresentationFault.PresentationFault, declared.parts.Content.Content, Counting.count_at}
-use Rattle.presentation.specs.Counting.{count_faults, count_of_all, count_of_track, counted, faults_of_count, is_long, is_over}
+use Rattle.presentation.specs.Counting.{count_faults, count_of_all, count_of_track, counted, faults_of_count, is_over}
 use Rattle.presentation.specs.Counting.{limit_faults, listed_count, number_in, place_at, refusal, section_faults, sections_of, track_faults}
 use Rattle.presentation.specs.{Counting.{tracks_of, unless_any, whole_track_faults}, Presented.{Presented, content_at, is_finished}}
 use Rattle.presentation.specs.{Presented.{listed_at, listed_in, window_of}, Printing.IsCounted, Told.presented_of}
 use Rattle.presentation.specs.Verifying.{part_faults, url_faults, url_faults_at, url_faults_of}
-use Rattle.presentation.proofs.{Counts.{from_on, from_on-end, from_on-first}, Reached.{all_reached, none_later}}
+use Rattle.presentation.proofs.{Reached.{all_reached, none_later}}
 use Rattle.live_meaning.specs.{Updates.{Terms, Values, unit_of}, Segments.{Segment, listed_of, listed_in_period}, States.{Track, new_count}}
 use Rattle.live_meaning.specs.{Histories.{Common, begun_common, begun_past, begun_with, numbering_of}, States.{shown, track_of}}
-use Rattle.live_meaning.specs.Refusals.{NotDynamic, Presentation, Refusal, Window as Windowed, begun_of, counts_listed, first_appended_by}
+use Rattle.live_meaning.specs.Refusals.{Presentation, Refusal, Window as Windowed, begun_of, counts_listed, first_appended_by}
 use Rattle.live_meaning.specs.Refusals.{first_refusal_of, first_told_by, makes_segments, over_in_all, over_in_track, told_if, urls_in}
 use Rattle.live_meaning.specs.Refusals.{urls_told, window_told}
-use Rattle.live_judge.specs.{declared.fault.RefreshFault.RefreshFault, Faults.{Judges, Tells, of_presentation, told}}
-use Rattle.live_judge.proofs.Firsts.{none_told, told_first}
+use Rattle.live_judge.specs.{declared.fault.RefreshFault.RefreshFault, Faults.{Tells, of_presentation, told}}
+use Rattle.live_judge.proofs.Firsts.{IsNoneBefore, first_here, none_at_all, none_told, told_first}
 use Rattle.live_session.specs.{Begun.{IsUnbegun, empty_tracks, first_judged}, Growth.tracks_grown, Kept.empty_track, Making.AreUnmade}
 use Rattle.live_session.specs.Sessions.{CountsRefused}
 use Rattle.live_session.proofs.{Addresses.{all_flat, same_over, urls_make}, Refusing.{some_as, told_as}, Sections.filter_all}
@@ -61,15 +61,6 @@ pub count_refused : (p : Presented) (fault : PresentationFault) → counted p �
     → Tells (faults.Presentation fault) (map Presentation (count_faults p))
 unfolding counted
 count_refused p fault is = tells_first (count_faults p) (count_of_all p) fault (counts_told p) is
-
-pub judges_behind : {X : Type 0} (r : Result X RefreshFault) (xs ys : List Refusal) → xs ≡ [] → Judges r ys → Judges r (xs ++ ys)
-judges_behind r xs ys none judges = subst (λ (zs : List Refusal). Judges r (zs ++ ys)) (sym none) judges
-
-pub live_none : (b : Bool) → b ≡ true → told_if (not b) NotDynamic ≡ []
-live_none b is = rw is refl
-
-pub not_live : (b : Bool) → b ≡ false → Tells faults.NotDynamic (told_if (not b) NotDynamic)
-not_live b is = rw is (refl, refl)
 
 none_by : (fs : List PresentationFault) (n m : ℕ) → unless_any fs n ≡ Ok m → fs ≡ []
 none_by [] n m is = refl
@@ -126,14 +117,6 @@ module _ (p : Presented) (none : count_faults p ≡ []) where
 
 -- ---- limits
 
-none_over : (b : Bool) → limit_faults b ≡ [] → b ≡ false
-none_over true none = absurd (cc)
-none_over false none = refl
-
-second_false : (a b : Bool) → (a || b) ≡ false → b ≡ false
-second_false true b is = absurd (cc)
-second_false false b is = is
-
 within_all : (f : ℕ → ℕ) (a n total : ℕ) → total + sum_by f (range_with_len a n) ≤ 500000
     → over_in_all a total (map f (range_with_len a n)) ≡ []
 within_all f a zero total le = refl
@@ -144,43 +127,38 @@ within_all f a (suc n) total le =
 
 pub all_within : (p : Presented) → count_faults p ≡ [] → over_in_all 0 0 (counts_listed p) ≡ []
 all_within p none =
-    let over = none_over (is_over p) (none_later (flat_map (track_faults p) (tracks_of p)) (limit_faults (is_over p)) none) in
-    let few : count_of_all p ≤ 500000 =
-    ltb-false 500000 (count_of_all p) (second_false (list_any (is_long p) (tracks_of p)) (nat_lt 500000 (count_of_all p)) over) in
+    let over : is_over p ≡ false = elim (cases_Bool (is_over p)) [
+      | inl so ↦ absurd (let never : limit_faults true ≡ [] = rw so at (none_later (flat_map (track_faults p) (tracks_of p))
+          (limit_faults (is_over p)) none) in cc)
+      | inr other ↦ other
+    ] in
+    let few : count_of_all p ≤ 500000 = ltb-false 500000 (count_of_all p) (or_parts _ _ over).1 in
     within_all (many p) 0 (length p.tracks) 0 (omega (arith, few, all_many p none))
 
--- no track before one has too many
-abbrev pub IsNoneOver : Presented → ℕ → Type 0
-IsNoneOver p t = over_in_track 0 (counts_listed p) ≡ over_in_track t (map (many p) (from_on t (length p.tracks)))
+-- where a track has too many
+abbrev pub over_at : Presented → ℕ → List Refusal
+over_at p t = told_if (nat_lt 20000 (many p t)) (Windowed t (many p t))
 
-over_here : (p : Presented) (t : ℕ) → t < length p.tracks → IsNoneOver p t
-    → over_in_track 0 (counts_listed p)
-    ≡ told_if (nat_lt 20000 (many p t)) (Windowed t (many p t)) ++ over_in_track (t + 1) (map (many p) (from_on (t + 1) (length p.tracks)))
-over_here p t less before = before ∙ ap (λ ts. over_in_track t (map (many p) ts)) (from_on-first t (length p.tracks) less)
+over_all : (p : Presented) (a n : ℕ) → over_in_track a (map (many p) (range_with_len a n)) ≡ flat_map (over_at p) (range_with_len a n)
+over_all p a zero = refl
+over_all p a (suc n) = ap (λ rs. over_at p a ++ rs) (over_all p (a + 1) n)
 
-pub few_here : (p : Presented) (t : ℕ) → t < length p.tracks → IsNoneOver p t → many p t ≤ 20000 → IsNoneOver p (t + 1)
-few_here p t less before few =
-    let is = over_here p t less before in
-    let none : nat_lt 20000 (many p t) ≡ false = le-ltb 20000 (many p t) few in
-    is ∙ ap (λ b. told_if b (Windowed t (many p t)) ++ over_in_track (t + 1) (map (many p) (from_on (t + 1) (length p.tracks)))) none
+pub few_here : (p : Presented) (t : ℕ) → many p t ≤ 20000 → over_at p t ≡ []
+few_here p t few = rw (le-ltb 20000 (many p t) few) refl
 
-pub many_here : (p : Presented) (t count : ℕ) → t < length p.tracks → IsNoneOver p t → count ≡ many p t → 20000 < count
-    → Tells (faults.Window t count) (window_told (counts_listed p))
-many_here p t count less before is over =
-    let some : nat_lt 20000 (many p t) ≡ true = lt-ltb 20000 (many p t) (omega (arith, is, over)) in
-    let rest = over_in_track (t + 1) (map (many p) (from_on (t + 1) (length p.tracks))) in
-    let first : over_in_track 0 (counts_listed p) ≡ Windowed t count ∷ rest =
-    over_here p t less before ∙ ap (λ b. told_if b (Windowed t (many p t)) ++ rest) some ∙ ap (λ n. Windowed t n ∷ rest) (sym is) in
+pub many_told : (p : Presented) (t count : ℕ) → t < length p.tracks → IsNoneBefore (over_at p) (length p.tracks) t → count ≡ many p t
+    → 20000 < count → Tells (faults.Window t count) (window_told (counts_listed p))
+many_told p t count less before is over =
     told_first (faults.Window t count) (over_in_track 0 (counts_listed p)) (over_in_all 0 0 (counts_listed p))
-    (subst (λ (rs : List Refusal). Tells (faults.Window t count) rs) (sym first) (refl, refl))
+    (subst (λ (rs : List Refusal). Tells (faults.Window t count) rs) (sym (over_all p 0 (length p.tracks)))
+    (first_here (over_at p) (length p.tracks) t (faults.Window t count) less before
+    (rw (is, lt-ltb 20000 (many p t) (omega (arith, is, over))) (refl, refl))))
 
-pub none_too_many : (p : Presented) (t : ℕ) → count_faults p ≡ [] → t ≡ length p.tracks → IsNoneOver p t
+pub none_too_many : (p : Presented) (t : ℕ) → count_faults p ≡ [] → t ≡ length p.tracks → IsNoneBefore (over_at p) (length p.tracks) t
     → window_told (counts_listed p) ≡ []
 none_too_many p t none end before =
     none_told (over_in_track 0 (counts_listed p)) (over_in_all 0 0 (counts_listed p))
-    (before ∙ ap (λ k. over_in_track k (map (many p) (from_on k (length p.tracks)))) end
-    ∙ ap (λ ts. over_in_track (length p.tracks) (map (many p) ts)) (from_on-end (length p.tracks)))
-    (all_within p none)
+    (over_all p 0 (length p.tracks) ∙ none_at_all (over_at p) (length p.tracks) t end before) (all_within p none)
 
 -- ---- tracks of which nothing was listed
 

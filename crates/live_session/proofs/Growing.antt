@@ -2,6 +2,7 @@
 use Rattle.std.proofs.Common.{◌≡◌, ℕ, zero, suc, ◌+◌, ◌<◌, ◌≤◌, List, [], ◌∷◌, ◌++◌, map, length, take, drop, All, Some, refl, sym, ◌∙◌, ap}
 use Rattle.std.proofs.{Common.{subst, inl, inr, arith}, lemmas.Bool.cases_eq, lemmas.List.Elements.{All-cons, All-head, All-tail}}
 use Rattle.std.proofs.lemmas.{Option.{same_Some, slice_get-get_or, slice_get-map}, List.{length-map, length-set, map-set}}
+use Rattle.circular_buffer.proofs.Places.{slice_get-set_same}
 use Rattle.std.specs.Prelude.{get_or, option_map, slice_get, slice_set}
 use Rattle.live_judge.specs.declared.track.LiveTrack.{LiveTrack}
 use Rattle.live_session.specs.{declared.made.MadeTrack.MadeTrack, Growth.{grown, inside_of}, Kept.{HasRoom, with_all}}
@@ -14,12 +15,6 @@ grown_push [] [] new track is = absurd (cc)
 grown_push [] (n ∷ ns) new track is = absurd (cc)
 grown_push (t ∷ ts) [] new track is = let e : t ≡ track = cc in ap (λ (x : Track). with_all x new ∷ ts) e
 grown_push (t ∷ ts) (n ∷ ns) new track is = ap (λ (xs : List Track). with_all t n ∷ xs) (grown_push ts ns new track is)
-
-pub length-grown : (tracks : List Track) (news : List (List Kept)) → length (grown tracks news) ≡ length tracks
-length-grown [] [] = refl
-length-grown [] (n ∷ ns) = refl
-length-grown (t ∷ ts) [] = refl
-length-grown (t ∷ ts) (n ∷ ns) = ap suc (length-grown ts ns)
 
 -- the first ones are changed
 changed_to : {X : Type 0} (f : X → X) (i : ℕ) (xs : List X) (x : X) → slice_get xs i ≡ Some x
@@ -64,11 +59,6 @@ module _ {X Y : Type 0} (show : X → Y) (f : Y → Y) (old : List X) where
 
 -- ---- one of them is changed
 
-pub get_set_here : {X : Type 0} (xs : List X) (i : ℕ) (y : X) → i < length xs → slice_get (slice_set xs i y) i ≡ Some y
-get_set_here [] i y less = absurd (omega arith)
-get_set_here (x ∷ xs) zero y less = refl
-get_set_here (x ∷ xs) (suc i) y less = get_set_here xs i y (omega arith)
-
 pub get_set_other : {X : Type 0} (xs : List X) (i t : ℕ) (y : X) → (t ≡ i → ⊥) → slice_get (slice_set xs i y) t ≡ slice_get xs t
 get_set_other [] i t y other = refl
 get_set_other (x ∷ xs) zero zero y other = absurd (other refl)
@@ -103,7 +93,7 @@ pub room_next : (tracks : List LiveTrack) (made : List MadeTrack) (k : ℕ) (new
 room_next tracks made k new here within at room before t track x less is made_is = elim (cases_eq t k) [
   | inl same ↦
       let one : new ≡ track =
-      same_Some _ _ (sym (get_set_here tracks k new within) ∙ ap (slice_get (slice_set tracks k new)) (sym same) ∙ is) in
+      same_Some _ _ (sym (slice_get-set_same tracks k new within) ∙ ap (slice_get (slice_set tracks k new)) (sym same) ∙ is) in
       let other : here ≡ x = same_Some _ _ (sym at ∙ ap (slice_get made) (sym same) ∙ made_is) in
       subst (λ (y : MadeTrack). HasRoom (length y.segments.items) track) other
       (subst (λ (z : LiveTrack). HasRoom (length here.segments.items) z) one room)

@@ -87,15 +87,6 @@ module _ (n : Next) (is : IsNext n) where
   abbrev first : ℕ
   first = length known - n.place
 
-  pub first_within : first ≤ length (p_of n).sections
-  first_within = omega (
-    arith,
-    is.within,
-    ends (known_with known (p_of n)) (p_of n) n.place is.stands,
-    length-append known
-        (filter (is_new known) (periods_of (p_of n))),
-  )
-
   -- with those that were never seen
   pub known_are : (new : List Known) → new ≡ map (known_at n.force.now) (range_with_len first (length (n.force.now).sections - first))
       → known ++ new ≡ known_with known (p_of n)

@@ -2,7 +2,6 @@ pub mod Addresses
 pub mod Dates
 pub mod Durations
 pub mod Growing
-pub mod Keeping
 pub mod Listing
 pub mod Making
 pub mod Paced

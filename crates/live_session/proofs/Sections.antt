@@ -1,39 +1,29 @@
 -- The new segments of a track, section by section.
 use Rattle.std.proofs.Common.{◌≡◌, ℕ, zero, suc, ◌+◌, ◌<◌, ◌≤◌, ◌⊎◌, List, [], ◌∷◌, ◌++◌, map, filter, flat_map, length, Option, None, Some}
-use Rattle.std.proofs.{Common.{refl, sym, ◌∙◌, ap, subst, inl, inr, arith}, lemmas.Bool.{cases_eq, eq-eqb, ne_eqb, le-ltb, lt-ltb}}
-use Rattle.std.proofs.lemmas.List.Elements.{filter_agree}
-use Rattle.std.specs.{Prelude.{true, false, IfSome}, List.range_with_len, Option.option_map_or}
-use Rattle.exact_time.specs.{Time.{Time, before}, Tick.time_of}
+use Rattle.std.proofs.{Common.{All, refl, sym, ◌∙◌, ap, subst, inl, inr, arith}, lemmas.Bool.{cases_eq, eq-eqb, ne_eqb, lt-ltb}}
+use Rattle.std.proofs.lemmas.List.Elements.{All-head, All-tail, filter_agree}
+use Rattle.std.specs.{Prelude.{true, IfSome}, List.range_with_len, Option.option_map_or}
+use Rattle.exact_time.specs.{Time.{before}, Tick.time_of}
 use Rattle.timeline.specs.Expansions.{Timing}
 use Rattle.presentation.specs.{declared.parts.Content.Content, Presented.{Presented, content_at, listed_at, start_of}, Printing.FollowsNear}
-use Rattle.presentation.specs.Presented.{listed_in, window_of}
-use Rattle.presentation.specs.Printing.{GoesOn, later_than}
+use Rattle.presentation.specs.{Presented.{listed_in, window_of}, Printing.{GoesOn, later_than}}
 use Rattle.followed.specs.Durations.{Last, last_behind, last_with}
 use Rattle.followed.proofs.PrintedSections.{last_section}
-use Rattle.live_meaning.proofs.Tracks.{last_goes_on}
 use Rattle.live_meaning.specs.{Segments.{Numbering, Segment, is_later, segment_with}, States.Track}
+use Rattle.live_meaning.proofs.Tracks.{last_goes_on}
 use Rattle.live_judge.specs.{declared.track.LastKept.LastKept, Shown.last_of}
+use Rattle.live_judge.proofs.{Contents.here_by_end, New.{new_own, none_earlier}}
 use Rattle.live_session.specs.{Making.{IsBelow, StandsBefore, behind_in, end_in}, New.{IsBegun, faults_by, joins, later_listed}}
 use Rattle.live_session.specs.New.{new_faults_in, new_in, new_timings, segments_in, track_at}
-
--- ---- tests of all and of none
+use Rattle.live_session.proofs.Refusing.{some_as}
 
 pub filter_all : {X : Type 0} (xs : List X) → filter (λ x. true) xs ≡ xs
 filter_all [] = refl
 filter_all (x ∷ xs) = ap (λ ys. x ∷ ys) (filter_all xs)
 
-filter_none : {X : Type 0} (xs : List X) → filter (λ x. false) xs ≡ []
-filter_none [] = refl
-filter_none (x ∷ xs) = filter_none xs
-
-is_later_there : (l : Last) (place q : ℕ) (end : Time) → place ≡ q → is_later l place q end ≡ before l.end end
-is_later_there l place q end same = rw (le-ltb place q (omega arith), eq-eqb place q same) refl
-
-is_later_behind : (l : Last) (place q : ℕ) (end : Time) → place < q → is_later l place q end ≡ true
-is_later_behind l place q end less = rw (lt-ltb place q less) refl
-
-is_later_before : (l : Last) (place q : ℕ) (end : Time) → q < place → is_later l place q end ≡ false
-is_later_before l place q end less = rw (le-ltb place q (omega arith), ne_eqb place q (λ e. omega arith)) refl
+nothing_of : {X : Type 0} (f : Content → List X) (o : Option Content) → ((content : Content) → f content ≡ []) → option_map_or f o [] ≡ []
+nothing_of f None none = refl
+nothing_of f (Some content) none = none content
 
 -- ---- which are new
 
@@ -45,39 +35,26 @@ module _ (p : Presented) (k t s : ℕ) where
     | inl here ↦
         let e : end_in (k + s) (Some l) ≡ Some l.end = rw (eq-eqb l.place (k + s) here) refl in
         filter_agree (λ x. is_later (last_of l) l.place (k + s) x.end) (λ x. before (time_of l.end) x.end)
-        (λ x. is_later_there (last_of l) l.place (k + s) x.end here) (listed_at p s t)
-        ∙ sym (ap (λ o. later_listed o (listed_at p s t)) e)
+        (λ x. here_by_end (last_of l) (k + s) l.place (sym here) x.end) (listed_at p s t)
+        ∙ ap (λ o. later_listed o (listed_at p s t)) (sym e)
     | inr other ↦
         let e : end_in (k + s) (Some l) ≡ None = rw (ne_eqb l.place (k + s) other) refl in
         filter_agree (λ x. is_later (last_of l) l.place (k + s) x.end) (λ x. true)
-        (λ x. is_later_behind (last_of l) l.place (k + s) x.end (omega arith)) (listed_at p s t)
-        ∙ filter_all (listed_at p s t) ∙ sym (ap (λ o. later_listed o (listed_at p s t)) e)
+        (λ x. rw (lt-ltb l.place (k + s) (omega arith)) refl) (listed_at p s t)
+        ∙ filter_all (listed_at p s t) ∙ ap (λ o. later_listed o (listed_at p s t)) (sym e)
   ]
 
   -- none where the Period lies before the last one's
-  none_before : (l : Last) (track : Track) → track.last ≡ Some l → k + s < track.place → new_timings p k track t s ≡ []
-  none_before l track is less =
-      rw is (filter_agree (λ x. is_later l track.place (k + s) x.end) (λ x. false) (λ x. is_later_before l track.place (k + s) x.end less)
-      (listed_at p s t) ∙ filter_none (listed_at p s t))
-
-  none_in : (n : Numbering) (o : Option Content) → option_map_or (segments_in n k p s []) o [] ≡ []
-  none_in n None = refl
-  none_in n (Some content) = refl
-
   pub none_new : (n : Numbering) (l : Last) (track : Track) → track.last ≡ Some l → k + s < track.place → new_in n p k track t s ≡ []
   none_new n l track is less =
-      ap (λ (xs : List Timing). option_map_or (segments_in n k p s xs) (content_at p s t) []) (none_before l track is less)
-      ∙ none_in n (content_at p s t)
-
-  none_faults_in : (o : Option Content) → option_map_or (faults_by s t (length (listed_at p s t)) []) o [] ≡ []
-  none_faults_in None = refl
-  none_faults_in (Some content) = refl
+      ap (λ (xs : List Timing). option_map_or (segments_in n k p s xs) (content_at p s t) []) (none_earlier p k track t s l is less)
+      ∙ nothing_of (segments_in n k p s []) (content_at p s t) (λ content. refl)
 
   pub none_faults : (l : Last) (track : Track) → track.last ≡ Some l → k + s < track.place → new_faults_in p k track t s ≡ []
   none_faults l track is less =
       ap (λ (xs : List Timing). option_map_or (faults_by s t (length (listed_at p s t)) xs) (content_at p s t) [])
-      (none_before l track is less)
-      ∙ none_faults_in (content_at p s t)
+      (none_earlier p k track t s l is less)
+      ∙ nothing_of (faults_by s t (length (listed_at p s t)) []) (content_at p s t) (λ content. refl)
 
 -- ---- how they go on
 
@@ -88,7 +65,7 @@ joins_there n place start content l (x ∷ xs) here joined = joined (sym here)
 
 joined_in : (n : Numbering) (k : ℕ) (p : Presented) (s : ℕ) (l : LastKept) (xs : List Timing) (o : Option Content) → (o ≡ None → xs ≡ [])
     → l.section ≡ k + s + n.resets → joins (Some (last_of l)) (option_map_or (segments_in n k p s xs) o []) → FollowsNear (time_of l.end) xs
-joined_in n k p s l xs None none same joined = subst (FollowsNear (time_of l.end)) (sym (none refl)) tt
+joined_in n k p s l xs None none same joined = rw (none refl) tt
 joined_in n k p s l xs (Some content) none same joined = joins_there n (k + s) (start_of p s) content l xs same joined
 
 joined_at : (n : Numbering) (k : ℕ) (p : Presented) (s t : ℕ) (l : LastKept) → l.place ≡ k + s → l.section ≡ k + s + n.resets
@@ -126,36 +103,22 @@ skip f i zero m none =
 skip f i (suc n) m none =
     let e : suc n + m ≡ suc (n + m) = omega arith in
     let d : i + 1 + n ≡ i + suc n = omega arith in
-    rw e (ap (λ xs. xs ++ flat_map f (range_with_len (i + 1) (n + m))) (none i (omega arith) (omega arith))
-    ∙ skip f (i + 1) n m (λ j low high. none j (omega arith) (omega arith)) ∙ ap (λ j. flat_map f (range_with_len j m)) d)
+    rw (e, none i (omega arith) (omega arith))
+    (skip f (i + 1) n m (λ j low high. none j (omega arith) (omega arith)) ∙ ap (λ j. flat_map f (range_with_len j m)) d)
 
 -- ---- section numbers
 
--- all of some segments lie in the section of a number
-AreIn : (number : ℕ) → List Segment → Type 0
-AreIn number [] = Unit {0}
-AreIn number (x ∷ xs) = (x.section ≡ number) × AreIn number xs
-
-mapped_in : (n : Numbering) (place start : ℕ) (content : Content) (xs : List Timing)
-    → AreIn (place + n.resets) (map (segment_with n place start content) xs)
-unfolding AreIn
-mapped_in n place start content [] = tt
-mapped_in n place start content (x ∷ xs) = (refl, mapped_in n place start content xs)
-
-in_content : (n : Numbering) (k : ℕ) (p : Presented) (s : ℕ) (xs : List Timing) (o : Option Content)
-    → AreIn (k + s + n.resets) (option_map_or (segments_in n k p s xs) o [])
-unfolding AreIn
-in_content n k p s xs None = tt
-in_content n k p s xs (Some content) = mapped_in n (k + s) (start_of p s) content xs
+abbrev AreIn : (number : ℕ) → List Segment → Type 0
+AreIn number xs = All (λ (x : Segment). x.section ≡ number) xs
 
 last_in : (number : ℕ) (last : Option Last) (xs : List Segment) → AreIn number xs
     → (xs ≡ []) ⊎ (IfSome (last_behind last xs) (λ l. l.section ≡ number))
-unfolding AreIn
 last_in number last [] are = inl refl
-last_in number last (x ∷ xs) (here, later) = inr (elim (last_in number (Some (last_with last x)) xs later) [
-  | inl none ↦ rw none (last_section last x ∙ here)
-  | inr some ↦ some
-])
+last_in number last (x ∷ xs) are = inr (elim (last_in number
+    (Some (last_with last x)) xs (All-tail (λ (x : Segment). x.section ≡ number) x xs are)) [
+      | inl none ↦ rw none (last_section last x ∙ All-head (λ (x : Segment). x.section ≡ number) x xs are)
+      | inr some ↦ some
+    ])
 
 -- nothing was made yet, or the last one so far and the one before all lie in sections before one of a number
 abbrev pub Stood : (track : Option Last) → (so_far : List Segment) → (number : ℕ) → Type 0
@@ -166,17 +129,8 @@ pub stands : (track : Option Last) (so_far : List Segment) (number : ℕ) → St
 stands track so_far number (inl none) = inl (ap (last_behind track) none)
 stands track so_far number (inr below) = inr below
 
-below_more : (last : Option Last) (number : ℕ) → IsBelow last number → IsBelow last (number + 1)
-below_more None number below = tt
-below_more (Some l) number below = omega arith
-
-at_below : (last : Option Last) (number : ℕ) → IfSome last (λ l. l.section ≡ number) → IsBelow last (number + 1)
-at_below None number is = tt
-at_below (Some l) number is = omega arith
-
-not_above : (last : Option Last) (number : ℕ) → IfSome last (λ l. l.section ≤ number) → IsBelow last (number + 1)
-not_above None number is = tt
-not_above (Some l) number is = omega arith
+below_next : (last : Option Last) (number : ℕ) → IfSome last (λ l. l.section ≤ number) → IsBelow last (number + 1)
+below_next last number low = some_as last (λ l. l.section ≤ number) (λ l. l.section < number + 1) (λ l le. omega arith) low
 
 pub stands_next : (n : Numbering) (p : Presented) (k t s : ℕ) (track : Track) (so_far : List Segment)
     → IfSome track.last (λ l. l.section ≤ k + s + n.resets) → Stood track.last so_far (k + s + n.resets)
@@ -184,19 +138,22 @@ pub stands_next : (n : Numbering) (p : Presented) (k t s : ℕ) (track : Track) 
 stands_next n p k t s track so_far within stood =
     let new : List Segment = new_in n p k track t s in
     let number : ℕ = k + s + n.resets in
-    let goes : last_behind track.last (so_far ++ new) ≡ last_behind (last_behind track.last so_far) new =
-    last_goes_on track.last so_far new in
-    elim (last_in number (last_behind track.last so_far) new (in_content n k p s (new_timings p k track t s) (content_at p s t))) [
+    let former : Option Last = last_behind track.last so_far in
+    let goes : last_behind track.last (so_far ++ new) ≡ last_behind former new = last_goes_on track.last so_far new in
+    elim (last_in number former new (new_own n p k track t s)) [
       | inl none ↦ elim stood [
         | inl empty ↦ inl (let a : so_far ++ new ≡ [] = rw (none, empty) refl in a)
         | inr below ↦ inr (
-          subst (λ (l : Option Last). IsBelow l (number + 1)) (sym (goes ∙ ap (last_behind (last_behind track.last so_far)) none))
-              (below_more _ number below.0),
-          below_more _ number below.1,
+          subst (λ (l : Option Last). IsBelow l (number + 1)) (sym (goes ∙ ap (last_behind former) none))
+              (below_next former number (some_as former _ _ (λ l less. omega (arith, less)) below.0)),
+          below_next track.last number within,
         )
       ]
-      | inr some ↦ inr
-          (subst (λ (l : Option Last). IsBelow l (number + 1)) (sym goes) (at_below _ number some), not_above track.last number within)
+      | inr some ↦ inr (
+        subst (λ (l : Option Last). IsBelow l (number + 1)) (sym goes)
+            (below_next (last_behind former new) number (some_as (last_behind former new) _ _ (λ l is. omega (arith, is)) some)),
+        below_next track.last number within,
+      )
     ]
 
 -- the first of what is left joins where the first of all does, or lies in a later section
@@ -206,10 +163,10 @@ joins_front (Some l) [] ys joined = tt
 joins_front (Some l) (x ∷ xs) ys joined = joined
 
 joins_elsewhere : (number : ℕ) (last : Option Last) (xs : List Segment) → AreIn number xs → IsBelow last number → joins last xs
-unfolding AreIn
 joins_elsewhere number None xs are below = tt
 joins_elsewhere number (Some l) [] are below = tt
-joins_elsewhere number (Some l) (x ∷ xs) (here, later) below = λ same. absurd (omega arith)
+joins_elsewhere number (Some l) (x ∷ xs) are below = λ same. absurd (omega
+    (arith, All-head (λ (x : Segment). x.section ≡ number) x xs are))
 
 pub joins_next : (n : Numbering) (p : Presented) (k t s : ℕ) (track : Track) (so_far later : List Segment)
     → joins track.last (so_far ++ (new_in n p k track t s ++ later)) → Stood track.last so_far (k + s + n.resets)
@@ -218,4 +175,4 @@ joins_next n p k t s track so_far later joined (inl none) =
     joins_front track.last (new_in n p k track t s) later
     (subst (λ (xs : List Segment). joins track.last (xs ++ (new_in n p k track t s ++ later))) none joined)
 joins_next n p k t s track so_far later joined (inr below) =
-    joins_elsewhere (k + s + n.resets) track.last _ (in_content n k p s (new_timings p k track t s) (content_at p s t)) below.1
+    joins_elsewhere (k + s + n.resets) track.last _ (new_own n p k track t s) below.1

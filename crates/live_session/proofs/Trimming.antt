@@ -6,8 +6,8 @@ use Rattle.followed.specs.Durations.{durations}
 use Rattle.followed.proofs.KeptPlaces.{next_is_first}
 use Rattle.live_meaning.specs.{Removal.is_available, Segments.{Kept, segments_of}, States.Track}
 use Rattle.live_judge.specs.{declared.standing.Standing.Standing, declared.track.LiveTrack.LiveTrack, Shown.{in_force, track_shown}}
+use Rattle.live_judge.proofs.Keeping.{length-kepts}
 use Rattle.live_session.specs.{Growth.{IsTrimmable, trimmed}, Kept.{AreSideBySide, without_front}}
-use Rattle.live_session.proofs.Pushing.{length-kepts}
 
 -- one stays at least
 pub fewer : (s : Standing) (track : LiveTrack) (count : ℕ) → 1 ≤ s.target → AreSideBySide track → IsTrimmable (track_shown track)

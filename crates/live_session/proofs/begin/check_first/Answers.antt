@@ -1,10 +1,10 @@
-use Rattle.std.proofs.Common.{rules, ◌≡◌, ◌∙◌, ◌++◌, List, false, true, map, not, sym, ap}
+use Rattle.std.proofs.Common.{rules, ◌≡◌, ◌∙◌, ◌++◌, List, false, true, map, not, sym, refl}
 use Rattle.mpd_rules.specs.Views.{segments_mpd}
 use Rattle.presentation.specs.Counting.{count_faults}
 use Rattle.live_meaning.specs.Refusals.{NotDynamic, Presentation, Refusal, counts_listed, told_if, window_told}
 use Rattle.live_judge.specs.declared.fault.RefreshFault.TheVariants as faults
-use Rattle.live_judge.proofs.Firsts.{none_told, told_behind, told_first}
-use Rattle.live_session.proofs.Beginning.{count_none, count_refused, judges_behind, live_none, not_live}
+use Rattle.live_judge.proofs.Firsts.{told_first}
+use Rattle.live_session.proofs.Beginning.{count_none, count_refused}
 use Rattle.live_session.proofs.begin.check_first.Goals as goal
 
 pub returns-in-Err : goal.returns-in-Err
@@ -15,23 +15,14 @@ returns-in-Err c = let p = c.args.opened.now in
     (told_first (faults.Presentation c.in-Err.fault) counts live (count_refused p c.in-Err.fault (sym c.count.ensures ∙ c.in-Err.is)))
 
 pub returns-then-not-live : goal.returns-then-not-live
-returns-then-not-live c = let p = c.args.opened.now in
-    let counts : List Refusal = map Presentation (count_faults p) in
-    let live : List Refusal = told_if (not (segments_mpd c.args.mpd.now).facts.live) NotDynamic in
+returns-then-not-live c =
     let off : c.live.result ≡ false = search rules in
-    told_first faults.NotDynamic (counts ++ live) (window_told (counts_listed p))
-    (told_behind faults.NotDynamic counts live (ap (map Presentation) (count_none p c.in-Ok.field-0 (sym c.count.ensures ∙ c.in-Ok.is)))
-    (not_live (segments_mpd c.args.mpd.now).facts.live (sym c.live.ensures ∙ off)))
+    rw (count_none c.args.opened.now c.in-Ok.field-0 (sym c.count.ensures ∙ c.in-Ok.is), sym c.live.ensures ∙ off) (refl, refl)
 
 pub check_window-requires : goal.check_window-requires
 check_window-requires c = count_none c.args.opened.now c.in-Ok.field-0 (sym c.count.ensures ∙ c.in-Ok.is)
 
 pub returns : goal.returns
-returns c = let p = c.args.opened.now in
-    let counts : List Refusal = map Presentation (count_faults p) in
-    let live : List Refusal = told_if (not (segments_mpd c.args.mpd.now).facts.live) NotDynamic in
+returns c =
     let on : c.live.result ≡ true = search rules in
-    judges_behind c.check_window.result (counts ++ live) (window_told (counts_listed p))
-    (none_told counts live (ap (map Presentation) (count_none p c.in-Ok.field-0 (sym c.count.ensures ∙ c.in-Ok.is)))
-    (live_none (segments_mpd c.args.mpd.now).facts.live (sym c.live.ensures ∙ on)))
-    c.check_window.ensures
+    rw (count_none c.args.opened.now c.in-Ok.field-0 (sym c.count.ensures ∙ c.in-Ok.is), sym c.live.ensures ∙ on) c.check_window.ensures

@@ -1,6 +1,6 @@
 use Rattle.std.proofs.Common.{◌++◌, ◌∷◌, [], ◌∙◌, ap, arith, length-append}
 use Rattle.exact_time.specs.Tick.{time_of}
-use Rattle.live_session.proofs.Keeping.{keep_fits, push_shown}
+use Rattle.live_session.proofs.Pushing.{keep_fits, push_shown}
 use Rattle.live_session.proofs.kept.push.Goals as goal
 
 pub returns-clause-shown : goal.returns-clause-shown

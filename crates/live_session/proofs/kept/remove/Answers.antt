@@ -1,6 +1,6 @@
 use Rattle.std.proofs.Common.{◌∙◌, ap, arith}
 use Rattle.exact_time.specs.Tick.{time_of}
-use Rattle.live_session.proofs.Keeping.{keep_drop, remove_shown}
+use Rattle.live_session.proofs.Pushing.{keep_drop, remove_shown}
 use Rattle.live_session.proofs.kept.remove.Goals as goal
 
 pub returns-clause-shown : goal.returns-clause-shown
