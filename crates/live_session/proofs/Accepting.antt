@@ -22,7 +22,7 @@ use Rattle.live_session.specs.{declared.change.Plan.Plan, declared.made.MadeTrac
 use Rattle.live_session.specs.{Changes.{CanGoOn, IsLeft, IsPlan, IsRefused, IsTaken, changed, force_of, newest_with}, Kept.{AreSideBySide, with_all}}
 use Rattle.live_session.specs.{Growth.{HaveRoom, IsTrimmable, grown, inside_of, track_grown, tracks_grown, trimmed}, Making.all_kept}
 use Rattle.live_session.specs.{Sessions.{IsReached, IsSession}, Written.{AreDated, IsDated, IsWritten}}
-use Rattle.live_session.proofs.{Lists.{at_all, of_shown, same_by}, Pushing.kept_with, Refusing.{gives_accepted, now_at, refused_wanting}}
+use Rattle.live_session.proofs.{Growing.{at_all, of_shown, same_by}, Pushing.kept_with, Refusing.{gives_accepted, now_at, refused_wanting}}
 
 -- ---- a session
 

@@ -1,6 +1,5 @@
 -- The longest printed duration.
-use Rattle.std.proofs.Common.{◌≡◌, ℕ, suc, ◌+◌, ◌-◌, ◌<◌, List, [], ◌∷◌, map, refl, ap, arith}
-use Rattle.std.specs.List.{range_with_len}
+use Rattle.std.proofs.Common.{◌≡◌, ℕ, ◌-◌, List, [], ◌∷◌, map, refl, ap}
 use Rattle.exact_time.specs.{Time.{Time, difference}, Floor.floor_in, Rounding.differences}
 use Rattle.timeline.specs.Expansions.{Timing}
 use Rattle.presentation.specs.{Printing.{begin_of, durations_of, printed_timings, with_durations}, Verifying.{greatest, longest_left}}
@@ -13,6 +12,3 @@ durations_with f (x ∷ xs) n = ap (λ ds. (f x.end - n) ∷ ds) (durations_with
 
 pub longest_printed : (unit : ℕ) (xs : List Timing) → longest_left (printed_timings unit xs) ≡ greatest (durations_of unit xs)
 longest_printed unit xs = ap greatest (durations_with (λ end. floor_in unit (difference end (begin_of xs))) xs 0)
-
-pub range_first : (s n : ℕ) → s < n → range_with_len s (n - s) ≡ s ∷ range_with_len (s + 1) (n - (s + 1))
-range_first s n less = let e : n - s ≡ suc (n - (s + 1)) = omega arith in ap (range_with_len s) e

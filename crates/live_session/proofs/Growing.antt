@@ -1,101 +1,145 @@
--- Lists of tracks that are changed one after another.
-use Rattle.std.proofs.Common.{◌≡◌, ℕ, zero, suc, ◌+◌, ◌<◌, ◌≤◌, List, [], ◌∷◌, ◌++◌, map, length, take, drop, All, Some, refl, sym, ◌∙◌, ap}
-use Rattle.std.proofs.{Common.{subst, inl, inr, arith}, lemmas.Bool.cases_eq, lemmas.List.Elements.{All-cons, All-head, All-tail}}
-use Rattle.std.proofs.lemmas.{Option.{same_Some, slice_get-get_or, slice_get-map}, List.{length-map, length-set, map-set}}
-use Rattle.circular_buffer.proofs.Places.{slice_get-set_same}
-use Rattle.std.specs.Prelude.{get_or, option_map, slice_get, slice_set}
-use Rattle.live_judge.specs.declared.track.LiveTrack.{LiveTrack}
-use Rattle.live_session.specs.{declared.made.MadeTrack.MadeTrack, Growth.{grown, inside_of}, Kept.{HasRoom, with_all}}
-use Rattle.live_meaning.specs.{Segments.Kept, States.Track}
+-- Lists element by element, and tracks as they are changed one after another.
+use Rattle.std.proofs.Common.{◌≡◌, ℕ, zero, suc, ◌+◌, ◌<◌, ◌≤◌, List, [], ◌∷◌, map, length, drop, All, Some, refl, sym, ◌∙◌, ap, inl, inr, arith}
+use Rattle.std.proofs.lemmas.{Bool.{cases_eq, cases_lt}, List.Elements.{All-nil, All-cons, All-head, All-tail}, List.length-set}
+use Rattle.std.proofs.lemmas.{Option.{same_Some, slice_get-get_or, slice_get_within}, Simd.map-map}
+use Rattle.std.specs.Prelude.{get_or, slice_get, slice_set}
+use Rattle.circular_buffer.proofs.Places.{slice_get-set_same, slice_get-some}
+use Rattle.live_judge.specs.{declared.track.LiveTrack.LiveTrack, Shown.track_shown}
+use Rattle.live_session.specs.{declared.made.MadeTrack.MadeTrack, Growth.{HaveRoom, grown, inside_of}, Kept.{HasRoom, with_all}}
+use Rattle.live_session.specs.{Made.all_made, Making.all_kept}
 
-pub grown_push : (tracks : List Track) (news : List (List Kept)) (new : List Kept) (track : Track)
-    → slice_get (grown tracks news) (length news) ≡ Some track
-    → grown tracks (news ++ new ∷ []) ≡ slice_set (grown tracks news) (length news) (with_all track new)
-grown_push [] [] new track is = absurd (cc)
-grown_push [] (n ∷ ns) new track is = absurd (cc)
-grown_push (t ∷ ts) [] new track is = let e : t ≡ track = cc in ap (λ (x : Track). with_all x new ∷ ts) e
-grown_push (t ∷ ts) (n ∷ ns) new track is = ap (λ (xs : List Track). with_all t n ∷ xs) (grown_push ts ns new track is)
+pub mapped_at : {X Y : Type 0} (f : X → Y) (xs : List X) (t : ℕ) (x : X) → slice_get xs t ≡ Some x → slice_get (map f xs) t ≡ Some (f x)
+mapped_at f [] t x at = absurd (cc)
+mapped_at f (y ∷ xs) zero x at = let same : y ≡ x = cc in ap (λ z. Some (f z)) same
+mapped_at f (y ∷ xs) (suc t) x at = mapped_at f xs t x at
 
--- the first ones are changed
-changed_to : {X : Type 0} (f : X → X) (i : ℕ) (xs : List X) (x : X) → slice_get xs i ≡ Some x
-    → slice_set (map f (take i xs) ++ drop i xs) i (f x) ≡ map f (take (i + 1) xs) ++ drop (i + 1) xs
-changed_to f i [] x is = absurd (cc)
-changed_to f zero (y ∷ ys) x is = let e : x ≡ y = cc in ap (λ z. f z ∷ ys) e
-changed_to f (suc i) (y ∷ ys) x is = let e : suc i + 1 ≡ suc (i + 1) = omega arith in rw e (ap (λ zs. f y ∷ zs) (changed_to f i ys x is))
+-- what holds at each place, and of what is shown of each
+pub at_all : {X : Type 0} (P : X → Type 0) (xs : List X) → ((t : ℕ) (x : X) → slice_get xs t ≡ Some x → P x) → All P xs
+at_all P [] each = All-nil P
+at_all P (x ∷ xs) each = All-cons P x xs (each zero x refl) (at_all P xs (λ t y at. each (suc t) y at))
 
-get_changed : {X : Type 0} (f : X → X) (i : ℕ) (xs : List X) → slice_get (map f (take i xs) ++ drop i xs) i ≡ slice_get xs i
-get_changed f zero xs = refl
-get_changed f (suc i) [] = refl
-get_changed f (suc i) (y ∷ ys) = get_changed f i ys
+pub of_shown : {X Y : Type 0} (P : Y → Type 0) (show : X → Y) (xs : List X) → All P (map show xs) → All (λ x. P (show x)) xs
+of_shown P show [] all = All-nil (λ x. P (show x))
+of_shown P show (x ∷ xs) all =
+    All-cons (λ x. P (show x)) x xs (All-head P (show x) (map show xs) all) (of_shown P show xs (All-tail P (show x) (map show xs) all))
 
-all_changed : {X : Type 0} (f : X → X) (n : ℕ) (xs : List X) → length xs ≤ n → map f (take n xs) ++ drop n xs ≡ map f xs
-all_changed f zero [] least = refl
-all_changed f zero (x ∷ xs) least = absurd (omega arith)
-all_changed f (suc n) [] least = refl
-all_changed f (suc n) (x ∷ xs) least = ap (λ ys. f x ∷ ys) (all_changed f n xs (omega arith))
-
-module _ {X Y : Type 0} (show : X → Y) (f : Y → Y) (old : List X) where
-  -- those before a place are
-  pub record AreChanged (k : ℕ) (new : List X) : Type 0 where
-    pub many : length new ≡ length old
-    pub shown : map show new ≡ map f (take k (map show old)) ++ drop k (map show old)
-
-  module _ (k : ℕ) (new : List X) where
-    pub still_at : (x : X) → AreChanged k new → k < length new → x ≡ get_or new k x → slice_get (map show old) k ≡ Some (show x)
-    still_at x are within at =
-        sym (get_changed f k (map show old)) ∙ ap (λ ys. slice_get ys k) (sym are.shown) ∙ slice_get-map show new k
-        ∙ ap (option_map show) (slice_get-get_or new k x within ∙ ap Some (sym at))
-
-    pub changed_next : (x y : X) → AreChanged k new → k < length new → x ≡ get_or new k x → show y ≡ f (show x)
-        → AreChanged (k + 1) (slice_set new k y)
-    changed_next x y are within at is = record {
-      many = length-set new k y ∙ are.many;
-      shown = map-set show new k y ∙ ap (slice_set (map show new) k) is ∙ ap (λ ys. slice_set ys k (f (show x))) are.shown
-          ∙ changed_to f k (map show old) (show x) (still_at x are within at);
-    }
-
-    pub all_changes : AreChanged k new → length old ≤ k → map show new ≡ map f (map show old)
-    all_changes are least = are.shown ∙ all_changed f k (map show old) (omega (arith, length-map old show))
-
--- ---- one of them is changed
-
-pub get_set_other : {X : Type 0} (xs : List X) (i t : ℕ) (y : X) → (t ≡ i → ⊥) → slice_get (slice_set xs i y) t ≡ slice_get xs t
-get_set_other [] i t y other = refl
-get_set_other (x ∷ xs) zero zero y other = absurd (other refl)
-get_set_other (x ∷ xs) zero (suc t) y other = refl
-get_set_other (x ∷ xs) (suc i) zero y other = refl
-get_set_other (x ∷ xs) (suc i) (suc t) y other = get_set_other xs i t y (λ e. other (ap suc e))
+-- lists of which the same is shown
+pub same_by : {X Y Z : Type 0} (f : X → Y) (g : Y → Z) (xs ys : List X) → map f xs ≡ map f ys → map (λ x. g (f x)) xs ≡ map (λ x. g (f x)) ys
+same_by f g [] [] same = refl
+same_by f g [] (y ∷ ys) same = absurd (cc)
+same_by f g (x ∷ xs) [] same = absurd (cc)
+same_by f g (x ∷ xs) (y ∷ ys) same =
+    let first : f x ≡ f y = cc in let rest : map f xs ≡ map f ys = cc in rw (first, same_by f g xs ys rest) refl
 
 pub all_set : {X : Type 0} (P : X → Type 0) (xs : List X) (i : ℕ) (y : X) → All P xs → P y → All P (slice_set xs i y)
 all_set P [] i y all here = all
 all_set P (x ∷ xs) zero y all here = All-cons P y xs here (All-tail P x xs all)
 all_set P (x ∷ xs) (suc i) y all here = All-cons P x (slice_set xs i y) (All-head P x xs all) (all_set P xs i y (All-tail P x xs all) here)
 
-pub drop_next : {X : Type 0} (k : ℕ) (xs ys : List X) (y : X) → y ∷ ys ≡ drop k xs → ys ≡ drop (k + 1) xs
-drop_next zero [] ys y is = absurd (cc)
-drop_next zero (x ∷ xs) ys y is = cc
-drop_next (suc k) [] ys y is = absurd (cc)
-drop_next (suc k) (x ∷ xs) ys y is = let e : suc k + 1 ≡ suc (k + 1) = omega arith in rw e (drop_next k xs ys y is)
+-- ---- the first ones are changed, each as it should be
 
--- ---- room
+get_set_other : {X : Type 0} (xs : List X) (i t : ℕ) (y : X) → (t ≡ i → ⊥) → slice_get (slice_set xs i y) t ≡ slice_get xs t
+get_set_other [] i t y other = refl
+get_set_other (x ∷ xs) zero zero y other = absurd (other refl)
+get_set_other (x ∷ xs) zero (suc t) y other = refl
+get_set_other (x ∷ xs) (suc i) zero y other = refl
+get_set_other (x ∷ xs) (suc i) (suc t) y other = get_set_other xs i t y (λ e. other (ap suc e))
+
+pub record AreChanged {X : Type 0} (Is : ℕ → X → X → Type 0) (old new : List X) (k : ℕ) : Type 0 where
+  pub many : length new ≡ length old
+  pub done : (i : ℕ) (x y : X) → i < k → slice_get old i ≡ Some x → slice_get new i ≡ Some y → Is i x y
+  pub later : (i : ℕ) → k ≤ i → slice_get new i ≡ slice_get old i
+
+pub none_changed : {X : Type 0} (Is : ℕ → X → X → Type 0) (xs : List X) → AreChanged Is xs xs 0
+none_changed Is xs = record { many = refl; done = λ i x y less _ _. absurd (omega arith); later = λ i least. refl }
+
+maps_alike : {X Z : Type 0} (f g : X → Z) (old new : List X) → length new ≡ length old
+    → ((i : ℕ) (x y : X) → slice_get old i ≡ Some x → slice_get new i ≡ Some y → f y ≡ g x) → map f new ≡ map g old
+maps_alike f g [] [] many each = refl
+maps_alike f g [] (y ∷ new) many each = absurd (omega arith)
+maps_alike f g (x ∷ old) [] many each = absurd (omega arith)
+maps_alike f g (x ∷ old) (y ∷ new) many each =
+    rw (each 0 x y refl refl, maps_alike f g old new (omega arith) (λ i a b. each (suc i) a b)) refl
+
+module _ {X : Type 0} {Is : ℕ → X → X → Type 0} {old new : List X} {k : ℕ} (are : AreChanged Is old new k) where
+  pub still_at : (x : X) → k < length new → x ≡ get_or new k x → slice_get old k ≡ Some x
+  still_at x within at = sym (are.later k (omega arith)) ∙ slice_get-get_or new k x within ∙ ap Some (sym at)
+
+  pub changed_next : (x y : X) → k < length new → x ≡ get_or new k x → Is k x y → AreChanged Is old (slice_set new k y) (k + 1)
+  changed_next x y within at is = record {
+    many = length-set new k y ∙ are.many;
+    done = λ i a b less old_at new_at. elim (cases_eq i k) [
+      | inl same ↦
+          let one : x ≡ a = same_Some x a (sym (still_at x within at) ∙ ap (slice_get old) (sym same) ∙ old_at) in
+          let other : y ≡ b = same_Some y b (sym (slice_get-set_same new k y within)
+          ∙ ap (slice_get (slice_set new k y)) (sym same) ∙ new_at) in
+          rw (same, ← one, ← other) is
+      | inr other ↦ are.done i a b (omega (arith, other)) old_at (sym (get_set_other new k i y other) ∙ new_at)
+    ];
+    later = λ i least. get_set_other new k i y (λ e. omega arith) ∙ are.later i (omega arith);
+  }
+
+  pub all_alike : {Z : Type 0} (f : X → Z) → ((i : ℕ) (x y : X) → Is i x y → f y ≡ f x) → map f new ≡ map f old
+  all_alike f each = maps_alike f f old new are.many (λ i x y at new_at. elim (cases_lt i k) [
+    | inl less ↦ each i x y (are.done i x y less at new_at)
+    | inr least ↦ ap f (same_Some y x (sym new_at ∙ are.later i least ∙ at))
+  ])
+
+  pub all_changed : {Z : Type 0} (f : X → Z) (g : Z → Z) → ((i : ℕ) (x y : X) → Is i x y → f y ≡ g (f x)) → length old ≤ k
+      → map f new ≡ map g (map f old)
+  all_changed f g each least =
+      maps_alike f (λ x. g (f x)) old new are.many (λ i x y at new_at. each i x y (are.done i x y (omega
+      (arith, slice_get_within old i x at)) at new_at)) ∙ sym (map-map g f old)
+
+-- ---- room, and what is added
+
+-- a track has room for what was made of it, and is as it was otherwise
+abbrev pub IsReserved : List MadeTrack → ℕ → LiveTrack → LiveTrack → Type 0
+IsReserved made i x y =
+    (inside_of y ≡ inside_of x) × ((m : MadeTrack) → slice_get made i ≡ Some m → HasRoom (length m.segments.items) y)
 
 pub same_inside : (old new : LiveTrack) → new.items.items ≡ old.items.items → new.facts.items ≡ old.facts.items → new.first ≡ old.first
     → new.begin ≡ old.begin → inside_of new ≡ inside_of old
 same_inside old new items facts first begin = rw (items, facts, first, begin) refl
 
--- what holds of those before one, and of it
-pub room_next : (tracks : List LiveTrack) (made : List MadeTrack) (k : ℕ) (new : LiveTrack) (here : MadeTrack) → k < length tracks
-    → slice_get made k ≡ Some here → HasRoom (length here.segments.items) new
-    → ((t : ℕ) (track : LiveTrack) (x : MadeTrack) → t < k → slice_get tracks t ≡ Some track → slice_get made t ≡ Some x
-    → HasRoom (length x.segments.items) track)
-    → (t : ℕ) (track : LiveTrack) (x : MadeTrack) → t < k + 1 → slice_get (slice_set tracks k new) t ≡ Some track
-    → slice_get made t ≡ Some x → HasRoom (length x.segments.items) track
-room_next tracks made k new here within at room before t track x less is made_is = elim (cases_eq t k) [
-  | inl same ↦
-      let one : new ≡ track =
-      same_Some _ _ (sym (slice_get-set_same tracks k new within) ∙ ap (slice_get (slice_set tracks k new)) (sym same) ∙ is) in
-      let other : here ≡ x = same_Some _ _ (sym at ∙ ap (slice_get made) (sym same) ∙ made_is) in
-      subst (λ (y : MadeTrack). HasRoom (length y.segments.items) track) other
-      (subst (λ (z : LiveTrack). HasRoom (length here.segments.items) z) one room)
-  | inr other ↦ before t track x (omega (arith, other)) (sym (get_set_other tracks k t new other) ∙ is) made_is
-]
+pub have_room : {old new : List LiveTrack} {k : ℕ} (made : List MadeTrack) → AreChanged (IsReserved made) old new k → length made ≤ k
+    → length made ≤ length old → HaveRoom new made
+have_room {old} made are least few t track m at made_at =
+    let within = slice_get_within made t m made_at in
+    let found = slice_get-some old t (omega (arith, within)) in
+    (are.done t found.0 track (omega (arith, within)) found.1 at).1 m made_at
+
+-- what was made of it is added to it
+abbrev pub IsGrown : List MadeTrack → ℕ → LiveTrack → LiveTrack → Type 0
+IsGrown made i x y = (m : MadeTrack) → slice_get made i ≡ Some m → track_shown y ≡ with_all (track_shown x) (all_made m.segments.items)
+
+grown_alike : (old new : List LiveTrack) (made : List MadeTrack) → length new ≡ length old
+    → ((i : ℕ) (x y : LiveTrack) → slice_get old i ≡ Some x → slice_get new i ≡ Some y → IsGrown made i x y)
+    → ((i : ℕ) → length made ≤ i → slice_get new i ≡ slice_get old i)
+    → map track_shown new ≡ grown (map track_shown old) (all_kept made)
+grown_alike [] [] [] many each later = refl
+grown_alike [] [] (m ∷ made) many each later = refl
+grown_alike [] (y ∷ new) made many each later = absurd (omega arith)
+grown_alike (x ∷ old) [] made many each later = absurd (omega arith)
+grown_alike (x ∷ old) (y ∷ new) [] many each later =
+    maps_alike track_shown track_shown (x ∷ old) (y ∷ new) many
+    (λ i a b at new_at. ap track_shown (same_Some b a (sym new_at ∙ later i (omega arith) ∙ at)))
+grown_alike (x ∷ old) (y ∷ new) (m ∷ made) many each later =
+    rw (
+      each 0 x y refl refl m refl,
+      grown_alike old new made (omega arith) (λ i a b. each (suc i) a b)
+          (λ i least. later (suc i) (omega arith)),
+    ) refl
+
+pub all_grown : {old new : List LiveTrack} {k : ℕ} (made : List MadeTrack) → AreChanged (IsGrown made) old new k → k ≡ length made
+    → map track_shown new ≡ grown (map track_shown old) (all_kept made)
+all_grown {old} {new} made are end =
+    grown_alike old new made are.many
+    (λ i x y at new_at m made_at. are.done i x y (omega (arith, slice_get_within made i m made_at)) at new_at m made_at)
+    (λ i least. are.later i (omega arith))
+
+pub drop_next : {X : Type 0} (k : ℕ) (xs ys : List X) (y : X) → y ∷ ys ≡ drop k xs → (ys ≡ drop (k + 1) xs) × (slice_get xs k ≡ Some y)
+drop_next zero [] ys y is = absurd (cc)
+drop_next zero (x ∷ xs) ys y is = (cc, cc)
+drop_next (suc k) [] ys y is = absurd (cc)
+drop_next (suc k) (x ∷ xs) ys y is = let e : suc k + 1 ≡ suc (k + 1) = omega arith in rw e (drop_next k xs ys y is)

@@ -16,7 +16,6 @@ pub mod Accepting
 pub mod Counting
 pub mod Joining
 pub mod Knowing
-pub mod Lists
 pub mod NewTracks
 pub mod Planning
 pub mod Presenting

@@ -24,7 +24,7 @@ use Rattle.live_session.specs.{declared.made.MadeTrack.MadeTrack, declared.maker
 use Rattle.live_session.specs.{Making.{AreMade, IsMakeable, all_kept}, New.{IsBegun, joins, new_all, numbers_of, shown_by}}
 use Rattle.live_session.specs.{Sessions.{IsSession}, Written.{AreDated, IsDated}}
 use Rattle.live_session.proofs.{Accepting.grown_dated, Beginning.{appended, counted_by, first_grown, gives_begun, reached}}
-use Rattle.live_session.proofs.{Lists.{at_all, mapped_at}, Presenting.looked_same}
+use Rattle.live_session.proofs.{Growing.{at_all, mapped_at}, Presenting.looked_same}
 
 -- ---- tracks of which nothing was listed
 

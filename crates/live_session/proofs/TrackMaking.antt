@@ -1,11 +1,12 @@
 -- The new segments of a track, section by section, and those of all tracks.
-use Rattle.std.proofs.Common.{◌≡◌, ℕ, suc, ◌+◌, ◌-◌, ◌^◌, ◌<◌, ◌≤◌, List, [], ◌∷◌, ◌++◌, map, flat_map, length, drop, All, Option, sum}
+use Rattle.std.proofs.Common.{◌≡◌, ℕ, ◌+◌, ◌-◌, ◌^◌, ◌<◌, ◌≤◌, List, [], ◌∷◌, ◌++◌, map, flat_map, length, drop, All, Option, sum}
 use Rattle.std.proofs.Common.{Some, None, refl, sym, ◌∙◌, ap, subst, inl, inr, arith, append_assoc, zero-add}
 use Rattle.std.proofs.{lemmas.Bool.cases_lt, lemmas.List.{append-nil, drop_all, map-append, Elements.{All-nil, All-push}}}
 use Rattle.std.proofs.lemmas.List.Sums.{sum_by-cons}
 use Rattle.std.specs.{Prelude.{option_map, slice_get, true, IfSome}, List.range_with_len}
 use Rattle.bridge_io.specs.Firsts.{first_of}
 use Rattle.presentation.specs.{declared.fault.PresentationFault.PresentationFault, Counting.refusal, Presented.Presented}
+use Rattle.presentation.proofs.Counts.{from_on-first}
 use Rattle.followed.specs.Durations.{told_behind}
 use Rattle.live_meaning.specs.{Updates.unit_of, Segments.{Kept, Numbering, Segment, segments_of}, Histories.Common}
 use Rattle.live_meaning.specs.{States.{Track, new_count, new_of, new_told}, Refusals.{Presentation, is_of_address, urls_told}}
@@ -23,9 +24,6 @@ use Rattle.live_session.proofs.{Sections.stands_next, Walks.{IsOnWay, last_made,
 use Rattle.live_session.proofs.Walks.{way_segments}
 
 -- ---- from a section on
-
-range_first : (s n : ℕ) → s < n → range_with_len s (n - s) ≡ s ∷ range_with_len (s + 1) (n - (s + 1))
-range_first s n less = let e : n - s ≡ suc (n - (s + 1)) = omega arith in ap (range_with_len s) e
 
 range_end : (s n : ℕ) → n ≤ s → range_with_len s (n - s) ≡ []
 range_end s n least = let e : n - s ≡ 0 = omega arith in ap (range_with_len s) e
@@ -111,10 +109,10 @@ module _ (m : Maker) (t : ℕ) (last : Option LastKept) where
       new = new_in n p m.place track t s
 
       left_here : left_from s ≡ new ++ left_from (s + 1)
-      left_here = ap (new_among n p m.place track t) (range_first s count less)
+      left_here = ap (new_among n p m.place track t) (from_on-first s count less)
 
       untold_here : untold_from s ≡ new_faults_in p m.place track t s ++ untold_from (s + 1)
-      untold_here = ap (new_faults_among p m.place track t) (range_first s count less)
+      untold_here = ap (new_faults_among p m.place track t) (from_on-first s count less)
 
       -- a section of which a segment has no address
       pub section_refused : (fault : PresentationFault) (after : ℕ) → IsNotMade (new_faults_in p m.place track t s) (length new) fault mid after

@@ -1,37 +1,42 @@
 use Rattle.live_session.proofs.growth.grow_all.Goals as goal
-use Rattle.std.proofs.Common.{◌≡◌, ◌∷◌, [], ◌∙◌, ap, sym, arith, Some, slice_get, slice_set, length, length-append, map}
-use Rattle.std.proofs.{lemmas.List.{length-map, length-set, map-append, map-set}, lemmas.Option.{slice_get-get_or, slice_get-map}}
-use Rattle.std.specs.{Prelude.option_map, Vec.Iter.into_iter_items}
+use Rattle.std.proofs.Common.{rules, ◌≡◌, ◌∷◌, ◌∙◌, ◌<◌, ap, sym, arith, length}
+use Rattle.std.proofs.lemmas.Option.{same_Some}
+use Rattle.std.specs.Vec.Iter.{into_iter_items}
 use Rattle.live_judge.specs.Shown.{track_shown}
-use Rattle.live_session.specs.{declared.made.MadeTrack.MadeTrack, Growth.grown, Kept.{AreSideBySide, with_all}, Made.all_made}
-use Rattle.live_session.specs.Making.{all_kept}
-use Rattle.live_session.proofs.Growing.{all_set, drop_next, get_set_other, grown_push}
+use Rattle.live_session.specs.{declared.made.MadeTrack.MadeTrack, Kept.{AreSideBySide, with_all}, Made.all_made}
+use Rattle.live_session.proofs.Growing.{IsGrown, all_grown, all_set, changed_next, drop_next, none_changed, still_at}
+
+pub loop-made-init : goal.loop-made-init
+loop-made-init c = record {
+  place = omega (arith, ap (λ xs. length xs) c.into_iter-made-iterator.ensures.into_iter_gives.0);
+  left = c.into_iter-made-iterator.ensures.into_iter_gives.0;
+  grown = none_changed (IsGrown c.args.made.items) c.args.tracks.now.items;
+  paired = c.requires.paired;
+}
+
+pub push_all-requires-clause-room : goal.push_all-requires-clause-room
+push_all-requires-clause-room c =
+    let l = c.loop-made in let inv = l.invariant in let old = c.index_mut.result.now in
+    let is : into_iter_items l.made-iterator ≡ c.in-Some.made ∷ into_iter_items c.next.new.self = c.in-Some.ensures.steps.0 in
+    let within : l.track < length l.tracks.items = omega (arith, inv.place, inv.grown.many, c.requires.tracks, ap (λ xs. length xs) is) in
+    c.requires.room l.track old c.in-Some.made (still_at inv.grown old within c.index_mut.ensures.value)
+    (drop_next l.track c.args.made.items (into_iter_items c.next.new.self) c.in-Some.made (sym is ∙ inv.left)).1
 
 pub loop-made-preserved : goal.loop-made-preserved
 loop-made-preserved c =
     let l = c.loop-made in let inv = l.invariant in let rest = into_iter_items c.next.new.self in let old = c.index_mut.result.now in
-    let new = c.push_all.new.track in
     let is : into_iter_items l.made-iterator ≡ c.in-Some.made ∷ rest = c.in-Some.ensures.steps.0 in
-    let init = map track_shown c.args.tracks.now.items in
-    let news = all_kept l.yielded in
-    let count : length news ≡ l.track = length-map l.yielded _ ∙ inv.count in
-    let here : slice_get l.tracks.items l.track ≡ Some old =
-    slice_get-get_or l.tracks.items l.track old (omega (arith, inv.place, inv.many, ap (λ xs. length xs) is))
-    ∙ ap Some (sym c.index_mut.ensures.value) in
-    let at : slice_get (grown init news) (length news) ≡ Some (track_shown old) =
-    ap (λ n. slice_get (grown init news) n) count ∙ ap (λ xs. slice_get xs l.track) inv.shown
-    ∙ slice_get-map track_shown l.tracks.items l.track ∙ ap (option_map track_shown) here in
+    let next = drop_next l.track c.args.made.items rest c.in-Some.made (sym is ∙ inv.left) in
     record {
       place = omega (arith, inv.place, ap (λ xs. length xs) is);
-      left = drop_next l.track c.args.made.items rest c.in-Some.made (sym is ∙ inv.left);
-      many = length-set l.tracks.items l.track new ∙ inv.many;
-      shown = ap (grown init) (map-append (λ (x : MadeTrack). all_made x.segments.items) l.yielded (c.in-Some.made ∷ []))
-          ∙ grown_push init news (all_made c.in-Some.made.segments.items) (track_shown old) at
-          ∙ ap (λ n. slice_set (grown init news) n (with_all (track_shown old) (all_made c.in-Some.made.segments.items))) count
-          ∙ ap (λ xs. slice_set xs l.track (with_all (track_shown old) (all_made c.in-Some.made.segments.items))) inv.shown
-          ∙ ap (slice_set (map track_shown l.tracks.items) l.track) (sym c.push_all.ensures.shown)
-          ∙ sym (map-set track_shown l.tracks.items l.track new);
-      count = omega (arith, length-append l.yielded (c.in-Some.made ∷ []), inv.count);
-      paired = all_set AreSideBySide l.tracks.items l.track new inv.paired c.push_all.ensures.paired;
-      later = λ t least. get_set_other l.tracks.items l.track t new (λ e. omega arith) ∙ inv.later t (omega arith);
+      left = next.0;
+      grown = changed_next inv.grown old c.push_all.new.track
+          (omega (arith, inv.place, inv.grown.many, c.requires.tracks, ap (λ xs. length xs) is)) c.index_mut.ensures.value
+          (λ m at. c.push_all.ensures.shown ∙ ap (λ (x : MadeTrack). with_all (track_shown old) (all_made x.segments.items))
+          (same_Some c.in-Some.made m (sym next.1 ∙ at)));
+      paired = all_set AreSideBySide l.tracks.items l.track c.push_all.new.track inv.paired c.push_all.ensures.paired;
     }
+
+pub returns-clause-shown : goal.returns-clause-shown
+returns-clause-shown c = let inv = c.loop-made.invariant in
+    let end : c.loop-made.track ≡ length c.args.made.items = search rules in all_grown c.args.made.items inv.grown end

@@ -1,7 +1,7 @@
 use Rattle.live_session.proofs.longest.longest_in.Goals as goal
 use Rattle.std.proofs.Common.{◌^◌, ap, arith, length, map}
 use Rattle.presentation.specs.{Presented.looked_at, Verifying.{greatest, longest_of}}
-use Rattle.live_session.proofs.Durations.{range_first}
+use Rattle.presentation.proofs.Counts.{from_on-first}
 
 pub loop-track-preserved : goal.loop-track-preserved
 loop-track-preserved c =
@@ -11,7 +11,7 @@ loop-track-preserved c =
       arith,
       c.loop-track.invariant,
       ap (λ ss. greatest (map (longest_of p unit) ss))
-          (range_first t (length c.args.presentation.now.tracks) (omega arith)),
+          (from_on-first t (length c.args.presentation.now.tracks) (omega arith)),
       c.max-longest.ensures,
       c.longest_of.ensures.longest,
     )

@@ -1,7 +1,7 @@
 use Rattle.live_session.proofs.longest.longest_of.Goals as goal
 use Rattle.std.proofs.Common.{◌^◌, ap, arith, length, map}
 use Rattle.presentation.specs.{Presented.looked_at, Verifying.{greatest, longest_at}}
-use Rattle.live_session.proofs.Durations.{range_first}
+use Rattle.presentation.proofs.Counts.{from_on-first}
 
 pub loop-section-preserved : goal.loop-section-preserved
 loop-section-preserved c =
@@ -11,7 +11,7 @@ loop-section-preserved c =
       arith,
       c.loop-section.invariant,
       ap (λ ss. greatest (map (longest_at p unit c.args.track) ss))
-          (range_first s (length c.args.presentation.now.sections) (omega arith)),
+          (from_on-first s (length c.args.presentation.now.sections) (omega arith)),
       c.max-longest.ensures,
       c.longest_at.ensures.longest,
     )
