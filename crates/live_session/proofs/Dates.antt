@@ -1,13 +1,12 @@
 -- Dates that can be written.
-use Rattle.std.proofs.{Common.{ℕ, ◌^◌, ◌<◌, ℤ, pos, neg_ℤ, ◌≤ℤ◌, ◌<ℤ◌, sym, ◌∙◌, arith}, lemmas.Int.ints}
+use Rattle.std.proofs.{Common.{pos, neg_ℤ, ◌≤ℤ◌, ◌<ℤ◌, sym, ◌∙◌, arith}, lemmas.Int.ints}
 use Rattle.exact_time.specs.Time.{IsAtMost, IsBefore, Time, difference, seconds}
 use Rattle.exact_time.proofs.TimeOrder.{IsAtMost-from_before, IsAtMost-trans, IsAtMost_refl, at_most-from, before-true, not_at_most-from}
 use Rattle.exact_time.proofs.Times.{IsTime-difference, difference-le}
 use Rattle.timeline.specs.Expansions.{Timing}
 use Rattle.timeline.proofs.Ratios.{at_most-floor, int_le-false, int_le-true}
-use Rattle.iso_time.specs.Instant.{IsReadable, IsWritable}
 use Rattle.live_meaning.specs.Segments.{whole_nanos}
-use Rattle.live_session.specs.{Made.date_of, Making.IsNear, Paced.IsDatable}
+use Rattle.live_session.specs.{Making.IsNear, Paced.IsDatable}
 
 pub least_nanos : (start : Time) → IsNear start → neg_ℤ (pos 1000000000000000) ≤ℤ whole_nanos start
 least_nanos start near =
@@ -21,12 +20,6 @@ most_nanos start near =
     let high : IsBefore start (record { ticks = pos 100000000000000000001; scale = 1000000000 }) = omega (arith, ints, near.high) in
     int_le-false _ _ (sym (at_most-floor (pos 100000000000000000001) 1000000000 start near.is)
     ∙ not_at_most-from (record { ticks = pos 100000000000000000001; scale = 1000000000 }) start high)
-
-pub writable : (a : ℤ) (s : ℕ) (start : Time) → IsReadable a → s < 10 ^ 19 → IsNear start → IsWritable (date_of a s start)
-writable a s start readable small near =
-    let low = least_nanos start near in
-    let high = most_nanos start near in
-    (omega (arith, ints), omega (arith, ints))
 
 -- a segment that ends behind its Period's start, within the limits, begins near its Period
 pub near_period : (x : Timing) → IsDatable x → IsNear x.start

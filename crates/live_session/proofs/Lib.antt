@@ -13,9 +13,6 @@ pub mod Trimming
 pub mod Beginning
 pub mod Started
 pub mod Accepting
-pub mod Counting
-pub mod Joining
-pub mod Knowing
 pub mod NewTracks
 pub mod Planning
 pub mod Presenting

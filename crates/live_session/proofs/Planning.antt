@@ -1,23 +1,23 @@
 -- What is planned of an update, and why it is refused.
-use Rattle.std.proofs.Common.{◌≡◌, false, true, ℕ, ◌+◌, ◌-◌, ℤ, List, [], ◌∷◌, ◌++◌, map, length, None, Result, Ok, Err, refl, sym, ◌∙◌}
-use Rattle.std.proofs.Common.{ap, subst, inl, inr, arith}
-use Rattle.std.specs.{Prelude.{MatchResult}, List.range_with_len}
+use Rattle.std.proofs.Common.{◌≡◌, false, true, ℕ, ◌+◌, ◌-◌, ℤ, List, [], ◌∷◌, ◌++◌, map, length, None, Result, Ok, Err, refl, sym, ◌∙◌, ap}
+use Rattle.std.proofs.Common.{subst, inl, inr, arith}
+use Rattle.std.specs.{Prelude.MatchResult, List.range_with_len}
 use Rattle.bridge_io.specs.Firsts.{first_of}
 use Rattle.presentation.specs.{Counting.range_faults, Presented.{Presented, is_finished, looked_at}}
 use Rattle.presentation.proofs.{Ending.none_behind, Reached.none_first}
 use Rattle.live_meaning.specs.{Updates.{Update, is_reset, mpd_of, now_of}, Known.{ids_of, known_at}, Histories.published_by, States.State}
-use Rattle.live_meaning.specs.Refusals.{Ended, Presentation, appended_by, clock_told, counts_kept, ended_told, ids_in, joint_told, long_told}
-use Rattle.live_meaning.specs.Refusals.{makes_segments, mpd_told, urls_told, window_told}
+use Rattle.live_meaning.specs.Refusals.{Ended, Presentation, appended_by, clock_told, counts_kept, ended_told, ids_in, joint_told}
+use Rattle.live_meaning.specs.Refusals.{long_told, makes_segments, mpd_told, urls_told, window_told}
 use Rattle.live_meaning.proofs.Allowed.{told_none}
 use Rattle.live_judge.specs.{declared.coming.Coming.Coming, declared.coming.Next.Next, declared.fault.RefreshFault.RefreshFault}
 use Rattle.live_judge.specs.{declared.standing.Standing.Standing, declared.track.LiveTrack.LiveTrack, Known.{StandsAt, known_shown}}
 use Rattle.live_judge.specs.{Coming.{IsJoined, IsNext, coming_of, p_of, timed_told, told_before, update_of}, Faults.Tells}
 use Rattle.live_judge.specs.Shown.{common_shown, in_force, state_shown}
 use Rattle.live_judge.proofs.Listing.{mpd_at}
-use Rattle.live_session.specs.{declared.change.Plan.Plan, Changes.{IsPlan, IsPlanOf, IsPresented, IsRefused, IsUnplanned, first_new, new_in_all}}
-use Rattle.live_session.specs.Changes.{shown_in}
-use Rattle.live_session.proofs.{Counting.resets_at, Knowing.{comes_same, known_are, seen as seen_all}, Addresses.urls_make}
-use Rattle.live_session.proofs.Refusing.{appended_new, now_at, refused_early, refused_judged, refused_made, refused_there, refused_wanting}
+use Rattle.live_session.specs.{declared.change.Plan.Plan, Changes.{IsPlan, IsPlanOf, IsPresented, IsRefused, IsUnplanned, first_new}}
+use Rattle.live_session.specs.Changes.{new_in_all, shown_in}
+use Rattle.live_session.proofs.{NewTracks.{resets_at, comes_same, known_are, seen as seen_all}, Addresses.urls_make, Refusing.appended_new}
+use Rattle.live_session.proofs.Refusing.{now_at, refused_early, refused_judged, refused_made, refused_there, refused_wanting}
 
 none_mapped : {X Y : Type 0} (f : X → Y) (xs : List X) → map f xs ≡ [] → xs ≡ []
 none_mapped f [] none = refl

@@ -1,8 +1,7 @@
 -- The presentation that an update brings, or leaves in force.
 use Rattle.live_judge.specs.declared.coming.Coming.TheVariants as comes
-use Rattle.std.proofs.Common.{◌≡◌, ℕ, ℤ, List, pos, Bool, true, false, Option, Some, None, Ok, Err, refl, sym, ◌∙◌, ap, subst}
+use Rattle.std.proofs.Common.{◌≡◌, ℕ, ℤ, List, pos, Bool, true, false, Option, Some, None, Ok, Err, refl, sym, ◌∙◌, ap}
 use Rattle.std.specs.Prelude.{IfSome, option_map, unwrap_or, if◌then◌else◌}
-use Rattle.mpd_rules.specs.Views.{segments_mpd}
 use Rattle.presentation.specs.{declared.fault.PresentationFault.PresentationFault, Counting.refusal, Presented.{Following, Presented}}
 use Rattle.presentation.specs.{Presented.{at_instant, looked_at}, PresentedLaws.PresentedAreFollowed, Told.{following_of, presented_of}}
 use Rattle.live_meaning.specs.{Updates.{Values, mpd_of}, Histories.force_by, Refusals.Presentation}
@@ -38,40 +37,27 @@ looked_same followed mpd now p url made =
 -- ---- an update's
 
 module _ (s : Standing) (now : ℤ) where
-  forced_by : PresentedAreFollowed → (mpd : Values) (p : Presented) → presented_of mpd s.base (Some now) ≡ Ok p
-      → presented_of mpd s.base (Some now) ≡ Ok (looked_at now p)
-  forced_by followed mpd p made = made ∙ ap (λ (q : Presented). Ok q) (sym (looked_same followed mpd now p s.base made))
-
   pub presented_by : PresentedAreFollowed → (coming : Coming) (mpd : Values) (p : Presented)
       → Some mpd ≡ mpd_of (update_of coming (pos 0)) → presented_of mpd s.base (Some now) ≡ Ok p
       → IsPresented s coming now (force_of s (Some p))
-  presented_by followed (comes.Refresh m) mpd p is made =
-      let same : mpd ≡ segments_mpd m.now = cc in
-      let own = subst (λ (v : Values). presented_of v s.base (Some now) ≡ Ok p) same made in
-      record { comes = own; forced = forced_by followed (segments_mpd m.now) p own }
-  presented_by followed (comes.Reset m) mpd p is made =
-      let same : mpd ≡ segments_mpd m.now = cc in
-      let own = subst (λ (v : Values). presented_of v s.base (Some now) ≡ Ok p) same made in
-      record { comes = own; forced = forced_by followed (segments_mpd m.now) p own }
   presented_by followed comes.Tick mpd p is made = absurd (cc)
+  presented_by followed coming mpd p is made =
+      let own : p ≡ looked_at now p = sym (looked_same followed mpd now p s.base made) in
+      let again : presented_of mpd s.base (Some now) ≡ Ok (looked_at now p) = made ∙ ap (λ (q : Presented). Ok q) own in
+      record { comes = cc; forced = cc }
 
   pub presented_still : (coming : Coming) → None ≡ mpd_of (update_of coming (pos 0)) → IsPresented s coming now (force_of s None)
-  presented_still (comes.Refresh m) is = absurd (cc)
-  presented_still (comes.Reset m) is = absurd (cc)
   presented_still comes.Tick is = record {
     comes = refl;
     forced = ap (λ (q : Presented). Ok q)
         (looked_twice now s.instant (unwrap_or s.newest s.opened));
   }
+  presented_still coming is = absurd (cc)
 
   unforced : (coming : Coming) (mpd : Values) (f : PresentationFault) → Some mpd ≡ mpd_of (update_of coming (pos 0))
-      → presented_of mpd s.base (Some now) ≡ Err f
-      → force_by (common_shown s).terms (in_force s) (update_of coming now) ≡ Err f
-  unforced (comes.Refresh m) mpd f is made = let same : mpd ≡ segments_mpd m.now = cc in subst
-      (λ (v : Values). presented_of v s.base (Some now) ≡ Err f) same made
-  unforced (comes.Reset m) mpd f is made = let same : mpd ≡ segments_mpd m.now = cc in subst
-      (λ (v : Values). presented_of v s.base (Some now) ≡ Err f) same made
+      → presented_of mpd s.base (Some now) ≡ Err f → force_by (common_shown s).terms (in_force s) (update_of coming now) ≡ Err f
   unforced comes.Tick mpd f is made = absurd (cc)
+  unforced coming mpd f is made = cc
 
   pub unpresented : (coming : Coming) (mpd : Values) (e : PresentationFault) → Some mpd ≡ mpd_of (update_of coming (pos 0))
       → IfSome (refusal e) (λ f. presented_of mpd s.base (Some now) ≡ Err f)
@@ -83,6 +69,5 @@ module _ (s : Standing) (now : ℤ) where
 
 pub some_comes : (coming : Coming) (now : ℤ) (mpd : Values) → Some mpd ≡ mpd_of (update_of coming (pos 0))
     → mpd_of (update_of coming now) ≡ None → ⊥
-some_comes (comes.Refresh m) now mpd is none = cc
-some_comes (comes.Reset m) now mpd is none = cc
 some_comes comes.Tick now mpd is none = cc
+some_comes coming now mpd is none = cc

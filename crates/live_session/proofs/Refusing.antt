@@ -38,9 +38,8 @@ counts_made n before after (presented.Url f spot) least most is = (least, most)
 counts_made n before after e least most is = absurd (cc)
 
 pub now_at : (coming : Coming) (now : ℤ) → now_of (update_of coming now) ≡ now
-now_at (comes.Refresh mpd) now = refl
-now_at (comes.Reset mpd) now = refl
 now_at comes.Tick now = refl
+now_at coming now = refl
 
 first_as : {X : Type 0} (o : Option X) (xs ys : List X) → IsSome o → first_of xs ≡ o → first_of (xs ++ ys) ≡ o
 first_as None [] ys some is = absurd (cc)

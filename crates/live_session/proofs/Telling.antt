@@ -1,11 +1,11 @@
 -- What the calls of a session tell of an update that was taken or refused.
 use Rattle.std.proofs.Common.{◌≡◌, ℕ, ℤ, Result, Ok, Err, subst, sym}
-use Rattle.std.specs.Prelude.{IfSome, IsErrAnd, MatchResult, OnErr}
+use Rattle.std.specs.Prelude.{IfSome, IsErrAnd, MatchResult}
 use Rattle.bridge_io.specs.Answer.{Gives}
-use Rattle.live_meaning.specs.{Updates.{Terms, Update, Values}, States.State, Refusals.{Refusal, appended_by, begun_of, next_of}}
+use Rattle.live_meaning.specs.{Updates.{Terms, Update, Values}, States.State, Refusals.{Refusal, begun_of, next_of}}
 use Rattle.live_judge.specs.{declared.fault.RefreshFault.RefreshFault, Faults.told}
 use Rattle.live_session.specs.Begun.{IsBegunBy, IsUnbegun}
-use Rattle.live_session.specs.{declared.session.Appended.Appended, Changes.{IsLeft, IsTaken}, Sessions.Counts}
+use Rattle.live_session.specs.{declared.session.Appended.Appended, Changes.{IsLeft, IsTaken}}
 use Rattle.live_session.proofs.Refusing.{gives_refused}
 
 pub gives_refusal : {X : Type 0} (r : Result X RefreshFault) (e : RefreshFault) (meaning : Result X Refusal) → IsErrAnd r (λ x. x ≡ e)
@@ -26,11 +26,3 @@ module _ (s : State) (u : Update) (new : State) (before after : ℕ) where
   pub next_by : (r : Result Appended RefreshFault) → IsTold r → Gives (λ _. new) told r (next_of s u)
   next_by (Ok n) is = is.next
   next_by (Err e) is = gives_refused s u (told e) is.refusal.refused
-
-  pub same_by : (r : Result Appended RefreshFault) → IsTold r → OnErr r (new ≡ s)
-  same_by (Ok n) is = tt
-  same_by (Err e) is = is.same
-
-  pub counted_there : (r : Result Appended RefreshFault) → IsTold r → Counts (appended_by s u) before after r
-  counted_there (Ok n) is = is.counted
-  counted_there (Err e) is = is.refusal.counted

@@ -1,5 +1,5 @@
 // What an update changes beside the tracks, and what it adds to them.
-ghost use Rattle.std.specs.Prelude.{◌≡◌, ◌++◌, ◌-◌, ◌<◌, ◌≤◌, ◌==◌, ◌^◌, [], length, map, not, pos, sum, true};
+ghost use Rattle.std.specs.Prelude.{◌≡◌, ◌++◌, ◌-◌, ◌<◌, ◌≤◌, ◌==◌, ◌^◌, [], length, map, pos, sum, true, false};
 ghost use Rattle.std.specs.Prelude.{All, IfErr, IfOk, IfSome, IsErrOf, IsOk, MatchResult, None, OnErr, OnOk};
 ghost use Rattle.std.specs.List.{range_with_len};
 ghost use Rattle.iso_time.specs.Instant.{IsReadable};
@@ -153,7 +153,8 @@ fn made_of<L: Ledger>(
 /// Whether an update lists new segments.
 fn has_new(next: &Next<'_>) -> bool
     requires { IsNext next.now }
-    ensures { result ≡ not (spec.new_in_all next.entry.now == 0) }
+    ensures some { result ≡ true → 0 < spec.new_in_all next.entry.now }
+    ensures none { result ≡ false → spec.new_in_all next.entry.now ≡ 0 }
 {
     for track in 0..next.tracks.len() {
         if next.of(track).new_count() > 0 {

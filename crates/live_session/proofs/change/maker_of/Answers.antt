@@ -1,6 +1,6 @@
-use Rattle.std.proofs.Common.{◌∙◌, arith, refl}
-use Rattle.live_session.proofs.{Counting.{resets_at, resets_most}, NewTracks.places}
 use Rattle.live_session.proofs.change.maker_of.Goals as goal
+use Rattle.std.proofs.Common.{◌∙◌, arith, refl}
+use Rattle.live_session.proofs.NewTracks.{resets_at, resets_most, places}
 
 pub returns-clause-made_for : goal.returns-clause-made_for
 returns-clause-made_for c = let n = c.args.next.now in record {
