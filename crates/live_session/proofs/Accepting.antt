@@ -1,28 +1,47 @@
--- What an accepted update leaves.
-use Rattle.std.proofs.Common.{◌≡◌, ℕ, ◌+◌, ◌*◌, ◌<◌, ◌≤◌, ℤ, List, [], ◌∷◌, ◌++◌, map, length, sum, All, get_or}
-use Rattle.std.proofs.Common.{Option, Some, None, Ok, Result, refl, sym, ◌∙◌, ap, subst, arith, length-append, length-drop}
-use Rattle.std.proofs.lemmas.{Result.err_from_is_err_and, List.length-map}
-use Rattle.std.proofs.lemmas.List.Elements.{All-nil, All-cons, All-head, All-tail, All-append, All-drop, All-map}
-use Rattle.std.specs.Prelude.{unwrap_or, IsErrAnd, MatchResult}
+-- What an accepted update leaves, and what goes from the fronts of its tracks.
+use Rattle.std.proofs.Common.{◌≡◌, ℕ, ◌+◌, ◌*◌, ◌^◌, ◌<◌, ◌≤◌, length, sym, ◌∙◌, ap, arith, ℤ, List, [], ◌∷◌, ◌++◌, map, sum, All, get_or}
+use Rattle.std.proofs.{Common.{Option, Some, None, Ok, Result, refl, subst, length-append, length-drop}, Math.Nat.mul-le-mul_left}
+use Rattle.std.proofs.{Math.Nat.one-le-pow, lemmas.List.length-map, lemmas.Result.err_from_is_err_and, lemmas.List.Elements.All-nil}
+use Rattle.std.proofs.lemmas.List.Elements.{All-cons, All-head, All-tail, All-append, All-drop, All-map}
+use Rattle.std.specs.Prelude.{option_map, unwrap_or, IsErrAnd, MatchResult}
+use Rattle.followed.specs.Durations.{durations}
+use Rattle.followed.proofs.KeptPlaces.{next_is_first}
+use Rattle.live_meaning.specs.{Removal.is_available, Segments.{Kept, segments_of}, States.{Track, State, kept_and_new, new_count, new_of}}
+use Rattle.live_meaning.specs.{States.{new_told, removed_from, state_with, track_after, tracks_after}, Updates.{Update, mpd_of, unit_of}}
+use Rattle.live_meaning.specs.{Known.{Known, ids_of}, Histories.{Common, common_with}, Refusals.{ids_in, next_of}, Laws.HistoriesGoOn}
+use Rattle.live_meaning.specs.Laws.{NumbersStaySmall, Shows}
+use Rattle.live_judge.specs.{declared.standing.Standing.Standing, declared.track.LiveTrack.LiveTrack, Shown.{in_force, track_shown}}
+use Rattle.live_judge.specs.{Shown.{common_shown, kepts_of, state_shown, track_of}, declared.coming.Coming.Coming}
+use Rattle.live_judge.specs.{declared.fault.RefreshFault.RefreshFault, declared.fault.RefreshFault.TheVariants.Memory}
+use Rattle.live_judge.specs.{declared.track.Fact.Fact, Coming.update_of, Known.{StandsAt, known_shown}, Sound.{IsLive, IsPaired}}
+use Rattle.live_judge.specs.SoundGoesOn.{IsKept, KeptGoOn, NumbersGoOn, SoundStatesGoOn}
+use Rattle.live_judge.proofs.Keeping.{length-kepts}
+use Rattle.live_session.specs.{Growth.{IsTrimmable, trimmed, HaveRoom, grown, inside_of, track_grown, tracks_grown}, Kept.AreSideBySide}
+use Rattle.live_session.specs.{Kept.{without_front, with_all}, declared.change.Plan.Plan, declared.made.MadeTrack.MadeTrack}
+use Rattle.live_session.specs.{declared.session.Appended.Appended, Changes.{CanGoOn, IsLeft, IsPlan, IsRefused, IsTaken, changed, force_of}}
+use Rattle.live_session.specs.{Changes.newest_with, Making.all_kept, Sessions.{IsReached, IsSession}, Written.{AreDated, IsDated}}
+use Rattle.live_session.specs.Written.{IsWritten}
 use Rattle.exact_time.specs.{Tick.time_of, declared.tick.Tick.Tick}
 use Rattle.hls_writer.specs.declared.items.MediaItem.{MediaItem}
 use Rattle.presentation.specs.Presented.{Presented, looked_at}
-use Rattle.live_meaning.specs.{Updates.{Update, mpd_of, unit_of}, Segments.Kept, Known.{Known, ids_of}, Histories.{Common, common_with}}
-use Rattle.live_meaning.specs.{States.{State, Track, kept_and_new, new_count, new_of, new_told, removed_from, state_with, track_after}}
-use Rattle.live_meaning.specs.{States.tracks_after, Refusals.{ids_in, next_of}}
-use Rattle.live_meaning.specs.Laws.{HistoriesGoOn, NumbersStaySmall, Shows}
 use Rattle.live_meaning.proofs.Tracks.{length-told}
-use Rattle.live_judge.specs.{declared.coming.Coming.Coming, declared.fault.RefreshFault.RefreshFault, declared.standing.Standing.Standing}
-use Rattle.live_judge.specs.declared.fault.RefreshFault.TheVariants.{Memory}
-use Rattle.live_judge.specs.{declared.track.Fact.Fact, declared.track.LiveTrack.LiveTrack, Coming.update_of, Known.{StandsAt, known_shown}}
-use Rattle.live_judge.specs.{Shown.{common_shown, kepts_of, state_shown, track_of, track_shown}, Sound.{IsLive, IsPaired}}
-use Rattle.live_judge.specs.SoundGoesOn.{IsKept, KeptGoOn, NumbersGoOn, SoundStatesGoOn}
-use Rattle.live_judge.proofs.Keeping.{length-kepts}
-use Rattle.live_session.specs.{declared.change.Plan.Plan, declared.made.MadeTrack.MadeTrack, declared.session.Appended.Appended}
-use Rattle.live_session.specs.{Changes.{CanGoOn, IsLeft, IsPlan, IsRefused, IsTaken, changed, force_of, newest_with}, Kept.{AreSideBySide, with_all}}
-use Rattle.live_session.specs.{Growth.{HaveRoom, IsTrimmable, grown, inside_of, track_grown, tracks_grown, trimmed}, Making.all_kept}
-use Rattle.live_session.specs.{Sessions.{IsReached, IsSession}, Written.{AreDated, IsDated, IsWritten}}
 use Rattle.live_session.proofs.{Growing.{at_all, of_shown, same_by}, Pushing.kept_with, Refusing.{gives_accepted, now_at, refused_wanting}}
+
+pub fewer : (s : Standing) (track : LiveTrack) (count : ℕ) → 1 ≤ s.target → AreSideBySide track → IsTrimmable (track_shown track)
+    → trimmed s (track_shown track) ≡ without_front count (track_shown track)
+    → (count < length track.items.items) × (track.first + count < 2 ^ 64)
+fewer s track count target paired can same =
+    let kept = (track_shown track).kept in
+    let some = can.some in
+    let fits = can.fits in
+    let least = 3 * s.target * 10 ^ s.digits in
+    let as_many = length-map kept (λ (t : Kept). t.segment) in
+    let here = length-kepts track.items.items track.facts.items paired in
+    let next = next_is_first 0 least (option_map is_available (in_force s).following) (durations kept) (segments_of kept) in
+    let long : 0 < 3 * s.target * 10 ^ s.digits = omega (arith, mul-le-mul_left (3 * s.target) (one-le-pow s.digits 10 (omega arith))) in
+    let stays = next.some long (length-map kept (λ (t : Kept). t.duration) ∙ sym as_many) (omega (arith, as_many)) in
+    let first = ap (λ (t : Track). t.first) same in
+    (omega (arith, stays, as_many, here, first), omega (arith, stays, as_many, here, first))
 
 -- ---- a session
 

@@ -1,29 +1,181 @@
--- The new segments of a section as they are made one by one.
+-- The new segments of a section as they are made one by one, each with the duration that it has behind those before it.
 use Rattle.timeline.specs.declared.fault.ListFault.TheVariants as list_fault
-use Rattle.std.proofs.Common.{◌≡◌, ℕ, ◌+◌, ◌-◌, ◌^◌, ◌≤◌, List, [], ◌∷◌, ◌++◌, map, length, Option, Some, None, Result, Ok, Err, refl}
-use Rattle.std.proofs.{Common.{sym, ◌∙◌, ap, subst, arith}, lemmas.Option.same_Some, lemmas.List.{length-map}}
-use Rattle.std.proofs.{lemmas.List.{map-append, nil_from_length}, lemmas.List.Elements.All-push}
-use Rattle.std.specs.{Prelude.{false, option_map, slice_get, IfSome, IsSome}, Result.result_unwrap_or, Option.option_map_or}
-use Rattle.exact_time.specs.Rounding.{Rounding, differences}
-use Rattle.url_parts.specs.declared.address.Part.{Part}
-use Rattle.timeline.specs.{declared.window.Window.Window, declared.fault.ListFault.ListFault, Expansions.{SegmentTimeline, Timing}}
+use Rattle.std.proofs.Common.{◌≡◌, ℕ, ◌+◌, ◌≤◌, List, [], ◌∷◌, ◌++◌, length, All, Option, Some, None, refl, sym, ◌∙◌, ap, arith}
+use Rattle.std.proofs.{Common.{append_assoc, length-append, ◌-◌, map, inl, inr, ◌^◌, Result, Ok, Err, subst}, lemmas.List.append-nil}
+use Rattle.std.proofs.{lemmas.List.{length-map, map-append, nil_from_length}, lemmas.Bool.{cases_eq, eq-eqb, ne_eqb}}
+use Rattle.std.proofs.{lemmas.Option.same_Some, lemmas.List.Elements.All-push}
+use Rattle.std.specs.{Prelude.{slice_get, IfSome, option_map, false, IsSome}, Result.result_unwrap_or, Option.option_map_or}
+use Rattle.presentation.specs.{declared.fault.PresentationFault.PresentationFault, Counting.refusal, declared.parts.Content.Content}
+use Rattle.presentation.specs.{Kept.{printed_left, rounding_at}, Printing.{PrintedTiming, begin_of, IsCounted, PrintedRest, with_durations}}
+use Rattle.presentation.specs.{Meanings.part_meant, MeaningLaws.MadeAreMeant, Presented.{Presented, content_at, listed_at, listed_in}}
+use Rattle.presentation.specs.{Presented.{start_of, window_of}, Verifying.{fault_at, part_fault, part_faults, times_of}}
+use Rattle.followed.specs.Durations.{Last, duration_behind, last_behind, last_with, told_behind, begun_by}
+use Rattle.live_meaning.specs.Segments.{Kept, Segment, segments_of, Numbering, segment_with}
+use Rattle.live_meaning.proofs.Tracks.{last_goes_on, told-segments}
+use Rattle.live_session.specs.Making.{IsMadeBehind, IsNotMade, IsBelow, StandsBefore, behind_in, IsKeptNext, IsRefused, IsSection}
+use Rattle.live_session.specs.{Making.{IsSectionMakeable, end_in, number_of}, Written.IsDated, declared.made.Made.Made}
+use Rattle.live_session.specs.{declared.maker.Maker.Maker, declared.maker.Section.Section, Made.{all_made, kept_as, made_kept}}
+use Rattle.live_session.specs.New.{faults_by, later_listed, new_faults_in, new_in, new_timings, numbers_of, segments_in, shown_by, track_at}
+use Rattle.exact_time.specs.{Time.{Time, difference}, Floor.floor_in, Rounding.{rounding_behind, rounding_from, Rounding, differences}}
+use Rattle.exact_time.specs.Tick.{time_of}
+use Rattle.exact_time.proofs.Floors.{floor_in-difference_self}
+use Rattle.timeline.specs.{Expansions.{Timing, SegmentTimeline}, declared.window.Window.Window, declared.fault.ListFault.ListFault}
 use Rattle.timeline.specs.{declared.fault.TimeFault.TimeFault, Listed.{IsReached, answered_count, is_out_of_range, part_of_timing}}
 use Rattle.timeline.specs.Names.{list_refusal}
-use Rattle.presentation.specs.{declared.fault.PresentationFault.PresentationFault, declared.parts.Content.Content, Counting.refusal}
-use Rattle.presentation.specs.{Kept.{printed_left, rounding_at}, Meanings.part_meant, MeaningLaws.MadeAreMeant, Presented.Presented}
-use Rattle.presentation.specs.{Presented.{content_at, listed_at, listed_in, start_of, window_of}, Printing.{IsCounted, PrintedRest}}
-use Rattle.presentation.specs.{Printing.{PrintedTiming, with_durations}, Verifying.{fault_at, part_fault, part_faults, times_of}}
-use Rattle.live_meaning.specs.Segments.{Kept, Numbering, Segment, segments_of}
-use Rattle.followed.specs.Durations.{Last, duration_behind, last_behind, last_with, told_behind}
-use Rattle.live_judge.specs.declared.track.LastKept.{LastKept}
-use Rattle.live_session.specs.{declared.made.Made.Made, declared.maker.Maker.Maker, declared.maker.Section.Section, Made.all_made}
-use Rattle.live_session.specs.{Made.{kept_as, made_kept}, Making.{IsKeptNext, IsMadeBehind, IsNotMade, IsRefused, IsSection}}
-use Rattle.live_session.specs.{Making.{IsSectionMakeable, behind_in, end_in, number_of}, New.{faults_by}}
-use Rattle.live_session.specs.{New.{later_listed, new_faults_in, new_in, new_timings, numbers_of, segments_in, shown_by, track_at}}
-use Rattle.live_session.specs.Written.{IsDated}
-use Rattle.live_meaning.proofs.Tracks.{last_goes_on}
-use Rattle.live_session.proofs.{Told.{kept_at, segment_at, told_there}, Sections.times_are}
-use Rattle.live_session.proofs.Walks.{IsOnWay, last_made, way_begun, way_done, way_next, segments_told}
+use Rattle.live_judge.specs.{declared.track.LastKept.LastKept, Shown.last_of}
+use Rattle.url_parts.specs.declared.address.Part.{Part}
+use Rattle.live_session.proofs.Sections.{times_are}
+
+told_more : (unit : ℕ) (last : Option Last) (all more : List Segment)
+    → told_behind unit last (all ++ more) ≡ told_behind unit last all ++ told_behind unit (last_behind last all) more
+told_more unit last [] more = refl
+told_more unit last (x ∷ all) more =
+    ap (λ (ks : List Kept). record { segment = x; duration = duration_behind unit last x } ∷ ks)
+    (told_more unit (Some (last_with last x)) all more)
+
+segments-append : (ks ls : List Kept) → segments_of (ks ++ ls) ≡ segments_of ks ++ segments_of ls
+segments-append [] ls = refl
+segments-append (k ∷ ks) ls = ap (λ (xs : List Segment). k.segment ∷ xs) (segments-append ks ls)
+
+pub segments_told : (unit : ℕ) (last : Option Last) (made : List Kept) (new : List Segment)
+    → segments_of (made ++ told_behind unit last new) ≡ segments_of made ++ new
+segments_told unit last made new =
+    segments-append made (told_behind unit last new) ∙ ap (λ xs. segments_of made ++ xs) (told-segments unit last new)
+
+-- the last one so far
+abbrev pub last_made : Option Last → List Kept → Option Last
+last_made last made = last_behind last (segments_of made)
+
+first_stays : (o : Option PresentationFault) (xs ys all : List PresentationFault) → all ≡ xs ++ ys → IfSome o (λ f. slice_get xs 0 ≡ Some f)
+    → IfSome o (λ f. slice_get all 0 ≡ Some f)
+first_stays None xs ys all same first = tt
+first_stays (Some f) [] ys all same first = absurd (cc)
+first_stays (Some f) (x ∷ xs) ys all same first = ap (λ fs. slice_get fs 0) same ∙ first
+
+-- of all that are to be made behind some these are left, with their faults
+pub record IsOnWay (unit : ℕ) (last : Option Last) (old : List Kept) (all left : List Segment) (faults untold : List PresentationFault)
+    (made : List Kept) (before after : ℕ) : Type 0 where
+  pub kept : made ++ told_behind unit (last_made last made) left ≡ old ++ told_behind unit (last_made last old) all
+  pub told : faults ≡ untold
+  pub counted : after + length left ≡ before + length all
+  pub least : before ≤ after
+  pub dates : All IsDated old → All IsDated made
+
+pub way_begun : (unit : ℕ) (last : Option Last) (old : List Kept) (all left : List Segment) (faults untold : List PresentationFault)
+    (before : ℕ) → all ≡ left → faults ≡ untold → IsOnWay unit last old all left faults untold old before before
+way_begun unit last old all left faults untold before same told = record {
+  kept = ap (λ xs. old ++ told_behind unit (last_made last old) xs) (sym same);
+  told = told;
+  counted = omega (arith, ap (λ (xs : List Segment). length xs) same);
+  least = omega arith;
+  dates = λ d. d;
+}
+
+module _ {unit : ℕ} {last : Option Last} {old : List Kept} {all left : List Segment} {faults untold : List PresentationFault}
+    {made : List Kept} {before mid : ℕ} (way : IsOnWay unit last old all left faults untold made before mid) where
+  pub way_done : left ≡ [] → untold ≡ [] → IsMadeBehind unit last all faults old made before mid
+  way_done none told = record {
+    made_is = sym (append-nil made) ∙ ap (λ xs. made ++ told_behind unit (last_made last made) xs) (sym none) ∙ way.kept;
+    none = way.told ∙ told;
+    dates = way.dates;
+    counted = omega (arith, way.counted, ap (λ (xs : List Segment). length xs) none);
+  }
+
+  -- a part of what is left
+  module _ (new later : List Segment) (own others : List PresentationFault) (parts : left ≡ new ++ later) (told : untold ≡ own ++ others)
+      (after : ℕ) where
+    pub way_next : (next : List Kept) → IsMadeBehind unit last new own made next mid after
+        → IsOnWay unit last old all later faults others next before after
+    way_next next is =
+        let l : Option Last = last_made last made in
+        let told_new : List Kept = told_behind unit l new in
+        let goes : last_made last (made ++ told_new) ≡ last_behind l new = ap (last_behind last) (segments_told unit l made new)
+        ∙ last_goes_on last (segments_of made) new in
+        record {
+          kept = ap (λ ks. ks ++ told_behind unit (last_made last ks) later) is.made_is
+              ∙ ap (λ m. (made ++ told_new) ++ told_behind unit m later) goes
+              ∙ append_assoc made told_new (told_behind unit (last_behind l new) later)
+              ∙ ap (λ ks. made ++ ks) (sym (told_more unit l new later)) ∙ ap (λ xs. made ++ told_behind unit l xs) (sym parts) ∙ way.kept;
+          told = way.told ∙ told ∙ ap (λ fs. fs ++ others) is.none;
+          counted = omega (arith, way.counted, is.counted, ap (λ (xs : List Segment). length xs) parts, length-append new later);
+          least = omega (arith, way.least, is.counted);
+          dates = λ d. is.dates (way.dates d);
+        }
+
+    pub way_refused : (fault : PresentationFault) → IsNotMade own (length new) fault mid after → IsNotMade faults (length all) fault before after
+    way_refused fault is = record {
+      refused = first_stays (refusal fault) own others faults (way.told ∙ told) is.refused;
+      least = omega (arith, way.least, is.least);
+      most_made = omega (
+        arith,
+        way.counted,
+        is.most_made,
+        ap (λ (xs : List Segment). length xs) parts,
+        length-append new later,
+      );
+    }
+
+pub way_segments : {unit : ℕ} {last : Option Last} {all left : List Segment} {faults untold : List PresentationFault} {made : List Kept}
+    {before mid : ℕ} → IsOnWay unit last [] all left faults untold made before mid → segments_of made ++ left ≡ all
+way_segments {unit} {last} {all} {left} {faults} {untold} {made} way =
+    sym (segments_told unit (last_made last made) made left) ∙ ap segments_of way.kept ∙ told-segments unit last all
+
+module _ (n : Numbering) (place start : ℕ) (content : Content) where
+  abbrev pub segment_at : Timing → Segment
+  segment_at x = segment_with n place start content x
+
+  -- a segment with the duration that is printed of it
+  abbrev pub kept_at : PrintedTiming → Kept
+  kept_at x = record { segment = segment_at x.times; duration = x.duration }
+
+  -- behind a segment of the section
+  told_on : (unit : ℕ) (first former : Time) (xs : List Timing)
+      → map kept_at (printed_left xs (rounding_behind first unit former))
+      ≡ told_behind unit (Some (record { section = place + n.resets; first = first; end = former })) (map segment_at xs)
+  told_on unit first former [] = refl
+  told_on unit first former (x ∷ xs) =
+      rw (eq-eqb (place + n.resets) (place + n.resets) refl)
+      (ap (λ (ks : List Kept).
+      record { segment = segment_at x; duration = floor_in unit (difference x.end first) - floor_in unit (difference former first) } ∷ ks)
+      (told_on unit first x.end xs))
+
+  -- what begins a section
+  begins : (unit : ℕ) (last : Option Last) (x : Timing) (xs : List Timing) → ((l : Last) → last ≡ Some l → l.section ≡ place + n.resets → ⊥)
+      → told_behind unit last (segment_at x ∷ map segment_at xs)
+      ≡ record { segment = segment_at x; duration = floor_in unit (difference x.end x.start) }
+      ∷ told_behind unit (Some (begun_by (segment_at x))) (map segment_at xs)
+  begins unit None x xs other = refl
+  begins unit (Some l) x xs other = rw (ne_eqb l.section (place + n.resets) (other l refl)) refl
+
+  told_first : (unit : ℕ) (last : Option Last) (xs : List Timing) → ((l : Last) → last ≡ Some l → l.section ≡ place + n.resets → ⊥)
+      → map kept_at (printed_left xs (rounding_from (begin_of xs) unit)) ≡ told_behind unit last (map segment_at xs)
+  told_first unit last [] other = refl
+  told_first unit last (x ∷ xs) other =
+      let none : floor_in unit (difference x.end x.start) - floor_in unit (difference x.start x.start)
+      ≡ floor_in unit (difference x.end x.start)
+      = omega (arith, floor_in-difference_self unit x.start) in
+      ap (λ d. record { segment = segment_at x; duration = d } ∷ map kept_at (printed_left xs (rounding_behind x.start unit x.end))) none
+      ∙ ap (λ (ks : List Kept). record { segment = segment_at x; duration = floor_in unit (difference x.end x.start) } ∷ ks)
+      (told_on unit x.start x.end xs)
+      ∙ sym (begins unit last x xs other)
+
+  below_other : (last : Option Last) (l : Last) → IsBelow last (place + n.resets) → last ≡ Some l → l.section ≡ place + n.resets → ⊥
+  below_other None l below is same = absurd (cc)
+  below_other (Some k) l below is same = let e : k ≡ l = cc in absurd (omega (arith, ap (λ (x : Last). x.section) e))
+
+  -- behind what was made so far
+  pub told_there : (unit : ℕ) (kept : Option LastKept) (last : Option Last) (xs : List Timing)
+      → StandsBefore (option_map last_of kept) last (place + n.resets)
+      → map kept_at (printed_left xs (rounding_at (behind_in (place + n.resets) kept) unit xs)) ≡ told_behind unit last (map segment_at xs)
+  told_there unit None last xs (inl same) = told_first unit last xs (λ l is _. absurd (cc))
+  told_there unit None last xs (inr (below, _)) = told_first unit last xs (λ l is e. below_other last l below is e)
+  told_there unit (Some k) last xs (inl same) = elim (cases_eq k.section (place + n.resets)) [
+    | inl here ↦ rw (eq-eqb k.section (place + n.resets) here, same, here) (told_on unit (time_of k.begin) (time_of k.end) xs)
+    | inr other ↦ rw (ne_eqb k.section (place + n.resets) other)
+        (told_first unit last xs (λ l is e. other (let q : last_of k ≡ l = cc in ap (λ (x : Last). x.section) q ∙ e)))
+  ]
+  told_there unit (Some k) last xs (inr (below, under)) =
+      rw (ne_eqb k.section (place + n.resets) (λ e. omega arith)) (told_first unit last xs (λ l is e. below_other last l below is e))
 
 -- ---- what is there
 

@@ -3,16 +3,17 @@ use Rattle.live_judge.specs.declared.coming.Coming.TheVariants as comes
 use Rattle.live_judge.specs.declared.fault.RefreshFault.TheVariants as fault
 use Rattle.presentation.specs.declared.fault.PresentationFault.TheVariants as presented
 use Rattle.std.proofs.Common.{◌≡◌, ℕ, ◌+◌, ◌≤◌, ℤ, List, [], ◌∷◌, ◌++◌, Option, Some, None, Ok, Err, refl, sym, ◌∙◌, ap, subst, arith}
-use Rattle.std.proofs.Common.{append_assoc}
-use Rattle.std.specs.Prelude.{◌<◌, is_some, true, IfSome, IsSome}
-use Rattle.bridge_io.specs.Firsts.{first_of}
+use Rattle.std.proofs.Common.{append_assoc, Result}
+use Rattle.std.specs.Prelude.{◌<◌, is_some, true, IfSome, IsSome, IsErrAnd, MatchResult}
+use Rattle.bridge_io.specs.{Firsts.first_of, Answer.Gives}
 use Rattle.presentation.specs.{declared.fault.PresentationFault.PresentationFault, Counting.refusal, Presented.Presented}
-use Rattle.live_meaning.specs.{Updates.{Update, mpd_of, now_of}, Histories.{common_with, force_by}, States.{State, new_count, state_with}}
-use Rattle.live_meaning.specs.Refusals.{Presentation, Refusal, appended_by, clock_told, ended_told, is_of_address, makes_segments, next_of}
-use Rattle.live_meaning.specs.Refusals.{refusal_of, told_by, told_with, urls_told}
+use Rattle.live_meaning.specs.{Updates.{Update, mpd_of, now_of, Terms, Values}, Histories.{common_with, force_by}, States.State}
+use Rattle.live_meaning.specs.{States.{new_count, state_with}, Refusals.{Presentation, Refusal, appended_by, clock_told, ended_told}}
+use Rattle.live_meaning.specs.Refusals.{is_of_address, makes_segments, next_of, refusal_of, told_by, told_with, urls_told, begun_of}
 use Rattle.live_judge.specs.{declared.coming.Coming.Coming, declared.fault.RefreshFault.RefreshFault, Coming.{told_before, update_of}}
 use Rattle.live_judge.specs.Faults.{Tells, of_presentation, told}
-use Rattle.live_session.specs.{Changes.IsRefused, Sessions.CountsRefused}
+use Rattle.live_session.specs.{Changes.{IsRefused, IsLeft, IsTaken}, Sessions.CountsRefused, Begun.{IsBegunBy, IsUnbegun}}
+use Rattle.live_session.specs.declared.session.Appended.{Appended}
 
 -- ---- what faults tell
 
@@ -144,3 +145,22 @@ pub gives_accepted : (s : State) (u : Update) (p : Presented) → force_by s.com
     → next_of s u ≡ Ok (state_with s u p)
 unfolding next_of
 gives_accepted s u p forced accepted = rw (accepted, forced) refl
+
+pub gives_refusal : {X : Type 0} (r : Result X RefreshFault) (e : RefreshFault) (meaning : Result X Refusal) → IsErrAnd r (λ x. x ≡ e)
+    → IfSome (told e) (λ f. meaning ≡ Err f) → Gives (λ x. x) told r meaning
+gives_refusal (Ok x) e meaning is refused = absurd is
+gives_refusal (Err x) e meaning is refused = subst (λ (x : RefreshFault). IfSome (told x) (λ f. meaning ≡ Err f)) (sym is) refused
+
+pub begun_next : (terms : Terms) (mpd : Values) (now : ℤ) (before after : ℕ) (r : Result State RefreshFault)
+    → MatchResult r (λ session. IsBegunBy terms mpd now session before after) (λ fault. IsUnbegun terms mpd now fault before after)
+    → Gives (λ session. session) told r (begun_of terms mpd now)
+begun_next terms mpd now before after (Ok s) is = is.next
+begun_next terms mpd now before after (Err e) is = is.refused
+
+module _ (s : State) (u : Update) (new : State) (before after : ℕ) where
+  abbrev pub IsTold : Result Appended RefreshFault → Type 0
+  IsTold r = MatchResult r (λ n. IsTaken s u n.0 new before after) (λ fault. IsLeft s u fault new before after)
+
+  pub next_by : (r : Result Appended RefreshFault) → IsTold r → Gives (λ _. new) told r (next_of s u)
+  next_by (Ok n) is = is.next
+  next_by (Err e) is = gives_refused s u (told e) is.refusal.refused

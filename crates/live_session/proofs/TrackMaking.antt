@@ -1,27 +1,27 @@
 -- The new segments of a track, section by section, and those of all tracks.
-use Rattle.std.proofs.Common.{◌≡◌, ℕ, ◌+◌, ◌-◌, ◌^◌, ◌<◌, ◌≤◌, List, [], ◌∷◌, ◌++◌, map, flat_map, length, drop, All, Option, sum}
-use Rattle.std.proofs.Common.{Some, None, refl, sym, ◌∙◌, ap, subst, inl, inr, arith, append_assoc, zero-add}
-use Rattle.std.proofs.{lemmas.Bool.cases_lt, lemmas.List.{append-nil, drop_all, map-append, Elements.{All-nil, All-push}}}
+use Rattle.std.proofs.Common.{◌≡◌, ℕ, ◌+◌, ◌-◌, ◌^◌, ◌<◌, ◌≤◌, List, [], ◌∷◌, ◌++◌, map, flat_map, length, drop, All, Option, sum, Some}
+use Rattle.std.proofs.{Common.{None, refl, sym, ◌∙◌, ap, subst, inl, inr, arith, append_assoc, zero-add}, lemmas.Bool.cases_lt}
+use Rattle.std.proofs.{lemmas.List.{append-nil, drop_all, map-append}, lemmas.List.Elements.{All-nil, All-push}}
 use Rattle.std.proofs.lemmas.List.Sums.{sum_by-cons}
 use Rattle.std.specs.{Prelude.{option_map, slice_get, true, IfSome}, List.range_with_len}
 use Rattle.bridge_io.specs.Firsts.{first_of}
 use Rattle.presentation.specs.{declared.fault.PresentationFault.PresentationFault, Counting.refusal, Presented.Presented}
 use Rattle.presentation.proofs.Counts.{from_on-first}
 use Rattle.followed.specs.Durations.{told_behind}
-use Rattle.live_meaning.specs.{Updates.unit_of, Segments.{Kept, Numbering, Segment, segments_of}, Histories.Common}
-use Rattle.live_meaning.specs.{States.{Track, new_count, new_of, new_told}, Refusals.{Presentation, is_of_address, urls_told}}
+use Rattle.live_meaning.specs.{Updates.unit_of, Segments.{Kept, Numbering, Segment, segments_of}, Histories.Common, States.Track}
+use Rattle.live_meaning.specs.{States.{new_count, new_of, new_told}, Refusals.{Presentation, is_of_address, urls_told}}
 use Rattle.live_meaning.proofs.Tracks.{length-told}
 use Rattle.live_judge.specs.{declared.track.LastKept.LastKept, declared.track.LiveTrack.LiveTrack, Faults.of_presentation}
 use Rattle.live_judge.specs.{declared.fault.RefreshFault.TheVariants.Memory, Shown.{last_of, track_shown}}
 use Rattle.live_judge.proofs.Firsts.{rest_at}
-use Rattle.live_session.specs.{declared.made.MadeTrack.MadeTrack, declared.maker.Maker.Maker, Kept.no_place, Made.all_made}
-use Rattle.live_session.specs.{Growth.{grown, tracks_grown}, Making.{AreMade, AreUnmade, IsMadeBehind, IsMakerFor, IsNotMade}}
-use Rattle.live_session.specs.{Making.{IsSectionMakeable, all_kept, first_section, number_of}, New.{IsBegun, joins, new_all, new_among}}
-use Rattle.live_session.specs.{New.{new_faults_among, new_faults_in, new_faults_of, new_in, numbers_of, shown_by, track_at}, Written.IsDated}
+use Rattle.live_session.specs.{declared.made.MadeTrack.MadeTrack, declared.maker.Maker.Maker, Kept.no_place, Made.all_made, Growth.grown}
+use Rattle.live_session.specs.{Growth.tracks_grown, Making.{AreMade, AreUnmade, IsMadeBehind, IsMakerFor, IsNotMade, IsSectionMakeable}}
+use Rattle.live_session.specs.{Making.{all_kept, first_section, number_of}, New.{IsBegun, joins, new_all, new_among, new_faults_among}}
+use Rattle.live_session.specs.{New.{new_faults_in, new_faults_of, new_in, numbers_of, shown_by, track_at}, Written.IsDated}
 use Rattle.live_session.proofs.{Addresses.{all_by, first_address, first_mapped, urls_by, urls_of}, Pushing.grown as pushed_all}
 use Rattle.live_session.proofs.{Refusing.{counts_made, some_as, told_as}, Sections.{Stood, joins_next, none_faults, none_new, skip, stands}}
-use Rattle.live_session.proofs.{Sections.stands_next, Walks.{IsOnWay, last_made, segments_told, way_begun, way_done, way_next, way_refused}}
-use Rattle.live_session.proofs.Walks.{way_segments}
+use Rattle.live_session.proofs.{Sections.stands_next, Making.{IsOnWay, last_made, segments_told, way_begun, way_done, way_next}}
+use Rattle.live_session.proofs.Making.{way_refused, way_segments}
 
 -- ---- from a section on
 

@@ -1,12 +1,11 @@
 use Rattle.live_session.proofs.begin.first_standing.Goals as goal
 use Rattle.std.proofs.Common.{◌∙◌, ◌^◌, List, ap, map, refl}
-use Rattle.mpd_rules.specs.Laws.{are_once}
-use Rattle.mpd_rules.specs.Views.{segments_mpd}
+use Rattle.mpd_rules.specs.{Laws.are_once, Views.segments_mpd}
 use Rattle.presentation.specs.Presented.{Presented, looked_at}
 use Rattle.live_meaning.specs.{Updates.Terms, Histories.longest_in, Known.{Known, ids_of, periods_of}, Removal.target_of}
 use Rattle.live_judge.specs.Known.{known_shown}
 use Rattle.live_judge.proofs.FirstStates.{all_new}
-use Rattle.live_session.proofs.Started.{first_common, first_known}
+use Rattle.live_session.proofs.Beginning.{first_common, first_known}
 
 pub extend-requires : goal.extend-requires
 extend-requires c =

@@ -2,9 +2,9 @@ use Rattle.live_session.proofs.begin.first_tracks.Goals as goal
 use Rattle.std.proofs.{Common.{◌∙◌, List, All, arith, ap, length, map, subst, sym}, lemmas.Result.err_from_is_err_and}
 use Rattle.live_meaning.specs.States.{Track, new_count}
 use Rattle.live_judge.specs.{Faults.of_presentation, Shown.track_shown}
-use Rattle.live_session.specs.Begun.{empty_tracks}
-use Rattle.live_session.specs.{Growth.HaveRoom, Kept.{AreSideBySide}, Making.AreUnmade}
-use Rattle.live_session.proofs.{Accepting.{same_paired, same_shown}, Started.{empty_makeable, first_are, first_slice}, TrackMaking.wanting}
+use Rattle.live_session.specs.{Begun.empty_tracks, Growth.HaveRoom, Kept.AreSideBySide, Making.AreUnmade}
+use Rattle.live_session.proofs.{Accepting.{same_paired, same_shown}, Beginning.{empty_makeable, first_are, first_slice}}
+use Rattle.live_session.proofs.TrackMaking.{wanting}
 
 pub returns-in_err-tracks : goal.returns-in_err-tracks
 returns-in_err-tracks g c = λ common is.

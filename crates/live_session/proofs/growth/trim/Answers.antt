@@ -1,5 +1,5 @@
-use Rattle.live_session.proofs.Trimming.{fewer}
 use Rattle.live_session.proofs.growth.trim.Goals as goal
+use Rattle.live_session.proofs.Accepting.{fewer}
 
 pub remove-requires-clause-some : goal.remove-requires-clause-some
 remove-requires-clause-some c =

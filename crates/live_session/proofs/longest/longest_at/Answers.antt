@@ -1,7 +1,7 @@
 use Rattle.live_session.proofs.longest.longest_at.Goals as goal
 use Rattle.std.proofs.Common.{◌≡◌, ◌^◌, ap, arith}
 use Rattle.presentation.specs.{Presented.{listed_at, looked_at}, Printing.printed_timings, Verifying.longest_left}
-use Rattle.live_session.proofs.Durations.{longest_printed}
+use Rattle.live_session.proofs.Paced.{longest_printed}
 
 pub loop-timed-init : goal.loop-timed-init
 loop-timed-init c =

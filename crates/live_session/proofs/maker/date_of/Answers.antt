@@ -1,7 +1,7 @@
 use Rattle.live_session.proofs.maker.date_of.Goals as goal
 use Rattle.std.proofs.{Common.arith, lemmas.Int.ints}
 use Rattle.exact_time.specs.Tick.{time_of}
-use Rattle.live_session.proofs.Dates.{least_nanos, most_nanos}
+use Rattle.live_session.proofs.Paced.{least_nanos, most_nanos}
 
 pub overflow_add-result-2 : goal.overflow_add-result-2
 overflow_add-result-2 c =

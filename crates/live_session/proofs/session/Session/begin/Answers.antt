@@ -2,7 +2,7 @@ use Rattle.live_session.proofs.session.Session.begin.Goals as goal
 use Rattle.mpd_rules.specs.Views.{segments_mpd}
 use Rattle.live_meaning.specs.{Refusals.begun_of, Updates.Terms}
 use Rattle.live_judge.specs.Faults.{of_presentation}
-use Rattle.live_session.proofs.{Beginning.{refused_judged, refused_presented}, Started.first_mpd, Telling.{begun_next, gives_refusal}}
+use Rattle.live_session.proofs.{Beginning.{refused_judged, refused_presented, first_mpd}, Refusing.{begun_next, gives_refusal}}
 
 pub returns-in_err-opened-clause-next : goal.returns-in_err-opened-clause-next
 returns-in_err-opened-clause-next g c =

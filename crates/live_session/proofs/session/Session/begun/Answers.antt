@@ -3,7 +3,7 @@ use Rattle.live_session.proofs.session.Session.begun.Goals as goal
 use Rattle.std.proofs.{Common.arith, lemmas.Result.err_from_is_err_and}
 use Rattle.mpd_rules.specs.Views.{segments_mpd}
 use Rattle.live_judge.specs.Faults.{of_presentation}
-use Rattle.live_session.proofs.{Beginning.refused_made, Started.{begun_by, counted_now, is_first, is_session, periods_once}, TrackMaking.wanting}
+use Rattle.live_session.proofs.{Beginning.{refused_made, begun_by, counted_now, is_first, is_session, periods_once}, TrackMaking.wanting}
 
 pub first_tracks-requires-clause-counted : goal.first_tracks-requires-clause-counted
 first_tracks-requires-clause-counted g c = counted_now c.requires.first

@@ -6,7 +6,7 @@ use Rattle.mpd_rules.specs.Views.{segments_mpd}
 use Rattle.live_meaning.specs.{Refusals.next_of, Updates.{Refresh, Tick}}
 use Rattle.live_judge.specs.Faults.{told}
 use Rattle.live_session.specs.Sessions.{refresh_by}
-use Rattle.live_session.proofs.Telling.{next_by}
+use Rattle.live_session.proofs.Refusing.{next_by}
 
 pub returns-in-Some-clause-next : goal.returns-in-Some-clause-next
 returns-in-Some-clause-next g c =

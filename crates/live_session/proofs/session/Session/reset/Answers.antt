@@ -1,7 +1,7 @@
+use Rattle.live_session.proofs.session.Session.reset.Goals as goal
 use Rattle.mpd_rules.specs.Views.{segments_mpd}
 use Rattle.live_meaning.specs.Updates.{Reset}
-use Rattle.live_session.proofs.Telling.{next_by}
-use Rattle.live_session.proofs.session.Session.reset.Goals as goal
+use Rattle.live_session.proofs.Refusing.{next_by}
 
 pub returns-clause-next : goal.returns-clause-next
 returns-clause-next g c = next_by c.args.self.now
