@@ -6,27 +6,34 @@ use Rattle.iso_time.specs.Instant.{IsWritable}
 use Rattle.hls_writer.specs.{declared.items.MediaHead.MediaHead, declared.items.MediaItem.MediaItem, Items.{head_of, item_of, items_text}}
 use Rattle.hls_writer.specs.Playlists.{Item, followed_text}
 use Rattle.live_meaning.specs.Playlists.{FollowedPlaylist, first_section, item_of as item_shown, live_text}
-use Rattle.live_judge.specs.{declared.track.Fact.Fact, Shown.{kept_of, kepts_of}}
-use Rattle.live_session.specs.Written.{IsDated}
+use Rattle.live_judge.specs.{declared.track.Fact.Fact, declared.track.LiveTrack.LiveTrack, Shown.{kept_of, kepts_of, track_shown}}
+use Rattle.live_session.specs.Written.{IsDated, IsWritten}
 
-pub items_are : (items : List MediaItem) (facts : List Fact) → length items ≡ length facts
+items_are : (items : List MediaItem) (facts : List Fact) → length items ≡ length facts
     → map item_shown (kepts_of items facts) ≡ map item_of items
 items_are [] facts same = refl
 items_are (i ∷ items) [] same = absurd (omega arith)
 items_are (i ∷ items) (f ∷ facts) same = ap (λ (xs : List Item). item_of i ∷ xs) (items_are items facts (omega arith))
 
-pub text_is : (head : MediaHead) (items : List MediaItem) (facts : List Fact) (playlist : FollowedPlaylist) → length items ≡ length facts
-    → head_of head ≡ playlist.head → map item_shown (kepts_of items facts) ≡ playlist.items → items_text head items ≡ live_text playlist
-text_is head items facts playlist same first rest =
-    ap (λ h. followed_text h (map item_of items)) first ∙ ap (followed_text playlist.head) (sym (items_are items facts same) ∙ rest)
+pub items_in : {track : LiveTrack} {xs : List Item} → IsWritten track → map item_shown (track_shown track).kept ≡ xs
+    → xs ≡ map item_of track.items.items
+items_in {track} written shown = sym shown ∙ items_are track.items.items track.facts.items written.paired
 
-pub items_dated : (items : List MediaItem) (facts : List Fact) → length items ≡ length facts → All IsDated (kepts_of items facts)
+pub text_is : {track : LiveTrack} {playlist : FollowedPlaylist} (head : MediaHead) → IsWritten track → head_of head ≡ playlist.head
+    → map item_shown (track_shown track).kept ≡ playlist.items → items_text head track.items.items ≡ live_text playlist
+text_is {track} {playlist} head written first shown =
+    ap (λ h. followed_text h (map item_of track.items.items)) first ∙ ap (followed_text playlist.head) (sym (items_in written shown))
+
+items_dated : (items : List MediaItem) (facts : List Fact) → length items ≡ length facts → All IsDated (kepts_of items facts)
     → All (λ (item : MediaItem). IsWritable item.date) items
 items_dated [] facts same all = All-nil (λ (item : MediaItem). IsWritable item.date)
 items_dated (i ∷ items) [] same all = absurd (omega arith)
 items_dated (i ∷ items) (f ∷ facts) same all =
     All-cons (λ (item : MediaItem). IsWritable item.date) i items (All-head IsDated (kept_of i f) (kepts_of items facts) all)
     (items_dated items facts (omega arith) (All-tail IsDated (kept_of i f) (kepts_of items facts) all))
+
+pub all_dated : {track : LiveTrack} → IsWritten track → All (λ (item : MediaItem). IsWritable item.date) track.items.items
+all_dated {track} written = items_dated track.items.items track.facts.items written.paired written.dates
 
 pub first_there : (items : List MediaItem) (facts : List Fact) (item : MediaItem) → length items ≡ length facts
     → slice_get items 0 ≡ Some item → item.section ≡ first_section (kepts_of items facts)

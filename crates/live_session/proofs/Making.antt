@@ -134,10 +134,7 @@ module _ (n : Numbering) (place start : ℕ) (content : Content) where
       ≡ told_behind unit (Some (record { section = place + n.resets; first = first; end = former })) (map segment_at xs)
   told_on unit first former [] = refl
   told_on unit first former (x ∷ xs) =
-      rw (eq-eqb (place + n.resets) (place + n.resets) refl)
-      (ap (λ (ks : List Kept).
-      record { segment = segment_at x; duration = floor_in unit (difference x.end first) - floor_in unit (difference former first) } ∷ ks)
-      (told_on unit first x.end xs))
+      rw (eq-eqb (place + n.resets) (place + n.resets) refl, told_on unit first x.end xs) refl
 
   -- what begins a section
   begins : (unit : ℕ) (last : Option Last) (x : Timing) (xs : List Timing) → ((l : Last) → last ≡ Some l → l.section ≡ place + n.resets → ⊥)
@@ -154,10 +151,7 @@ module _ (n : Numbering) (place start : ℕ) (content : Content) where
       let none : floor_in unit (difference x.end x.start) - floor_in unit (difference x.start x.start)
       ≡ floor_in unit (difference x.end x.start)
       = omega (arith, floor_in-difference_self unit x.start) in
-      ap (λ d. record { segment = segment_at x; duration = d } ∷ map kept_at (printed_left xs (rounding_behind x.start unit x.end))) none
-      ∙ ap (λ (ks : List Kept). record { segment = segment_at x; duration = floor_in unit (difference x.end x.start) } ∷ ks)
-      (told_on unit x.start x.end xs)
-      ∙ sym (begins unit last x xs other)
+      rw (none, told_on unit x.start x.end xs) (sym (begins unit last x xs other))
 
   below_other : (last : Option Last) (l : Last) → IsBelow last (place + n.resets) → last ≡ Some l → l.section ≡ place + n.resets → ⊥
   below_other None l below is same = absurd (cc)

@@ -1,13 +1,13 @@
 -- Printed durations, and dates that can be written.
-use Rattle.std.proofs.Common.{◌≡◌, ℕ, ◌-◌, List, [], ◌∷◌, map, refl, ap, Option, Some, None, All, inl, inr, subst, pos, neg_ℤ, ◌≤ℤ◌, ◌<ℤ◌}
-use Rattle.std.proofs.{Common.{sym, ◌∙◌, arith}, lemmas.Bool.cases_Bool, lemmas.List.Elements.{All-filter, All-head, All-tail}}
+use Rattle.std.proofs.Common.{◌≡◌, ℕ, ◌-◌, List, [], ◌∷◌, map, refl, ap, Option, Some, None, All, pos, neg_ℤ, ◌≤ℤ◌, ◌<ℤ◌}
+use Rattle.std.proofs.{Common.{sym, ◌∙◌, arith}, lemmas.Bool.and_parts, lemmas.List.Elements.{All-filter}}
 use Rattle.std.proofs.{lemmas.List.Elements.filter_passes, lemmas.Int.ints}
 use Rattle.exact_time.specs.{Time.{Time, difference, before, seconds, IsAtMost, IsBefore}, Floor.floor_in, Rounding.{differences, Rounding}}
 use Rattle.exact_time.specs.{declared.tick.Tick.Tick, Tick.time_of}
 use Rattle.timeline.specs.{Expansions.Timing, declared.window.Window.Window, Listed.{is_listed, listed}, Steady.{ArePaced, IsWithinLimits}}
 use Rattle.presentation.specs.{Printing.{begin_of, durations_of, printed_timings, with_durations, GoesOn}, Verifying.greatest}
 use Rattle.presentation.specs.{Verifying.longest_left, declared.segments.Behind.Behind, Kept.{ArePacedBehind, rounding_at}}
-use Rattle.std.specs.Prelude.{IfSome, false, true}
+use Rattle.std.specs.Prelude.{IfSome, true}
 use Rattle.presentation.proofs.GoingOn.{paced_there}
 use Rattle.live_session.specs.{New.later_listed, Paced.IsDatable, Making.IsNear}
 use Rattle.exact_time.proofs.TimeOrder.{IsAtMost-from_before, IsAtMost-trans, IsAtMost_refl, at_most-from, before-true, not_at_most-from}
@@ -24,18 +24,9 @@ durations_with f (x ∷ xs) n = ap (λ ds. (f x.end - n) ∷ ds) (durations_with
 pub longest_printed : (unit : ℕ) (xs : List Timing) → longest_left (printed_timings unit xs) ≡ greatest (durations_of unit xs)
 longest_printed unit xs = ap greatest (durations_with (λ end. floor_in unit (difference end (begin_of xs))) xs 0)
 
-first_part : (window : Window) (x : Timing) → is_listed window x ≡ true → before (seconds 0) x.end ≡ true
-first_part window x is =
-    elim (cases_Bool (before (seconds 0) x.end)) [ inl so ↦ so | inr other ↦ let f : false ≡ true = rw other at is in absurd (cc) ]
-
-weaker : (P Q : Timing → Type 0) → ((x : Timing) → P x → Q x) → (xs : List Timing) → All P xs → All Q xs
-weaker P Q f xs all = λ k d within. f _ (all k d within)
-
 -- what is listed ends behind the Period's start
 listed_ends : (window : Window) (xs : List Timing) → All (λ x. before (seconds 0) x.end ≡ true) (listed window xs)
-listed_ends window xs =
-    weaker (λ x. is_listed window x ≡ true) (λ x. before (seconds 0) x.end ≡ true) (first_part window) (listed window xs)
-    (filter_passes (is_listed window) xs)
+listed_ends window xs = λ k d within. (and_parts _ _ (and_parts _ _ (filter_passes (is_listed window) xs k d within)).0).0
 
 later_ends : (end : Option Tick) (window : Window) (xs : List Timing)
     → All (λ x. before (seconds 0) x.end ≡ true) (later_listed end (listed window xs))
@@ -50,33 +41,14 @@ datable end window xs ys same limits =
     λ k d within. record { limits = limits k d within; ends = ends k d within }
 
 -- behind others or from their own beginning on
-pub paced_new : (end : Option Tick) (behind : Option Behind) (unit : ℕ) (listed : List Timing) (r : Rounding)
-    → ArePaced (later_listed end listed)
-    → All IsWithinLimits (later_listed end listed) → IfSome behind (λ b. (end ≡ Some b.former) × GoesOn listed b)
-    → r ≡ rounding_at behind unit (later_listed end listed)
-    → ArePacedBehind (later_listed end listed) r
-paced_new end None unit listed r paced limits goes_on is =
-    paced_there None unit (later_listed end listed) (later_listed end listed) r refl is paced limits tt
-paced_new end (Some b) unit listed r paced limits (same, goes_on) is =
-    subst (λ (e : Option Tick). ArePaced (later_listed e listed) → All IsWithinLimits (later_listed e listed)
-    → r ≡ rounding_at (Some b) unit (later_listed e listed) → ArePacedBehind (later_listed e listed) r)
-    (let q : Some b.former ≡ end = cc in q)
-    (λ paced limits is. paced_there (Some b) unit listed (later_listed (Some b.former) listed) r refl is paced limits goes_on) paced limits
-    is
-
 pub paced_as : (end : Option Tick) (behind : Option Behind) (unit : ℕ) (listed ys : List Timing) (r : Rounding)
-    → ys ≡ later_listed end listed
-    → r ≡ rounding_at behind unit (later_listed end listed) → ArePaced ys → All IsWithinLimits ys
+    → ys ≡ later_listed end listed → r ≡ rounding_at behind unit (later_listed end listed) → ArePaced ys → All IsWithinLimits ys
     → IfSome behind (λ b. (end ≡ Some b.former) × GoesOn listed b) → ArePacedBehind ys r
-paced_as end behind unit listed ys r same is paced limits goes_on =
-    rw same (paced_new end behind unit listed r (rw same at paced) (rw same at limits) goes_on is)
-
--- of segments that are left
-pub datable_first : (xs ys : List Timing) (x : Timing) → xs ≡ x ∷ ys → All IsDatable xs → IsDatable x
-datable_first xs ys x is all = All-head IsDatable x ys (subst (λ (zs : List Timing). All IsDatable zs) is all)
-
-pub datable_later : (xs ys : List Timing) (x : Timing) → xs ≡ x ∷ ys → All IsDatable xs → All IsDatable ys
-datable_later xs ys x is all = All-tail IsDatable x ys (subst (λ (zs : List Timing). All IsDatable zs) is all)
+paced_as end None unit listed ys r same is paced limits goes_on =
+    paced_there None unit ys ys r refl (is ∙ ap (rounding_at None unit) (sym same)) paced limits tt
+paced_as end (Some b) unit listed ys r same is paced limits (at, goes_on) =
+    paced_there (Some b) unit listed ys r (same ∙ ap (λ e. later_listed e listed) at) (is ∙ ap (rounding_at (Some b) unit) (sym same)) paced
+    limits goes_on
 
 pub least_nanos : (start : Time) → IsNear start → neg_ℤ (pos 1000000000000000) ≤ℤ whole_nanos start
 least_nanos start near =

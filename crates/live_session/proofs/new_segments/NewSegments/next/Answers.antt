@@ -5,7 +5,8 @@ use Rattle.exact_time.specs.{Rounding.Rounding, Time.Time}
 use Rattle.timeline.specs.Expansions.{Timing}
 use Rattle.presentation.specs.Kept.{IsPaced, printed_rest}
 use Rattle.presentation.proofs.Printing.{held, paced_next}
-use Rattle.live_session.proofs.Paced.{datable_first, datable_later}
+use Rattle.std.proofs.lemmas.List.Elements.{All-head, All-tail}
+use Rattle.live_session.specs.Paced.{IsDatable}
 
 pub returns-in-Err-clause-segment : goal.returns-in-Err-clause-segment
 returns-in-Err-clause-segment g c = let r = c.self.inside.rounder in
@@ -20,9 +21,9 @@ invariant_of-self-in-Ok-Some g c = let made = rw c.in-Ok-Some.field-0-is at c.in
       paced = subst (λ (q : Rounding). IsPaced c.next.new.self q)
           (sym (c.next-duration.ensures.kept ∙ ap (λ (e : Time). record r { former = e }) ends))
           (paced_next c.self.inside.listing c.next.new.self c.in-Ok-Some.segment r made c.self.invariant.paced);
-      datable = datable_later c.self.inside.listing.left c.next.new.self.left c.in-Ok-Some.segment.times made.next c.self.invariant.datable;
+      datable = All-tail IsDatable c.in-Ok-Some.segment.times c.next.new.self.left (rw made.next at c.self.invariant.datable);
     }
 
 pub returns-in-Ok-Some-clause-datable : goal.returns-in-Ok-Some-clause-datable
 returns-in-Ok-Some-clause-datable g c = let made = rw c.in-Ok-Some.field-0-is at c.in-Ok-Some.ensures.segment in
-    datable_first c.self.inside.listing.left c.next.new.self.left c.in-Ok-Some.segment.times made.next c.self.invariant.datable
+    All-head IsDatable c.in-Ok-Some.segment.times c.next.new.self.left (rw made.next at c.self.invariant.datable)

@@ -3,30 +3,28 @@ use Rattle.std.proofs.Common.{◌∙◌, ap, subst, OnErr, OnOk, List, ℕ}
 use Rattle.bridge_io.specs.{InOrder.MayBegin, Outside.{put, Changes}}
 use Rattle.iso_time.specs.Instant.{IsWritable}
 use Rattle.hls_writer.specs.{declared.items.MediaItem.MediaItem, Items.items_text}
-use Rattle.live_session.proofs.Listing.{all_behind, all_before, items_dated, text_is}
+use Rattle.live_session.proofs.Listing.{all_before, all_behind, all_dated, text_is}
 
 pub write_item_slices-requires-clause-front : goal.write_item_slices-requires-clause-front
-write_item_slices-requires-clause-front g c = let t = c.self.inside.track.now in
+write_item_slices-requires-clause-front g c =
     all_before (λ (item : MediaItem). IsWritable item.date) c.as_slices.result.0.now c.as_slices.result.1.now
-    (rw c.as_slices.ensures (items_dated t.items.items t.facts.items c.self.invariant.paired c.self.invariant.dates))
+    (rw c.as_slices.ensures (all_dated c.self.invariant))
 
 pub write_item_slices-requires-clause-back : goal.write_item_slices-requires-clause-back
-write_item_slices-requires-clause-back g c = let t = c.self.inside.track.now in
+write_item_slices-requires-clause-back g c =
     all_behind (λ (item : MediaItem). IsWritable item.date) c.as_slices.result.0.now c.as_slices.result.1.now
-    (rw c.as_slices.ensures (items_dated t.items.items t.facts.items c.self.invariant.paired c.self.invariant.dates))
+    (rw c.as_slices.ensures (all_dated c.self.invariant))
 
 pub returns-clause-ok : goal.returns-clause-ok
-returns-clause-ok g c = let t = c.self.inside.track.now in
+returns-clause-ok g c =
     subst (λ (xs : List ℕ). OnOk c.write_item_slices.result
     (Changes (put c.args.name.now xs) (g.F.Store.files c.args.store.now) (g.F.Store.files c.write_item_slices.new.store)))
     (ap (λ xs. items_text c.head.result xs) c.as_slices.ensures
-    ∙ text_is c.head.result t.items.items t.facts.items c.args.self.now c.self.invariant.paired c.head.ensures
-    (ap (λ p. p.items) c.self.view_is)) c.write_item_slices.ensures.ok
+    ∙ text_is c.head.result c.self.invariant c.head.ensures (ap (λ p. p.items) c.self.view_is)) c.write_item_slices.ensures.ok
 
 pub returns-clause-err : goal.returns-clause-err
-returns-clause-err g c = let t = c.self.inside.track.now in
+returns-clause-err g c =
     subst (λ (xs : List ℕ). OnErr c.write_item_slices.result
     (MayBegin (c.args.name.now, xs) (g.F.Store.files c.args.store.now) (g.F.Store.files c.write_item_slices.new.store)))
     (ap (λ xs. items_text c.head.result xs) c.as_slices.ensures
-    ∙ text_is c.head.result t.items.items t.facts.items c.args.self.now c.self.invariant.paired c.head.ensures
-    (ap (λ p. p.items) c.self.view_is)) c.write_item_slices.ensures.err
+    ∙ text_is c.head.result c.self.invariant c.head.ensures (ap (λ p. p.items) c.self.view_is)) c.write_item_slices.ensures.err
