@@ -173,11 +173,6 @@ module _ (n : Numbering) (place start : ℕ) (content : Content) where
 
 -- ---- what is there
 
-with_content : {X : Type 0} (o : Option Content) (f : Content → X) (x : X) (C : Type 0) → option_map f o ≡ Some x
-    → ((content : Content) → o ≡ Some content → f content ≡ x → C) → C
-with_content None f x C is found = absurd (cc)
-with_content (Some content) f x C is found = found content refl (let e : f content ≡ x = cc in e)
-
 -- by what names its segments, and what initializes them
 pub content_there : (o : Option Content) (runs : SegmentTimeline) (map : Part) → option_map (λ (content : Content). content.runs) o ≡ Some runs
     → option_map (λ (content : Content). content.initialization) o ≡ Some map → o ≡ Some (record { initialization = map; runs = runs })
@@ -355,27 +350,25 @@ next_made meant m s t last content {listed} {old} made {left} {new} {k} {before}
       counted = omega (arith, so_far.counted, is.counted);
     }
 
--- the listed segments of what is there
-pub listed_there : (p : Presented) (s t : ℕ) (runs : SegmentTimeline) (window : Window)
-    → option_map (λ (content : Content). content.runs) (content_at p s t) ≡ Some runs → window ≡ window_of p s
-    → listed_in window runs ≡ listed_at p s t
-listed_there p s t runs window there is =
-    with_content (content_at p s t) (λ content. content.runs) runs (listed_in window runs ≡ listed_at p s t) there
-    (λ content at same. ap (λ w. listed_in w runs) is ∙ ap (listed_in (window_of p s)) (sym same)
-    ∙ sym (ap (λ (o : Option Content). option_map_or (λ content. listed_in (window_of p s) content.runs) o []) at))
+-- how many are listed, and which
+listed_by : (o : Option Content) (runs : SegmentTimeline) (window : Window)
+    → option_map (λ (content : Content). content.runs) o ≡ Some runs
+    → listed_in window runs ≡ option_map_or (λ content. listed_in window content.runs) o []
+listed_by None runs window there = absurd (cc)
+listed_by (Some content) runs window there = ap (listed_in window) (sym (same_Some _ _ there))
 
-at_some : {X : Type 0} (o : Option X) (P : X → Type 0) (x : X) → o ≡ Some x → IfSome o P → P x
-at_some {X} o P x is h = let all : IfSome (Some x) P = subst (λ (q : Option X). IfSome q P) is h in all
+reached_by : (o : Option Content) (runs : SegmentTimeline) (window : Window)
+    → option_map (λ (content : Content). content.runs) o ≡ Some runs → IfSome o (λ content. IsReached content.runs window)
+    → is_out_of_range runs window ≡ false
+reached_by None runs window there reached = absurd (cc)
+reached_by (Some content) runs window there reached = ap (λ tl. is_out_of_range tl window) (sym (same_Some _ _ there)) ∙ reached
 
--- how many are listed
-pub counted_there : (p : Presented) (s t : ℕ) (runs : SegmentTimeline) (window : Window) (r : Result ℕ TimeFault)
-    → option_map (λ (content : Content). content.runs) (content_at p s t) ≡ Some runs → window ≡ window_of p s
-    → IsCounted p s t → r ≡ answered_count runs window → result_unwrap_or r 0 ≡ length (listed_in window runs)
-counted_there p s t runs window r there is counted answer =
-    with_content (content_at p s t) (λ content. content.runs) runs (result_unwrap_or r 0 ≡ length (listed_in window runs)) there
-    (λ content at same.
-    let reached : is_out_of_range runs window ≡ false =
-    rw is (subst (λ (tl : SegmentTimeline). is_out_of_range tl (window_of p s) ≡ false) same
-    (at_some (content_at p s t) (λ content. IsReached content.runs (window_of p s)) content at counted)) in
-    let known : answered_count runs window ≡ Ok (length (listed_in window runs)) = rw reached refl in
-    ap (λ (q : Result ℕ TimeFault). result_unwrap_or q 0) (answer ∙ known))
+module _ (p : Presented) (s t : ℕ) (runs : SegmentTimeline) (window : Window)
+    (there : option_map (λ (content : Content). content.runs) (content_at p s t) ≡ Some runs) (is : window ≡ window_of p s) where
+  pub listed_there : listed_in window runs ≡ listed_at p s t
+  listed_there = rw is (listed_by (content_at p s t) runs (window_of p s) there)
+
+  pub counted_there : (r : Result ℕ TimeFault) → IsCounted p s t → r ≡ answered_count runs window
+      → result_unwrap_or r 0 ≡ length (listed_in window runs)
+  counted_there r counted answer =
+      let reached = reached_by (content_at p s t) runs (window_of p s) there counted in rw (answer, is, reached) refl

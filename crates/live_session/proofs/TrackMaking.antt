@@ -3,7 +3,8 @@ use Rattle.std.proofs.Common.{◌≡◌, ℕ, ◌+◌, ◌-◌, ◌^◌, ◌<◌
 use Rattle.std.proofs.{Common.{None, refl, sym, ◌∙◌, ap, subst, inl, inr, arith, append_assoc, zero-add}, lemmas.Bool.cases_lt}
 use Rattle.std.proofs.{lemmas.List.{append-nil, drop_all, map-append}, lemmas.List.Elements.{All-nil, All-push}}
 use Rattle.std.proofs.lemmas.List.Sums.{sum_by-cons}
-use Rattle.std.specs.{Prelude.{option_map, slice_get, true, IfSome}, List.range_with_len}
+use Rattle.std.specs.{Prelude.{get_or, option_map, slice_get, true, IfSome}, List.range_with_len}
+use Rattle.std.proofs.lemmas.Option.{slice_get-get_or}
 use Rattle.bridge_io.specs.Firsts.{first_of}
 use Rattle.presentation.specs.{declared.fault.PresentationFault.PresentationFault, Counting.refusal, Presented.Presented}
 use Rattle.presentation.proofs.Counts.{from_on-first}
@@ -29,15 +30,14 @@ range_end : (s n : ℕ) → n ≤ s → range_with_len s (n - s) ≡ []
 range_end s n least = let e : n - s ≡ 0 = omega arith in ap (range_with_len s) e
 
 -- none is new before the last one's Period
-new_before : (m : Maker) (t s : ℕ) (last : Option LastKept) → s < first_section m.place last
-    → new_in (numbers_of m) (shown_by m) m.place (track_at last) t s ≡ []
-new_before m t s None less = absurd (omega arith)
-new_before m t s (Some l) less = none_new (shown_by m) m.place t s (numbers_of m) (last_of l) (track_at (Some l)) refl (omega arith)
-
-faults_before : (m : Maker) (t s : ℕ) (last : Option LastKept) → s < first_section m.place last
-    → new_faults_in (shown_by m) m.place (track_at last) t s ≡ []
-faults_before m t s None less = absurd (omega arith)
-faults_before m t s (Some l) less = none_faults (shown_by m) m.place t s (last_of l) (track_at (Some l)) refl (omega arith)
+none_before : (m : Maker) (t s : ℕ) (last : Option LastKept) → s < first_section m.place last
+    → (new_in (numbers_of m) (shown_by m) m.place (track_at last) t s ≡ []) ×
+    (new_faults_in (shown_by m) m.place (track_at last) t s ≡ [])
+none_before m t s None less = absurd (omega arith)
+none_before m t s (Some l) less = (
+  none_new (shown_by m) m.place t s (numbers_of m) (last_of l) (track_at (Some l)) refl (omega arith),
+  none_faults (shown_by m) m.place t s (last_of l) (track_at (Some l)) refl (omega arith),
+)
 
 within_place : (m : Maker) (s : ℕ) (last : Option LastKept) → first_section m.place last ≤ s → IfSome last (λ l. l.place ≤ m.place + s)
 within_place m s None least = tt
@@ -92,8 +92,8 @@ module _ (m : Maker) (t : ℕ) (last : Option LastKept) where
   none_yet before = record {
     way = way_begun (10 ^ m.digits) track.last [] (new_all n p m.place track t) (left_from (first_section m.place last))
         (new_faults_of p m.place track t) (untold_from (first_section m.place last)) before
-        (none_between (new_in n p m.place track t) (λ s less. new_before m t s last less))
-        (none_between (new_faults_in p m.place track t) (λ s less. faults_before m t s last less));
+        (none_between (new_in n p m.place track t) (λ s less. (none_before m t s last less).0))
+        (none_between (new_faults_in p m.place track t) (λ s less. (none_before m t s last less).1));
     stood = inl refl;
   }
 
@@ -213,9 +213,10 @@ module _ (c : Common) (tracks : List LiveTrack) where
   pub no_track_yet : (before : ℕ) → AllSoFar 0 [] before before
   no_track_yet before = record { kept = refl; urls = refl; counted = refl; least = omega arith; dates = All-nil (All IsDated) }
 
-  module _ (m : Maker) (for : IsMakerFor c m) (t : ℕ) (track : LiveTrack) (is : slice_get tracks t ≡ Some track) where
+  module _ (m : Maker) (for : IsMakerFor c m) (t : ℕ) (track : LiveTrack) (within : t < length tracks)
+      (is : track ≡ get_or tracks t track) where
     shown_first : shown_from t ≡ track_shown track ∷ shown_from (t + 1)
-    shown_first = ap (map track_shown) (rest_at (λ i x. []) tracks t track is)
+    shown_first = ap (map track_shown) (rest_at (λ i x. []) tracks t track (slice_get-get_or tracks t track within ∙ ap Some (sym is)))
 
     abbrev own : List Segment
     own = new_all (numbers_of m) (shown_by m) m.place (track_shown track) t

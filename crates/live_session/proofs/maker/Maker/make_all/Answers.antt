@@ -20,17 +20,13 @@ make_track-requires-clause-kept g c =
 pub returns-in-Err-clause-made : goal.returns-in-Err-clause-made
 returns-in-Err-clause-made g c = λ common is.
     let tracks = c.args.tracks.now in let l = c.loop-track in let track = c.index-tracks-track.result in
-    let at : slice_get tracks l.track ≡ Some track = slice_get-get_or tracks l.track track (omega arith)
-    ∙ ap Some (sym c.index-tracks-track.is) in
-    track_refused common tracks c.args.self.now is l.track track at l.all.items c.args.steps.now l.steps c.make_track.new.steps c.in-Err.fault
+    track_refused common tracks c.args.self.now is l.track track (omega arith) c.index-tracks-track.is l.all.items c.args.steps.now l.steps c.make_track.new.steps c.in-Err.fault
     (l.invariant.so_far common is) c.in-Err.ensures
 
 pub returns-in_err-push-in-Ok-clause-made : goal.returns-in_err-push-in-Ok-clause-made
 returns-in_err-push-in-Ok-clause-made g c = λ common is.
     let tracks = c.args.tracks.now in let l = c.loop-track in let track = c.index-tracks-track.result in
-    let at : slice_get tracks l.track ≡ Some track = slice_get-get_or tracks l.track track (omega arith)
-    ∙ ap Some (sym c.index-tracks-track.is) in
-    let next = track_next common tracks c.args.self.now is l.track track at l.all.items
+    let next = track_next common tracks c.args.self.now is l.track track (omega arith) c.index-tracks-track.is l.all.items
     (record { segments = c.in-Ok.segments }) c.args.steps.now l.steps c.make_track.new.steps (l.invariant.so_far common is) c.in-Ok.ensures in
     let p = err_from_is_err_and c.from_residual.result c.from_residual.ensures.1 in
     rw (p.1, p.2) (wanting common (map track_shown tracks) c.args.steps.now c.make_track.new.steps next.least
@@ -39,12 +35,10 @@ returns-in_err-push-in-Ok-clause-made g c = λ common is.
 pub loop-track-preserved : goal.loop-track-preserved
 loop-track-preserved g c =
     let tracks = c.args.tracks.now in let l = c.loop-track in let track = c.index-tracks-track.result in
-    let at : slice_get tracks l.track ≡ Some track = slice_get-get_or tracks l.track track (omega arith)
-    ∙ ap Some (sym c.index-tracks-track.is) in
     record {
       count = omega (arith, l.invariant.count, ap (λ xs. length xs) c.in_ok-push-in-Ok.ensures.items, length-append {A = MadeTrack});
       so_far = λ common is. rw c.in_ok-push-in-Ok.ensures.items
-          (track_next common tracks c.args.self.now is l.track track at l.all.items
+          (track_next common tracks c.args.self.now is l.track track (omega arith) c.index-tracks-track.is l.all.items
           (record { segments = c.in-Ok.segments }) c.args.steps.now l.steps c.make_track.new.steps (l.invariant.so_far common is) c.in-Ok.ensures);
     }
 

@@ -36,8 +36,8 @@ returns-clause-section c = let m = c.args.self.now in let s = c.args.section in 
         c.saturating_sub.ensures,
         c.unwrap_or.ensures,
         counted_there
-            (shown_by m) s t c.runs-runs.result.now c.window-window.result c.count.result c.runs-runs.ensures.content
-            c.window-window.ensures (c.requires.can.counted s t c.requires.section c.requires.track) c.count.ensures,
+            (shown_by m) s t c.runs-runs.result.now c.window-window.result c.runs-runs.ensures.content
+            c.window-window.ensures c.count.result (c.requires.can.counted s t c.requires.section c.requires.track) c.count.ensures,
         ap (λ xs. length xs) l,
       );
     }
