@@ -135,11 +135,8 @@ module _ (c : Common) where
   few_new : (t : ℕ) (tracks : List Track) → All IsWithin (tracks_after c t tracks) → new_count c t tracks ≤ length tracks * 200000000000
   few_new t [] all = omega arith
   few_new t (track ∷ tracks) all =
-      omega (
-        arith,
-        (before_one t track (All-head IsWithin (track_after c t track) (tracks_after c (t + 1) tracks) all)).1,
-        few_new (t + 1) tracks (All-tail IsWithin (track_after c t track) (tracks_after c (t + 1) tracks) all),
-      )
+      let own = (before_one t track (All-head IsWithin (track_after c t track) (tracks_after c (t + 1) tracks) all)).1 in
+      let rest = few_new (t + 1) tracks (All-tail IsWithin (track_after c t track) (tracks_after c (t + 1) tracks) all) in omega arith
 
   dated_after : (t : ℕ) (tracks : List Track) → All AreDated (tracks_grown c t tracks) → All AreDated (tracks_after c t tracks)
   dated_after t [] all = All-nil AreDated

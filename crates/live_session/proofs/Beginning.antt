@@ -107,15 +107,9 @@ sums_alike : (f g : ℕ → ℕ) (a n : ℕ) → ((s : ℕ) → a ≤ s → s < 
     → sum_by f (range_with_len a n) ≡ sum_by g (range_with_len a n)
 sums_alike f g a zero same = refl
 sums_alike f g a (suc n) same =
-    omega (
-      arith,
-      same a (omega arith) (omega arith),
-      sums_alike f g (a + 1) n
-          (λ s least less. same s (omega (arith, least)) (omega (arith, less))),
-      sum_by-cons f a (range_with_len (a + 1) n),
-      sum_by-cons g a
-          (range_with_len (a + 1) n),
-    )
+    let here = same a (omega arith) (omega arith) in
+    let rest = sums_alike f g (a + 1) n (λ s least less. same s (omega arith) (omega arith)) in
+    omega (arith, sum_by-cons f a (range_with_len (a + 1) n), sum_by-cons g a (range_with_len (a + 1) n))
 
 module _ (p : Presented) (none : count_faults p ≡ []) where
   pub reached : (s t : ℕ) → s < length p.sections → t < length p.tracks → IsCounted p s t

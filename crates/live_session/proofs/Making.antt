@@ -106,13 +106,8 @@ module _ {unit : ℕ} {last : Option Last} {old : List Kept} {all left : List Se
     way_refused fault is = record {
       refused = first_stays (refusal fault) own others faults (way.told ∙ told) is.refused;
       least = omega (arith, way.least, is.least);
-      most_made = omega (
-        arith,
-        way.counted,
-        is.most_made,
-        ap (λ (xs : List Segment). length xs) parts,
-        length-append new later,
-      );
+      most_made = let many = ap (λ (xs : List Segment). length xs) parts in
+          omega (arith, way.counted, is.most_made, length-append new later);
     }
 
 pub way_segments : {unit : ℕ} {last : Option Last} {all left : List Segment} {faults untold : List PresentationFault} {made : List Kept}
@@ -268,16 +263,10 @@ module _ (m : Maker) (s t : ℕ) (last : Option LastKept) (content : Content) wh
     pub all_there : (old made : List Kept) (section : Section) (left : PrintedRest) (k before after : ℕ) → IsSectionMakeable m s t last old
         → IsSection m s t last section → SoFar section.before old made left k before after → section.count ≤ k → left.left ≡ []
     all_there old made section left k before after can sec so_far least =
-        nil_from_length left.left (omega (
-          arith,
-          so_far.counted,
-          so_far.way.counted,
-          sec.count,
-          ap (λ (ys : List Segment). length ys) (new_is can.reached),
-          length-map xs (segment_at (numbers_of m) (m.place + s) (start_of (shown_by m) s) content),
-          length-map (times_of left.left) (segment_at (numbers_of m) (m.place + s) (start_of (shown_by m) s) content),
-          length-map left.left (λ (x : PrintedTiming). x.times),
-        ))
+        let segment : Timing → Segment = segment_at (numbers_of m) (m.place + s) (start_of (shown_by m) s) content in
+        let all = ap (λ (ys : List Segment). length ys) (new_is can.reached) ∙ length-map xs segment in
+        let rest = length-map (times_of left.left) segment ∙ length-map left.left (λ (x : PrintedTiming). x.times) in
+        nil_from_length left.left (omega (arith, so_far.counted, so_far.way.counted, sec.count))
 
   module _ {listed : ℕ} {old made : List Kept} {left : PrintedRest} {k before mid : ℕ} (so_far : SoFar listed old made left k before mid) where
     pub all_done : left.left ≡ [] → IsMadeBehind unit (track_at last).last the_new the_faults old made before mid

@@ -28,14 +28,9 @@ use Rattle.live_session.proofs.{Addresses.{all_by, none_urls}, Refusing.some_as}
 pub ends : (known : List Known) (p : Presented) (place : ℕ) → StandsAt (ids_of known) (ids_in p) place
     → length known ≡ place + length p.sections
 ends known p place is =
-    omega (
-      arith,
-      is.within,
-      ap (λ (xs : List (List ℕ)). length xs) is.behind,
-      length-drop place (ids_of known),
-      length-map known (λ (k : Known). k.id),
-      length-map p.sections (λ section. section.id),
-    )
+    let behind = ap (λ (xs : List (List ℕ)). length xs) is.behind in
+    let ids = length-map known (λ (k : Known). k.id) in
+    omega (arith, is.within, length-drop place (ids_of known), length-map p.sections (λ section. section.id))
 
 none_there : {X : Type 0} (xs : List X) (k : ℕ) → length xs ≤ k → is_none (slice_get xs k) ≡ true
 none_there xs k past = ap is_none (slice_get_past xs k past)
@@ -107,22 +102,11 @@ module _ (n : Next) (is : IsNext n) where
   pub seen : n.force.now ≡ unwrap_or (n.standing.now).newest (n.standing.now).opened → first ≡ length (n.force.now).sections
   seen same =
       let s = n.standing.now in
-      let own = is.live.stands in
       let now : StandsAt (ids_of known)
-      (ids_in (p_of n)) s.place = record {
-        once = own.once;
-        within = own.within;
-        behind = own.behind
-            ∙ ap (λ (q : Presented). ids_in q) (sym same);
-      } in
-      let again = same_stand known (p_of n) s.place now in
-      omega (
-        arith,
-        is.within,
-        ends known (p_of n) s.place now,
-        ends (known_with known (p_of n)) (p_of n) s.place again,
-        ends (known_with known (p_of n)) (p_of n) n.place is.stands,
-      )
+      (ids_in (p_of n)) s.place = subst (λ (q : Presented). StandsAt (ids_of known) (ids_in q) s.place) (sym same) is.live.stands in
+      let again = ends (known_with known (p_of n)) (p_of n) s.place (same_stand known (p_of n) s.place now) in
+      let first = ends known (p_of n) s.place now in
+      omega (arith, is.within, ends (known_with known (p_of n)) (p_of n) n.place is.stands)
 
 pub comes_same : (s : Standing) (coming : Coming) (force : Presented) (now at : ℤ) → Comes s coming force now
     → mpd_of (update_of coming at) ≡ None → force ≡ unwrap_or s.newest s.opened

@@ -187,16 +187,13 @@ module _ (c : Common) where
   told_numbered : (t : ℕ) (tracks : List Track) → sum (map length (all_told c t tracks)) ≡ new_count c t tracks
   told_numbered t [] = refl
   told_numbered t (track ∷ tracks) =
-      omega (
-        arith,
-        length-told (unit_of c.terms) track.last (new_of c t track),
-        told_numbered (t + 1) tracks,
-        sum_by-cons (λ (k : ℕ). k) (length (new_told c t track)) (map length (all_told c (t + 1) tracks)),
-      )
+      let own = length-told (unit_of c.terms) track.last (new_of c t track) in
+      let first = sum_by-cons (λ (k : ℕ). k) (length (new_told c t track)) (map length (all_told c (t + 1) tracks)) in
+      omega (arith, told_numbered (t + 1) tracks)
 
-pub wanting : (c : Common) (tracks : List Track) (before after : ℕ) → before ≤ after → after ≤ before + new_count c 0 tracks
+pub wanting : {c : Common} {tracks : List Track} {before after : ℕ} → before ≤ after → after ≤ before + new_count c 0 tracks
     → AreUnmade c tracks Memory before after
-wanting c tracks before after least most = record { refused = tt; counted = (least, most) }
+wanting least most = record { refused = tt; counted = (least, most) }
 
 module _ (c : Common) (tracks : List LiveTrack) where
   abbrev shown_from : ℕ → List Track
@@ -224,14 +221,17 @@ module _ (c : Common) (tracks : List LiveTrack) where
     all_is : new_of c t (track_shown track) ≡ own
     all_is = all_by c (shown_by m) m.resets m.availability_start m.place for.force for.resets for.start for.places t (track_shown track)
 
+    many_is : new_count c t (shown_from t) ≡ length own + new_count c (t + 1) (shown_from (t + 1))
+    many_is = ap (new_count c t) shown_first ∙ ap (λ (xs : List Segment). length xs + new_count c (t + 1) (shown_from (t + 1))) all_is
+
     urls_are : urls_of c c.force t (track_shown track) ≡ new_faults_of (shown_by m) m.place (track_shown track) t
     urls_are = urls_by c (shown_by m) m.resets m.availability_start m.place for.force for.resets for.start for.places t (track_shown track)
 
-    pub track_next : (made : List MadeTrack) (next : MadeTrack) (before mid after : ℕ) → AllSoFar t made before mid
+    pub track_next : {made : List MadeTrack} (next : MadeTrack) {before mid after : ℕ} → AllSoFar t made before mid
         → IsMadeBehind (10 ^ m.digits) (track_shown track).last own (new_faults_of (shown_by m) m.place (track_shown track) t) []
         (all_made next.segments.items) mid after
         → AllSoFar (t + 1) (made ++ next ∷ []) before after
-    track_next made next before mid after so_far made_is =
+    track_next {made} next so_far made_is =
         let rest = all_told c (t + 1) (shown_from (t + 1)) in
         let pushed : all_kept (made ++ next ∷ []) ≡ all_kept made ++ all_made next.segments.items ∷ [] =
         map-append (λ (x : MadeTrack). all_made x.segments.items) made (next ∷ []) in
@@ -243,22 +243,16 @@ module _ (c : Common) (tracks : List LiveTrack) where
               ∙ ap (λ ks. all_kept made ++ ks ∷ rest) told ∙ ap (λ ts. all_kept made ++ all_told c t ts) (sym shown_first) ∙ so_far.kept;
           urls = so_far.urls ∙ ap (urls_told c c.force t) shown_first
               ∙ ap (λ fs. map Presentation fs ++ urls_told c c.force (t + 1) (shown_from (t + 1))) (urls_are ∙ made_is.none);
-          counted = omega (
-            arith,
-            so_far.counted,
-            made_is.counted,
-            ap (new_count c t) shown_first,
-            ap (λ (xs : List Segment). length xs) all_is,
-          );
+          counted = omega (arith, so_far.counted, made_is.counted, many_is);
           least = omega (arith, so_far.least, made_is.counted);
           dates = rw pushed
               (All-push (All IsDated) (all_kept made) (all_made next.segments.items) so_far.dates (made_is.dates (All-nil IsDated)));
         }
 
-    pub track_refused : (made : List MadeTrack) (before mid after : ℕ) (fault : PresentationFault) → AllSoFar t made before mid
+    pub track_refused : {made : List MadeTrack} {before mid after : ℕ} {fault : PresentationFault} → AllSoFar t made before mid
         → IsNotMade (new_faults_of (shown_by m) m.place (track_shown track) t) (length own) fault mid after
         → AreUnmade c (map track_shown tracks) (of_presentation fault) before after
-    track_refused made before mid after fault so_far not_made =
+    track_refused {made} {before} {mid} {after} {fault} so_far not_made =
         let here = urls_of c c.force t (track_shown track) in
         let first : IfSome (refusal fault) (λ f. slice_get here 0 ≡ Some f) =
         subst (λ fs. IfSome (refusal fault) (λ f. slice_get fs 0 ≡ Some f)) (sym urls_are) not_made.refused in
@@ -269,20 +263,14 @@ module _ (c : Common) (tracks : List LiveTrack) where
               (λ f at. ap first_of (so_far.urls ∙ ap (urls_told c c.force t) shown_first)
               ∙ first_mapped here (urls_told c c.force (t + 1) (shown_from (t + 1))) f at) first);
           counted = counts_made (new_count c 0 (map track_shown tracks)) before after fault (omega (arith, so_far.least, not_made.least))
-              (omega (
-                arith,
-                so_far.counted,
-                not_made.most_made,
-                ap (new_count c t) shown_first,
-                ap (λ (xs : List Segment). length xs) all_is,
-              ))
+              (omega (arith, so_far.counted, not_made.most_made, many_is))
               (some_as (refusal fault) (λ f. slice_get here 0 ≡ Some f) (λ f. is_of_address f ≡ true)
               (λ f at. first_address c c.force t (track_shown track) f at) first);
         }
 
-  pub tracks_made : (t : ℕ) (made : List MadeTrack) (before after : ℕ) → length tracks ≤ t → AllSoFar t made before after
+  pub tracks_made : {t : ℕ} {made : List MadeTrack} {before after : ℕ} → length tracks ≤ t → AllSoFar t made before after
       → AreMade c (map track_shown tracks) made before after
-  tracks_made t made before after least so_far =
+  tracks_made {t} {made} least so_far =
       let end : shown_from t ≡ [] = ap (map track_shown) (drop_all t tracks least) in
       let kept : all_kept made ≡ all_told c 0 (map track_shown tracks) = sym (append-nil (all_kept made))
       ∙ ap (λ ts. all_kept made ++ all_told c t ts) (sym end) ∙ so_far.kept in

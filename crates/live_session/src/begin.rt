@@ -1,5 +1,5 @@
 // What a first MPD begins.
-ghost use Rattle.std.specs.Prelude.{◌≡◌, ℕ, ◌^◌, ◌<◌, ◌≤◌, [], All, IfOk, MatchResult};
+ghost use Rattle.std.specs.Prelude.{◌≡◌, ℕ, ◌<◌, ◌≤◌, [], All, IfOk, MatchResult};
 ghost use Rattle.std.specs.Prelude.{flat_map, length, map, pos, replicate, true, unwrap_or};
 ghost use Rattle.iso_time.specs.Instant.{IsReadable};
 ghost use Rattle.mpd_rules.specs.Laws.{are_once};

@@ -1,10 +1,9 @@
 // What an update changes beside the tracks, and what it adds to them.
-ghost use Rattle.std.specs.Prelude.{◌≡◌, ◌++◌, ◌-◌, ◌<◌, ◌≤◌, ◌==◌, ◌^◌, [], length, map, pos, sum, true, false};
+ghost use Rattle.std.specs.Prelude.{◌≡◌, ◌++◌, ◌-◌, ◌<◌, ◌==◌, [], length, map, pos, sum, true, false};
 ghost use Rattle.std.specs.Prelude.{All, IfErr, IfOk, IfSome, IsErrOf, IsOk, MatchResult, None, OnErr, OnOk};
 ghost use Rattle.std.specs.List.{range_with_len};
 ghost use Rattle.iso_time.specs.Instant.{IsReadable};
 ghost use Rattle.mpd_rules.specs.Laws.{are_once};
-ghost use Rattle.presentation.specs.Presented.{looked_at};
 ghost use Rattle.live_meaning.specs.Histories.{published_by};
 ghost use Rattle.live_meaning.specs.Known.{ids_of, known_at};
 ghost use Rattle.live_meaning.specs.Refusals.{clock_told, ended_told};
@@ -15,7 +14,7 @@ ghost use Rattle.live_judge.specs.Known.{known_shown};
 ghost use Rattle.live_judge.specs.Shown.{common_shown, state_shown, track_shown};
 ghost use Rattle.live_judge.specs.declared.fault.RefreshFault.TheVariants.{Memory};
 ghost use Rattle.live_session.specs.Changes as spec;
-ghost use Rattle.live_session.specs.Growth.{HaveRoom, grown, trimmed};
+ghost use Rattle.live_session.specs.Growth.{grown, trimmed};
 ghost use Rattle.live_session.specs.Kept.{AreSideBySide};
 ghost use Rattle.live_session.specs.Making.{IsMakerFor, all_kept};
 ghost use Rattle.live_session.specs.New.{CanMake};

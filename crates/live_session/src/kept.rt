@@ -1,5 +1,5 @@
 // What is kept of a followed track, as it grows at its end and loses its front.
-ghost use Rattle.std.specs.Prelude.{◌≡◌, ℕ, ◌+◌, ◌<◌, ◌≤◌, ◌^◌, ◌==◌, false, length, map, IfOk, OnOk, option_map};
+ghost use Rattle.std.specs.Prelude.{◌≡◌, ℕ, ◌+◌, ◌<◌, ◌≤◌, ◌^◌, ◌==◌, false, length, IfOk, OnOk, option_map};
 ghost use Rattle.std.specs.Option.{option_map_or};
 ghost use Rattle.live_judge.specs.Shown.{last_of, track_shown};
 ghost use Rattle.live_session.specs.Kept.{AreSideBySide, HasRoom, IsBegunAt, empty_track, no_place, with_all, with_kept, without_front};

@@ -1,8 +1,8 @@
 // The new segments of a presentation, made track by track.
-ghost use Rattle.std.specs.Prelude.{◌≡◌, ◌+◌, ◌^◌, ◌<◌, [], length, map, IfOk, IfSome, MatchResult};
+ghost use Rattle.std.specs.Prelude.{◌≡◌, ◌+◌, ◌^◌, ◌<◌, [], length, map, IfOk, MatchResult};
 ghost use Rattle.iso_time.specs.Instant.{IsReadable, IsWritable};
 ghost use Rattle.exact_time.specs.Tick.{time_of};
-ghost use Rattle.presentation.specs.Presented.{content_at, start_of, window_of};
+ghost use Rattle.presentation.specs.Presented.{start_of, window_of};
 ghost use Rattle.presentation.specs.Verifying.{fault_at};
 ghost use Rattle.live_judge.specs.Faults.{of_presentation};
 ghost use Rattle.live_judge.specs.Shown.{track_shown};

@@ -107,8 +107,7 @@ impl Session {
         steps: &mut Steps<L>,
     ) -> Result<Session, RefreshFault>
         requires now { IsReadable now }
-        requires first { let terms : Terms = record { url = base.now; digits = digits } in
-            IsFirstMpd terms (segments_mpd mpd.now) now opened }
+        requires first { IsFirstMpd (record { url = base.now; digits = digits }) (segments_mpd mpd.now) now opened }
         ensures { let terms : Terms = record { url = base.now; digits = digits } in MatchResult result
             (λ session. IsBegunBy terms (segments_mpd mpd.now) now session steps.old steps.new)
             (λ fault. IsUnbegun terms (segments_mpd mpd.now) now fault steps.old steps.new) }

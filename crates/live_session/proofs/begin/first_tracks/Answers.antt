@@ -2,14 +2,14 @@ use Rattle.live_session.proofs.begin.first_tracks.Goals as goal
 use Rattle.std.proofs.{Common.{◌∙◌, List, All, arith, ap, length, map, subst, sym}, lemmas.Result.err_from_is_err_and}
 use Rattle.live_meaning.specs.States.{Track, new_count}
 use Rattle.live_judge.specs.{Faults.of_presentation, Shown.track_shown}
-use Rattle.live_session.specs.{Begun.empty_tracks, Growth.HaveRoom, Kept.AreSideBySide, Making.AreUnmade}
+use Rattle.live_session.specs.{Growth.HaveRoom, Kept.AreSideBySide, Making.AreUnmade}
 use Rattle.live_session.proofs.{Accepting.{same_paired, same_shown}, Beginning.{empty_makeable, first_are, first_slice}}
 use Rattle.live_session.proofs.TrackMaking.{wanting}
 
 pub returns-in_err-tracks : goal.returns-in_err-tracks
 returns-in_err-tracks g c = λ common is.
     let p = err_from_is_err_and c.from_residual.result c.from_residual.ensures.1 in
-    rw (p.1, p.2) (wanting _ _ c.args.steps.now c.args.steps.now (omega arith) (omega arith))
+    rw (p.1, p.2) (wanting (omega arith) (omega arith))
 
 pub make_all-requires-clause-tracks : goal.make_all-requires-clause-tracks
 make_all-requires-clause-tracks g c =
@@ -40,7 +40,7 @@ returns-in_err-make_room g c = λ common is.
     (record { force = is.force; digits = is.printed; resets = is.resets; start = is.starts; places = is.places }) in
     let many = ap (new_count common 0) empty in
     let p = err_from_is_err_and c.from_residual-in_err-make_room.result c.from_residual-in_err-make_room.ensures.1 in
-    rw (p.1, p.2) (wanting common (empty_tracks common.force) c.args.steps.now c.make_all.new.steps (omega (arith, made.counted))
+    rw (p.1, p.2) (wanting (omega (arith, made.counted))
     (omega (arith, made.counted, many)))
 
 pub grow_all-requires-clause-room : goal.grow_all-requires-clause-room

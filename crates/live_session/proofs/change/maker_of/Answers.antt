@@ -12,17 +12,10 @@ returns-clause-made_for c = let n = c.args.next.now in record {
 }
 
 pub returns-clause-can : goal.returns-clause-can
-returns-clause-can c = let n = c.args.next.now in let is = c.requires.next in record {
-  readable = c.requires.readable;
-  counted = is.counted;
-  fits = omega (
-    arith,
-    is.within,
-    is.few,
-    is.live.periods,
-    is.live.accepted,
-    is.live.resets,
-    c.resets_with.ensures,
-    resets_most n.coming (n.standing.now).resets,
-  );
-}
+returns-clause-can c =
+    let n = c.args.next.now in let is = c.requires.next in let most = resets_most n.coming (n.standing.now).resets in
+    record {
+      readable = c.requires.readable;
+      counted = is.counted;
+      fits = omega (arith, is.within, is.few, is.live.periods, is.live.accepted, is.live.resets, c.resets_with.ensures);
+    }

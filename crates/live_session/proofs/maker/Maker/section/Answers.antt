@@ -22,6 +22,8 @@ returns-clause-section c = let m = c.args.self.now in let s = c.args.section in 
     listed_there (shown_by m) s t c.runs-runs.result.now c.window-window.result c.runs-runs.ensures.content c.window-window.ensures in
     let new : later_listed c.end_in-end.result (listed_in c.window-window.result c.runs-runs.result.now)
     ≡ later_listed (end_in (m.place + s) last) (listed_at (shown_by m) s t) = rw (c.end_in-end.ensures, l) refl in
+    let many = counted_there (shown_by m) s t c.runs-runs.result.now c.window-window.result c.runs-runs.ensures.content
+    c.window-window.ensures c.count.result (c.requires.can.counted s t c.requires.section c.requires.track) c.count.ensures in
     let same : c.of.result.timeline ≡ c.runs-runs.result.now = ap (λ (q : PrintedRest). q.timeline) c.of.ensures in
     record {
       runs = c.runs-runs.ensures.content ∙ ap (λ (tl : SegmentTimeline). Some tl) (sym same);
@@ -31,13 +33,5 @@ returns-clause-section c = let m = c.args.self.now in let s = c.args.section in 
           ∙ ap (λ (tl : SegmentTimeline). left_to_make (behind_in (number_of m s) last)
           (10 ^ m.digits) tl (later_listed (end_in (m.place + s) last) (listed_at (shown_by m) s t))) (sym same);
       count = c.count_from-count.ensures ∙ ap (λ xs. length xs) c.begin_at.ensures ∙ ap (λ xs. length xs) new;
-      before = omega (
-        arith,
-        c.saturating_sub.ensures,
-        c.unwrap_or.ensures,
-        counted_there
-            (shown_by m) s t c.runs-runs.result.now c.window-window.result c.runs-runs.ensures.content
-            c.window-window.ensures c.count.result (c.requires.can.counted s t c.requires.section c.requires.track) c.count.ensures,
-        ap (λ xs. length xs) l,
-      );
+      before = omega (arith, c.saturating_sub.ensures, c.unwrap_or.ensures, many, ap (λ xs. length xs) l);
     }

@@ -30,7 +30,7 @@ returns-in_err-standing g c =
     let p = err_from_is_err_and c.from_residual-in_err-standing.result c.from_residual-in_err-standing.ensures.1 in
     rw (p.1, p.2) (refused_made (record { url = c.args.base.now; digits = c.args.digits })
     (segments_mpd c.args.mpd.now) c.args.now c.args.opened first.made first.judged faults.Memory c.args.steps.now c.first_tracks.new.steps
-    (wanting _ _ c.args.steps.now c.first_tracks.new.steps (omega (arith, are.counted)) (omega (arith, are.counted))))
+    (wanting (omega (arith, are.counted)) (omega (arith, are.counted))))
 
 pub invariant_of-result : goal.invariant_of-result
 invariant_of-result g c =

@@ -1,5 +1,5 @@
 use Rattle.live_session.proofs.session.Session.follow.Goals as goal
-use Rattle.std.proofs.Common.{◌∙◌, ◌<◌, List, Err, ap, refl, subst, sym, arith}
+use Rattle.std.proofs.Common.{◌∙◌, List, Err, ap, refl, subst, sym, arith}
 use Rattle.live_judge.specs.{Coming.update_of, declared.standing.Standing.Standing, Shown.state_shown}
 use Rattle.live_meaning.specs.{Known.Known, States.State}
 use Rattle.live_session.specs.{Changes.IsTaken, Sessions.IsSession}
@@ -51,32 +51,29 @@ returns-in_err-know g c =
 
 pub go_on-requires : goal.go_on-requires
 go_on-requires g c =
-    let few : (c.self.inside.standing).accepted < 10000000 = omega
-    (arith, ap (λ (x : State). x.common.accepted) c.self.view_is, c.requires) in
     can_go_on (of_slice c.as_slice.ensures.value c.in_ok-plan.ensures) c.self.invariant c.histories_go_on.ensures.goes_on
-    c.playlists_are_never_empty.ensures.small c.accepted_states_stay_sound.ensures.kept few c.make_room.new.tracks.items
+    c.playlists_are_never_empty.ensures.small c.accepted_states_stay_sound.ensures.kept
+    (omega (arith, ap (λ (x : State). x.common.accepted) c.self.view_is, c.requires)) c.make_room.new.tracks.items
     c.advance.new.standing c.as_slice-2.result.now (ap (λ (x : Standing). x.target) c.advance.ensures)
     c.in_ok-make_room.ensures.same c.as_slice-2.ensures.value c.in_ok-make_room.ensures.room
 
 pub invariant_of-self-2 : goal.invariant_of-self-2
 invariant_of-self-2 g c =
-    let few : (c.self.inside.standing).accepted < 10000000 = omega
-    (arith, ap (λ (x : State). x.common.accepted) c.self.view_is, c.requires) in
     session_after (of_slice c.as_slice.ensures.value c.in_ok-plan.ensures) c.self.invariant c.histories_go_on.ensures.goes_on
-    c.playlists_are_never_empty.ensures.small c.accepted_states_stay_sound.ensures.kept few c.make_room.new.tracks.items
+    c.playlists_are_never_empty.ensures.small c.accepted_states_stay_sound.ensures.kept
+    (omega (arith, ap (λ (x : State). x.common.accepted) c.self.view_is, c.requires)) c.make_room.new.tracks.items
     c.in_ok-newest.newest c.force_by.ensures c.advance.new.standing c.know.new.known c.in_ok-know.ensures.ok c.advance.ensures
     c.go_on.new.tracks.items c.go_on.ensures.paired c.in_ok-make_room.ensures.same c.go_on.ensures.shown
     c.accepted_states_stay_sound.ensures.sound c.accepted_states_stay_sound.ensures.numbers
 
 pub returns : goal.returns
 returns g c =
-    let few : (c.self.inside.standing).accepted < 10000000 = omega
-    (arith, ap (λ (x : State). x.common.accepted) c.self.view_is, c.requires) in
     subst (λ (old : State). IsTaken old
     (update_of c.args.coming c.args.now) c.go_on.result
     (state_shown c.advance.new.standing c.go_on.new.tracks.items) c.args.steps.now c.prepare.new.steps) c.self.view_is
     (taken (of_slice c.as_slice.ensures.value c.in_ok-plan.ensures) c.self.invariant c.histories_go_on.ensures.goes_on
-    c.playlists_are_never_empty.ensures.small c.accepted_states_stay_sound.ensures.kept few c.make_room.new.tracks.items
+    c.playlists_are_never_empty.ensures.small c.accepted_states_stay_sound.ensures.kept
+    (omega (arith, ap (λ (x : State). x.common.accepted) c.self.view_is, c.requires)) c.make_room.new.tracks.items
     c.in_ok-newest.newest c.force_by.ensures c.advance.new.standing c.know.new.known c.in_ok-know.ensures.ok c.advance.ensures
     c.go_on.new.tracks.items c.go_on.ensures.paired c.in_ok-make_room.ensures.same c.go_on.ensures.shown c.go_on.result
     c.go_on.ensures.count)
