@@ -72,8 +72,7 @@ module _ (known : List Known) (p : Presented) (place : ℕ) (is : StandsAt (ids_
       let here : is_new known (known_at p a) ≡ false = is_new_at a (omega arith) ∙ some_there known (place + a) (omega (arith, end)) in
       let same : a + 1 + k ≡ a + suc k = omega arith in
       let left : n - k ≡ suc n - suc k = omega arith in
-      rw here (new_from k (a + 1) n (omega arith) (omega arith) (omega (arith, end))
-      ∙ ap (λ i. map (known_at p) (range_with_len i (n - k))) same ∙ ap (λ i. map (known_at p) (range_with_len (a + suc k) i)) left)
+      rw (here, new_from k (a + 1) n (omega arith) (omega arith) (omega (arith, end)), same, left) refl
 
   -- those behind the known ones
   pub new_are : place ≤ length known
@@ -137,6 +136,10 @@ pub resets_at : (coming : Coming) (now : ℤ) (resets : ℕ)
 resets_at comes.Tick now resets = refl
 resets_at coming now resets = refl
 
+resets_rise : (coming : Coming) (now : ℤ) (resets : ℕ) → resets ≤ resets_with resets (update_of coming now)
+resets_rise comes.Tick now resets = omega arith
+resets_rise coming now resets = omega arith
+
 pub resets_most : (coming : Coming) (resets : ℕ) → resets_with resets (update_of coming (pos 0)) ≤ resets + 1
 resets_most comes.Tick resets = omega arith
 resets_most coming resets = omega arith
@@ -145,8 +148,8 @@ joined_by : (t : ℕ) (last : Option Last) (xs : List Segment) → step_behind t
 joined_by t None xs none = tt
 joined_by t (Some l) [] none = tt
 joined_by t (Some l) (x ∷ xs) none = λ same.
-    sym (ap (λ b. b && is_apart (Some l.end) (extent_of x)) (eq-eqb x.section l.section same))
-    ∙ told_none (x.section == l.section && is_apart (Some l.end) (extent_of x)) (Step t l.end x.start) none
+    rw (eq-eqb x.section l.section same) at (told_none (x.section == l.section && is_apart
+    (Some l.end) (extent_of x)) (Step t l.end x.start) none)
 
 -- ---- behind a reset all lie in later sections
 
@@ -195,20 +198,13 @@ module _ (n : Next) (is : IsNext n) (t : ℕ) (x : LiveTrack) (at : slice_get n.
         (none_at (step_at (coming_of n)) n.tracks.now t x at (sym (steps_each (coming_of n) 0 n.tracks.now) ∙ steps))
   ]
 
-  pub not_fewer : former ≤ (coming_of n).resets
-  not_fewer = elim (cases_Bool (is_reset (update_of n.coming n.now))) [
-    | inl turned ↦ let more : (coming_of n).resets ≡ former + 1 = ap (λ b. cond b (former + 1) former) turned in omega (arith, more)
-    | inr other ↦ let same : (coming_of n).resets ≡ former = ap (λ b. cond b (former + 1) former) other in omega (arith, same)
-  ]
-
 same_grown : (c : Common) (t : ℕ) (track : Track) → new_of c t track ≡ [] → track_grown c t track ≡ track
 same_grown c t track nothing = rw nothing (rw append-nil refl)
 
 none_grown : (c : Common) (t : ℕ) (tracks : List Track) → new_count c t tracks ≡ 0 → tracks ≡ tracks_grown c t tracks
 none_grown c t [] none = refl
 none_grown c t (track ∷ tracks) none =
-    ap (λ (x : Track). x ∷ tracks) (sym (same_grown c t track (nil_from_length (new_of c t track) (omega arith))))
-    ∙ ap (λ (xs : List Track). track_grown c t track ∷ xs) (none_grown c (t + 1) tracks (omega arith))
+    rw (same_grown c t track (nil_from_length (new_of c t track) (omega arith)), ← none_grown c (t + 1) tracks (omega arith)) refl
 
 module _ (n : Next) (is : IsNext n) where
   pub places : (s : ℕ) → s < length (p_of n).sections → place_of (ids_of (coming_of n).known) (id_at (p_of n) s) ≡ n.place + s
@@ -237,7 +233,7 @@ module _ (n : Next) (is : IsNext n) where
           begun = sound.begun;
           numbered = some_as (track_shown x).last (λ l. l.section ≤ (track_shown x).place + (n.standing.now).resets)
               (λ l. l.section ≤ (track_shown x).place + m.resets)
-              (λ l low. omega (arith, low, not_fewer n is t x at, for.resets)) sound.section;
+              (λ l low. omega (arith, low, resets_rise n.coming n.now (n.standing.now).resets, for.resets)) sound.section;
         };
         near = subst (λ (xs : List Segment). joins (track_shown x).last xs)
             (all_by (coming_of n) (shown_by m) m.resets m.availability_start m.place for.force for.resets for.start for.places t (track_shown x))

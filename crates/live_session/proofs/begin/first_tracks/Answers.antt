@@ -25,12 +25,9 @@ returns-in-Err g c = λ common is.
     (record { force = is.force; digits = is.printed; resets = is.resets; start = is.starts; places = is.places }))
 
 pub make_room-requires : goal.make_room-requires
-make_room-requires g c = omega (
-  arith,
-  c.in-Ok.ensures.many,
-  ap (λ xs. length xs) c.as_slice.ensures.value,
-  ap (λ xs. length xs) c.as_slice-2.ensures.value,
-)
+make_room-requires g c =
+    let slice = ap (λ xs. length xs) c.as_slice.ensures.value in
+    omega (arith, c.in-Ok.ensures.many, ap (λ xs. length xs) c.as_slice-2.ensures.value)
 
 pub returns-in_err-make_room : goal.returns-in_err-make_room
 returns-in_err-make_room g c = λ common is.
