@@ -73,6 +73,9 @@ unfolding refusal_of
 refused_behind s u none =
     ap (λ (rs : List Refusal). first_of (rs ++ told_by s u (force_by s.common.terms s.common.force u))) none
 
+abbrev IsUnforced : State → Update → Refusal → Type 0
+IsUnforced s u r = (f : PresentationFault) × (force_by s.common.terms s.common.force u ≡ Err f) × (r ≡ Presentation f)
+
 not_memory : (e : RefreshFault) → IsSome (told e) → e ≡ fault.Memory → ⊥
 not_memory e some is = let never : is_some {T = Refusal} None ≡ true = subst (λ f. IsSome (told f)) is some in cc
 
@@ -95,12 +98,10 @@ module _ (s : State) (u : Update) (before after : ℕ) where
       record { refused = tt; counted = (omega arith, omega arith); ticks = λ none few _. ticks none few }
 
   module _ (none : ended_told s.common ++ clock_told s.common (now_of u) ≡ []) where
-    pub refused_unpresented : (e : RefreshFault)
-        → IfSome (told e) (λ r. (f : PresentationFault) × (force_by s.common.terms s.common.force u ≡ Err f) × (r ≡ Presentation f))
-        → (mpd_of u ≡ None → e ≡ fault.Memory → ⊥) → after ≡ before → IsRefused s u e before after
+    pub refused_unpresented : (e : RefreshFault) → IfSome (told e) (IsUnforced s u) → (mpd_of u ≡ None → e ≡ fault.Memory → ⊥)
+        → after ≡ before → IsRefused s u e before after
     refused_unpresented e refused ticks same = record {
-      refused = some_as (told e) (λ r. (f : PresentationFault) × (force_by s.common.terms s.common.force u ≡ Err f) ×
-          (r ≡ Presentation f)) (λ r. refusal_of s u ≡ Some r)
+      refused = some_as (told e) (IsUnforced s u) (λ r. refusal_of s u ≡ Some r)
           (λ r by. refused_behind s u none ∙ ap (λ r. first_of (told_by s u r)) by.1 ∙ ap Some (sym by.2)) refused;
       counted = counts_same (appended_by s u) before after e same;
       ticks = λ tick _ memory. ticks tick memory;

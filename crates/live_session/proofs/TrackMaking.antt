@@ -3,7 +3,7 @@ use Rattle.std.proofs.Common.{◌≡◌, ℕ, ◌+◌, ◌-◌, ◌^◌, ◌<◌
 use Rattle.std.proofs.{Common.{None, refl, sym, ◌∙◌, ap, subst, inl, inr, arith, append_assoc, zero-add}, lemmas.Bool.cases_lt}
 use Rattle.std.proofs.{lemmas.List.{append-nil, drop_all, map-append}, lemmas.List.Elements.{All-nil, All-push}}
 use Rattle.std.proofs.lemmas.List.Sums.{sum_by-cons}
-use Rattle.std.specs.{Prelude.{get_or, option_map, slice_get, true, IfSome}, List.range_with_len}
+use Rattle.std.specs.{Prelude.{get_or, slice_get, true, IfSome}, List.range_with_len}
 use Rattle.std.proofs.lemmas.Option.{slice_get-get_or}
 use Rattle.bridge_io.specs.Firsts.{first_of}
 use Rattle.presentation.specs.{declared.fault.PresentationFault.PresentationFault, Counting.refusal, Presented.Presented}
@@ -15,7 +15,7 @@ use Rattle.live_meaning.proofs.Tracks.{length-told}
 use Rattle.live_judge.specs.{declared.track.LastKept.LastKept, declared.track.LiveTrack.LiveTrack, Faults.of_presentation}
 use Rattle.live_judge.specs.{declared.fault.RefreshFault.TheVariants.Memory, Shown.{last_of, track_shown}}
 use Rattle.live_judge.proofs.Firsts.{rest_at}
-use Rattle.live_session.specs.{declared.made.MadeTrack.MadeTrack, declared.maker.Maker.Maker, Kept.no_place, Made.all_made, Growth.grown}
+use Rattle.live_session.specs.{declared.made.MadeTrack.MadeTrack, declared.maker.Maker.Maker, Made.all_made, Growth.grown}
 use Rattle.live_session.specs.{Growth.tracks_grown, Making.{AreMade, AreUnmade, IsMadeBehind, IsMakerFor, IsNotMade, IsSectionMakeable}}
 use Rattle.live_session.specs.{Making.{all_kept, first_section, number_of}, New.{IsBegun, joins, new_all, new_among, new_faults_among}}
 use Rattle.live_session.specs.{New.{new_faults_in, new_faults_of, new_in, numbers_of, shown_by, track_at}, Written.IsDated}
@@ -146,31 +146,6 @@ module _ (m : Maker) (t : ℕ) (last : Option LastKept) where
               (subst (λ i. Stood track.last (segments_of made ++ new) i) e
               (stands_next n p m.place t s track (segments_of made) (numbered_there m s last least begun) so_far.stood));
         }
-
--- ---- a track by what is kept of it
-
-module _ (m : Maker) (t : ℕ) (last : Option LastKept) (track : Track) (same : option_map last_of last ≡ track.last)
-    (there : no_place last ≡ track.place) where
-  pub begun_as : IsBegun m.resets track → IsBegun m.resets (track_at last)
-  begun_as begun = rw (same, there) (record { begun = begun.begun; numbered = begun.numbered })
-
-  pub joins_as : joins track.last (new_all (numbers_of m) (shown_by m) m.place track t)
-      → joins (track_at last).last (new_all (numbers_of m) (shown_by m) m.place (track_at last) t)
-  joins_as near = rw (same, there) near
-
-  pub made_as : {made : List Kept} {before after : ℕ}
-      → IsMadeBehind (10 ^ m.digits) (track_at last).last (new_all (numbers_of m) (shown_by m) m.place (track_at last) t)
-      (new_faults_of (shown_by m) m.place (track_at last) t) [] made before after
-      → IsMadeBehind (10 ^ m.digits) track.last (new_all (numbers_of m) (shown_by m) m.place track t)
-      (new_faults_of (shown_by m) m.place track t) [] made before after
-  made_as is = rw (← same, ← there) is
-
-  pub not_made_as : {fault : PresentationFault} {before after : ℕ}
-      → IsNotMade (new_faults_of (shown_by m) m.place (track_at last) t)
-      (length (new_all (numbers_of m) (shown_by m) m.place (track_at last) t)) fault before after
-      → IsNotMade (new_faults_of (shown_by m) m.place track t) (length (new_all (numbers_of m) (shown_by m) m.place track t)) fault before
-      after
-  not_made_as is = rw (← same, ← there) is
 
 -- ---- all tracks
 
