@@ -84,8 +84,7 @@ same_paired new old same paired =
     (All-map (λ (q : Inside). length q.0 ≡ length q.1) inside_of old paired))
 
 pub same_state : (s : Standing) (new old : List LiveTrack) → map inside_of new ≡ map inside_of old → state_shown s new ≡ state_shown s old
-same_state s new old same =
-    ap (λ (ts : List Track). let state : State = record { common = common_shown s; tracks = ts } in state) (same_shown new old same)
+same_state s new old same = rw (same_shown new old same) refl
 
 pub same_session : (s : Standing) (new old : List LiveTrack) → map inside_of new ≡ map inside_of old → IsSession s old → IsSession s new
 same_session s new old same is = record {
@@ -258,9 +257,7 @@ module _ {s : Standing} {tracks : List LiveTrack} {coming : Coming} {now : ℤ} 
             (trimmed_all new 0 state.tracks)
 
         state_is : then ≡ state_shown new final
-        state_is =
-            ap (λ (ts : List Track). let x : State = record { common = c; tracks = ts } in x) (sym tracks_are)
-            ∙ ap (λ (k : Common). let x : State = record { common = k; tracks = map track_shown final } in x) (sym common_is)
+        state_is = rw (tracks_are, common_is) refl
 
         pub taken : (count : ℕ) → count ≡ sum (map length news) → IsTaken state u count (state_shown standing final) before after
         taken count counted = subst (λ (x : Standing). IsTaken state u count (state_shown x final) before after) (sym new_is)

@@ -140,5 +140,4 @@ none_urls c k places t (track ∷ tracks) none =
     let here : urls_of c c.force t track ≡ [] =
     urls_by c c.force c.resets (availability_start_of c.opened) k refl refl refl places t track
     ∙ none_among c k t track (sections_of c.force) (omega (arith, own)) in
-    ap (λ (fs : List PresentationFault). map Presentation fs ++ urls_told c c.force (t + 1) tracks) here
-    ∙ none_urls c k places (t + 1) tracks (omega arith)
+    rw here (none_urls c k places (t + 1) tracks (omega arith))

@@ -22,10 +22,10 @@ use Rattle.presentation.specs.{PresentedLaws.{PresentedAreFew, PresentedAreFollo
 use Rattle.presentation.proofs.{Reached.{all_reached, none_later, none_first}, Ending.none_behind, Grids.All-at}
 use Rattle.live_meaning.specs.{Updates.{Terms, Values, unit_of, Refresh}, Segments.{Segment, listed_of, listed_in_period, id_at}}
 use Rattle.live_meaning.specs.{States.{Track, new_count, shown, track_of, State}, Histories.{Common, begun_common, begun_past, begun_with}}
-use Rattle.live_meaning.specs.{Histories.{numbering_of, availability_start_of, longest_in}, Refusals.{Presentation, Refusal}}
+use Rattle.live_meaning.specs.{Histories.{numbering_of, availability_start_of}, Refusals.{Presentation, Refusal}}
 use Rattle.live_meaning.specs.Refusals.{Window as Windowed, begun_of, counts_listed, first_appended_by, first_refusal_of, first_told_by}
 use Rattle.live_meaning.specs.Refusals.{makes_segments, over_in_all, over_in_track, told_if, urls_in, urls_told, window_told, NotDynamic}
-use Rattle.live_meaning.specs.{Refusals.ids_in, Known.{Known, ids_of, known_at, known_with, periods_of}, Removal.target_of}
+use Rattle.live_meaning.specs.{Refusals.ids_in, Known.{Known, ids_of, known_at, known_with, periods_of}}
 use Rattle.live_meaning.specs.{Playlists.{item_of, playlist_with}, Laws.{HistoriesBegin, IsTyped, NeverEmpty, NumbersStaySmall, Shows}}
 use Rattle.live_judge.specs.{declared.fault.RefreshFault.RefreshFault, Faults.{Tells, of_presentation, told}}
 use Rattle.live_judge.specs.{declared.standing.Standing.Standing, Known.StandsAt, declared.track.LiveTrack.LiveTrack}
@@ -189,11 +189,12 @@ module _ (c : Common) where
   pub first_urls : (a n : ℕ) → urls_told c c.force a (replicate n empty_track) ≡ map Presentation (flat_map (url_faults_of c.force) (range_with_len a n))
   first_urls a zero = refl
   first_urls a (suc n) =
-      ap (λ fs. map Presentation fs ++ urls_told c c.force (a + 1) (replicate n empty_track))
-      (same_over (urls_in c c.force a empty_track) (url_faults_at c.force a) 0 (length c.force.sections)
-      (λ s low high. filtered_none s a (listed_at c.force s a) (content_at c.force s a)))
-      ∙ ap (λ rs. map Presentation (url_faults_of c.force a) ++ rs) (first_urls (a + 1) n)
-      ∙ sym (map-append Presentation (url_faults_of c.force a) (flat_map (url_faults_of c.force) (range_with_len (a + 1) n)))
+      rw (
+        same_over (urls_in c c.force a empty_track) (url_faults_at c.force a) 0 (length c.force.sections)
+            (λ s low high. filtered_none s a (listed_at c.force s a) (content_at c.force s a)),
+        first_urls (a + 1) n,
+      )
+      (sym (map-append Presentation (url_faults_of c.force a) (flat_map (url_faults_of c.force) (range_with_len (a + 1) n))))
 
   listed_all : (t : ℕ) → length (listed_of (numbering_of c) c.force t) ≡ many c.force t
   listed_all t =
@@ -319,22 +320,6 @@ first_known p known news none are =
     let all : length p.sections - 0 ≡ length p.sections = omega arith in
     rw (none, are, all, all_new (periods_of p)) refl
 
-pub first_common : (terms : Terms) (mpd : Values) (now : ℤ) (p force : Presented) (url : List ℕ) (published : Option ℤ) (known : List Known)
-    (target : ℕ) → url ≡ terms.url → force ≡ p → published ≡ mpd.facts.publish_time → known ≡ known_with [] p
-    → target ≡ target_of (unit_of terms) (longest_in (unit_of terms) p) mpd.facts.max_segment
-    → (let x : Common = record {
-      terms = record { url = url; digits = terms.digits };
-      opened = p;
-      force = force;
-      published = published;
-      known = known;
-      resets = 0;
-      target = target;
-      instant = now;
-      accepted = 1;
-    } in x) ≡ begun_common terms mpd now p
-first_common terms mpd now p force url published known target a b c d e = rw (a, b, c, d, e) refl
-
 -- ---- a first MPD of which nothing is refused but addresses
 
 known_ids : (p : Presented) → ids_of (known_with [] p) ≡ ids_in p
@@ -404,10 +389,7 @@ module _ {terms : Terms} {mpd : Values} {now : ℤ} {p : Presented} (is : IsFirs
   module _ {tracks : List LiveTrack} {before after : ℕ} (are : AreFirst c tracks before after) {s : Standing}
       (standing : IsFirstStanding terms mpd now p s) where
     state_is : shown (begun_with c) ≡ state_shown s tracks
-    state_is =
-        ap (λ (ts : List Track). let x : State = record { common = c; tracks = ts } in x)
-        (sym (are.shown ∙ first_grown c 0 (length p.tracks)))
-        ∙ ap (λ (k : Common). let x : State = record { common = k; tracks = map track_shown tracks } in x) (sym standing.common)
+    state_is = rw (are.shown ∙ first_grown c 0 (length p.tracks), standing.common) refl
 
     begun_as : begun_of terms mpd now ≡ Ok (state_shown s tracks)
     begun_as = gives_begun terms mpd now p is.made is.judged are.urls ∙ ap (λ (state : State). Ok state) state_is

@@ -15,7 +15,7 @@ use Rattle.live_meaning.proofs.Tracks.{last_goes_on, told-segments}
 use Rattle.live_session.specs.Making.{IsMadeBehind, IsNotMade, IsBelow, StandsBefore, behind_in, IsKeptNext, IsRefused, IsSection}
 use Rattle.live_session.specs.{Making.{IsSectionMakeable, end_in, number_of}, Written.IsDated, declared.made.Made.Made}
 use Rattle.live_session.specs.{declared.maker.Maker.Maker, declared.maker.Section.Section, Made.{all_made, kept_as, made_kept}}
-use Rattle.live_session.specs.New.{faults_by, later_listed, new_faults_in, new_in, new_timings, numbers_of, segments_in, shown_by, track_at}
+use Rattle.live_session.specs.New.{later_listed, new_faults_in, new_in, numbers_of, shown_by, track_at}
 use Rattle.exact_time.specs.{Time.{Time, difference}, Floor.floor_in, Rounding.{rounding_behind, rounding_from, Rounding, differences}}
 use Rattle.exact_time.specs.Tick.{time_of}
 use Rattle.exact_time.proofs.Floors.{floor_in-difference_self}
@@ -92,10 +92,13 @@ module _ {unit : ℕ} {last : Option Last} {old : List Kept} {all left : List Se
         let goes : last_made last (made ++ told_new) ≡ last_behind l new = ap (last_behind last) (segments_told unit l made new)
         ∙ last_goes_on last (segments_of made) new in
         record {
-          kept = ap (λ ks. ks ++ told_behind unit (last_made last ks) later) is.made_is
-              ∙ ap (λ m. (made ++ told_new) ++ told_behind unit m later) goes
-              ∙ append_assoc made told_new (told_behind unit (last_behind l new) later)
-              ∙ ap (λ ks. made ++ ks) (sym (told_more unit l new later)) ∙ ap (λ xs. made ++ told_behind unit l xs) (sym parts) ∙ way.kept;
+          kept = rw (
+            is.made_is,
+            goes,
+            append_assoc made told_new (told_behind unit (last_behind l new) later),
+            ← told_more unit l new later,
+            ← parts,
+          ) way.kept;
           told = way.told ∙ told ∙ ap (λ fs. fs ++ others) is.none;
           counted = omega (arith, way.counted, is.counted, ap (λ (xs : List Segment). length xs) parts, length-append new later);
           least = omega (arith, way.least, is.counted);
@@ -224,19 +227,11 @@ module _ (m : Maker) (s t : ℕ) (last : Option LastKept) (content : Content) wh
 
     new_is : IfSome last (λ l. l.place ≤ m.place + s)
         → the_new ≡ map (segment_at (numbers_of m) (m.place + s) (start_of (shown_by m) s) content) xs
-    new_is reached =
-        ap (λ (o : Option Content). option_map_or
-        (segments_in (numbers_of m) m.place (shown_by m) s (new_timings (shown_by m) m.place (track_at last) t s)) o []) is
-        ∙ ap (map (segment_at (numbers_of m) (m.place + s) (start_of (shown_by m) s) content))
-        (times_are (shown_by m) m.place t s last reached)
+    new_is reached = rw (times_are (shown_by m) m.place t s last reached, is) refl
 
     faults_are : IfSome last (λ l. l.place ≤ m.place + s)
         → the_faults ≡ part_faults content.runs s t (length (listed_at (shown_by m) s t) - length xs) xs
-    faults_are reached =
-        ap (λ (o : Option Content). option_map_or
-        (faults_by s t (length (listed_at (shown_by m) s t)) (new_timings (shown_by m) m.place (track_at last) t s)) o []) is
-        ∙ ap (λ ys. part_faults content.runs s t (length (listed_at (shown_by m) s t) - length ys) ys)
-        (times_are (shown_by m) m.place t s last reached)
+    faults_are reached = rw (times_are (shown_by m) m.place t s last reached, is) refl
 
     pub begun : (old : List Kept) (section : Section) (before : ℕ) → IsSectionMakeable m s t last old → IsSection m s t last section
         → section.segments.timeline ≡ content.runs → SoFar section.before old old section.segments 0 before before

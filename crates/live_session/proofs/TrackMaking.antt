@@ -214,8 +214,7 @@ module _ (c : Common) (tracks : List LiveTrack) where
         ∙ ap (λ d. told_behind (10 ^ d) (track_shown track).last own) for.digits
         ∙ ap (told_behind (unit_of c.terms) (track_shown track).last) (sym all_is) in
         record {
-          kept = ap (λ kss. kss ++ rest) pushed ∙ append_assoc (all_kept made) (all_made next.segments.items ∷ []) rest
-              ∙ ap (λ ks. all_kept made ++ ks ∷ rest) told ∙ ap (λ ts. all_kept made ++ all_told c t ts) (sym shown_first) ∙ so_far.kept;
+          kept = rw (pushed, append_assoc (all_kept made) (all_made next.segments.items ∷ []) rest, told) (rw shown_first at so_far.kept);
           urls = so_far.urls ∙ ap (urls_told c c.force t) shown_first
               ∙ ap (λ fs. map Presentation fs ++ urls_told c c.force (t + 1) (shown_from (t + 1))) (urls_are ∙ made_is.none);
           counted = omega (arith, so_far.counted, made_is.counted, many_is);
