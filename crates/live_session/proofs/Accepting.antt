@@ -251,10 +251,9 @@ module _ {s : Standing} {tracks : List LiveTrack} {coming : Coming} {now : ℤ} 
           (shown : map track_shown final ≡ map (trimmed standing) (grown (map track_shown room) news)) where
         tracks_are : map track_shown final ≡ tracks_after c 0 state.tracks
         tracks_are =
-            shown ∙ ap (λ x. map (trimmed x) (grown (map track_shown room) news)) new_is
-            ∙ ap (λ ts. map (trimmed new) (grown ts news)) (same_shown room tracks same) ∙ ap (map (trimmed new)) is.made.grown_is
-            ∙ subst (λ (k : Common). map (trimmed new) (tracks_grown k 0 state.tracks) ≡ tracks_after k 0 state.tracks) common_is
-            (trimmed_all new 0 state.tracks)
+            rw (shown, new_is, same_shown room tracks same, is.made.grown_is)
+            (subst (λ (k : Common). map (trimmed new) (tracks_grown k 0 state.tracks) ≡ tracks_after k 0 state.tracks) common_is
+            (trimmed_all new 0 state.tracks))
 
         state_is : then ≡ state_shown new final
         state_is = rw (tracks_are, common_is) refl

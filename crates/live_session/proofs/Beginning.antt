@@ -291,9 +291,7 @@ empty_makeable {m} tracks n is paired t track at =
 pub first_slice : (c : Common) (p : Presented) (now : ℤ) (slice tracks : List LiveTrack) (count : ℕ) → slice ≡ tracks
     → map track_shown tracks ≡ replicate count empty_track → count ≡ length p.tracks → looked_at now p ≡ c.force
     → map track_shown slice ≡ empty_tracks c.force
-first_slice c p now slice tracks count same is many force =
-    ap (map track_shown) same ∙ is
-    ∙ ap (λ n. replicate n empty_track) (many ∙ ap (λ (q : Presented). length q.tracks) force)
+first_slice c p now slice tracks count same is many force = rw (same, is, many, ← force) refl
 
 pub first_are : (c : Common) (slice room final : List LiveTrack) (made : List MadeTrack) (before after : ℕ)
     → map track_shown slice ≡ empty_tracks c.force → map track_shown room ≡ map track_shown slice

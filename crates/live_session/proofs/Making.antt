@@ -7,7 +7,7 @@ use Rattle.std.proofs.{lemmas.Option.same_Some, lemmas.List.Elements.All-push}
 use Rattle.std.specs.{Prelude.{slice_get, IfSome, option_map, false, IsSome}, Result.result_unwrap_or, Option.option_map_or}
 use Rattle.presentation.specs.{declared.fault.PresentationFault.PresentationFault, Counting.refusal, declared.parts.Content.Content}
 use Rattle.presentation.specs.{Kept.{printed_left, rounding_at}, Printing.{PrintedTiming, begin_of, IsCounted, PrintedRest, with_durations}}
-use Rattle.presentation.specs.{Meanings.part_meant, MeaningLaws.MadeAreMeant, Presented.{Presented, content_at, listed_at, listed_in}}
+use Rattle.presentation.specs.{MeaningLaws.MadeAreMeant, Presented.{Presented, content_at, listed_at, listed_in}}
 use Rattle.presentation.specs.{Presented.{start_of, window_of}, Verifying.{fault_at, part_fault, part_faults, times_of}}
 use Rattle.followed.specs.Durations.{Last, duration_behind, last_behind, last_with, told_behind, begun_by}
 use Rattle.live_meaning.specs.Segments.{Kept, Segment, segments_of, Numbering, segment_with}
@@ -285,8 +285,7 @@ part_is : (meant : MadeAreMeant) (n : Numbering) (place start : ℕ) (content : 
     → kept_as n place start content.initialization (record { part = part; times = x }) duration
     ≡ kept_at n place start content (record { times = x; duration = duration })
 part_is meant n place start content timeline x part duration same has =
-    ap (λ (q : Part). kept_as n place start content.initialization (record { part = q; times = x }) duration)
-    (meant timeline x part has ∙ ap (λ (tl : SegmentTimeline). part_meant tl x) same)
+    rw (meant timeline x part has, same) refl
 
 pub next_made : (meant : MadeAreMeant) (m : Maker) (s t : ℕ) (last : Option LastKept) (content : Content) {listed : ℕ} {old : List Kept}
     (made : List Made) {left new : PrintedRest} {k before mid after : ℕ} (next : Made)
@@ -319,10 +318,8 @@ next_made meant m s t last content {listed} {old} made {left} {new} {k} {before}
     } in
     let told : part_faults content.runs s t (listed + k) (times_of left.left)
     ≡ [] ++ part_faults content.runs s t (listed + (k + 1)) (times_of new.left) =
-    ap (λ ys. part_faults content.runs s t (listed + k) (times_of ys)) is.next
-    ∙ ap (λ r. part_fault s t (listed + k) r ++ part_faults content.runs s t (listed + k + 1) (times_of new.left))
-    (ap (λ (tl : SegmentTimeline). part_of_timing tl is.times) (sym so_far.timeline) ∙ is.has)
-    ∙ ap (λ n. part_faults content.runs s t n (times_of new.left)) (let e : listed + k + 1 ≡ listed + (k + 1) = omega arith in e) in
+    (let has : part_of_timing content.runs is.times ≡ Ok is.part = rw (← so_far.timeline) is.has in
+    let e : listed + k + 1 ≡ listed + (k + 1) = omega arith in rw (is.next, has, e) refl) in
     record {
       timeline = is.timeline ∙ so_far.timeline;
       printed = rest

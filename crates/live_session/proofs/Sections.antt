@@ -47,14 +47,12 @@ module _ (p : Presented) (k t s : ℕ) where
   -- none where the Period lies before the last one's
   pub none_new : (n : Numbering) (l : Last) (track : Track) → track.last ≡ Some l → k + s < track.place → new_in n p k track t s ≡ []
   none_new n l track is less =
-      ap (λ (xs : List Timing). option_map_or (segments_in n k p s xs) (content_at p s t) []) (none_earlier p k track t s l is less)
-      ∙ nothing_of (segments_in n k p s []) (content_at p s t) (λ content. refl)
+      rw (none_earlier p k track t s l is less) (nothing_of (segments_in n k p s []) (content_at p s t) (λ content. refl))
 
   pub none_faults : (l : Last) (track : Track) → track.last ≡ Some l → k + s < track.place → new_faults_in p k track t s ≡ []
   none_faults l track is less =
-      ap (λ (xs : List Timing). option_map_or (faults_by s t (length (listed_at p s t)) xs) (content_at p s t) [])
-      (none_earlier p k track t s l is less)
-      ∙ nothing_of (faults_by s t (length (listed_at p s t)) []) (content_at p s t) (λ content. refl)
+      rw (none_earlier p k track t s l is less)
+      (nothing_of (faults_by s t (length (listed_at p s t)) []) (content_at p s t) (λ content. refl))
 
 -- ---- how they go on
 

@@ -8,7 +8,6 @@ use Rattle.std.proofs.lemmas.Option.{slice_get-get_or}
 use Rattle.bridge_io.specs.Firsts.{first_of}
 use Rattle.presentation.specs.{declared.fault.PresentationFault.PresentationFault, Counting.refusal, Presented.Presented}
 use Rattle.presentation.proofs.Counts.{from_on-first}
-use Rattle.followed.specs.Durations.{told_behind}
 use Rattle.live_meaning.specs.{Updates.unit_of, Segments.{Kept, Numbering, Segment, segments_of}, Histories.Common, States.Track}
 use Rattle.live_meaning.specs.{States.{new_count, new_of, new_told}, Refusals.{Presentation, is_of_address, urls_told}}
 use Rattle.live_meaning.proofs.Tracks.{length-told}
@@ -210,9 +209,7 @@ module _ (c : Common) (tracks : List LiveTrack) where
         let rest = all_told c (t + 1) (shown_from (t + 1)) in
         let pushed : all_kept (made ++ next ∷ []) ≡ all_kept made ++ all_made next.segments.items ∷ [] =
         map-append (λ (x : MadeTrack). all_made x.segments.items) made (next ∷ []) in
-        let told : all_made next.segments.items ≡ new_told c t (track_shown track) = made_is.made_is
-        ∙ ap (λ d. told_behind (10 ^ d) (track_shown track).last own) for.digits
-        ∙ ap (told_behind (unit_of c.terms) (track_shown track).last) (sym all_is) in
+        let told : all_made next.segments.items ≡ new_told c t (track_shown track) = rw (all_is, ← for.digits) made_is.made_is in
         record {
           kept = rw (pushed, append_assoc (all_kept made) (all_made next.segments.items ∷ []) rest, told) (rw shown_first at so_far.kept);
           urls = so_far.urls ∙ ap (urls_told c c.force t) shown_first
