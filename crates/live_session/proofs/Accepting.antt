@@ -226,8 +226,7 @@ module _ {s : Standing} {tracks : List LiveTrack} {coming : Coming} {now : ℤ} 
       many = omega (arith, is.many, length-map tracks track_shown, ap (λ xs. length xs) (same_shown room tracks same), length-map room track_shown);
       paired = same_paired room tracks same session.paired;
       target = omega (arith, target, session.target);
-      can = subst (λ ts. All IsTrimmable (grown ts news)) (sym (same_shown room tracks same))
-          (subst (All IsTrimmable) (sym is.made.grown_is) (before_all c 0 state.tracks within));
+      can = rw (same_shown room tracks same, is.made.grown_is) (before_all c 0 state.tracks within);
     }
 
     module _ (newest : Option Presented) (forced : force ≡ force_of s newest) (standing : Standing) (known : List Known)

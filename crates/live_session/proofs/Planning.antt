@@ -87,8 +87,7 @@ module _ (n : Next) where
     unplanned_refused e (inl are) =
         refused_made state u before after none (p_of n) presented.forced judged makes e are.unmade.refused are.some are.unmade.counted
     unplanned_refused e (inr (memory, many, never)) =
-        subst (λ x. IsRefused state u x before after) (sym memory)
-        (refused_wanting state u before after (many ∙ ap (λ k. before + k) (sym appended)) (λ tick _. never (seen_at tick)))
+        rw memory (refused_wanting state u before after (many ∙ ap (λ k. before + k) (sym appended)) (λ tick _. never (seen_at tick)))
 
     plan_is : (plan : Plan) → IsPlanOf n plan before after → IsPlan n.standing.now n.tracks.now n.coming n.now n.force.now plan before after
     plan_is plan has = record {

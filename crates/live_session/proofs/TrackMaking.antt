@@ -141,9 +141,7 @@ module _ (m : Maker) (t : ℕ) (last : Option LastKept) where
               let segs : segments_of next ≡ segments_of made ++ new = ap segments_of is.made_is
               ∙ segments_told (10 ^ m.digits) (last_made track.last made) made new in
               let e : m.place + s + m.resets + 1 ≡ number_of m (s + 1) = omega arith in
-              subst (λ (xs : List Segment). Stood track.last xs (number_of m (s + 1))) (sym segs)
-              (subst (λ i. Stood track.last (segments_of made ++ new) i) e
-              (stands_next n p m.place t s track (segments_of made) (numbered_there m s last least begun) so_far.stood));
+              rw (segs, ← e) (stands_next n p m.place t s track (segments_of made) (numbered_there m s last least begun) so_far.stood);
         }
 
 -- ---- all tracks

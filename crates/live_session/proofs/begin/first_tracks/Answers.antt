@@ -1,8 +1,8 @@
 use Rattle.live_session.proofs.begin.first_tracks.Goals as goal
-use Rattle.std.proofs.{Common.{◌∙◌, List, All, arith, ap, length, map, subst, sym}, lemmas.Result.err_from_is_err_and}
-use Rattle.live_meaning.specs.States.{Track, new_count}
-use Rattle.live_judge.specs.{Faults.of_presentation, Shown.track_shown}
-use Rattle.live_session.specs.{Growth.HaveRoom, Kept.AreSideBySide, Making.AreUnmade}
+use Rattle.std.proofs.{Common.{◌∙◌, All, arith, ap, length, map, subst, sym}, lemmas.Result.err_from_is_err_and}
+use Rattle.live_meaning.specs.States.{new_count}
+use Rattle.live_judge.specs.{Shown.track_shown}
+use Rattle.live_session.specs.{Growth.HaveRoom, Kept.AreSideBySide}
 use Rattle.live_session.proofs.{Accepting.{same_paired, same_shown}, Beginning.{empty_makeable, first_are, first_slice}}
 use Rattle.live_session.proofs.TrackMaking.{wanting}
 
@@ -18,8 +18,7 @@ make_all-requires-clause-tracks g c =
 
 pub returns-in-Err : goal.returns-in-Err
 returns-in-Err g c = λ common is.
-    subst (λ (ts : List Track). AreUnmade common ts (of_presentation c.in-Err.fault) c.args.steps.now c.make_all.new.steps)
-    (first_slice common c.args.opened.now c.args.now c.as_slice.result.now c.in_ok-tracks.tracks.items c.len.result c.as_slice.ensures.value
+    rw (← first_slice common c.args.opened.now c.args.now c.as_slice.result.now c.in_ok-tracks.tracks.items c.len.result c.as_slice.ensures.value
     c.in_ok-tracks.ensures.shown (omega (arith, c.len.ensures, ap (λ xs. length xs) c.tracks.ensures)) is.force)
     (c.in-Err.ensures.made common
     (record { force = is.force; digits = is.printed; resets = is.resets; start = is.starts; places = is.places }))

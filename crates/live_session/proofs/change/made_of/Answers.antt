@@ -1,15 +1,14 @@
 use Rattle.live_session.proofs.change.made_of.Goals as goal
-use Rattle.std.proofs.{Common.{rules, ◌≡◌, ◌<◌, List, false, true, sym, subst, arith}, lemmas.Result.err_from_is_err_and}
+use Rattle.std.proofs.{Common.{rules, ◌≡◌, ◌<◌, false, true, arith}, lemmas.Result.err_from_is_err_and}
 use Rattle.live_judge.specs.Coming.{coming_of}
-use Rattle.live_session.specs.{declared.made.MadeTrack.MadeTrack, Changes.{AreNewOf, new_in_all}}
+use Rattle.live_session.specs.{Changes.{new_in_all}}
 use Rattle.live_session.proofs.NewTracks.{makeable, none_made}
 
 pub returns-then-not-has_new : goal.returns-then-not-has_new
 returns-then-not-has_new g c =
     let n = c.args.next.now in
     let off : c.has_new.result ≡ false = search rules in
-    subst (λ (made : List MadeTrack). AreNewOf n made c.args.steps.now c.args.steps.now) (sym c.new.ensures.items)
-    (none_made n c.requires.next c.args.steps.now (c.has_new.ensures.none off))
+    rw c.new.ensures.items (none_made n c.requires.next c.args.steps.now (c.has_new.ensures.none off))
 
 pub make_all-requires-clause-tracks : goal.make_all-requires-clause-tracks
 make_all-requires-clause-tracks g c =

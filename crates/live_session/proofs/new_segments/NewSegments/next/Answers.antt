@@ -1,17 +1,15 @@
-use Rattle.presentation.specs.Printing as spec
 use Rattle.live_session.proofs.new_segments.NewSegments.next.Goals as goal
 use Rattle.std.proofs.Common.{ap, subst, sym, ◌∙◌}
 use Rattle.exact_time.specs.{Rounding.Rounding, Time.Time}
 use Rattle.timeline.specs.Expansions.{Timing}
-use Rattle.presentation.specs.Kept.{IsPaced, printed_rest}
+use Rattle.presentation.specs.Kept.{IsPaced}
 use Rattle.presentation.proofs.Printing.{held, paced_next}
 use Rattle.std.proofs.lemmas.List.Elements.{All-head, All-tail}
 use Rattle.live_session.specs.Paced.{IsDatable}
 
 pub returns-in-Err-clause-segment : goal.returns-in-Err-clause-segment
-returns-in-Err-clause-segment g c = let r = c.self.inside.rounder in
-    subst (λ old. spec.IsHeld old c.in-Err.fault (printed_rest c.next.new.self r)) c.self.view_is
-    (held c.self.inside.listing c.next.new.self r c.in-Err.fault c.in-Err.ensures.segment)
+returns-in-Err-clause-segment g c =
+    rw (← c.self.view_is) (held c.self.inside.listing c.next.new.self c.self.inside.rounder c.in-Err.fault c.in-Err.ensures.segment)
 
 pub invariant_of-self-in-Ok-Some : goal.invariant_of-self-in-Ok-Some
 invariant_of-self-in-Ok-Some g c = let made = rw c.in-Ok-Some.field-0-is at c.in-Ok-Some.ensures.segment in

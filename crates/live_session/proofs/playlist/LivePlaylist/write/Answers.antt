@@ -1,8 +1,7 @@
 use Rattle.live_session.proofs.playlist.LivePlaylist.write.Goals as goal
-use Rattle.std.proofs.Common.{◌∙◌, ap, subst, OnErr, OnOk, List, ℕ}
-use Rattle.bridge_io.specs.{InOrder.MayBegin, Outside.{put, Changes}}
+use Rattle.std.proofs.Common.{ap}
 use Rattle.iso_time.specs.Instant.{IsWritable}
-use Rattle.hls_writer.specs.{declared.items.MediaItem.MediaItem, Items.items_text}
+use Rattle.hls_writer.specs.{declared.items.MediaItem.MediaItem}
 use Rattle.live_session.proofs.Listing.{all_before, all_behind, all_dated, text_is}
 
 pub write_item_slices-requires-clause-front : goal.write_item_slices-requires-clause-front
@@ -17,14 +16,10 @@ write_item_slices-requires-clause-back g c =
 
 pub returns-clause-ok : goal.returns-clause-ok
 returns-clause-ok g c =
-    subst (λ (xs : List ℕ). OnOk c.write_item_slices.result
-    (Changes (put c.args.name.now xs) (g.F.Store.files c.args.store.now) (g.F.Store.files c.write_item_slices.new.store)))
-    (ap (λ xs. items_text c.head.result xs) c.as_slices.ensures
-    ∙ text_is c.head.result c.self.invariant c.head.ensures (ap (λ p. p.items) c.self.view_is)) c.write_item_slices.ensures.ok
+    rw (← text_is c.head.result c.self.invariant c.head.ensures (ap (λ p. p.items) c.self.view_is), ← c.as_slices.ensures)
+    c.write_item_slices.ensures.ok
 
 pub returns-clause-err : goal.returns-clause-err
 returns-clause-err g c =
-    subst (λ (xs : List ℕ). OnErr c.write_item_slices.result
-    (MayBegin (c.args.name.now, xs) (g.F.Store.files c.args.store.now) (g.F.Store.files c.write_item_slices.new.store)))
-    (ap (λ xs. items_text c.head.result xs) c.as_slices.ensures
-    ∙ text_is c.head.result c.self.invariant c.head.ensures (ap (λ p. p.items) c.self.view_is)) c.write_item_slices.ensures.err
+    rw (← text_is c.head.result c.self.invariant c.head.ensures (ap (λ p. p.items) c.self.view_is), ← c.as_slices.ensures)
+    c.write_item_slices.ensures.err

@@ -2,7 +2,7 @@ use Rattle.live_session.proofs.session.Session.follow.Goals as goal
 use Rattle.std.proofs.Common.{◌∙◌, List, Err, ap, refl, subst, sym, arith}
 use Rattle.live_judge.specs.{Coming.update_of, declared.standing.Standing.Standing, Shown.state_shown}
 use Rattle.live_meaning.specs.{Known.Known, States.State}
-use Rattle.live_session.specs.{Changes.IsTaken, Sessions.IsSession}
+use Rattle.live_session.specs.{Sessions.IsSession}
 use Rattle.live_session.proofs.{Accepting.{can_go_on, of_slice, refused, same_session, same_state, session_after, taken, wanting}}
 use Rattle.live_session.proofs.{Planning.{refused_now, timely_there}, Refusing.refused_unpresented}
 
@@ -68,9 +68,7 @@ invariant_of-self-2 g c =
 
 pub returns : goal.returns
 returns g c =
-    subst (λ (old : State). IsTaken old
-    (update_of c.args.coming c.args.now) c.go_on.result
-    (state_shown c.advance.new.standing c.go_on.new.tracks.items) c.args.steps.now c.prepare.new.steps) c.self.view_is
+    rw (← c.self.view_is)
     (taken (of_slice c.as_slice.ensures.value c.in_ok-plan.ensures) c.self.invariant c.histories_go_on.ensures.goes_on
     c.playlists_are_never_empty.ensures.small c.accepted_states_stay_sound.ensures.kept
     (omega (arith, ap (λ (x : State). x.common.accepted) c.self.view_is, c.requires)) c.make_room.new.tracks.items
