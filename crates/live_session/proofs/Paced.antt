@@ -1,7 +1,6 @@
 -- Printed durations, and dates that can be written.
-use Rattle.std.proofs.Common.{◌≡◌, ℕ, ◌-◌, List, [], ◌∷◌, map, refl, ap, Option, Some, None, All, pos, neg_ℤ, ◌≤ℤ◌, ◌<ℤ◌}
-use Rattle.std.proofs.{Common.{sym, ◌∙◌, arith}, lemmas.Bool.and_parts, lemmas.List.Elements.{All-filter}}
-use Rattle.std.proofs.{lemmas.List.Elements.filter_passes, lemmas.Int.ints}
+use Rattle.std.proofs.Common.{◌≡◌, ℕ, ◌-◌, List, [], ◌∷◌, map, refl, ap, Option, Some, None, All, pos, neg_ℤ, ◌≤ℤ◌, ◌<ℤ◌, sym, ◌∙◌, arith}
+use Rattle.std.proofs.{lemmas.Bool.and_parts, lemmas.List.Elements.{All-filter, filter_passes}, lemmas.Int.ints}
 use Rattle.exact_time.specs.{Time.{Time, difference, before, seconds, IsAtMost, IsBefore}, Floor.floor_in, Rounding.{differences, Rounding}}
 use Rattle.exact_time.specs.{declared.tick.Tick.Tick, Tick.time_of}
 use Rattle.timeline.specs.{Expansions.Timing, declared.window.Window.Window, Listed.{is_listed, listed}, Steady.{ArePaced, IsWithinLimits}}

@@ -2,9 +2,8 @@
 use Rattle.std.proofs.Common.{◌≡◌, ℕ, ◌+◌, ◌-◌, ◌^◌, ◌<◌, ◌≤◌, List, [], ◌∷◌, ◌++◌, map, flat_map, length, drop, All, Option, sum, Some}
 use Rattle.std.proofs.{Common.{None, refl, sym, ◌∙◌, ap, subst, inl, inr, arith, append_assoc, zero-add}, lemmas.Bool.cases_lt}
 use Rattle.std.proofs.{lemmas.List.{append-nil, drop_all, map-append}, lemmas.List.Elements.{All-nil, All-push}}
-use Rattle.std.proofs.lemmas.List.Sums.{sum_by-cons}
+use Rattle.std.proofs.{lemmas.List.Sums.sum_by-cons, lemmas.Option.slice_get-get_or}
 use Rattle.std.specs.{Prelude.{get_or, slice_get, true, IfSome}, List.range_with_len}
-use Rattle.std.proofs.lemmas.Option.{slice_get-get_or}
 use Rattle.bridge_io.specs.Firsts.{first_of}
 use Rattle.presentation.specs.{declared.fault.PresentationFault.PresentationFault, Counting.refusal, Presented.Presented}
 use Rattle.presentation.proofs.Counts.{from_on-first}
@@ -14,10 +13,10 @@ use Rattle.live_meaning.proofs.Tracks.{length-told}
 use Rattle.live_judge.specs.{declared.track.LastKept.LastKept, declared.track.LiveTrack.LiveTrack, Faults.of_presentation}
 use Rattle.live_judge.specs.{declared.fault.RefreshFault.TheVariants.Memory, Shown.{last_of, track_shown}}
 use Rattle.live_judge.proofs.Firsts.{rest_at}
-use Rattle.live_session.specs.{declared.made.MadeTrack.MadeTrack, declared.maker.Maker.Maker, Made.all_made, Growth.grown}
-use Rattle.live_session.specs.{Growth.tracks_grown, Making.{AreMade, AreUnmade, IsMadeBehind, IsMakerFor, IsNotMade, IsSectionMakeable}}
-use Rattle.live_session.specs.{Making.{all_kept, first_section, number_of}, New.{IsBegun, joins, new_all, new_among, new_faults_among}}
-use Rattle.live_session.specs.{New.{new_faults_in, new_faults_of, new_in, numbers_of, shown_by, track_at}, Written.IsDated}
+use Rattle.live_session.specs.{declared.made.MadeTrack.MadeTrack, declared.maker.Maker.Maker, Made.all_made, Growth.{grown, tracks_grown}}
+use Rattle.live_session.specs.Making.{AreMade, AreUnmade, IsMadeBehind, IsMakerFor, IsNotMade, IsSectionMakeable, all_kept, first_section}
+use Rattle.live_session.specs.{Making.number_of, New.{IsBegun, joins, new_all, new_among, new_faults_among, new_faults_in, new_faults_of}}
+use Rattle.live_session.specs.{New.{new_in, numbers_of, shown_by, track_at}, Written.IsDated}
 use Rattle.live_session.proofs.{Addresses.{all_by, first_address, first_mapped, urls_by, urls_of}, Pushing.grown as pushed_all}
 use Rattle.live_session.proofs.{Refusing.{counts_made, some_as, told_as}, Sections.{Stood, joins_next, none_faults, none_new, skip, stands}}
 use Rattle.live_session.proofs.{Sections.stands_next, Making.{IsOnWay, last_made, segments_told, way_begun, way_done, way_next}}

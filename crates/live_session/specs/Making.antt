@@ -7,11 +7,10 @@ use Rattle.iso_time.specs.Instant.{IsWritable}
 use Rattle.url_parts.specs.declared.address.Part.{Part}
 use Rattle.timeline.specs.{declared.fault.ListFault.ListFault, Listed.part_of_timing, Names.list_refusal, Expansions.Timing}
 use Rattle.followed.specs.Durations.{Last, last_behind, told_behind}
-use Rattle.presentation.specs.{declared.fault.PresentationFault.PresentationFault}
-use Rattle.presentation.specs.{declared.segments.Behind.Behind, Counting.refusal, Presented.{content_at, listed_at, start_of}, Printing.GoesOn}
-use Rattle.presentation.specs.Printing.{IsAtEnd, PrintedRest}
-use Rattle.live_meaning.specs.{Segments.{Kept, Segment, id_at, place_of, segments_of}, Known.ids_of, Histories.{Common, availability_start_of}}
-use Rattle.live_meaning.specs.{States.{Track, new_count}, Refusals.urls_told}
+use Rattle.presentation.specs.{declared.fault.PresentationFault.PresentationFault, declared.segments.Behind.Behind, Counting.refusal}
+use Rattle.presentation.specs.{Presented.{content_at, listed_at, start_of}, Printing.{GoesOn, IsAtEnd, PrintedRest}}
+use Rattle.live_meaning.specs.{Segments.{Kept, Segment, id_at, place_of, segments_of}, Known.ids_of, Histories.Common}
+use Rattle.live_meaning.specs.{Histories.availability_start_of, States.{Track, new_count}, Refusals.urls_told}
 use Rattle.live_judge.specs.{declared.fault.RefreshFault.RefreshFault, declared.track.LastKept.LastKept, declared.track.LiveTrack.LiveTrack}
 use Rattle.live_judge.specs.{Faults.told, Shown.track_shown}
 use Rattle.live_session.specs.{declared.made.Made.Made, declared.made.MadeTrack.MadeTrack, declared.maker.Maker.Maker}

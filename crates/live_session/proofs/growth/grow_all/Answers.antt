@@ -1,6 +1,5 @@
 use Rattle.live_session.proofs.growth.grow_all.Goals as goal
-use Rattle.std.proofs.Common.{rules, ◌≡◌, ◌∷◌, ◌∙◌, ◌<◌, ap, sym, arith, length}
-use Rattle.std.proofs.lemmas.Option.{same_Some}
+use Rattle.std.proofs.{Common.{rules, ◌≡◌, ◌∷◌, ◌∙◌, ◌<◌, ap, sym, arith, length}, lemmas.Option.same_Some}
 use Rattle.std.specs.Vec.Iter.{into_iter_items}
 use Rattle.live_judge.specs.Shown.{track_shown}
 use Rattle.live_session.specs.{declared.made.MadeTrack.MadeTrack, Kept.{AreSideBySide, with_all}, Made.all_made}

@@ -1,10 +1,9 @@
 use Rattle.live_session.proofs.new_segments.NewSegments.next.Goals as goal
-use Rattle.std.proofs.Common.{ap, subst, sym, ◌∙◌}
+use Rattle.std.proofs.{Common.{ap, subst, sym, ◌∙◌}, lemmas.List.Elements.{All-head, All-tail}}
 use Rattle.exact_time.specs.{Rounding.Rounding, Time.Time}
 use Rattle.timeline.specs.Expansions.{Timing}
 use Rattle.presentation.specs.Kept.{IsPaced}
 use Rattle.presentation.proofs.Printing.{held, paced_next}
-use Rattle.std.proofs.lemmas.List.Elements.{All-head, All-tail}
 use Rattle.live_session.specs.Paced.{IsDatable}
 
 pub returns-in-Err-clause-segment : goal.returns-in-Err-clause-segment
