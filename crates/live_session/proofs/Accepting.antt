@@ -49,7 +49,8 @@ paired_there : (t : LiveTrack) → AreSideBySide t → IsKept (track_shown t) �
 paired_there t paired kept =
     let some = kept.some in
     let few = kept.few in
-    let many = length-kepts t.items.items t.facts.items paired in record { paired = paired; some = omega (arith, many); few = omega (arith, many) }
+    let many = length-kepts t.items.items t.facts.items paired in
+    record { paired = paired; some = omega (arith, many); few = omega (arith, many) }
 
 pub live : {s : Standing} {tracks : List LiveTrack} → IsSession s tracks → IsLive s tracks
 live {s} {tracks} is = record {
@@ -223,7 +224,13 @@ module _ {s : Standing} {tracks : List LiveTrack} {coming : Coming} {now : ℤ} 
     can_go_on standing made target same made_is has = record {
       few = omega (arith, is.made.numbered, few_new c 0 state.tracks within, session.reached.sound.opened, session.reached.few);
       room = subst (HaveRoom room) made_is has;
-      many = omega (arith, is.many, length-map tracks track_shown, ap (λ xs. length xs) (same_shown room tracks same), length-map room track_shown);
+      many = omega (
+        arith,
+        is.many,
+        length-map tracks track_shown,
+        ap (λ xs. length xs) (same_shown room tracks same),
+        length-map room track_shown,
+      );
       paired = same_paired room tracks same session.paired;
       target = omega (arith, target, session.target);
       can = rw (same_shown room tracks same, is.made.grown_is) (before_all c 0 state.tracks within);

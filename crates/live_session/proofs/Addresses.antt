@@ -1,9 +1,9 @@
 -- The new segments without an address, and those of which the Periods have the places from a first one on.
 use Rattle.timeline.specs.declared.fault.ListFault.TheVariants as list_fault
 use Rattle.timeline.specs.declared.names.Names.TheVariants as names
-use Rattle.std.proofs.Common.{◌≡◌, ℕ, zero, suc, ◌+◌, ◌-◌, ◌<◌, ◌≤◌, ℤ, List, [], ◌∷◌, ◌++◌, map, filter, flat_map, length, All, Option, Some}
-use Rattle.std.proofs.Common.{None, Result, Ok, Err, refl, ◌∙◌, ap, arith, length-append}
-use Rattle.std.proofs.lemmas.List.{nil_from_length, Elements.{All-append, All-cons, All-head, All-nil}}
+use Rattle.std.proofs.Common.{◌≡◌, ℕ, zero, suc, ◌+◌, ◌-◌, ◌<◌, ◌≤◌, ℤ, List, [], ◌∷◌, ◌++◌, map, filter, flat_map, length, All, Option}
+use Rattle.std.proofs.{Common.{Some, None, Result, Ok, Err, refl, ◌∙◌, ap, arith, length-append}, lemmas.List.nil_from_length}
+use Rattle.std.proofs.lemmas.List.Elements.{All-append, All-cons, All-head, All-nil}
 use Rattle.std.specs.{Prelude.{true, slice_get}, List.range_with_len, Option.option_map_or}
 use Rattle.bridge_io.specs.Firsts.{first_of}
 use Rattle.template_ids.specs.Templates.{named}
@@ -13,9 +13,9 @@ use Rattle.url_parts.specs.{Addresses.resolve, declared.address.Part.Part, decla
 use Rattle.url_parts.specs.{declared.fault.UrlFault.UrlFault, declared.range.Range.Range}
 use Rattle.presentation.specs.{declared.fault.PresentationFault.PresentationFault, declared.parts.Content.Content, Counting.sections_of}
 use Rattle.presentation.specs.{Presented.{Presented, content_at, listed_at}, Verifying.{fault_at, part_fault, part_faults}}
-use Rattle.live_meaning.specs.{Segments.{Segment, id_at, is_later, place_of}, Known.ids_of, Histories.{Common, availability_start_of, numbering_of}}
-use Rattle.live_meaning.specs.{States.{Track, new_count, new_of}, Refusals.{Presentation, Refusal, is_of_address, makes_segments, new_at}}
-use Rattle.live_meaning.specs.Refusals.{urls_in, urls_told}
+use Rattle.live_meaning.specs.{Segments.{Segment, id_at, is_later, place_of}, Known.ids_of, Histories.{Common, availability_start_of}}
+use Rattle.live_meaning.specs.{Histories.numbering_of, States.{Track, new_count, new_of}, Refusals.{Presentation, Refusal, is_of_address}}
+use Rattle.live_meaning.specs.Refusals.{makes_segments, new_at, urls_in, urls_told}
 use Rattle.presentation.proofs.Grids.{All-at}
 use Rattle.live_judge.proofs.{Contents.length-new, New.new_is}
 use Rattle.live_session.specs.New.{faults_by, new_all, new_faults_in, new_faults_of, new_in, new_timings}
@@ -75,7 +75,8 @@ pub first_mapped : (fs : List PresentationFault) (rs : List Refusal) (f : Presen
 first_mapped [] rs f is = absurd (cc)
 first_mapped (g ∷ fs) rs f is = let same : g ≡ f = cc in ap (λ (x : PresentationFault). Some (Presentation x)) same
 
-pub first_address : (c : Common) (p : Presented) (t : ℕ) (track : Track) (f : PresentationFault) → slice_get (urls_of c p t track) 0 ≡ Some f
+pub first_address : (c : Common) (p : Presented) (t : ℕ) (track : Track) (f : PresentationFault)
+    → slice_get (urls_of c p t track) 0 ≡ Some f
     → is_of_address f ≡ true
 first_address c p t track f is = All-at IsOfAddress (urls_of c p t track) 0 f (all_address c p t track) is
 

@@ -172,7 +172,8 @@ none_too_many p t none end before =
 -- ---- tracks of which nothing was listed
 
 filtered_none : (s t : ℕ) (xs : List Timing) (o : Option Content)
-    → option_map_or (λ content. part_faults content.runs s t (length xs - length (filter (λ (x : Timing). true) xs)) (filter (λ x. true) xs)) o []
+    → option_map_or (λ content. part_faults content.runs s t (length xs - length (filter (λ (x : Timing). true) xs))
+    (filter (λ x. true) xs)) o []
     ≡ option_map_or (λ content. part_faults content.runs s t 0 xs) o []
 filtered_none s t xs None = refl
 filtered_none s t xs (Some content) =
@@ -186,7 +187,8 @@ made_many make list None = refl
 made_many make list (Some content) = length-map (list content) (make content)
 
 module _ (c : Common) where
-  pub first_urls : (a n : ℕ) → urls_told c c.force a (replicate n empty_track) ≡ map Presentation (flat_map (url_faults_of c.force) (range_with_len a n))
+  pub first_urls : (a n : ℕ) → urls_told c c.force a (replicate n empty_track)
+      ≡ map Presentation (flat_map (url_faults_of c.force) (range_with_len a n))
   first_urls a zero = refl
   first_urls a (suc n) =
       rw (
@@ -199,7 +201,8 @@ module _ (c : Common) where
   listed_all : (t : ℕ) → length (listed_of (numbering_of c) c.force t) ≡ many c.force t
   listed_all t =
       length-flat_map (listed_in_period (numbering_of c) c.force t) (sections_of c.force)
-      ∙ sums_alike (λ s. length (listed_in_period (numbering_of c) c.force t s)) (λ s. length (listed_at c.force s t)) 0 (length c.force.sections)
+      ∙ sums_alike (λ s. length (listed_in_period (numbering_of c) c.force t s)) (λ s. length (listed_at c.force s t)) 0
+      (length c.force.sections)
       (λ s least within. made_many _ (λ content. listed_in (window_of c.force s) content.runs) (content_at c.force s t))
       ∙ sym (length-flat_map (λ s. listed_at c.force s t) (sections_of c.force))
 
@@ -343,7 +346,11 @@ first_mpd differ sections followed few terms mpd now p made judged typed =
     let living = told_if (not mpd.facts.live) NotDynamic in
     let both = none_first (counts ++ living) (window_told (counts_listed p)) judged in
     let live = negated mpd.facts.live (told_none (not mpd.facts.live) NotDynamic (none_behind counts living both)) in
-    let f : Following = record { instant = now; availability_start = unwrap_or mpd.facts.availability_start (pos 0); depth = mpd.facts.depth } in
+    let f : Following = record {
+      instant = now;
+      availability_start = unwrap_or mpd.facts.availability_start (pos 0);
+      depth = mpd.facts.depth;
+    } in
     let once : are_once (ids_in p) ≡ true = ap (λ (ss : List Section). are_once (map (λ (section : Section). section.id) ss))
     (sections mpd terms.url (Some now) p made)
     ∙ ap are_once (ids_are_said mpd.periods) ∙ (differ typed.0 mpd typed.1 live).once in
@@ -379,7 +386,8 @@ module _ {terms : Terms} {mpd : Values} {now : ℤ} {p : Presented} (is : IsFirs
     places = λ s less. place_there (ids_of c.known) (ids_in p) 0 s (id_at p s) is.stands (id_there p.sections s less);
   }
 
-  pub first_counted : (before after : ℕ) → after ≡ before + new_count c 0 (empty_tracks p) → after ≡ before + first_appended_by terms mpd now
+  pub first_counted : (before after : ℕ) → after ≡ before + new_count c 0 (empty_tracks p)
+      → after ≡ before + first_appended_by terms mpd now
   first_counted before after counted = counted ∙ ap (λ n. before + n) (sym (appended terms mpd now p is.made is.judged))
 
   -- ---- the session
@@ -423,6 +431,7 @@ module _ {terms : Terms} {mpd : Values} {now : ℤ} {p : Presented} (is : IsFirs
         starts = standing.start ∙ is.start ∙ ap (λ (k : Common). availability_start_of k.opened) (sym standing.common);
         accepted = omega (arith, ap (λ (k : Common). k.accepted) standing.common);
         readable = standing.readable;
-        counted_first = subst (λ (k : Common). counted k.opened ≡ Ok (count_of_all k.opened)) (sym standing.common) (counted_by p is.counts);
+        counted_first = subst (λ (k : Common). counted k.opened ≡ Ok (count_of_all k.opened)) (sym standing.common)
+            (counted_by p is.counts);
         target = standing.target;
       }

@@ -1,7 +1,7 @@
 -- Lists element by element, and tracks as they are changed one after another.
-use Rattle.std.proofs.Common.{◌≡◌, ℕ, zero, suc, ◌+◌, ◌<◌, ◌≤◌, List, [], ◌∷◌, map, length, drop, All, Some, refl, sym, ◌∙◌, ap, inl, inr, arith}
-use Rattle.std.proofs.lemmas.{Bool.{cases_eq, cases_lt}, List.Elements.{All-nil, All-cons, All-head, All-tail}, List.length-set}
-use Rattle.std.proofs.lemmas.{Option.{same_Some, slice_get-get_or, slice_get_within}, Simd.map-map}
+use Rattle.std.proofs.Common.{◌≡◌, ℕ, zero, suc, ◌+◌, ◌<◌, ◌≤◌, List, [], ◌∷◌, map, length, drop, All, Some, refl, sym, ◌∙◌, ap, inl, inr}
+use Rattle.std.proofs.{Common.arith, lemmas.Bool.{cases_eq, cases_lt}, lemmas.List.Elements.{All-nil, All-cons, All-head, All-tail}}
+use Rattle.std.proofs.{lemmas.List.length-set, lemmas.Option.{same_Some, slice_get-get_or, slice_get_within}, lemmas.Simd.map-map}
 use Rattle.std.specs.Prelude.{get_or, slice_get, slice_set}
 use Rattle.circular_buffer.proofs.Places.{slice_get-set_same, slice_get-some}
 use Rattle.live_judge.specs.{declared.track.LiveTrack.LiveTrack, Shown.track_shown}
@@ -24,7 +24,8 @@ of_shown P show (x ∷ xs) all =
     All-cons (λ x. P (show x)) x xs (All-head P (show x) (map show xs) all) (of_shown P show xs (All-tail P (show x) (map show xs) all))
 
 -- lists of which the same is shown
-pub same_by : {X Y Z : Type 0} (f : X → Y) (g : Y → Z) (xs ys : List X) → map f xs ≡ map f ys → map (λ x. g (f x)) xs ≡ map (λ x. g (f x)) ys
+pub same_by : {X Y Z : Type 0} (f : X → Y) (g : Y → Z) (xs ys : List X) → map f xs ≡ map f ys
+    → map (λ x. g (f x)) xs ≡ map (λ x. g (f x)) ys
 same_by f g [] [] same = refl
 same_by f g [] (y ∷ ys) same = absurd (cc)
 same_by f g (x ∷ xs) [] same = absurd (cc)

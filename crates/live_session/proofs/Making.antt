@@ -105,7 +105,8 @@ module _ {unit : ℕ} {last : Option Last} {old : List Kept} {all left : List Se
           dates = λ d. is.dates (way.dates d);
         }
 
-    pub way_refused : (fault : PresentationFault) → IsNotMade own (length new) fault mid after → IsNotMade faults (length all) fault before after
+    pub way_refused : (fault : PresentationFault) → IsNotMade own (length new) fault mid after
+        → IsNotMade faults (length all) fault before after
     way_refused fault is = record {
       refused = first_stays (refusal fault) own others faults (way.told ∙ told) is.refused;
       least = omega (arith, way.least, is.least);
@@ -172,7 +173,8 @@ module _ (n : Numbering) (place start : ℕ) (content : Content) where
 -- ---- what is there
 
 -- by what names its segments, and what initializes them
-pub content_there : (o : Option Content) (runs : SegmentTimeline) (map : Part) → option_map (λ (content : Content). content.runs) o ≡ Some runs
+pub content_there : (o : Option Content) (runs : SegmentTimeline) (map : Part)
+    → option_map (λ (content : Content). content.runs) o ≡ Some runs
     → option_map (λ (content : Content). content.initialization) o ≡ Some map → o ≡ Some (record { initialization = map; runs = runs })
 content_there None runs map own first = absurd (cc)
 content_there (Some content) runs map own first = rw (← same_Some _ _ own, ← same_Some _ _ first) refl
@@ -263,7 +265,8 @@ module _ (m : Maker) (s t : ℕ) (last : Option LastKept) (content : Content) wh
         let rest = length-map (times_of left.left) segment ∙ length-map left.left (λ (x : PrintedTiming). x.times) in
         nil_from_length left.left (omega (arith, so_far.counted, so_far.way.counted, sec.count))
 
-  module _ {listed : ℕ} {old made : List Kept} {left : PrintedRest} {k before mid : ℕ} (so_far : SoFar listed old made left k before mid) where
+  module _ {listed : ℕ} {old made : List Kept} {left : PrintedRest} {k before mid : ℕ}
+      (so_far : SoFar listed old made left k before mid) where
     pub all_done : left.left ≡ [] → IsMadeBehind unit (track_at last).last the_new the_faults old made before mid
     all_done none = way_done so_far.way (ap segments none) (ap (λ ys. part_faults content.runs s t (listed + k) (times_of ys)) none)
 

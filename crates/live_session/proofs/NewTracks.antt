@@ -236,6 +236,7 @@ module _ (n : Next) (is : IsNext n) where
               (λ l low. omega (arith, low, resets_rise n.coming n.now (n.standing.now).resets, for.resets)) sound.section;
         };
         near = subst (λ (xs : List Segment). joins (track_shown x).last xs)
-            (all_by (coming_of n) (shown_by m) m.resets m.availability_start m.place for.force for.resets for.start for.places t (track_shown x))
+            (all_by (coming_of n) (shown_by m) m.resets m.availability_start m.place for.force for.resets for.start for.places t
+            (track_shown x))
             (joined n is t x at none);
       }

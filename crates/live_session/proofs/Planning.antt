@@ -30,7 +30,8 @@ abbrev IsJudged : Standing → List LiveTrack → Coming → Presented → ℤ �
 IsJudged s tracks coming force now = told_before (state_shown s tracks) (update_of coming now) (looked_at now force) ≡ []
 
 pub unended : (s : Standing) (now : ℤ) → IsTimely s now → is_finished (in_force s) ≡ false
-unended s now timely = told_none (is_finished (in_force s)) Ended (none_first (ended_told (common_shown s)) (clock_told (common_shown s) now) timely)
+unended s now timely = told_none (is_finished (in_force s)) Ended
+    (none_first (ended_told (common_shown s)) (clock_told (common_shown s) now) timely)
 
 pub timely_there : (s : Standing) (coming : Coming) (now : ℤ) → IsTimely s now
     → ended_told (common_shown s) ++ clock_told (common_shown s) (now_of (update_of coming now)) ≡ []

@@ -1,6 +1,6 @@
 -- A track as it grows at its end and loses its front.
-use Rattle.std.proofs.Common.{◌≡◌, ℕ, zero, suc, ◌+◌, ◌-◌, ◌<◌, ◌≤◌, List, [], ◌∷◌, ◌++◌, length, drop, Option, None, Some, refl, sym, ◌∙◌, ap}
-use Rattle.std.proofs.{Common.{inl, inr, arith, length-append, length-drop, append_assoc}, lemmas.Bool.{cases_eq, eq-eqb, ne_eqb}}
+use Rattle.std.proofs.Common.{◌≡◌, ℕ, zero, suc, ◌+◌, ◌-◌, ◌<◌, ◌≤◌, List, [], ◌∷◌, ◌++◌, length, drop, Option, None, Some, refl, sym, ◌∙◌}
+use Rattle.std.proofs.{Common.{ap, inl, inr, arith, length-append, length-drop, append_assoc}, lemmas.Bool.{cases_eq, eq-eqb, ne_eqb}}
 use Rattle.std.proofs.lemmas.List.{append-nil}
 use Rattle.std.specs.{Prelude.{option_map, ◌==◌, if◌then◌else◌, false}, Option.option_map_or}
 use Rattle.circular_buffer.specs.Buffer.{keep_last}

@@ -64,7 +64,8 @@ refused_now : (s : State) (u : Update) (e : RefreshFault) → Tells e (ended_tol
     → refusal_of s u ≡ told e
 unfolding refusal_of
 refused_now s u e (first, some) =
-    first_as (told e) (ended_told s.common ++ clock_told s.common (now_of u)) (told_by s u (force_by s.common.terms s.common.force u)) some first
+    first_as (told e) (ended_told s.common ++ clock_told s.common (now_of u))
+    (told_by s u (force_by s.common.terms s.common.force u)) some first
 
 -- by what it brings
 refused_behind : (s : State) (u : Update) → ended_told s.common ++ clock_told s.common (now_of u) ≡ []

@@ -75,7 +75,8 @@ joined_at n k p s t l here same joined =
     let new : new_timings p k (track_at (Some l)) t s ≡ xs = times_are p k t s (Some l) (omega arith)
     ∙ ap (λ o. later_listed o (listed_at p s t)) e in
     joined_in n k p s l xs (content_at p s t)
-    (λ none. ap (λ (o : Option Content). later_than (time_of l.end) (option_map_or (λ content. listed_in (window_of p s) content.runs) o []))
+    (λ none. ap (λ (o : Option Content). later_than (time_of l.end)
+    (option_map_or (λ content. listed_in (window_of p s) content.runs) o []))
     none) same
     (subst (λ (ys : List Timing). joins (Some (last_of l)) (option_map_or (segments_in n k p s ys) (content_at p s t) [])) new joined)
 

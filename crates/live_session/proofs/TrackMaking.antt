@@ -113,10 +113,12 @@ module _ (m : Maker) (t : ℕ) (last : Option LastKept) where
       untold_here = ap (new_faults_among p m.place track t) (from_on-first s count less)
 
       -- a section of which a segment has no address
-      pub section_refused : (fault : PresentationFault) (after : ℕ) → IsNotMade (new_faults_in p m.place track t s) (length new) fault mid after
+      pub section_refused : (fault : PresentationFault) (after : ℕ)
+          → IsNotMade (new_faults_in p m.place track t s) (length new) fault mid after
           → IsNotMade (new_faults_of p m.place track t) (length (new_all n p m.place track t)) fault before after
       section_refused fault after is =
-          way_refused so_far.way new (left_from (s + 1)) (new_faults_in p m.place track t s) (untold_from (s + 1)) left_here untold_here after
+          way_refused so_far.way new (left_from (s + 1)) (new_faults_in p m.place track t s)
+          (untold_from (s + 1)) left_here untold_here after
           fault is
 
       module _ (least : first_section m.place last ≤ s) (begun : IsBegun m.resets track) where

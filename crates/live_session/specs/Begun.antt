@@ -1,5 +1,6 @@
 -- What a first MPD begins.
-use Rattle.std.specs.Prelude.{◌≡◌, ℕ, ◌+◌, ◌<◌, ◌≤◌, ℤ, pos, not, All, List, [], ◌∷◌, ◌++◌, length, map, replicate, unwrap_or, Some, Ok, Err, IfSome}
+use Rattle.std.specs.Prelude.{◌≡◌, ℕ, ◌+◌, ◌<◌, ◌≤◌, ℤ, pos, not, All, List, [], ◌∷◌, ◌++◌, length, map, replicate, unwrap_or, Some, Ok}
+use Rattle.std.specs.Prelude.{Err, IfSome}
 use Rattle.iso_time.specs.Instant.{IsReadable}
 use Rattle.presentation.specs.{Counting.count_faults, Presented.{Presented, looked_at}, Told.presented_of}
 use Rattle.live_meaning.specs.{Updates.{Refresh, Terms, Values}, Segments.{id_at, place_of}, Known.{ids_of, known_with}}

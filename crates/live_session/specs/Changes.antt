@@ -3,8 +3,8 @@ use Rattle.std.specs.Prelude.{◌≡◌, ℕ, ◌+◌, ◌-◌, ◌<◌, ◌≤�
 use Rattle.std.specs.{Prelude.{None, Some, Ok, Err, unwrap_or, if◌then◌else◌}, List.range_with_len}
 use Rattle.presentation.specs.{declared.fault.PresentationFault.PresentationFault, Presented.{Presented, looked_at}}
 use Rattle.live_meaning.specs.{Updates.{Update, is_reset, mpd_of}, Known.{ids_of, known_at}, States.{State, Track, new_count}}
-use Rattle.live_meaning.specs.{Histories.{Common, common_with, force_by, published_by}, Refusals.{Presentation, Refusal, appended_by, ids_in}}
-use Rattle.live_meaning.specs.Refusals.{next_of, refusal_of}
+use Rattle.live_meaning.specs.{Histories.{Common, common_with, force_by, published_by}, Refusals.{Presentation, Refusal, appended_by}}
+use Rattle.live_meaning.specs.Refusals.{ids_in, next_of, refusal_of}
 use Rattle.live_judge.specs.{declared.coming.Coming.Coming, declared.coming.Next.Next, declared.fault.RefreshFault.RefreshFault}
 use Rattle.live_judge.specs.{declared.fault.RefreshFault.TheVariants.Memory, declared.standing.Standing.Standing}
 use Rattle.live_judge.specs.{declared.track.LiveTrack.LiveTrack, Coming.{Comes, coming_of, update_of}, Faults.told, Known.StandsAt}
@@ -119,7 +119,8 @@ pub record IsPlan (s : Standing) (tracks : List LiveTrack) (coming : Coming) (no
   pub resets : plan.change.resets ≡ (left_by s coming now force).resets
   pub made : AreMade (left_by s coming now force) (map track_shown tracks) plan.made.items before after
   pub many : length plan.made.items ≤ length tracks
-  pub appended : appended_by (state_shown s tracks) (update_of coming now) ≡ new_count (left_by s coming now force) 0 (map track_shown tracks)
+  pub appended : appended_by (state_shown s tracks) (update_of coming now) ≡ new_count (left_by s coming now force) 0
+      (map track_shown tracks)
   pub unmade : new_count (left_by s coming now force) 0 (map track_shown tracks) ≡ 0 → plan.made.items ≡ []
   pub seen : mpd_of (update_of coming now) ≡ None → plan.periods.items ≡ []
 

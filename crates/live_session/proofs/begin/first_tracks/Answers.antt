@@ -18,7 +18,8 @@ make_all-requires-clause-tracks g c =
 
 pub returns-in-Err : goal.returns-in-Err
 returns-in-Err g c = λ common is.
-    rw (← first_slice common c.args.opened.now c.args.now c.as_slice.result.now c.in_ok-tracks.tracks.items c.len.result c.as_slice.ensures.value
+    rw (← first_slice common c.args.opened.now c.args.now c.as_slice.result.now c.in_ok-tracks.tracks.items c.len.result
+    c.as_slice.ensures.value
     c.in_ok-tracks.ensures.shown (omega (arith, c.len.ensures, ap (λ xs. length xs) c.tracks.ensures)) is.force)
     (c.in-Err.ensures.made common
     (record { force = is.force; digits = is.printed; resets = is.resets; start = is.starts; places = is.places }))

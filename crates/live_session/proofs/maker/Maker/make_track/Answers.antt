@@ -15,7 +15,10 @@ make_section-requires-clause-stands g c =
     let m = c.args.self.now in let t = c.args.track in let last = c.last_kept-last in let l = c.loop-section in
     let same = ap (λ xs. length xs) c.sections.ensures in
     let begun : IsBegun m.resets (track_at last.result) =
-    rw (last.ensures.last, last.ensures.place) (record { begun = c.requires.kept.begun.begun; numbered = c.requires.kept.begun.numbered }) in
+    rw (last.ensures.last, last.ensures.place) (record {
+      begun = c.requires.kept.begun.begun;
+      numbered = c.requires.kept.begun.numbered;
+    }) in
     section_makeable m t last.result l.invariant.so_far (omega arith) l.invariant.least begun
     (rw (last.ensures.last, last.ensures.place) c.requires.kept.near)
 
@@ -32,7 +35,10 @@ loop-section-preserved g c =
     let m = c.args.self.now in let last = c.last_kept-last in let l = c.loop-section in
     let same = ap (λ xs. length xs) c.sections.ensures in
     let begun : IsBegun m.resets (track_at last.result) =
-    rw (last.ensures.last, last.ensures.place) (record { begun = c.requires.kept.begun.begun; numbered = c.requires.kept.begun.numbered }) in
+    rw (last.ensures.last, last.ensures.place) (record {
+      begun = c.requires.kept.begun.begun;
+      numbered = c.requires.kept.begun.numbered;
+    }) in
     record {
       so_far = section_made m c.args.track last.result l.invariant.so_far (omega arith) l.invariant.least begun
           (all_made c.make_section.new.made.items) c.make_section.new.steps c.in-Ok.ensures;

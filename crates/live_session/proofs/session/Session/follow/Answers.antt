@@ -31,7 +31,8 @@ returns-in_err-make_room g c =
     let is = of_slice c.as_slice.ensures.value c.in_ok-plan.ensures in
     refused c.from_residual-in_err-make_room.result c.from_residual-in_err-make_room.ensures.1 c.self.view_is
     (same_state c.self.inside.standing c.make_room.new.tracks.items c.self.inside.tracks.items c.in_err-make_room.ensures.same)
-    (wanting is c.self.invariant (λ tick few. let none = c.in_err-make_room.ensures.none (c.as_slice-2.ensures.value ∙ is.unmade few) in cc))
+    (wanting is c.self.invariant (λ tick few. let none = c.in_err-make_room.ensures.none (c.as_slice-2.ensures.value ∙ is.unmade few) in
+    cc))
 
 pub invariant_of-self-in_err-know : goal.invariant_of-self-in_err-know
 invariant_of-self-in_err-know g c =

@@ -6,7 +6,8 @@ use Rattle.live_session.proofs.Refusing.{next_by}
 pub returns-in-Some-clause-next : goal.returns-in-Some-clause-next
 returns-in-Some-clause-next g c =
     rw c.in-Some.is (next_by c.args.self.now
-    (Refresh (segments_mpd c.in-Some.mpd.now) c.args.now) c.follow.new.self c.args.steps.now c.follow.new.steps c.follow.result c.follow.ensures)
+    (Refresh (segments_mpd c.in-Some.mpd.now) c.args.now) c.follow.new.self c.args.steps.now c.follow.new.steps c.follow.result
+    c.follow.ensures)
 
 pub returns-in-None-clause-next : goal.returns-in-None-clause-next
 returns-in-None-clause-next g c =
