@@ -224,13 +224,8 @@ module _ {s : Standing} {tracks : List LiveTrack} {coming : Coming} {now : ℤ} 
     can_go_on standing made target same made_is has = record {
       few = omega (arith, is.made.numbered, few_new c 0 state.tracks within, session.reached.sound.opened, session.reached.few);
       room = subst (HaveRoom room) made_is has;
-      many = omega (
-        arith,
-        is.many,
-        length-map tracks track_shown,
-        ap (λ xs. length xs) (same_shown room tracks same),
-        length-map room track_shown,
-      );
+      many = let shown = ap (λ xs. length xs) (same_shown room tracks same) in
+          omega (arith, is.many, length-map tracks track_shown, length-map room track_shown);
       paired = same_paired room tracks same session.paired;
       target = omega (arith, target, session.target);
       can = rw (same_shown room tracks same, is.made.grown_is) (before_all c 0 state.tracks within);
