@@ -24,11 +24,6 @@ returns-in-Err g c = λ common is.
     (c.in-Err.ensures.made common
     (record { force = is.force; digits = is.printed; resets = is.resets; start = is.starts; places = is.places }))
 
-pub make_room-requires : goal.make_room-requires
-make_room-requires g c =
-    let slice = ap (λ xs. length xs) c.as_slice.ensures.value in
-    omega (arith, c.in-Ok.ensures.many, ap (λ xs. length xs) c.as_slice-2.ensures.value)
-
 pub returns-in_err-make_room : goal.returns-in_err-make_room
 returns-in_err-make_room g c = λ common is.
     let empty = first_slice common c.args.opened.now c.args.now c.as_slice.result.now c.in_ok-tracks.tracks.items c.len.result

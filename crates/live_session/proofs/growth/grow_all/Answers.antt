@@ -3,15 +3,7 @@ use Rattle.std.proofs.{Common.{rules, ◌≡◌, ◌∷◌, ◌∙◌, ◌<◌, 
 use Rattle.std.specs.Vec.Iter.{into_iter_items}
 use Rattle.live_judge.specs.Shown.{track_shown}
 use Rattle.live_session.specs.{declared.made.MadeTrack.MadeTrack, Kept.{AreSideBySide, with_all}, Made.all_made}
-use Rattle.live_session.proofs.Growing.{IsGrown, all_grown, all_set, changed_next, drop_next, none_changed, still_at}
-
-pub loop-made-init : goal.loop-made-init
-loop-made-init c = record {
-  place = omega (arith, ap (λ xs. length xs) c.into_iter-made-iterator.ensures.into_iter_gives.0);
-  left = c.into_iter-made-iterator.ensures.into_iter_gives.0;
-  grown = none_changed (IsGrown c.args.made.items) c.args.tracks.now.items;
-  paired = c.requires.paired;
-}
+use Rattle.live_session.proofs.Growing.{all_grown, all_set, changed_next, drop_next, still_at}
 
 pub push_all-requires-clause-room : goal.push_all-requires-clause-room
 push_all-requires-clause-room c =

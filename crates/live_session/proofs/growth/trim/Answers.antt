@@ -10,6 +10,3 @@ pub remove-requires-clause-fits : goal.remove-requires-clause-fits
 remove-requires-clause-fits c =
     (fewer c.args.standing.now c.args.track.now c.unavailable_of-count.result c.requires.target c.requires.paired c.requires.can
     c.unavailable_of-count.ensures).1
-
-pub returns-clause-shown : goal.returns-clause-shown
-returns-clause-shown c = cc

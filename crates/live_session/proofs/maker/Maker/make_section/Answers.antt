@@ -18,9 +18,6 @@ loop-k-init g c =
     c.section-segments.ensures.section.runs c.initialization-map.ensures)
     (all_made c.args.made.now.items) section c.args.steps.now c.requires.stands c.section-segments.ensures.section refl
 
-pub overflow_add-before : goal.overflow_add-before
-overflow_add-before g c = let fits = c.section-segments.ensures.fits in omega arith
-
 pub loop-k-preserved : goal.loop-k-preserved
 loop-k-preserved g c = let l = c.loop-k in let m = c.args.self.now in
     let content : Content =
