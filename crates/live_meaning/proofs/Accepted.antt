@@ -18,39 +18,17 @@ use Rattle.followed.specs.{Durations.{Last, durations, last_behind, last_with, s
 use Rattle.followed.specs.Order.{IsElsewhere}
 use Rattle.followed.proofs.{ListedInOrder.{kept_stay_in_order, sections_are_counted}, PrintedSections.{goes_on, last_section, new_section}}
 use Rattle.followed.proofs.PrintedSections.{told_goes_on}
-use Rattle.live_meaning.specs.{Updates.{Terms, Update, Values, mpd_of, unit_of}, Segments.{Numbering, Segment, id_at, listed_in_period}}
+use Rattle.live_meaning.specs.{Updates.{Terms, Update, Values, mpd_of, unit_of}, Segments.{Kept, Numbering, Segment, id_at, listed_in_period}}
 use Rattle.live_meaning.specs.{Segments.{listed_of, place_behind, place_of, segment_with}, Known.Known, Removal.half_more, Histories.Common}
-use Rattle.live_meaning.specs.Histories.{Past, Whole, all_of, begun_common, begun_with, common_with, gone_on, longest_in, new_listed}
+use Rattle.live_meaning.specs.Histories.{Past, Whole, all_of, begun_common, begun_past, past_after, common_with, gone_on, longest_in, new_listed}
 use Rattle.live_meaning.specs.{Histories.{numbering_of, whole_of}, States.{State, Track, new_durations, shown, state_of, track_of}}
 use Rattle.live_meaning.specs.{Refusals.{LongSegment, Refusal, long_told}, Laws.{AcceptedAreListedInOrder, AcceptedNeverDrift, AreTyped}}
 use Rattle.live_meaning.specs.Laws.{DurationsFitTarget, IsAccepted, IsTyped, SectionsHaveOneMap, SectionsNeverFall}
-use Rattle.live_meaning.proofs.{Allowed.{IsAllowed, IsFirst, accepted_hold, none_of_each}, Grown.get_more, Histories.{Sound, mapped}}
+use Rattle.live_meaning.proofs.{Allowed.{IsAllowed, IsFirst, IsOwn, accepted_hold}, Grown.get_more, Histories.{mapped, of_pasts, past_is}}
 use Rattle.live_meaning.proofs.{Histories.{past_holds, sound}, InForce.{IsInForce, IsKnown, first_in_force, known_of, later_in_force}}
 use Rattle.live_meaning.proofs.{InForce.{listed_known, maps_of, rising}, Orders.{all_are_in_order, behind_have, past_ordered, period_own}}
-use Rattle.live_meaning.proofs.{Orders.{periods_are_listed_in_order, sections_never_drift}, Tracks.{Each, each_after, each_begun}}
-use Rattle.live_meaning.proofs.Tracks.{each_both, track_at}
-
--- ---- sections
-
-first_least : (x : Segment) (xs : List Segment) (k : ℕ) (y : Segment) → InOrder None (x ∷ xs) → slice_get (x ∷ xs) k ≡ Some y
-    → x.section ≤ y.section
-first_least x xs k y order at =
-    let counted = ap (λ (ns : List ℕ). slice_get ns k) (sections_are_counted x xs order) in
-    let left =
-    slice_get-map (λ (z : Segment). x.section + (z.section - x.section)) (x ∷ xs) k
-    ∙ ap (option_map (λ (z : Segment). x.section + (z.section - x.section))) at in
-    let right = slice_get-map (λ (z : Segment). z.section) (x ∷ xs) k ∙ ap (option_map (λ (z : Segment). z.section)) at in
-    let same : x.section + (y.section - x.section) ≡ y.section = same_Some _ _ (sym left ∙ counted ∙ right) in
-    omega arith
-
-rising_sections : (all : List Segment) (i j : ℕ) (x y : Segment) → InOrder None all → i ≤ j → slice_get all i ≡ Some x
-    → slice_get all j ≡ Some y → x.section ≤ y.section
-rising_sections [] i j x y order le at_x at_y = absurd (cc)
-rising_sections (z ∷ all) zero j x y order le at_x at_y =
-    subst (λ (s : Segment). s.section ≤ y.section) (same_Some _ _ at_x) (first_least z all j y order at_y)
-rising_sections (z ∷ all) (suc i) zero x y order le at_x at_y = absurd (omega arith)
-rising_sections (z ∷ all) (suc i) (suc j) x y order le at_x at_y =
-    rising_sections all i j x y (kept_stay_in_order 1 (z ∷ all) order) (omega arith) at_x at_y
+use Rattle.live_meaning.proofs.{Orders.{periods_are_listed_in_order, sections_never_drift}, Tracks.Each}
+use Rattle.live_meaning.proofs.{Orders.steps_both, Tracks.IsWithin}
 
 -- ---- durations of what the first MPD lists
 
@@ -93,13 +71,10 @@ module _ (P : ℕ → Type 0) (u : ℕ) (number : ℕ → ℕ) (list : ℕ → L
       let rest : List Segment = flat_map list (range_with_len (a + 1) n) in
       let first : durations (told_behind u last (list a)) ≡ section_durations u (list a) =
       one_section u last (number a) (list a) (elsewhere a (omega arith) (omega arith)) (own a) in
-      let split : durations (told_behind u last (list a ++ rest)) ≡ section_durations u (list a)
-      ++ durations (told_behind u (last_behind last (list a)) rest) =
-      ap durations (goes_on u last (list a) rest) ∙ map-append (λ t. t.duration) (told_behind u last (list a))
-      (told_behind u (last_behind last (list a)) rest)
-      ∙ ap (λ (ds : List ℕ). ds ++ durations (told_behind u (last_behind last (list a)) rest)) first in
-      subst (All P) (sym split) (All-append P (section_durations u (list a)) (durations (told_behind u (last_behind last (list a)) rest))
-      (each a (omega arith))
+      let own_told : List Kept = told_behind u last (list a) in
+      let others : List Kept = told_behind u (last_behind last (list a)) rest in
+      rw (goes_on u last (list a) rest, map-append (λ t. t.duration) own_told others, first)
+      (All-append P (section_durations u (list a)) (durations others) (each a (omega arith))
       (periods_told (last_behind last (list a)) (a + 1) n (omega arith)
       (λ s above within. elsewhere_behind last (number a) (number s) (list a) (own a) (rises a s (omega arith) within)
       (elsewhere s (omega arith) within))))
@@ -153,19 +128,6 @@ half_more_fits unit d longest some le =
       ])
     ]
 
--- ---- durations of what later updates list
-
-short_enough : (unit target : ℕ) (ds : List ℕ) → map (LongSegment target) (filter (λ d. ltb target (rounded unit d)) ds) ≡ []
-    → All (λ d. rounded unit d ≤ target) ds
-short_enough unit target [] none = All-nil (λ d. rounded unit d ≤ target)
-short_enough unit target (d ∷ ds) none = elim (cases_Bool (ltb target (rounded unit d))) [
-  | inl is ↦ let never : LongSegment target d ∷ map (LongSegment target) (filter (λ d. ltb target (rounded unit d)) ds) ≡ [] =
-      rw is at none in absurd (cc)
-  | inr other ↦
-      let rest : map (LongSegment target) (filter (λ d. ltb target (rounded unit d)) ds) ≡ [] = rw other at none in
-      All-cons (λ d. rounded unit d ≤ target) d ds (ltb-false _ _ other) (short_enough unit target ds rest)
-]
-
 -- ---- histories
 
 abbrev IsFitting : Common → List Segment → Type 0
@@ -177,9 +139,8 @@ pub record IsTold (c : Common) (t : ℕ) (past : Past) : Type 0 where
   pub known : All (IsKnown c.known t) past.all
   pub fits : IsFitting c past.all
 
-pub record IsLeft (w : Whole) : Type 0 where
-  pub force : IsInForce w.common.opened w.common.known w.common.force
-  pub each : Each (IsTold w.common) 0 w.pasts
+abbrev IsForced : Common → Type 0
+IsForced c = IsInForce c.opened c.known c.force
 
 still_known : (known more : List Known) (t : ℕ) (x : Segment) → IsKnown known t x → IsKnown (known ++ more) t x
 still_known known more t x is =
@@ -188,65 +149,54 @@ still_known known more t x is =
     (λ k at same. ap (option_map (λ (k : Known). (k.start, slice_get (maps_of k.attributes) t))) (get_more known more x.value.place k at)
     ∙ ap (λ v. Some v) same)
 
-abbrev long_of : Common → ℕ → Track → List Refusal
-long_of c t track = map (LongSegment c.target) (filter (λ d. ltb c.target (rounded (unit_of c.terms) d)) (new_durations c t track))
-
 module _ (differ : PeriodIdsDiffer) (sections : SectionsArePeriods) where
-  begins_left : (terms : Terms) (mpd : Values) (now : ℤ) (p : Presented) → IsTyped (Some mpd) → IsFirst terms mpd now p
-      → IsLeft (begun_with (begun_common terms mpd now p))
+  begins_left : (terms : Terms) (mpd : Values) (now : ℤ) (p : Presented) → IsTyped (Some mpd) → IsFirst terms mpd now p →
+      let c = begun_common terms mpd now p in
+      IsForced c × ((t : ℕ) → t < length p.tracks → IsTold c t (begun_past c t))
   begins_left terms mpd now p typed first =
       let c : Common = begun_common terms mpd now p in
       let u : ℕ = unit_of terms in
-      let force : IsInForce p c.known p = first_in_force differ sections terms mpd now p typed first in
-      let some : 1 ≤ u = one-le-pow terms.digits 10 (omega arith) in
-      record {
-        force = force;
-        each = each_begun c (IsTold c) (length p.tracks) (λ t less. record {
+      let force : IsForced c = first_in_force differ sections terms mpd now p typed first in
+      let some : 1 ≤ u = one-le-pow terms.digits 10 (omega arith) in (
+        force,
+        λ t less. record {
           track = less;
           known = listed_known c t force less;
-          fits =
-              All-weaker (λ d. d ≤ longest_in u p) (λ d. rounded u d ≤ c.target)
+          fits = All-weaker (λ d. d ≤ longest_in u p) (λ d. rounded u d ≤ c.target)
               (λ d le. omega (arith, half_more_fits u d (longest_in u p) some le)) (durations (told u (listed_of (numbering_of c) p t)))
               (first_longest c u t force less);
-        }) 0 (length p.tracks) (omega arith);
-      }
+        },
+      )
 
-  goes_on_left : (terms : Terms) (w : Whole) (u : Update) (p : Presented) → IsTyped (mpd_of u) → Sound terms w → IsAllowed (shown w) u p
-      → IsLeft w → IsLeft (gone_on w u p)
-  goes_on_left terms w u p typed its allowed is =
+  goes_on_left : (w : Whole) (u : Update) (p : Presented) → IsAllowed (shown w) u p → IsForced w.common →
+      let c = common_with w.common u p in
+      IsForced c × ((t : ℕ) (past : Past) → IsWithin t past → IsOwn c t (track_of (unit_of c.terms) past) → IsTold w.common t past
+      → IsTold c t (past_after c t past))
+  goes_on_left w u p allowed is =
       let c : Common = common_with w.common u p in
       let unit : ℕ = unit_of c.terms in
-      let force : IsInForce c.opened c.known p = later_in_force (shown w) u p allowed is.force in
-      let long : Each (λ t past. long_of c t (track_of unit past) ≡ []) 0 w.pasts =
-      none_of_each (long_told c) (long_of c) (λ t track tracks. refl) unit 0 w.pasts allowed.long in
-      record {
-        force = force;
-        each = each_after c (λ t past. IsTold w.common t past × (long_of c t (track_of unit past) ≡ [])) (IsTold c) (λ t past both.
+      let force : IsForced c = later_in_force (shown w) u p allowed is in (
+        force,
+        λ t past within own told_so.
             let new : List Segment = new_listed c t past.all in
-            let fresh : List ℕ = new_durations c t (track_of unit past) in
-            let grown : durations (told unit (past.all ++ new)) ≡ durations (told unit past.all) ++ fresh =
-            ap durations (told_goes_on unit past.all new)
-            ∙ map-append (λ t. t.duration) (told unit past.all) (told_behind unit (last_behind None past.all) new) in
+            let fresh : List Kept = told_behind unit (last_behind None past.all) new in
             record {
-              track = both.0.track;
+              track = told_so.track;
               known =
                   All-append (IsKnown c.known t) past.all new
                   (All-weaker (IsKnown w.common.known t) (IsKnown c.known t)
-                  (λ x is. still_known w.common.known _ t x is) past.all both.0.known)
+                  (λ x is. still_known w.common.known _ t x is) past.all told_so.known)
                   (behind_have (IsKnown c.known t) (last_behind None past.all) (place_behind 0 past.all) (listed_of (numbering_of c) p t)
-                  (listed_known c t force both.0.track));
+                  (listed_known c t force told_so.track));
               fits =
-                  subst (All (λ d. rounded unit d ≤ c.target)) (sym grown)
-                  (All-append (λ d. rounded unit d ≤ c.target) (durations (told unit past.all)) fresh both.0.fits
-                  (short_enough unit c.target fresh both.1));
-            }) 0 w.pasts (each_both (IsTold w.common) (λ t past. long_of c t (track_of unit past) ≡ []) 0 w.pasts is.each long);
-      }
+                  rw (told_goes_on unit past.all new, map-append (λ t. t.duration) (told unit past.all) fresh)
+                  (All-append (λ d. rounded unit d ≤ c.target) (durations (told unit past.all)) (durations fresh) told_so.fits own.long);
+            },
+      )
 
-  pub accepted_left : (terms : Terms) (history : List Update) → IsAccepted terms history → AreTyped history → (w : Whole)
-      → whole_of terms history ≡ Some w
-      → IsLeft w
-  accepted_left terms history accepted typed w is = accepted_hold terms IsTyped IsLeft (begins_left terms)
-      (goes_on_left terms) history accepted typed w is
+  accepted_left : (terms : Terms) (history : List Update) → IsAccepted terms history → AreTyped history → (w : Whole)
+      → whole_of terms history ≡ Some w → IsForced w.common × Each (IsTold w.common) w.pasts
+  accepted_left terms = accepted_hold terms IsTyped IsForced IsTold (begins_left terms) (λ w u p typed its. goes_on_left w u p)
 
   pub accepted_are_listed_in_order : AcceptedAreListedInOrder
   accepted_are_listed_in_order terms history accepted typed earlier later w t split whole =
@@ -256,7 +206,7 @@ module _ (differ : PeriodIdsDiffer) (sections : SectionsArePeriods) where
       let left =
       accepted_left terms earlier (λ front u back is. accepted front u (back ++ later) (same front u back is))
       (λ front u back is. typed front u (back ++ later) (same front u back is)) w whole in
-      periods_are_listed_in_order (numbering_of w.common) w.common.force t (rising w.common left.force t)
+      periods_are_listed_in_order (numbering_of w.common) w.common.force t (rising w.common left.0 t)
 
   pub accepted_never_drift : SumsAreFloors → AcceptedNeverDrift
   accepted_never_drift floors terms history accepted typed t section k x xs end own at =
@@ -264,24 +214,31 @@ module _ (differ : PeriodIdsDiffer) (sections : SectionsArePeriods) where
 
   pub sections_never_fall : SectionsNeverFall
   sections_never_fall terms history t i j x y accepted typed le at_x at_y =
-      rising_sections (all_of terms history t) i j x y
-      (all_are_in_order terms history t (accepted_are_listed_in_order terms history accepted typed)) le at_x at_y
+      let steps = (past_ordered terms history t (accepted_are_listed_in_order terms history accepted typed)).1.steps in
+      let is = steps_both 0 0 _ (all_of terms history t) i j x y steps le at_x at_y in
+      omega (arith, is.0, is.1)
 
-  pub past_known : (terms : Terms) (history : List Update) (t : ℕ) → IsAccepted terms history → AreTyped history
+  past_known : (terms : Terms) (history : List Update) (t : ℕ) → IsAccepted terms history → AreTyped history
       → (known : List Known) × All (IsKnown known t) (all_of terms history t)
   past_known terms history t accepted typed =
       past_holds (λ past. (known : List Known) × All (IsKnown known t) past.all) terms history t ([], All-nil (IsKnown [] t))
-      (λ w is past at. (
-        w.common.known,
-        (track_at (IsTold w.common) w.pasts t past
-            (accepted_left terms history accepted typed w is).each at).known,
-      ))
+      (λ w is past at. (w.common.known, ((accepted_left terms history accepted typed w is).1 t past at).known))
+
+  one_place : (terms : Terms) (history : List Update) (t i j : ℕ) (x y : Segment) → IsAccepted terms history → AreTyped history
+      → slice_get (all_of terms history t) i ≡ Some x → slice_get (all_of terms history t) j ≡ Some y → x.section ≡ y.section
+      → x.value.place ≡ y.value.place
+  one_place terms history t i j x y accepted typed at_x at_y same =
+      let all : List Segment = all_of terms history t in
+      let steps = (past_ordered terms history t (accepted_are_listed_in_order terms history accepted typed)).1.steps in
+      elim (cases_lt i j) [
+        | inl less ↦ let is = steps_both 0 0 _ all i j x y steps (omega arith) at_x at_y in omega (arith, is.0, is.1)
+        | inr le ↦ let is = steps_both 0 0 _ all j i y x steps le at_y at_x in omega (arith, is.0, is.1)
+      ]
 
   pub sections_have_one_map : SectionsHaveOneMap
   sections_have_one_map terms history t i j x y accepted typed at_x at_y same =
       let all : List Segment = all_of terms history t in
-      let place : x.value.place ≡ y.value.place =
-      (past_ordered terms history t (accepted_are_listed_in_order terms history accepted typed)).1.one i j x y at_x at_y same in
+      let place : x.value.place ≡ y.value.place = one_place terms history t i j x y accepted typed at_x at_y same in
       let known = past_known terms history t accepted typed in
       let own : (x.value.period_start, Some x.value.map) ≡ (y.value.period_start, Some y.value.map) =
       same_Some _ _ (sym (All-at (IsKnown known.0 t) all i x known.1 at_x) ∙ ap (known_of known.0 t) place
@@ -291,16 +248,10 @@ module _ (differ : PeriodIdsDiffer) (sections : SectionsArePeriods) where
   pub durations_fit_target : DurationsFitTarget
   unfolding state_of
   durations_fit_target terms history s t shows typed =
-      mapped shown (whole_of terms history) s (All (λ d. rounded (unit_of terms) d ≤ s.common.target)
-      (durations (told (unit_of terms) (all_of terms history t)))) shows.leaves
-      (λ w whole shown_is. subst (λ (s : State). All (λ d. rounded (unit_of terms) d ≤ s.common.target)
-      (durations (told (unit_of terms) (all_of terms history t)))) shown_is
-      (past_holds (λ past. All (λ d. rounded (unit_of terms) d ≤ w.common.target) (durations (told (unit_of terms) past.all))) terms
-      history t (All-nil (λ d. rounded (unit_of terms) d ≤ w.common.target))
-      (λ v is past at.
-      let same : v ≡ w = same_Some _ _ (sym is ∙ whole) in
-      let its = (sound terms history w whole).its_terms in
-      let fits : IsFitting w.common past.all =
-      (track_at (IsTold w.common) w.pasts t past (accepted_left terms history shows.accepted typed w whole).each
-      (ap (λ (x : Whole). slice_get x.pasts t) (sym same) ∙ at)).fits in
-      subst (λ (x : Terms). All (λ d. rounded (unit_of x) d ≤ w.common.target) (durations (told (unit_of x) past.all))) its fits)))
+      let Fit : Terms → State → List Segment → Type 0 =
+      λ terms s all. All (λ d. rounded (unit_of terms) d ≤ s.common.target) (durations (told (unit_of terms) all)) in
+      mapped shown (whole_of terms history) s (Fit terms s (all_of terms history t)) shows.leaves
+      (λ w whole shown_is. subst (λ (s : State). Fit terms s (all_of terms history t)) shown_is
+      (subst (λ (past : Past). Fit terms (shown w) past.all) (sym (past_is terms history t w whole)) (of_pasts (λ past. Fit terms (shown w) past.all) (slice_get w.pasts t) (All-nil (λ d. rounded (unit_of terms) d ≤ w.common.target))
+      (λ past at. subst (λ (x : Terms). Fit x (shown w) past.all) (sound terms history w whole).its_terms
+      ((accepted_left terms history shows.accepted typed w whole).1 t past at).fits))))

@@ -1,7 +1,13 @@
 -- What is so of updates that are accepted.
 use Rattle.std.proofs.Common.{◌≡◌, ℕ, ◌+◌, Bool, true, false, not, ℤ, List, [], ◌∷◌, ◌++◌, map, Option, Some, None, Result, Ok, refl, sym}
 use Rattle.std.proofs.Common.{◌∙◌, ap, subst}
-use Rattle.std.specs.Prelude.{option_map}
+use Rattle.std.proofs.Common.{zero, suc, ◌≤◌, ◌<◌, length, inl, inr, arith}
+use Rattle.std.proofs.lemmas.{Bool.{cases_Bool, ltb-false}, List.Elements.{All-nil, All-cons}, Option.{same_Some, slice_get-map}}
+use Rattle.std.specs.Prelude.{All, filter, flat_map, option_map, slice_get}
+use Rattle.hls_writer.specs.Finished.{rounded}
+use Rattle.live_meaning.specs.{Updates.unit_of, Histories.{Common, begun_past, past_after}, States.{kept_and_new, new_durations}}
+use Rattle.live_meaning.specs.Refusals.{LongSegment, count_kept, over_in_track, urls_in}
+use Rattle.presentation.specs.Counting.{sections_of}
 use Rattle.bridge_io.specs.Firsts.{first_of}
 use Rattle.presentation.specs.{declared.fault.PresentationFault.PresentationFault, Counting.{count_faults, range_faults}}
 use Rattle.presentation.specs.{Presented.{Presented, is_finished}, Told.presented_of, Verifying.url_faults}
@@ -12,7 +18,7 @@ use Rattle.live_meaning.specs.{States.track_of, Refusals.{Ended, NotDynamic, Pre
 use Rattle.live_meaning.specs.Refusals.{ended_told, first_refusal_of, first_refusals_of, first_told_by, first_told_with, joint_told}
 use Rattle.live_meaning.specs.Refusals.{long_told, mpd_told, refusal_behind, refusal_of, segments_told, told_by, told_if, told_with}
 use Rattle.live_meaning.specs.{Refusals.{update_refusal, urls_told, window_told}, Laws.IsAccepted}
-use Rattle.live_meaning.proofs.{Histories.{Sound, holds, sound}, Tracks.Each}
+use Rattle.live_meaning.proofs.{Histories.{holds, sound}, Tracks.{Each, IsWithin, each_after, each_begun}}
 
 -- ---- where nothing is told
 
@@ -38,17 +44,12 @@ none_at_first : (rs : List Refusal) → first_of rs ≡ None → rs ≡ []
 none_at_first [] none = refl
 none_at_first (r ∷ rs) none = absurd (cc)
 
--- what is told track by track
-module _ (told : ℕ → List Track → List Refusal) (own : ℕ → Track → List Refusal)
-    (step : (t : ℕ) (track : Track) (tracks : List Track) → told t (track ∷ tracks) ≡ own t track ++ told (t + 1) tracks) (unit : ℕ) where
-  pub none_of_each : (t : ℕ) (pasts : List Past) → told t (map (track_of unit) pasts) ≡ []
-      → Each (λ t past. own t (track_of unit past) ≡ []) t pasts
-  none_of_each t [] none = tt
-  none_of_each t (past ∷ pasts) none =
-      let both = sym (step t (track_of unit past) (map (track_of unit) pasts)) ∙ none in (
-        none_first (own t (track_of unit past)) (told (t + 1) (map (track_of unit) pasts)) both,
-        none_of_each (t + 1) pasts (none_behind (own t (track_of unit past)) (told (t + 1) (map (track_of unit) pasts)) both),
-      )
+none_pass : {X : Type 0} (test : X → Bool) (xs : List X) → filter test xs ≡ [] → All (λ x. test x ≡ false) xs
+none_pass {X} test [] none = All-nil (λ x. test x ≡ false)
+none_pass {X} test (x ∷ xs) none = elim (cases_Bool (test x)) [
+  | inl is ↦ let never : x ∷ filter test xs ≡ [] = rw is at none in absurd (cc)
+  | inr other ↦ All-cons (λ x. test x ≡ false) x xs other (none_pass test xs (rw other at none))
+]
 
 -- ---- an accepted update
 
@@ -110,23 +111,68 @@ allowed s u p none forced =
       urls = segments.3;
     }
 
--- what accepted updates with MPDs that are given so leave
-module _ (terms : Terms) (IsGiven : Option Values → Type 0) (H : Whole → Type 0)
-    (begins : (mpd : Values) (now : ℤ) (p : Presented) → IsGiven (Some mpd) → IsFirst terms mpd now p
-    → H (begun_with (begun_common terms mpd now p)))
-    (goes_on : (w : Whole) (u : Update) (p : Presented) → IsGiven (mpd_of u) → Sound terms w → IsAllowed (shown w) u p → H w
-    → H (gone_on w u p)) where
+-- what is told of one track
+pub record IsOwn (c : Common) (t : ℕ) (track : Track) : Type 0 where
+  pub long : All (λ d. rounded (unit_of c.terms) d ≤ c.target) (new_durations c t track)
+  pub window : count_kept c (kept_and_new c t track) ≤ 20000
+  pub urls : flat_map (urls_in c c.force t track) (sections_of c.force) ≡ []
+
+own_from : (c : Common) (from t : ℕ) (tracks : List Track) (track : Track) → long_told c from tracks ≡ []
+    → over_in_track from (counts_kept c from tracks) ≡ [] → urls_told c c.force from tracks ≡ [] → slice_get tracks t ≡ Some track
+    → IsOwn c (t + from) track
+own_from c from t [] track long window urls at = absurd (cc)
+own_from c from zero (x ∷ tracks) track long window urls at =
+    let same : from ≡ 0 + from = omega arith in
+    subst (IsOwn c (0 + from)) (same_Some _ _ at) (subst (λ n. IsOwn c n x) same (record {
+      long = λ j d within. ltb-false _ _ (none_pass _ _ (none_mapped (LongSegment c.target) _ (none_first _ _ long)) j d within);
+      window = ltb-false _ _ (told_none _ _ (none_first _ _ window));
+      urls = none_mapped Presentation _ (none_first _ _ urls);
+    }))
+own_from c from (suc t) (x ∷ tracks) track long window urls at =
+    let same : t + (from + 1) ≡ suc t + from = omega arith in
+    subst (λ n. IsOwn c n track) same
+    (own_from c (from + 1) t tracks track (none_behind _ _ long) (none_behind _ _ window) (none_behind _ _ urls) at)
+
+own_at : (w : Whole) (u : Update) (p : Presented) → IsAllowed (shown w) u p
+    → Each (λ t past. IsOwn (common_with w.common u p) t (track_of (unit_of w.common.terms) past)) w.pasts
+own_at w u p allowed t past at =
+    let c : Common = common_with w.common u p in
+    let track : Track = track_of (unit_of w.common.terms) past in
+    let none : t + 0 ≡ t = omega arith in
+    subst (λ n. IsOwn c n track) none (own_from c 0 t (shown w).tracks track allowed.long (none_first _ _ allowed.window) allowed.urls
+    (slice_get-map (track_of (unit_of w.common.terms)) w.pasts t ∙ ap (option_map (track_of (unit_of w.common.terms))) at))
+
+-- what accepted updates with MPDs that are given so leave, and of each track
+module _ (terms : Terms) (IsGiven : Option Values → Type 0) (H : Common → Type 0) (T : Common → ℕ → Past → Type 0)
+    (begins : (mpd : Values) (now : ℤ) (p : Presented) → IsGiven (Some mpd) → IsFirst terms mpd now p →
+    let c = begun_common terms mpd now p in
+    H c × ((t : ℕ) → t < length p.tracks → T c t (begun_past c t)))
+    (goes_on : (w : Whole) (u : Update) (p : Presented) → IsGiven (mpd_of u) → w.common.terms ≡ terms → IsAllowed (shown w) u p
+    → H w.common →
+    let c = common_with w.common u p in
+    H c × ((t : ℕ) (past : Past) → IsWithin t past → IsOwn c t (track_of (unit_of c.terms) past) → T w.common t past
+    → T c t (past_after c t past))) where
   pub accepted_hold : (history : List Update) → IsAccepted terms history
       → ((front : List Update) (u : Update) (back : List Update) → history ≡ front ++ u ∷ back → IsGiven (mpd_of u))
-      → (w : Whole) → whole_of terms history ≡ Some w → H w
+      → (w : Whole) → whole_of terms history ≡ Some w → H w.common × Each (T w.common) w.pasts
   unfolding state_of
   accepted_hold history accepted given w is =
-      holds terms H (λ earlier u. (update_refusal terms earlier u ≡ None) × IsGiven (mpd_of u))
-      (λ earlier mpd now p from here made. begins mpd now p here.1
-      (first_allowed terms mpd now p (ap (λ o. refusal_behind terms (option_map shown o) (Refresh mpd now)) (sym from) ∙ here.0) made))
+      holds terms (λ history w. H w.common × Each (T w.common) w.pasts)
+      (λ earlier u. (update_refusal terms earlier u ≡ None) × IsGiven (mpd_of u))
+      (λ earlier mpd now p from here made.
+      let both = begins mpd now p here.1
+      (first_allowed terms mpd now p (ap (λ o. refusal_behind terms (option_map shown o) (Refresh mpd now)) (sym from) ∙ here.0) made) in
+      (both.0, each_begun (begun_common terms mpd now p) (T (begun_common terms mpd now p)) both.1))
       (λ earlier u v p from here made its.
+      let c : Common = common_with v.common u p in
       let is = sound terms earlier v from in
       let none : refusal_of (shown v) u ≡ None = ap (λ o. refusal_behind terms (option_map shown o) u) (sym from) ∙ here.0 in
-      goes_on v u p here.1 is (allowed (shown v) u p none (subst (λ (x : Terms). force_by x v.common.force u ≡ Ok p)
-      (sym is.its_terms) made)) its)
+      let allow : IsAllowed (shown v) u p =
+      allowed (shown v) u p none (subst (λ (x : Terms). force_by x v.common.force u ≡ Ok p) (sym is.its_terms) made) in
+      let both = goes_on v u p here.1 is.its_terms allow its.0 in (
+        both.0,
+        each_after c (λ t past. IsWithin t past × IsOwn c t (track_of (unit_of c.terms) past) × T v.common t past) (T c)
+            (λ t past all. both.1 t past all.0 all.1 all.2) v.pasts
+            (λ t past at. (is.within t past at, own_at v u p allow t past at, its.1 t past at)),
+      ))
       history (λ front u back same. (accepted front u back same, given front u back same)) w is

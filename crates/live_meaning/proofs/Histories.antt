@@ -1,6 +1,6 @@
 -- A state with an update more is the state of the history with that update.
-use Rattle.std.proofs.Common.{◌≡◌, ℕ, ℤ, List, [], ◌∷◌, ◌++◌, length, Option, Some, None, Result, Ok, Err, refl, sym, ◌∙◌, ap, subst, arith}
-use Rattle.std.proofs.{Common.length-append, lemmas.Option.same_Some, lemmas.List.append_assoc, lemmas.List.Sums.fold-append}
+use Rattle.std.proofs.Common.{◌≡◌, ℕ, ℤ, List, [], ◌∷◌, ◌++◌, length, ◌≤◌, Option, Some, None, Result, Ok, Err, refl, sym, ◌∙◌, ap, subst, arith}
+use Rattle.std.proofs.{Common.length-append, lemmas.Option.same_Some, lemmas.List.{append-nil, append_assoc}, lemmas.List.Sums.fold-append}
 use Rattle.std.specs.{Prelude.{option_map, slice_get, unwrap_or}, List.fold, Option.option_map_or, Result.result_ok}
 use Rattle.presentation.specs.{declared.fault.PresentationFault.PresentationFault, Presented.Presented, Told.presented_of}
 use Rattle.live_meaning.specs.{Updates.{Terms, Update, Refresh, Reset, Tick, Values}, Histories.{Common, Past, Whole, after, begun_common}}
@@ -9,13 +9,9 @@ use Rattle.live_meaning.specs.{States.{state_of, state_with}, Refusals.{Refusal,
 use Rattle.live_meaning.specs.{Refusals.{refusal_of, update_refusal}, Laws.{AcceptedAreAccepted, HistoriesBegin, HistoriesGoOn}}
 use Rattle.live_meaning.specs.Laws.{HistoriesRefuse, IsAccepted, Shows, with_accepted}
 use Rattle.live_meaning.proofs.Tracks.{Each, IsWithin, each_after, each_begun, stays_within, tracks_go_on}
+pub use Rattle.live_meaning.proofs.Tracks.{mapped}
 
 -- ---- what gave a value
-
-pub mapped : {A B : Type 0} (f : A → B) (o : Option A) (b : B) (C : Type 0) → option_map f o ≡ Some b
-    → ((a : A) → o ≡ Some a → f a ≡ b → C) → C
-mapped {A} {B} f None b C is found = absurd (cc)
-mapped {A} {B} f (Some a) b C is found = found a refl (same_Some _ _ is)
 
 pub answered : {A E : Type 0} (r : Result A E) (a : A) → result_ok r ≡ Some a → r ≡ Ok a
 answered {A} {E} (Ok x) a is = ap (λ (y : A). Ok y) (same_Some _ _ is)
@@ -27,54 +23,72 @@ pub whole_goes_on : (terms : Terms) (history : List Update) (u : Update)
     → whole_of terms (history ++ u ∷ []) ≡ after terms (whole_of terms history) u
 whole_goes_on terms history u = fold-append (after terms) None history (u ∷ [])
 
+pub begun_is : (terms : Terms) (earlier : List Update) (mpd : Values) (now : ℤ) (p : Presented) → whole_of terms earlier ≡ None
+    → presented_of mpd terms.url (Some now) ≡ Ok p
+    → whole_of terms (earlier ++ Refresh mpd now ∷ []) ≡ Some (begun_with (begun_common terms mpd now p))
+begun_is terms earlier mpd now p from made = rw (whole_goes_on terms earlier (Refresh mpd now), from, made) refl
+
+pub gone_is : (terms : Terms) (earlier : List Update) (u : Update) (w : Whole) (p : Presented) → whole_of terms earlier ≡ Some w
+    → force_by terms w.common.force u ≡ Ok p → whole_of terms (earlier ++ u ∷ []) ≡ Some (gone_on w u p)
+gone_is terms earlier u w p from forced = rw (whole_goes_on terms earlier u, from, forced) refl
+
 -- what the first MPD begins with, and each update behind others leaves, where these are given so
-module _ (terms : Terms) (H : Whole → Type 0) (IsGiven : List Update → Update → Type 0)
+module _ (terms : Terms) (H : List Update → Whole → Type 0) (IsGiven : List Update → Update → Type 0)
     (begins : (earlier : List Update) (mpd : Values) (now : ℤ) (p : Presented) → whole_of terms earlier ≡ None
-    → IsGiven earlier (Refresh mpd now)
-    → presented_of mpd terms.url (Some now) ≡ Ok p → H (begun_with (begun_common terms mpd now p)))
+    → IsGiven earlier (Refresh mpd now) → presented_of mpd terms.url (Some now) ≡ Ok p
+    → H (earlier ++ Refresh mpd now ∷ []) (begun_with (begun_common terms mpd now p)))
     (goes_on : (earlier : List Update) (u : Update) (w : Whole) (p : Presented) → whole_of terms earlier ≡ Some w → IsGiven earlier u
-    → force_by terms w.common.force u ≡ Ok p → H w → H (gone_on w u p)) where
+    → force_by terms w.common.force u ≡ Ok p → H earlier w → H (earlier ++ u ∷ []) (gone_on w u p)) where
   after_holds : (earlier : List Update) (start : Option Whole) (u : Update) (w : Whole) → whole_of terms earlier ≡ start → IsGiven earlier u
-      → ((v : Whole) → start ≡ Some v → H v) → after terms start u ≡ Some w → H w
+      → ((v : Whole) → start ≡ Some v → H earlier v) → after terms start u ≡ Some w → H (earlier ++ u ∷ []) w
   after_holds earlier None (Refresh mpd now) w from given before is =
-      mapped (λ p. begun_with (begun_common terms mpd now p)) (result_ok (presented_of mpd terms.url (Some now))) w (H w) is
-      (λ p made same. subst H same (begins earlier mpd now p from given (answered _ p made)))
+      mapped (λ p. begun_with (begun_common terms mpd now p)) (result_ok (presented_of mpd terms.url (Some now))) w _ is
+      (λ p made same. subst (H (earlier ++ Refresh mpd now ∷ [])) same (begins earlier mpd now p from given (answered _ p made)))
   after_holds earlier None (Reset mpd now) w from given before is = absurd (cc)
   after_holds earlier None (Tick now) w from given before is = absurd (cc)
   after_holds earlier (Some v) u w from given before is =
-      mapped (gone_on v u) (result_ok (force_by terms v.common.force u)) w (H w) is
-      (λ p made same. subst H same (goes_on earlier u v p from given (answered _ p made) (before v refl)))
+      mapped (gone_on v u) (result_ok (force_by terms v.common.force u)) w (H (earlier ++ u ∷ []) w) is
+      (λ p made same. subst (H (earlier ++ u ∷ [])) same (goes_on earlier u v p from given (answered _ p made) (before v refl)))
 
   all_hold : (earlier later : List Update) (start : Option Whole) → whole_of terms earlier ≡ start
       → ((front : List Update) (u : Update) (back : List Update) → earlier ++ later ≡ front ++ u ∷ back → IsGiven front u)
-      → ((v : Whole) → start ≡ Some v → H v) → (w : Whole) → fold (after terms) start later ≡ Some w → H w
-  all_hold earlier [] start from given before w is = before w is
+      → ((v : Whole) → start ≡ Some v → H earlier v) → (w : Whole) → fold (after terms) start later ≡ Some w → H (earlier ++ later) w
+  all_hold earlier [] start from given before w is = rw append-nil (before w is)
   all_hold earlier (u ∷ later) start from given before w is =
       let moved : (earlier ++ u ∷ []) ++ later ≡ earlier ++ u ∷ later = append_assoc earlier (u ∷ []) later in
-      all_hold (earlier ++ u ∷ []) later (after terms start u) (whole_goes_on terms earlier u ∙ ap (λ o. after terms o u) from)
+      subst (λ (us : List Update). H us w) moved (all_hold (earlier ++ u ∷ []) later (after terms start u)
+      (whole_goes_on terms earlier u ∙ ap (λ o. after terms o u) from)
       (λ front v back same. given front v back (sym moved ∙ same))
-      (λ v v_is. after_holds earlier start u v from (given earlier u later refl) before v_is) w is
+      (λ v v_is. after_holds earlier start u v from (given earlier u later refl) before v_is) w is)
 
   pub holds : (history : List Update) → ((front : List Update) (u : Update) (back : List Update) → history ≡ front ++ u ∷ back
       → IsGiven front u)
-      → (w : Whole) → whole_of terms history ≡ Some w → H w
+      → (w : Whole) → whole_of terms history ≡ Some w → H history w
   holds history given w is = all_hold [] history None refl given (λ v never. absurd (cc)) w is
 
-pub record Sound (terms : Terms) (w : Whole) : Type 0 where
+-- what each history leaves
+pub record IsSound (terms : Terms) (history : List Update) (w : Whole) : Type 0 where
   pub its_terms : w.common.terms ≡ terms
-  pub within : Each IsWithin 0 w.pasts
+  pub within : Each IsWithin w.pasts
+  pub accepted : w.common.accepted ≤ length history
 
-pub sound : (terms : Terms) (history : List Update) (w : Whole) → whole_of terms history ≡ Some w → Sound terms w
+pub sound : (terms : Terms) (history : List Update) (w : Whole) → whole_of terms history ≡ Some w → IsSound terms history w
 sound terms history w is =
-    holds terms (Sound terms) (λ earlier u. Unit {0})
-    (λ earlier mpd now p from given made. let c = begun_common terms mpd now p in
-    record { its_terms = refl; within = each_begun c IsWithin (length p.tracks) (λ t less. omega arith) 0 (length p.tracks) (omega arith) })
-    (λ earlier u v p from given made its. let c = common_with v.common u p in
-    record { its_terms = its.its_terms; within = each_after c IsWithin IsWithin (stays_within c) 0 v.pasts its.within })
+    holds terms (IsSound terms) (λ earlier u. Unit {0})
+    (λ earlier mpd now p from given made. record {
+      its_terms = refl;
+      within = each_begun (begun_common terms mpd now p) IsWithin (λ t less. omega arith);
+      accepted = omega (arith, length-append earlier (Refresh mpd now ∷ []));
+    })
+    (λ earlier u v p from given made its. record {
+      its_terms = its.its_terms;
+      within = each_after (common_with v.common u p) IsWithin IsWithin (stays_within (common_with v.common u p)) v.pasts its.within;
+      accepted = omega (arith, its.accepted, length-append earlier (u ∷ []));
+    })
     history (λ front u back same. tt) w is
 
 -- what holds of none and of a track's past holds of what there is of one
-of_pasts : (P : Past → Type 0) (o : Option Past) → P no_past → ((past : Past) → o ≡ Some past → P past) → P (unwrap_or o no_past)
+pub of_pasts : (P : Past → Type 0) (o : Option Past) → P no_past → ((past : Past) → o ≡ Some past → P past) → P (unwrap_or o no_past)
 of_pasts P None none found = none
 of_pasts P (Some past) none found = found past refl
 
@@ -89,34 +103,28 @@ pub past_holds : (P : Past → Type 0) (terms : Terms) (history : List Update) (
     → P (past_of terms history t)
 past_holds P terms history t none found = of_whole P t (whole_of terms history) none found
 
+pub past_is : (terms : Terms) (history : List Update) (t : ℕ) (w : Whole) → whole_of terms history ≡ Some w
+    → past_of terms history t ≡ unwrap_or (slice_get w.pasts t) no_past
+past_is terms history t w whole = ap (λ o. option_map_or (λ w. unwrap_or (slice_get w.pasts t) no_past) o no_past) whole
+
 -- ---- histories with an update more
 
-pub shown_goes_on : (w : Whole) (u : Update) (p : Presented) → Each IsWithin 0 w.pasts → shown (gone_on w u p) ≡ state_with (shown w) u p
+pub shown_goes_on : (w : Whole) (u : Update) (p : Presented) → Each IsWithin w.pasts → shown (gone_on w u p) ≡ state_with (shown w) u p
 unfolding state_with
-shown_goes_on w u p within =
-    let c : Common = common_with w.common u p in
-    ap (λ tracks. let s : State = record { common = c; tracks = tracks } in s) (tracks_go_on c 0 w.pasts within)
-
-first_update : Update → List Update → Update
-first_update u [] = u
-first_update u (v ∷ vs) = v
-
-rest_of : List Update → List Update
-rest_of [] = []
-rest_of (v ∷ vs) = vs
+shown_goes_on w u p within = let c : Common = common_with w.common u p in let tracks = tracks_go_on c 0 w.pasts within in cc
 
 -- what holds of each update behind those before it, and of one behind them all
 snoc : (P : List Update → Update → Type 0) (history : List Update) (u : Update)
     → ((earlier : List Update) (v : Update) (later : List Update) → history ≡ earlier ++ v ∷ later → P earlier v) → P history u
     → (earlier : List Update) (v : Update) (later : List Update) → history ++ u ∷ [] ≡ earlier ++ v ∷ later → P earlier v
-unfolding first_update rest_of
-snoc P [] u all here [] v later is = subst (λ (x : Update). P [] x) (ap (first_update u) is) here
-snoc P [] u all here (w ∷ earlier) v later is = absurd (omega (arith, ap length (ap rest_of is), length-append earlier (v ∷ later)))
-snoc P (y ∷ history) u all here [] v later is = subst (λ (x : Update). P [] x) (ap (first_update u) is) (all [] y history refl)
+snoc P [] u all here [] v later is = subst (P []) (let same : u ≡ v = cc in same) here
+snoc P [] u all here (w ∷ earlier) v later is = absurd (omega (arith, ap length is, length-append earlier (v ∷ later)))
+snoc P (y ∷ history) u all here [] v later is = subst (P []) (let same : y ≡ v = cc in same) (all [] y history refl)
 snoc P (y ∷ history) u all here (w ∷ earlier) v later is =
-    subst (λ (x : Update). P (x ∷ earlier) v) (ap (first_update u) is)
+    let rest : history ++ u ∷ [] ≡ earlier ++ v ∷ later = cc in
+    subst (λ (x : Update). P (x ∷ earlier) v) (let same : y ≡ w = cc in same)
     (snoc (λ xs x. P (y ∷ xs) x) history u (λ before x behind same. all (y ∷ before) x behind
-    (ap (λ (xs : List Update). y ∷ xs) same)) here earlier v later (ap rest_of is))
+    (ap (λ (xs : List Update). y ∷ xs) same)) here earlier v later rest)
 
 accepts_more : (terms : Terms) (history : List Update) (u : Update) → IsAccepted terms history → update_refusal terms history u ≡ None
     → IsAccepted terms (history ++ u ∷ [])
@@ -148,35 +156,30 @@ histories_go_on terms history u before later shows next =
           let forced : force_by terms w.common.force u ≡ Ok p = subst (λ (s : State). force_by terms s.common.force u ≡ Ok p) (sym shown_is)
           (subst (λ (x : Terms). force_by x before.common.force u ≡ Ok p) (ap (λ (s : State). s.common.terms) (sym shown_is)
           ∙ is.its_terms) force) in
-          let grown : whole_of terms (history ++ u ∷ []) ≡ Some (gone_on w u p) =
-          whole_goes_on terms history u ∙ ap (λ o. after terms o u) whole ∙ ap (λ r. option_map (gone_on w u) (result_ok r)) forced in
-          ap (option_map shown) grown
+          ap (option_map shown) (gone_is terms history u w p whole forced)
           ∙ ap (λ (s : State). Some s) (shown_goes_on w u p is.within ∙ ap (λ (s : State). state_with s u p) shown_is ∙ same));
-    })
-
-begun_is : (terms : Terms) (mpd : Values) (now : ℤ) (s : State) (refusal : Option Refusal) (first : Result Presented PresentationFault)
-    (C : Type 0) → begun_by terms mpd now refusal first ≡ Ok s
-    → ((p : Presented) → refusal ≡ None → first ≡ Ok p → shown (begun_with (begun_common terms mpd now p)) ≡ s → C) → C
-begun_is terms mpd now s (Some refusal) first C is found = absurd (cc)
-begun_is terms mpd now s None (Ok p) C is found = found p refl refl (cc)
-begun_is terms mpd now s None (Err fault) C is found = absurd (cc)
-
-pub histories_begin : HistoriesBegin
-unfolding state_of begun_of
-histories_begin terms mpd now s begins =
-    begun_is terms mpd now s (first_refusal_of terms mpd now) (presented_of mpd terms.url (Some now))
-    (Shows terms (Refresh mpd now ∷ []) s) begins
-    (λ p none first same. record {
-      accepted =
-          accepts_more terms [] (Refresh mpd now) (λ earlier v later is.
-          absurd (omega (arith, ap length is, length-append earlier (v ∷ later)))) none;
-      leaves =
-          ap (λ r. option_map shown (option_map (λ q. begun_with (begun_common terms mpd now q)) (result_ok r))) first
-          ∙ ap (λ (x : State). Some x) same;
     })
 
 none_accepted : (terms : Terms) → IsAccepted terms []
 none_accepted terms earlier v later is = absurd (omega (arith, ap length is, length-append earlier (v ∷ later)))
+
+pub begun_from : (terms : Terms) (mpd : Values) (now : ℤ) (s : State) (refusal : Option Refusal) (first : Result Presented PresentationFault)
+    (C : Type 0) → begun_by terms mpd now refusal first ≡ Ok s
+    → ((p : Presented) → refusal ≡ None → first ≡ Ok p → shown (begun_with (begun_common terms mpd now p)) ≡ s → C) → C
+begun_from terms mpd now s (Some refusal) first C is found = absurd (cc)
+begun_from terms mpd now s None (Ok p) C is found = found p refl refl (cc)
+begun_from terms mpd now s None (Err fault) C is found = absurd (cc)
+
+pub histories_begin : HistoriesBegin
+unfolding state_of begun_of
+histories_begin terms mpd now s begins =
+    begun_from terms mpd now s (first_refusal_of terms mpd now) (presented_of mpd terms.url (Some now))
+    (Shows terms (Refresh mpd now ∷ []) s) begins
+    (λ p none first same. record {
+      accepted =
+          accepts_more terms [] (Refresh mpd now) (none_accepted terms) none;
+      leaves = ap (option_map shown) (begun_is terms [] mpd now p refl first) ∙ ap (λ (x : State). Some x) same;
+    })
 
 accepted_step : (terms : Terms) (history : List Update) (u : Update) (refusal : Option Refusal) → update_refusal terms history u ≡ refusal
     → IsAccepted terms history → IsAccepted terms (with_accepted terms history u refusal)

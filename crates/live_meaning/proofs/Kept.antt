@@ -1,11 +1,11 @@
 -- No playlist is ever empty, and numbers grow with the updates.
-use Rattle.std.proofs.Common.{◌≡◌, ℕ, zero, suc, ◌+◌, ◌*◌, ◌≤◌, ◌<◌, Bool, true, false, cond, eqb, ltb, not, ℤ, List, [], ◌∷◌, ◌++◌, map}
+use Rattle.std.proofs.Common.{◌≡◌, ℕ, zero, suc, ◌+◌, ◌-◌, ◌*◌, ◌≤◌, ◌<◌, Bool, true, false, cond, eqb, ltb, not, ℤ, List, [], ◌∷◌, ◌++◌, map}
 use Rattle.std.proofs.Common.{length, drop, filter, get_or, bytes_eq, Option, Some, None, Ok, refl, sym, ◌∙◌, ap, subst, inl, inr, arith}
 use Rattle.std.proofs.{Common.{length-append, length-drop}, Math.Nat.{mul-le-mul_left, one-le-pow}, lemmas.Bool.{and_parts, cases_Bool}}
 use Rattle.std.proofs.{lemmas.Bool.{cases_lt, ltb-false}, lemmas.Bool.Decides.nat_tests, lemmas.List.{length-map, map-append}}
 use Rattle.std.proofs.lemmas.List.Elements.{All-nil, All-append, All-drop, All-head, All-weaker, filter_passes}
 use Rattle.std.proofs.{lemmas.List.FromFn.length-range_with_len, lemmas.List.Sums.{count_by-le-length, length-filter, prefix_len-le-length}}
-use Rattle.std.proofs.{lemmas.List.Sums.sum_by-cons, lemmas.Option.slice_get-map}
+use Rattle.std.proofs.{lemmas.List.Sums.sum_by-cons, lemmas.Option.same_Some}
 use Rattle.std.specs.{Prelude.{All, IfSome, flat_map, is_none, if◌then◌else◌, option_map, slice_get, sum_by}, List.{fold, position_or_len}}
 use Rattle.std.specs.{List.range_with_len, Option.option_map_or, Result.result_ok}
 use Rattle.timeline.specs.{declared.window.Window.Window, Expansions.Timing, Listed.{answered_count, expansion, is_listed, is_out_of_range}}
@@ -20,14 +20,14 @@ use Rattle.followed.proofs.KeptPlaces.{next_is_first}
 use Rattle.live_meaning.specs.{Updates.{Refresh, Reset, Terms, Tick, Update, Values, is_reset, unit_of}, Segments.{Kept, Numbering}}
 use Rattle.live_meaning.specs.{Segments.{Segment, behind, id_at, listed_in_period, listed_of, place_behind, segments_of}, Known.Known}
 use Rattle.live_meaning.specs.{Known.{ids_of, is_new, known_at, known_with, periods_of}, Removal.{is_available, removed_of}}
-use Rattle.live_meaning.specs.Histories.{Common, Past, Whole, after, begun_common, begun_with, common_with, force_by, gone_on, least_length}
+use Rattle.live_meaning.specs.Histories.{Common, Past, Whole, after, begun_common, begun_past, common_with, force_by, gone_on, least_length}
 use Rattle.live_meaning.specs.{Histories.{new_listed, numbering_of, past_after, whole_of}, States.{State, Track, kept_and_new}}
 use Rattle.live_meaning.specs.{States.{removed_from, shown, state_of, track_of}, Refusals.{Refusal, Window as Windowed, count_kept}}
 use Rattle.live_meaning.specs.{Refusals.{counts_kept, counts_listed, over_in_all, over_in_track, told_if}, Playlists.FollowedPlaylist}
 use Rattle.live_meaning.specs.{Playlists.{item_of, playlist_of, playlist_with}, Laws.{IsAccepted, IsSmall, NeverEmpty, NumbersStaySmall}}
-use Rattle.live_meaning.proofs.{Allowed.{IsAllowed, IsFirst, accepted_hold, none_of_each, told_none}, Histories.{Sound, mapped}}
-use Rattle.live_meaning.proofs.{Ids.place_is, Orders.{behind_have, listed_have, made_in}, Reloads.looked_up, Tracks.{Each, each_after}}
-use Rattle.live_meaning.proofs.Tracks.{each_begun, each_both, kept_segments, length-told, told-segments, track_at, track_goes_on}
+use Rattle.live_meaning.proofs.{Allowed.{IsAllowed, IsFirst, IsOwn, accepted_hold, told_none}, Histories.{mapped, sound}}
+use Rattle.live_meaning.proofs.{Ids.place_is, Orders.{behind_have, listed_have, made_in}, Reloads.shown_track, Tracks.{Each, IsWithin}}
+use Rattle.live_meaning.proofs.Tracks.{kept_segments, length-told, ranged, told-segments, track_goes_on}
 
 -- ---- how many segments are listed
 
@@ -82,17 +82,11 @@ some_listed p t followed none less =
     ]
 
 -- none of the numbers of tracks is told
-few_at : (f : ℕ → ℕ) (a n t : ℕ) → over_in_track a (map f (range_with_len a n)) ≡ [] → a ≤ t → t < a + n → f t ≤ 20000
-few_at f a zero t none le less = absurd (omega arith)
-few_at f a (suc n) t none le less = elim (cases_lt a t) [
-  | inl later ↦ few_at f (a + 1) n t (none_behind (told_if (ltb 20000 (f a)) (Windowed a (f a)))
-      (over_in_track (a + 1) (map f (range_with_len (a + 1) n))) none) (omega arith) (omega arith)
-  | inr first ↦
-      let same : a ≡ t = omega arith in
-      subst (λ k. f k ≤ 20000) same
-      (ltb-false _ _ (told_none (ltb 20000 (f a)) (Windowed a (f a))
-      (none_first (told_if (ltb 20000 (f a)) (Windowed a (f a))) (over_in_track (a + 1) (map f (range_with_len (a + 1) n))) none)))
-]
+few_in : (from : ℕ) (ns : List ℕ) (t n : ℕ) → over_in_track from ns ≡ [] → slice_get ns t ≡ Some n → n ≤ 20000
+few_in from [] t n none at = absurd (cc)
+few_in from (m ∷ ns) zero n none at =
+    omega (arith, same_Some _ _ at, ltb-false 20000 m (told_none (ltb 20000 m) (Windowed from m) (none_first _ _ none)))
+few_in from (m ∷ ns) (suc t) n none at = few_in (from + 1) ns t n (none_behind _ _ none) at
 
 -- ---- how many are removed
 
@@ -198,12 +192,11 @@ past_kept c t accepted past one target early few is =
 
 -- ---- histories
 
-pub record AreKept (w : Whole) : Type 0 where
-  pub target : 0 < w.common.target
-  pub sections : length w.common.force.sections ≤ 1000
-  pub known : length w.common.known ≤ 1000 * w.common.accepted
-  pub resets : w.common.resets < w.common.accepted
-  pub each : Each (λ t past. IsKept w.common.accepted past) 0 w.pasts
+pub record IsFew (c : Common) : Type 0 where
+  pub target : 0 < c.target
+  pub sections : length c.force.sections ≤ 1000
+  pub known : length c.known ≤ 1000 * c.accepted
+  pub resets : c.resets < c.accepted
 
 pub few_known : (known : List Known) (p : Presented) → length (known_with known p) ≤ length known + length p.sections
 few_known known p =
@@ -224,136 +217,87 @@ is_followed : (live : Bool) (f : Following) → live ≡ true → is_none (if li
 is_followed true f is = refl
 is_followed false f is = absurd (cc)
 
--- each update is counted once
-one_more : (terms : Terms) (start : Option Whole) (u : Update) (n : ℕ) → ((v : Whole) → start ≡ Some v → v.common.accepted ≤ n)
-    → (w : Whole) → after terms start u ≡ Some w → w.common.accepted ≤ n + 1
-one_more terms None (Refresh mpd now) n before w is =
-    mapped (λ p. begun_with (begun_common terms mpd now p)) (result_ok (presented_of mpd terms.url (Some now))) w
-    (w.common.accepted ≤ n + 1) is
-    (λ p made same. omega (arith, ap (λ (w : Whole). w.common.accepted) same))
-one_more terms None (Reset mpd now) n before w is = absurd (cc)
-one_more terms None (Tick now) n before w is = absurd (cc)
-one_more terms (Some v) u n before w is =
-    mapped (gone_on v u) (result_ok (force_by terms v.common.force u)) w (w.common.accepted ≤ n + 1) is
-    (λ p made same. omega (arith, before v refl, ap (λ (w : Whole). w.common.accepted) same))
-
-counted_from : (terms : Terms) (history : List Update) (start : Option Whole) (n : ℕ) (w : Whole)
-    → ((v : Whole) → start ≡ Some v → v.common.accepted ≤ n) → fold (after terms) start history ≡ Some w
-    → w.common.accepted ≤ n + length history
-counted_from terms [] start n w before is = omega (arith, before w is)
-counted_from terms (u ∷ history) start n w before is =
-    omega (arith, counted_from terms history (after terms start u) (n + 1) w (one_more terms start u n before) is)
-
 module _ (few : PresentedAreFew) (followed : PresentedAreFollowed) where
-  begins_kept : (terms : Terms) (mpd : Values) (now : ℤ) (p : Presented) → Unit {0} → IsFirst terms mpd now p
-      → AreKept (begun_with (begun_common terms mpd now p))
-  begins_kept terms mpd now p given first =
+  begins_kept : (terms : Terms) (mpd : Values) (now : ℤ) (p : Presented) → IsFirst terms mpd now p →
+      let c = begun_common terms mpd now p in
+      IsFew c × ((t : ℕ) → t < length p.tracks → IsKept c.accepted (begun_past c t))
+  begins_kept terms mpd now p first =
       let c : Common = begun_common terms mpd now p in
       let sections = (few mpd terms.url (Some now) p first.made).0 in
+      let known : length c.known ≤ 1000 * c.accepted = omega (arith, few_known [] p, sections) in
       let live : is_finished p ≡ false = ap is_none (followed mpd terms.url (Some now) p first.made)
-      ∙ is_followed mpd.facts.live _ first.live in
-      let window = none_first (over_in_track 0 (counts_listed p)) (over_in_all 0 0 (counts_listed p)) first.window in
-      record {
-        target = omega arith;
-        sections = sections;
-        known = omega (arith, few_known [] p, sections);
-        resets = omega arith;
-        each = each_begun c (λ t past. IsKept 1 past) (length p.tracks) (λ t less.
+      ∙ is_followed mpd.facts.live _ first.live in (
+        record { target = omega arith; sections = sections; known = known; resets = omega arith },
+        λ t less.
             let many = listed_many (numbering_of c) p t (sections_of p) in
             record {
               some = omega (arith, many, some_listed p t live first.counts less);
               first = omega arith;
-              few = omega (
-                arith,
-                many,
-                few_at (λ t. length (flat_map (λ s. listed_at p s t) (sections_of p))) 0 (length p.tracks) t window
-                    (omega arith) (omega (arith, less)),
-              );
-              early = listed_early c t (omega (arith, few_known [] p, sections)) (omega arith);
-            }) 0 (length p.tracks) (omega arith);
-      }
+              few = omega (arith, many, few_in 0 (counts_listed p) t _ (none_first _ _ first.window) (ranged _ (length p.tracks) t less));
+              early = listed_early c t known (omega arith);
+            },
+      )
 
   later_few : (s : State) (u : Update) (p : Presented) → length s.common.force.sections ≤ 1000
-      → force_by s.common.terms s.common.force u ≡ Ok p
-      → length p.sections ≤ 1000
+      → force_by s.common.terms s.common.force u ≡ Ok p → length p.sections ≤ 1000
   later_few s (Refresh mpd now) p is forced = (few mpd s.common.terms.url (Some now) p forced).0
   later_few s (Reset mpd now) p is forced = (few mpd s.common.terms.url (Some now) p forced).0
   later_few s (Tick now) p is forced = let same : looked_at now s.common.force ≡ p = cc in
       subst (λ (q : Presented). length q.sections ≤ 1000) same is
 
-  goes_on_kept : (terms : Terms) (w : Whole) (u : Update) (p : Presented) → Unit {0} → Sound terms w → IsAllowed (shown w) u p → AreKept w
-      → AreKept (gone_on w u p)
-  goes_on_kept terms w u p given its allowed is =
+  goes_on_kept : (w : Whole) (u : Update) (p : Presented) → IsAllowed (shown w) u p → IsFew w.common →
+      let c = common_with w.common u p in
+      IsFew c × ((t : ℕ) (past : Past) → IsWithin t past → IsOwn c t (track_of (unit_of c.terms) past) → IsKept w.common.accepted past
+      → IsKept c.accepted (past_after c t past))
+  goes_on_kept w u p allowed is =
       let c : Common = common_with w.common u p in
-      let unit : ℕ = unit_of c.terms in
       let sections = later_few (shown w) u p is.sections allowed.forced in
       let known : length c.known ≤ 1000 * c.accepted = omega (arith, few_known w.common.known p, sections, is.known) in
-      let resets : c.resets < c.accepted = omega (arith, resets_most (is_reset u) w.common.resets, is.resets) in
-      let count : ℕ → Track → ℕ = λ t track. count_kept c (kept_and_new c t track) in
-      let own : ℕ → Track → List Refusal = λ t track. told_if (ltb 20000 (count t track)) (Windowed t (count t track)) in
-      let counts = counts_kept c 0 (shown w).tracks in
-      let window = none_of_each (λ t tracks. over_in_track t (counts_kept c t tracks)) own (λ t track tracks. refl) unit 0 w.pasts
-      (none_first (over_in_track 0 counts) (over_in_all 0 0 counts) allowed.window) in
-      record {
-        target = is.target;
-        sections = sections;
-        known = known;
-        resets = resets;
-        each = each_after c (λ t past. IsKept w.common.accepted past × (own t (track_of unit past) ≡ [])) (λ t past. IsKept c.accepted past)
-            (λ t past both. past_kept c t w.common.accepted past refl is.target (listed_early c t known resets)
-            (ltb-false _ _ (told_none _ _ both.1)) both.0) 0 w.pasts
-            (each_both (λ t past. IsKept w.common.accepted past) (λ t past. own t (track_of unit past) ≡ []) 0 w.pasts is.each window);
-      }
+      let resets : c.resets < c.accepted = omega (arith, resets_most (is_reset u) w.common.resets, is.resets) in (
+        record { target = is.target; sections = sections; known = known; resets = resets },
+        λ t past within own. past_kept c t w.common.accepted past refl is.target (listed_early c t known resets) own.window,
+      )
 
-  pub accepted_kept : (terms : Terms) (history : List Update) → IsAccepted terms history → (w : Whole) → whole_of terms history ≡ Some w
-      → AreKept w
-  accepted_kept terms history accepted w is =
-      accepted_hold terms (λ mpd. Unit {0}) AreKept (begins_kept terms) (goes_on_kept terms) history accepted (λ front u back same. tt) w is
+  accepted_kept : (terms : Terms) (history : List Update) → IsAccepted terms history → (w : Whole) → whole_of terms history ≡ Some w
+      → IsFew w.common × Each (λ t past. IsKept w.common.accepted past) w.pasts
+  accepted_kept terms history accepted =
+      accepted_hold terms (λ mpd. Unit {0}) IsFew (λ c t past. IsKept c.accepted past)
+      (λ mpd now p given. begins_kept terms mpd now p) (λ w u p given its. goes_on_kept w u p) history accepted (λ front u back same. tt)
 
   pub never_empty : NeverEmpty
-  unfolding state_of
   never_empty terms history s t playlist shows there =
-      mapped shown (whole_of terms history) s (0 < length playlist.items) shows.leaves (λ w whole shown_is.
-      let unit : ℕ = unit_of w.common.terms in
-      mapped (λ past. playlist_with w.common (track_of unit past)) (slice_get w.pasts t) playlist (0 < length playlist.items)
-      (sym (looked_up w t) ∙ ap (λ (s : State). playlist_of s t) shown_is ∙ there) (λ past at same.
-      let kept = track_at (λ t past. IsKept w.common.accepted past) w.pasts t past
-      (accepted_kept terms history shows.accepted w whole).each at in
+      mapped (playlist_with s.common) (slice_get s.tracks t) playlist (0 < length playlist.items) there (λ track at same.
+      let is = shown_track terms history s t track shows.leaves at in
+      let kept = (accepted_kept terms history shows.accepted is.w is.whole).1 t is.past is.at in
+      let ts : List Kept = told (unit_of is.w.common.terms) is.past.all in
       omega (
         arith,
         kept.some,
         ap (λ (p : FollowedPlaylist). length p.items) same,
-        length-map (drop past.first (told unit past.all)) item_of,
-        length-drop past.first (told unit past.all),
-        length-told unit None past.all,
-      )))
+        length-map track.kept item_of,
+        ap (λ (track : Track). length track.kept) is.its_track,
+        length-drop is.past.first ts,
+        length-told (unit_of is.w.common.terms) None is.past.all,
+      ))
 
   pub numbers_stay_small : NumbersStaySmall
-  unfolding state_of
   numbers_stay_small terms history s t track shows there =
-      let C : Type 0 = (s.common.accepted ≤ length history) × IsSmall s.common track in
-      mapped shown (whole_of terms history) s C shows.leaves (λ w whole shown_is.
+      let is = shown_track terms history s t track shows.leaves there in
+      let w : Whole = is.w in
       let unit : ℕ = unit_of w.common.terms in
-      mapped (track_of unit) (slice_get w.pasts t) track C
-      (sym (slice_get-map (track_of unit) w.pasts t) ∙ ap (λ (s : State). slice_get s.tracks t) shown_is ∙ there) (λ past at same.
-      let are = accepted_kept terms history shows.accepted w whole in
-      let kept = track_at (λ t past. IsKept w.common.accepted past) w.pasts t past are.each at in
-      subst (λ (s : State). (s.common.accepted ≤ length history) × IsSmall s.common track) shown_is
-      (subst (λ (track : Track). (w.common.accepted ≤ length history) × IsSmall w.common track) same (
-        omega (arith, counted_from terms history None 0 w (λ v never. absurd (cc)) whole),
+      let are = accepted_kept terms history shows.accepted w is.whole in
+      let kept = are.1 t is.past is.at in
+      let many : length (drop is.past.first (told unit is.past.all)) ≡ length is.past.all - is.past.first =
+      length-drop is.past.first (told unit is.past.all) ∙ ap (λ n. n - is.past.first) (length-told unit None is.past.all) in
+      subst (λ (s : State). (s.common.accepted ≤ length history) × IsSmall s.common track) is.state
+      (subst (λ (track : Track). (w.common.accepted ≤ length history) × IsSmall w.common track) is.its_track (
+        (sound terms history w is.whole).accepted,
         record {
-          kept = omega (arith, kept.few, length-drop past.first (told unit past.all), length-told unit None past.all);
-          listed = omega (
-            arith,
-            kept.first,
-            kept.few,
-            kept.some,
-            length-drop past.first (told unit past.all),
-            length-told unit None past.all,
-          );
-          known = are.known;
-          resets = are.resets;
-          sections = subst (All (IsEarly w.common.accepted)) (sym (kept_segments unit past.first past.all))
-              (All-drop (IsEarly w.common.accepted) past.first past.all kept.early);
+          kept = omega (arith, kept.few, many);
+          listed = omega (arith, kept.first, kept.few, kept.some, many);
+          known = are.0.known;
+          resets = are.0.resets;
+          sections = subst (All (IsEarly w.common.accepted)) (sym (kept_segments unit is.past.first is.past.all))
+              (All-drop (IsEarly w.common.accepted) is.past.first is.past.all kept.early);
         },
-      ))))
+      ))

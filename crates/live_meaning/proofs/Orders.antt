@@ -1,5 +1,5 @@
 -- All segments that were listed stand in order, where each update lists its own in order, and those of one section lie in one Period.
-use Rattle.std.proofs.Common.{◌≡◌, ℕ, ◌+◌, ◌-◌, ◌≤◌, ◌<◌, zero, suc, ◌&&◌, ◌⊎◌, Bool, true, false, cond, eqb, List, [], ◌∷◌, ◌++◌, map}
+use Rattle.std.proofs.Common.{◌≡◌, ℕ, ◌+◌, ◌-◌, ◌≤◌, ◌<◌, zero, suc, ◌&&◌, ◌⊎◌, Bool, true, false, cond, eqb, get_or, List, [], ◌∷◌, ◌++◌, map}
 use Rattle.std.proofs.{Common.{Option, Some, None, refl, sym, ◌∙◌, ap, subst, inl, inr, arith}, lemmas.List.{append-nil, append_assoc}}
 use Rattle.std.proofs.{lemmas.Bool.{and_parts, cases_Bool, cases_lt, eqb-true, le-ltb}, lemmas.List.Elements.{All-nil, All-cons}}
 use Rattle.std.proofs.lemmas.List.Elements.{All-append, All-filter, All-head, All-map, All-tail, All-weaker, filter_passes}
@@ -17,8 +17,9 @@ use Rattle.live_meaning.specs.Segments.{Numbering, Segment, behind, id_at, is_la
 use Rattle.live_meaning.specs.{Segments.segment_with, Updates.{Terms, Update, Refresh, is_reset, unit_of}, Histories.{Common, Whole, after}}
 use Rattle.live_meaning.specs.Histories.{all_of, begun_common, begun_with, common_with, gone_on, numbering_of, whole_of}
 use Rattle.live_meaning.specs.Laws.{AllAreInOrder, DoesLast, PeriodsAreListedInOrder, IsListedInOrder, SectionsNeverDrift}
-use Rattle.live_meaning.proofs.{Histories.{holds, past_holds, whole_goes_on}, Tracks.{Each, each_after, each_begun, last_goes_on}}
-use Rattle.live_meaning.proofs.Tracks.{place_goes_on, track_at}
+use Rattle.live_meaning.proofs.{Histories.{begun_is, gone_is, holds, past_holds}, Tracks.{Each, each_after, each_begun, last_goes_on}}
+use Rattle.live_meaning.proofs.Tracks.{place_goes_on}
+use Rattle.std.proofs.lemmas.Option.{same_Some}
 
 -- ---- what holds of each segment of an update
 
@@ -70,39 +71,18 @@ later_is_behind : (last : Last) (place resets : ℕ) (x : Segment) → last.sect
     → is_later last place x.value.place x.end ≡ true → Behind last x.section x.end
 later_is_behind last place resets x le numbered is = elim (cases_lt place x.value.place) [
   | inl less ↦ inl (omega arith)
-  | inr not_less ↦ elim (cases_Bool (eqb place x.value.place)) [
-    | inl same ↦ elim (cases_Bool (before last.end x.end)) [
-      | inl later ↦
-          let one : place ≡ x.value.place = eqb-true _ _ same in
-          elim (cases_lt last.section x.section) [
-            | inl less ↦ inl less
-            | inr not_before ↦
-                inr (omega arith, before-true last.end x.end later)
-          ]
-      | inr not_later ↦ let never : false ≡ true = rw (le-ltb place x.value.place not_less, same, not_later) at is in absurd (cc)
-    ]
-    | inr other ↦ let never : false ≡ true = rw (le-ltb place x.value.place not_less, other) at is in absurd (cc)
-  ]
+  | inr not_less ↦
+      let both = and_parts (eqb place x.value.place) (before last.end x.end) (rw (le-ltb place x.value.place not_less) at is) in
+      let one : place ≡ x.value.place = eqb-true _ _ both.0 in
+      elim (cases_lt last.section x.section) [ inl less ↦ inl less | inr same ↦ inr (omega arith, before-true last.end x.end both.1) ]
 ]
-
-all_behind : (last : Last) (place resets : ℕ) (xs : List Segment) → last.section ≤ place + resets → All (IsNumbered resets) xs
-    → All (λ x. is_later last place x.value.place x.end ≡ true → BehindLast (Some last) x.section x.end) xs
-all_behind last place resets xs le numbered =
-    All-weaker (IsNumbered resets) (λ x. is_later last place x.value.place x.end ≡ true → BehindLast (Some last) x.section x.end)
-    (λ x is. later_is_behind last place resets x le is) xs numbered
 
 pub behind_in_order : (last : Option Last) (place resets : ℕ) (xs : List Segment) → IsLastNumbered resets last place
     → All (IsNumbered resets) xs → InOrder None xs → InOrder last (behind last place xs)
 behind_in_order None place resets xs le numbered order = order
 behind_in_order (Some last) place resets xs le numbered order =
-    later_in_order (λ x. is_later last place x.value.place x.end) (Some last) None xs (all_behind last place resets xs le numbered) order
-
-last_numbered : (last : Option Last) (place resets : ℕ) (xs : List Segment) → IsLastNumbered resets last place → All (IsNumbered resets) xs
-    → IsLastNumbered resets (last_behind last xs) (place_behind place xs)
-last_numbered last place resets [] le numbered = le
-last_numbered last place resets (x ∷ xs) le numbered =
-    last_numbered (Some (last_with last x)) x.value.place resets xs
-    (omega (arith, last_section last x, All-head (IsNumbered resets) x xs numbered)) (All-tail (IsNumbered resets) x xs numbered)
+    later_in_order (λ x. is_later last place x.value.place x.end) (Some last) None xs
+    (λ j d within is. later_is_behind last place resets (get_or xs j d) le (numbered j d within) is) order
 
 more_resets : (last : Option Last) (place resets more : ℕ) → resets ≤ more → IsLastNumbered resets last place
     → IsLastNumbered more last place
@@ -128,75 +108,81 @@ behind_later None place resets xs is = λ j d within. omega arith
 behind_later (Some last) place resets xs is =
     λ j d within. later_place last place _ _ (filter_passes (λ (x : Segment). is_later last place x.value.place x.end) xs j d within)
 
-abbrev IsUpTo : (resets place : ℕ) → Segment → Type 0
-IsUpTo resets place x = (x.value.place ≤ place) × (x.section ≤ x.value.place + resets)
+-- Places don't fall, and nor do the resets that sections count beside them: from those of one before on, up to so many.
+abbrev Steps : (place resets most : ℕ) → List Segment → Type 0
+Steps place resets most [] = resets ≤ most
+Steps place resets most (x ∷ xs) =
+    (place ≤ x.value.place) × (x.value.place + resets ≤ x.section) × Steps x.value.place (x.section - x.value.place) most xs
 
--- the last one's place is the greatest one
-abbrev EndsHighest : ℕ → List Segment → Type 0
-EndsHighest place xs = (place ≤ place_behind place xs) × All (λ x. x.value.place ≤ place_behind place xs) xs
+steps-fewer : (place fewer resets most : ℕ) (xs : List Segment) → fewer ≤ resets → Steps place resets most xs → Steps place fewer most xs
+steps-fewer place fewer resets most [] le is = omega arith
+steps-fewer place fewer resets most (x ∷ xs) le (up, more, rest) = (up, omega arith, rest)
+
+steps-append : (place resets former most : ℕ) (xs ys : List Segment) → Steps place resets former xs
+    → Steps (place_behind place xs) former most ys → Steps place resets most (xs ++ ys)
+steps-append place resets former most [] ys le later = steps-fewer place resets former most ys le later
+steps-append place resets former most (x ∷ xs) ys (up, more, rest) later =
+    (up, more, steps-append x.value.place (x.section - x.value.place) former most xs ys rest later)
+
+last_numbered : (last : Option Last) (place resets most : ℕ) (xs : List Segment) → IsLastNumbered resets last place
+    → Steps place resets most xs → IsLastNumbered most (last_behind last xs) (place_behind place xs)
+last_numbered last place resets most [] numbered le = more_resets last place resets most le numbered
+last_numbered last place resets most (x ∷ xs) numbered (up, more, rest) =
+    last_numbered (Some (last_with last x)) x.value.place (x.section - x.value.place) most xs (omega (arith, last_section last x)) rest
+
+climb : (place resets : ℕ) (x : Segment) (xs : List Segment) → place ≤ x.value.place → IsNumbered resets x
+    → Steps x.value.place resets resets xs → Steps place resets resets (x ∷ xs)
+climb place resets x xs up numbered rest =
+    let same : resets ≡ x.section - x.value.place = omega arith in
+    (up, omega arith, subst (λ n. Steps x.value.place n resets xs) same rest)
 
 climbs : (l : Last) (place resets : ℕ) (xs : List Segment) → l.section ≡ place + resets → InOrder (Some l) xs → All (IsNumbered resets) xs
-    → EndsHighest place xs
-climbs l place resets [] same order numbered = (omega arith, All-nil _)
+    → Steps place resets resets xs
+climbs l place resets [] same order numbered = omega arith
 climbs l place resets (x ∷ xs) same (timed, behind, order) numbered =
-    let here : x.section ≡ x.value.place + resets = All-head (IsNumbered resets) x xs numbered in
-    let rest = climbs (last_with (Some l) x) x.value.place resets xs (last_section (Some l) x
-    ∙ here) order (All-tail (IsNumbered resets) x xs numbered) in
-    let more : place ≤ x.value.place = elim behind [ inl less ↦ omega (arith, less, here) | inr both ↦ omega (arith, both.0, here) ] in
-    (omega (arith, more, rest.0), All-cons (λ (y : Segment). y.value.place ≤ place_behind x.value.place xs) x xs rest.0 rest.1)
+    let here : x.section ≡ x.value.place + resets = numbered 0 x (omega arith) in
+    climb place resets x xs (elim behind [ inl less ↦ omega (arith, less, here) | inr both ↦ omega (arith, both.0, here) ]) here
+    (climbs (last_with (Some l) x) x.value.place resets xs (last_section (Some l) x ∙ here) order
+    (All-tail (IsNumbered resets) x xs numbered))
 
-ends_highest : (last : Option Last) (place resets : ℕ) (xs : List Segment) → All (λ x. place ≤ x.value.place) xs → InOrder last xs
-    → All (IsNumbered resets) xs → EndsHighest place xs
-ends_highest last place resets [] later order numbered = (omega arith, All-nil _)
-ends_highest last place resets (x ∷ xs) later (timed, behind, order) numbered =
-    let here : x.section ≡ x.value.place + resets = All-head (IsNumbered resets) x xs numbered in
-    let rest = climbs (last_with last x) x.value.place resets xs (last_section last x ∙ here) order
-    (All-tail (IsNumbered resets) x xs numbered) in (
-      omega (arith, All-head (λ (y : Segment). place ≤ y.value.place) x xs later, rest.0),
-      All-cons (λ (y : Segment). y.value.place ≤ place_behind x.value.place xs) x xs rest.0 rest.1,
-    )
+all_climb : (last : Option Last) (place resets : ℕ) (xs : List Segment) → All (λ x. place ≤ x.value.place) xs → InOrder last xs
+    → All (IsNumbered resets) xs → Steps place resets resets xs
+all_climb last place resets [] later order numbered = omega arith
+all_climb last place resets (x ∷ xs) later (timed, behind, order) numbered =
+    let here : x.section ≡ x.value.place + resets = numbered 0 x (omega arith) in
+    climb place resets x xs (later 0 x (omega arith)) here (climbs (last_with last x) x.value.place resets xs (last_section last x ∙ here) order
+    (All-tail (IsNumbered resets) x xs numbered))
 
-pub get_either : {X : Type 0} (xs ys : List X) (k : ℕ) (x : X) → slice_get (xs ++ ys) k ≡ Some x
-    → (slice_get xs k ≡ Some x) ⊎ (slice_get ys (k - length xs) ≡ Some x)
-get_either {X} [] ys k x at = let same : k ≡ k - 0 = omega arith in inr (ap (slice_get ys) (sym same) ∙ at)
-get_either {X} (y ∷ xs) ys zero x at = inl at
-get_either {X} (y ∷ xs) ys (suc k) x at = elim (get_either xs ys k x at) [
-  | inl there ↦ inl there
-  | inr later ↦ let same : suc k - length (y ∷ xs) ≡ k - length xs = omega arith in inr (ap (slice_get ys) same ∙ later)
-]
+steps_at : (place resets most : ℕ) (xs : List Segment) (k : ℕ) (x : Segment) → Steps place resets most xs → slice_get xs k ≡ Some x
+    → (place ≤ x.value.place) × (x.value.place + resets ≤ x.section)
+steps_at place resets most [] k x steps at = absurd (cc)
+steps_at place resets most (y ∷ xs) zero x (up, more, rest) at =
+    subst (λ (z : Segment). (place ≤ z.value.place) × (z.value.place + resets ≤ z.section)) (same_Some _ _ at) (up, more)
+steps_at place resets most (y ∷ xs) (suc k) x (up, more, rest) at =
+    let is = steps_at y.value.place (y.section - y.value.place) most xs k x rest at in (omega (arith, is.0), omega (arith, is.0, is.1))
 
-abbrev HaveOnePlace : List Segment → Type 0
-HaveOnePlace xs = (i j : ℕ) (x y : Segment) → slice_get xs i ≡ Some x → slice_get xs j ≡ Some y → x.section ≡ y.section
-    → x.value.place ≡ y.value.place
-
-one_place : (resets place : ℕ) (all new : List Segment) → All (IsUpTo resets place) all → All (λ x. place ≤ x.value.place) new
-    → All (IsNumbered resets) new → HaveOnePlace all → HaveOnePlace (all ++ new)
-one_place resets place all new up later numbered one i j x y at_x at_y same =
-    let old : (k : ℕ) (z : Segment) → slice_get all k ≡ Some z → IsUpTo resets place z =
-    λ k z at. All-at (IsUpTo resets place) all k z up at in
-    let fresh : (k : ℕ) (z : Segment) → slice_get new k ≡ Some z → (place ≤ z.value.place) × IsNumbered resets z =
-    λ k z at. (All-at (λ z. place ≤ z.value.place) new k z later at, All-at (IsNumbered resets) new k z numbered at) in
-    elim (get_either all new i x at_x) [
-      | inl one_old ↦ elim (get_either all new j y at_y) [
-        | inl other_old ↦ one i j x y one_old other_old same
-        | inr other_new ↦ omega (arith, (old i x one_old).0, (old i x one_old).1, (fresh _ y other_new).0, (fresh _ y other_new).1)
-      ]
-      | inr one_new ↦ elim (get_either all new j y at_y) [
-        | inl other_old ↦ omega (arith, (old j y other_old).0, (old j y other_old).1, (fresh _ x one_new).0, (fresh _ x one_new).1)
-        | inr other_new ↦ omega (arith, (fresh _ x one_new).1, (fresh _ y other_new).1)
-      ]
-    ]
+-- of two of them the later one is in no earlier Period, and behind no fewer resets
+pub steps_both : (place resets most : ℕ) (xs : List Segment) (i j : ℕ) (x y : Segment) → Steps place resets most xs → i ≤ j
+    → slice_get xs i ≡ Some x → slice_get xs j ≡ Some y
+    → (x.value.place ≤ y.value.place) × (x.section + y.value.place ≤ y.section + x.value.place)
+steps_both place resets most [] i j x y steps le at_x at_y = absurd (cc)
+steps_both place resets most (z ∷ xs) zero j x y (up, more, rest) le at_x at_y =
+    let is = steps_at z.value.place (z.section - z.value.place) most (z ∷ xs) j y (omega arith, omega arith, rest) at_y in
+    subst (λ (v : Segment). (v.value.place ≤ y.value.place) × (v.section + y.value.place ≤ y.section + v.value.place))
+    (same_Some _ _ at_x) (is.0, omega (arith, is.0, is.1))
+steps_both place resets most (z ∷ xs) (suc i) zero x y steps le at_x at_y = absurd (omega arith)
+steps_both place resets most (z ∷ xs) (suc i) (suc j) x y (up, more, rest) le at_x at_y =
+    steps_both z.value.place (z.section - z.value.place) most xs i j x y rest (omega arith) at_x at_y
 
 -- ---- all segments of a track
 
 pub record IsOrdered (resets : ℕ) (all : List Segment) : Type 0 where
   pub order : InOrder None all
   pub its_last : IsLastNumbered resets (last_behind None all) (place_behind 0 all)
-  pub up_to : All (IsUpTo resets (place_behind 0 all)) all
-  pub one : HaveOnePlace all
+  pub steps : Steps 0 0 resets all
 
 none_ordered : IsOrdered 0 []
-none_ordered = record { order = tt; its_last = refl; up_to = All-nil (IsUpTo 0 0); one = λ i j x y never. absurd (cc) }
+none_ordered = record { order = tt; its_last = refl; steps = omega arith }
 
 more_ordered : (former resets : ℕ) (all listed : List Segment) → former ≤ resets → All (IsNumbered resets) listed → InOrder None listed
     → IsOrdered former all → IsOrdered resets (all ++ behind (last_behind None all) (place_behind 0 all) listed)
@@ -205,21 +191,14 @@ more_ordered former resets all listed le numbered order is =
     let place : ℕ = place_behind 0 all in
     let new : List Segment = behind last place listed in
     let its_last : IsLastNumbered resets last place = more_resets last place former resets le is.its_last in
-    let new_numbered : All (IsNumbered resets) new = behind_have (IsNumbered resets) last place listed numbered in
     let new_order : InOrder last new = behind_in_order last place resets listed its_last numbered order in
-    let later : All (λ (x : Segment). place ≤ x.value.place) new = behind_later last place resets listed its_last in
-    let high : EndsHighest place new = ends_highest last place resets new later new_order new_numbered in
-    let up : All (IsUpTo resets place) all =
-    All-weaker (IsUpTo former place) (IsUpTo resets place) (λ x is. (is.0, omega (arith, le, is.1))) all is.up_to in
-    let all_up : All (IsUpTo resets (place_behind place new)) (all ++ new) =
-    All-append (IsUpTo resets (place_behind place new)) all new
-    (All-weaker (IsUpTo resets place) (IsUpTo resets (place_behind place new)) (λ x is. (omega (arith, is.0, high.0), is.1)) all up)
-    (λ j d within. (high.1 j d within, omega (arith, new_numbered j d within))) in
+    let steps : Steps place former resets new = steps-fewer place former resets resets new le
+    (all_climb last place resets new (behind_later last place resets listed its_last) new_order
+    (behind_have (IsNumbered resets) last place listed numbered)) in
     record {
       order = order-append None all new is.order new_order;
-      its_last = rw (last_goes_on None all new, place_goes_on 0 all new) (last_numbered last place resets new its_last new_numbered);
-      up_to = subst (λ n. All (IsUpTo resets n) (all ++ new)) (sym (place_goes_on 0 all new)) all_up;
-      one = one_place resets place all new up later new_numbered is.one;
+      its_last = rw (last_goes_on None all new, place_goes_on 0 all new) (last_numbered last place former resets new is.its_last steps);
+      steps = steps-append 0 0 former resets all new is.steps steps;
     }
 
 -- ---- histories
@@ -231,39 +210,28 @@ resets_rise false n = omega arith
 abbrev ListsInOrder : Common → Type 0
 ListsInOrder c = (t : ℕ) → InOrder None (listed_of (numbering_of c) c.force t)
 
-abbrev pub Ordered : Whole → Type 0
-Ordered w = Each (λ t past. IsOrdered w.common.resets past.all) 0 w.pasts
-
-pub all_ordered : (terms : Terms) (history : List Update) → IsListedInOrder terms history → (w : Whole) → whole_of terms history ≡ Some w
-    → Ordered w
+all_ordered : (terms : Terms) (history : List Update) → IsListedInOrder terms history → (w : Whole) → whole_of terms history ≡ Some w
+    → Each (λ t past. IsOrdered w.common.resets past.all) w.pasts
 all_ordered terms history lists w is =
-    holds terms Ordered (λ earlier u. (v : Whole) → whole_of terms (earlier ++ u ∷ []) ≡ Some v → ListsInOrder v.common)
+    holds terms (λ history w. Each (λ t past. IsOrdered w.common.resets past.all) w.pasts)
+    (λ earlier u. (v : Whole) → whole_of terms (earlier ++ u ∷ []) ≡ Some v → ListsInOrder v.common)
     (λ earlier mpd now p from given made.
     let c : Common = begun_common terms mpd now p in
-    let u : Update = Refresh mpd now in
-    let own = given (begun_with c) (whole_goes_on terms earlier u ∙ ap (λ o. after terms o u) from
-    ∙ ap (λ r. option_map (λ q. begun_with (begun_common terms mpd now q)) (result_ok r)) made) in
-    each_begun c (λ t past. IsOrdered 0 past.all) (length p.tracks)
+    each_begun c (λ t past. IsOrdered 0 past.all)
     (λ t less. more_ordered 0 0 [] (listed_of (numbering_of c) p t) (omega arith) (listed_numbered (numbering_of c) p t)
-    (own t) none_ordered) 0 (length p.tracks) (omega arith))
+    (given (begun_with c) (begun_is terms earlier mpd now p from made) t) none_ordered))
     (λ earlier u v p from given made its.
     let c : Common = common_with v.common u p in
-    let own = given (gone_on v u p) (whole_goes_on terms earlier u ∙ ap (λ o. after terms o u) from
-    ∙ ap (λ r. option_map (gone_on v u) (result_ok r)) made) in
     each_after c (λ t past. IsOrdered v.common.resets past.all) (λ t past. IsOrdered c.resets past.all)
     (λ t past. more_ordered v.common.resets c.resets past.all (listed_of (numbering_of c) p t) (resets_rise (is_reset u) v.common.resets)
-    (listed_numbered (numbering_of c) p t) (own t)) 0 v.pasts its)
+    (listed_numbered (numbering_of c) p t) (given (gone_on v u p) (gone_is terms earlier u v p from made) t)) v.pasts its)
     history (λ front u back same v v_is t. lists (front ++ u ∷ []) back v t (same ∙ sym (append_assoc front (u ∷ []) back)) v_is) w is
 
 pub past_ordered : (terms : Terms) (history : List Update) (t : ℕ) → IsListedInOrder terms history
     → (resets : ℕ) × IsOrdered resets (all_of terms history t)
 past_ordered terms history t lists =
     past_holds (λ past. (resets : ℕ) × IsOrdered resets past.all) terms history t (0, none_ordered)
-    (λ w is past at. (
-      w.common.resets,
-      track_at (λ t past. IsOrdered w.common.resets past.all) w.pasts t past
-          (all_ordered terms history lists w is) at,
-    ))
+    (λ w is past at. (w.common.resets, all_ordered terms history lists w is t past at))
 
 pub all_are_in_order : AllAreInOrder
 all_are_in_order terms history t lists = (past_ordered terms history t lists).1.order

@@ -9,12 +9,12 @@ use Rattle.reload_law.specs.{Rules.lawful, Laws.{ReloadsItself, RulesAreSentence
 use Rattle.followed.specs.Durations.{durations, last_behind, told, told_behind}
 use Rattle.followed.proofs.{KeptPlaces.next_is_first, PrintedSections.told_goes_on}
 use Rattle.presentation.specs.Presented.{Presented, is_finished}
-use Rattle.live_meaning.specs.{Updates.{Update, unit_of}, Segments.{Kept, Segment, segments_of}, Removal.is_available, Histories.Common}
-use Rattle.live_meaning.specs.Histories.{Past, Whole, after, common_with, force_by, gone_on, least_length, new_listed, past_after, whole_of}
+use Rattle.live_meaning.specs.{Updates.{Terms, Update, unit_of}, Segments.{Kept, Segment, segments_of}, Removal.is_available, Histories.Common}
+use Rattle.live_meaning.specs.Histories.{Past, Whole, after, common_with, force_by, gone_on, least_length, new_listed, past_after, pasts_after, whole_of}
 use Rattle.live_meaning.specs.{States.{State, Track, shown, state_of, track_of}, Refusals.{Ended, refusal_of}, Playlists.FollowedPlaylist}
 use Rattle.live_meaning.specs.{Playlists.{item_of, playlist_of, playlist_with}, Grown.{IsLater, media_from}, Laws.ReloadsAreLawful}
 use Rattle.live_meaning.specs.Laws.{media_of, segment_of}
-use Rattle.live_meaning.proofs.{Grown.grown_is_lawful, Tracks.{IsWithin, length-told, past_at, stays_within, track_at}}
+use Rattle.live_meaning.proofs.{Grown.grown_is_lawful, Tracks.{length-told, past_behind, stays_within}}
 use Rattle.live_meaning.proofs.Histories.{histories_refuse, mapped, sound, whole_goes_on}
 
 -- ---- nothing follows an end
@@ -94,15 +94,24 @@ three_targets_last digits target units le = elim (cases_lt 9 digits) [
 
 -- ---- states
 
-twice : {A B C : Type 0} (f : B → C) (g : A → B) (o : Option A) → option_map f (option_map g o) ≡ option_map (λ x. f (g x)) o
-twice {A} {B} {C} f g None = refl
-twice {A} {B} {C} f g (Some x) = refl
+-- what a state shows of a track
+pub record IsShown (terms : Terms) (history : List Update) (s : State) (t : ℕ) (track : Track) : Type 0 where
+  pub w : Whole
+  pub past : Past
+  pub whole : whole_of terms history ≡ Some w
+  pub at : slice_get w.pasts t ≡ Some past
+  pub state : shown w ≡ s
+  pub its_track : track_of (unit_of w.common.terms) past ≡ track
 
-pub looked_up : (w : Whole) (t : ℕ)
-    → playlist_of (shown w) t ≡ option_map (λ past. playlist_with w.common (track_of (unit_of w.common.terms) past)) (slice_get w.pasts t)
-looked_up w t =
-    ap (λ (o : Option Track). option_map (playlist_with w.common) o) (slice_get-map (track_of (unit_of w.common.terms)) w.pasts t)
-    ∙ twice (playlist_with w.common) (track_of (unit_of w.common.terms)) (slice_get w.pasts t)
+pub shown_track : (terms : Terms) (history : List Update) (s : State) (t : ℕ) (track : Track) → state_of terms history ≡ Some s
+    → slice_get s.tracks t ≡ Some track → IsShown terms history s t track
+unfolding state_of
+shown_track terms history s t track leaves there =
+    mapped shown (whole_of terms history) s (IsShown terms history s t track) leaves (λ w whole same.
+    let unit : ℕ = unit_of w.common.terms in
+    mapped (track_of unit) (slice_get w.pasts t) track (IsShown terms history s t track)
+    (sym (slice_get-map (track_of unit) w.pasts t) ∙ ap (λ (s : State). slice_get s.tracks t) same ∙ there)
+    (λ past at own. record { w = w; past = past; whole = whole; at = at; state = same; its_track = own }))
 
 -- ---- one track
 
@@ -153,27 +162,25 @@ module _ (sentences : RulesAreSentences) (itself : ReloadsItself) where
   pub reloads_are_lawful : ReloadsAreLawful
   unfolding state_of
   reloads_are_lawful terms history u before later t old new shows shows_later old_is new_is =
+      let C : Type 0 = lawful (media_of old) (media_of new) ≡ Ok tt in
+      mapped (playlist_with before.common) (slice_get before.tracks t) old C old_is (λ track there made.
+      let is = shown_track terms history before t track shows.leaves there in
+      let w : Whole = is.w in
+      let unit : ℕ = unit_of w.common.terms in
+      mapped shown (whole_of terms (history ++ u ∷ [])) later C shows_later.leaves (λ v whole_later shown_later.
+      mapped (gone_on w u) (result_ok (force_by terms w.common.force u)) v C
+      (ap (λ o. after terms o u) (sym is.whole) ∙ sym (whole_goes_on terms history u) ∙ whole_later) (λ p forced grown.
+      let c : Common = common_with w.common u p in
+      let new_there : Some (playlist_with c (track_of unit (past_after c t is.past))) ≡ Some new =
+      rw (slice_get-map (track_of unit) (pasts_after c 0 w.pasts) t, past_behind c t w.pasts, is.at) at
+      (ap (λ (s : State). playlist_of s t) (ap shown grown ∙ shown_later) ∙ new_is) in
+      let old_there : playlist_with w.common (track_of unit is.past) ≡ old =
+      ap (λ (s : State). playlist_with s.common (track_of unit is.past)) is.state ∙ ap (playlist_with before.common) is.its_track ∙ made in
       let refused : refusal_of before u ≡ None =
       sym (histories_refuse terms history u before shows) ∙ shows_later.accepted history u [] refl in
-      mapped shown (whole_of terms history) before (lawful (media_of old) (media_of new) ≡ Ok tt) shows.leaves (λ w whole shown_is.
-      mapped shown (whole_of terms (history ++ u ∷ [])) later (lawful (media_of old) (media_of new) ≡ Ok tt) shows_later.leaves
-      (λ v whole_later shown_later.
-      let step : after terms (Some w) u ≡ Some v =
-      ap (λ o. after terms o u) (sym whole) ∙ sym (whole_goes_on terms history u) ∙ whole_later in
-      mapped (gone_on w u) (result_ok (force_by terms w.common.force u)) v (lawful (media_of old) (media_of new) ≡ Ok tt) step
-      (λ p forced grown.
-      let c : Common = common_with w.common u p in
-      let unit : ℕ = unit_of w.common.terms in
-      let old_there = sym (looked_up w t) ∙ ap (λ (s : State). playlist_of s t) shown_is ∙ old_is in
-      mapped (λ past. playlist_with w.common (track_of unit past)) (slice_get w.pasts t) old
-      (lawful (media_of old) (media_of new) ≡ Ok tt) old_there (λ past at made.
-      let new_there =
-      sym (ap (λ (o : Option Past). option_map (λ x. playlist_with c (track_of unit x)) o) (past_at c 0 t w.pasts
-      ∙ ap (option_map (past_after c (0 + t))) at))
-      ∙ sym (looked_up (gone_on w u p) t) ∙ ap (λ (s : State). playlist_of s t) (ap shown grown ∙ shown_later) ∙ new_is in
-      let made_new = same_Some _ _ new_there in
       let unended : is_finished w.common.force ≡ false =
-      ap (λ (s : State). is_finished s.common.force) shown_is ∙ goes_on before u refused in
-      ap (λ (a : FollowedPlaylist). lawful (media_of a) (media_of new)) (sym made)
-      ∙ ap (λ (b : FollowedPlaylist). lawful (media_of (playlist_with w.common (track_of unit past))) (media_of b)) (sym made_new)
-      ∙ update_is_lawful w u p (0 + t) past (track_at IsWithin w.pasts t past (sound terms history w whole).within at) unended))))
+      ap (λ (s : State). is_finished s.common.force) is.state ∙ goes_on before u refused in
+      ap (λ (a : FollowedPlaylist). lawful (media_of a) (media_of new)) (sym old_there)
+      ∙ ap (λ (b : FollowedPlaylist). lawful (media_of (playlist_with w.common (track_of unit is.past))) (media_of b))
+      (sym (same_Some _ _ new_there))
+      ∙ update_is_lawful w u p t is.past ((sound terms history w is.whole).within t is.past is.at) unended)))
