@@ -1,12 +1,12 @@
 -- What accepted updates of typed MPDs leave: their segments stand in order, those of one section lie in one Period and have one map, and
 -- no duration is longer than the target allows.
-use Rattle.std.proofs.Common.{◌≡◌, ℕ, zero, suc, ◌+◌, ◌-◌, ◌*◌, ◌≤◌, ◌<◌, ◌/◌, ◌%◌, leb, ltb, ℤ, List, [], ◌∷◌, ◌++◌, map, length, Option}
-use Rattle.std.proofs.{Common.{Some, None, refl, sym, ◌∙◌, ap, subst, inl, inr, arith}, Math.Nat.{mul-le-mul_left, one-le-pow}}
-use Rattle.std.proofs.{lemmas.Bool.{cases_Bool, cases_lt, leb-true, ltb-false}, lemmas.Grind.div_ceil_times, lemmas.Nat.div-add-mod'}
+use Rattle.std.proofs.Common.{◌≡◌, ℕ, zero, suc, ◌+◌, ◌-◌, ◌*◌, ◌≤◌, ◌<◌, ◌/◌, ◌%◌, leb, ℤ, List, [], ◌∷◌, ◌++◌, map, length, Option, Some}
+use Rattle.std.proofs.{Common.{None, refl, sym, ◌∙◌, ap, subst, inl, inr, arith}, Math.Nat.{mul-le-mul_left, one-le-pow}}
+use Rattle.std.proofs.{lemmas.Bool.{cases_Bool, cases_lt, leb-true}, lemmas.Grind.div_ceil_times, lemmas.Nat.div-add-mod'}
 use Rattle.std.proofs.{lemmas.List.{append_assoc, length-map, map-append}, lemmas.List.Elements.{All-nil, All-cons, All-append, All-head}}
 use Rattle.std.proofs.{lemmas.List.Elements.{All-tail, All-weaker}, lemmas.List.FromFn.{get_or-map-range_with_len, length-range_with_len}}
-use Rattle.std.proofs.{lemmas.Option.{same_Some, slice_get-map}, lemmas.Simd.map-map}
-use Rattle.std.specs.{Prelude.{All, filter, flat_map, option_map, slice_get}, List.range_with_len, Option.option_map_or}
+use Rattle.std.proofs.{lemmas.Option.same_Some, lemmas.Simd.map-map}
+use Rattle.std.specs.{Prelude.{All, flat_map, option_map, slice_get}, List.range_with_len, Option.option_map_or}
 use Rattle.exact_time.specs.{Time.Time, Laws.SumsAreFloors, Rounding.printed}
 use Rattle.mpd_rules.specs.Laws.{PeriodIdsDiffer}
 use Rattle.timeline.specs.Expansions.{Timing}
@@ -14,21 +14,18 @@ use Rattle.presentation.specs.{declared.parts.Content.Content, Presented.{Presen
 use Rattle.presentation.specs.{PresentedLaws.SectionsArePeriods, Printing.durations_of, Verifying.{greatest, longest_at, longest_of}}
 use Rattle.presentation.proofs.Grids.{All-at}
 use Rattle.hls_writer.specs.Finished.{rounded}
-use Rattle.followed.specs.{Durations.{Last, durations, last_behind, last_with, section_durations, told, told_behind}, Order.InOrder}
-use Rattle.followed.specs.Order.{IsElsewhere}
-use Rattle.followed.proofs.{ListedInOrder.{kept_stay_in_order, sections_are_counted}, PrintedSections.{goes_on, last_section, new_section}}
-use Rattle.followed.proofs.PrintedSections.{told_goes_on}
-use Rattle.live_meaning.specs.{Updates.{Terms, Update, Values, mpd_of, unit_of}, Segments.{Kept, Numbering, Segment, id_at, listed_in_period}}
+use Rattle.followed.specs.{Durations.{Last, durations, last_behind, last_with, section_durations, told, told_behind}, Order.IsElsewhere}
+use Rattle.followed.proofs.PrintedSections.{goes_on, last_section, new_section, told_goes_on}
+use Rattle.live_meaning.specs.{Updates.{Terms, Update, Values, unit_of}, Segments.{Kept, Numbering, Segment, id_at, listed_in_period}}
 use Rattle.live_meaning.specs.{Segments.{listed_of, place_behind, place_of, segment_with}, Known.Known, Removal.half_more, Histories.Common}
-use Rattle.live_meaning.specs.Histories.{Past, Whole, all_of, begun_common, begun_past, past_after, common_with, gone_on, longest_in, new_listed}
-use Rattle.live_meaning.specs.{Histories.{numbering_of, whole_of}, States.{State, Track, new_durations, shown, state_of, track_of}}
-use Rattle.live_meaning.specs.{Refusals.{LongSegment, Refusal, long_told}, Laws.{AcceptedAreListedInOrder, AcceptedNeverDrift, AreTyped}}
-use Rattle.live_meaning.specs.Laws.{DurationsFitTarget, IsAccepted, IsTyped, SectionsHaveOneMap, SectionsNeverFall}
+use Rattle.live_meaning.specs.Histories.{Past, Whole, all_of, begun_common, begun_past, past_after, common_with, longest_in, new_listed}
+use Rattle.live_meaning.specs.{Histories.{numbering_of, whole_of}, States.{State, shown, state_of, track_of}, Laws.AcceptedAreListedInOrder}
+use Rattle.live_meaning.specs.Laws.{AcceptedNeverDrift, AreTyped, DurationsFitTarget, IsAccepted, IsTyped, SectionsHaveOneMap}
+use Rattle.live_meaning.specs.Laws.{SectionsNeverFall}
 use Rattle.live_meaning.proofs.{Allowed.{IsAllowed, IsFirst, IsOwn, accepted_hold}, Grown.get_more, Histories.{mapped, of_pasts, past_is}}
 use Rattle.live_meaning.proofs.{Histories.{past_holds, sound}, InForce.{IsInForce, IsKnown, first_in_force, known_of, later_in_force}}
-use Rattle.live_meaning.proofs.{InForce.{listed_known, maps_of, rising}, Orders.{all_are_in_order, behind_have, past_ordered, period_own}}
-use Rattle.live_meaning.proofs.{Orders.{periods_are_listed_in_order, sections_never_drift}, Tracks.Each}
-use Rattle.live_meaning.proofs.{Orders.steps_both, Tracks.IsWithin}
+use Rattle.live_meaning.proofs.{InForce.{listed_known, maps_of, rising}, Orders.{behind_have, past_ordered, period_own}}
+use Rattle.live_meaning.proofs.{Orders.{periods_are_listed_in_order, sections_never_drift, steps_both}, Tracks.{Each, IsWithin}}
 
 -- ---- durations of what the first MPD lists
 

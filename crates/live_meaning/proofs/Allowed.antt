@@ -1,23 +1,20 @@
 -- What is so of updates that are accepted.
 use Rattle.std.proofs.Common.{◌≡◌, ℕ, ◌+◌, Bool, true, false, not, ℤ, List, [], ◌∷◌, ◌++◌, map, Option, Some, None, Result, Ok, refl, sym}
-use Rattle.std.proofs.Common.{◌∙◌, ap, subst}
-use Rattle.std.proofs.Common.{zero, suc, ◌≤◌, ◌<◌, length, inl, inr, arith}
-use Rattle.std.proofs.lemmas.{Bool.{cases_Bool, ltb-false}, List.Elements.{All-nil, All-cons}, Option.{same_Some, slice_get-map}}
+use Rattle.std.proofs.{Common.{◌∙◌, ap, subst, zero, suc, ◌≤◌, ◌<◌, length, inl, inr, arith}, lemmas.Bool.{cases_Bool, ltb-false}}
+use Rattle.std.proofs.{lemmas.List.Elements.{All-nil, All-cons}, lemmas.Option.{same_Some, slice_get-map}}
 use Rattle.std.specs.Prelude.{All, filter, flat_map, option_map, slice_get}
 use Rattle.hls_writer.specs.Finished.{rounded}
-use Rattle.live_meaning.specs.{Updates.unit_of, Histories.{Common, begun_past, past_after}, States.{kept_and_new, new_durations}}
-use Rattle.live_meaning.specs.Refusals.{LongSegment, count_kept, over_in_track, urls_in}
-use Rattle.presentation.specs.Counting.{sections_of}
-use Rattle.bridge_io.specs.Firsts.{first_of}
-use Rattle.presentation.specs.{declared.fault.PresentationFault.PresentationFault, Counting.{count_faults, range_faults}}
+use Rattle.live_meaning.specs.{Updates.{unit_of, Refresh, Terms, Update, Values, is_reset, mpd_of, now_of}, Histories.{Common, begun_past}}
+use Rattle.live_meaning.specs.{Histories.{past_after, Past, Whole, begun_common, common_with, force_by, whole_of}, States.kept_and_new}
+use Rattle.live_meaning.specs.{States.{new_durations, State, Track, shown, state_of, track_of}, Refusals.{LongSegment, count_kept}}
+use Rattle.live_meaning.specs.Refusals.{over_in_track, urls_in, Ended, NotDynamic, Presentation, Refusal, clock_told, counts_kept}
+use Rattle.live_meaning.specs.Refusals.{counts_listed, ended_told, first_refusal_of, first_refusals_of, first_told_by, first_told_with}
+use Rattle.live_meaning.specs.Refusals.{joint_told, long_told, mpd_told, refusal_behind, refusal_of, segments_told, told_by, told_if}
+use Rattle.live_meaning.specs.{Refusals.{told_with, update_refusal, urls_told, window_told}, Laws.IsAccepted}
+use Rattle.presentation.specs.{Counting.{sections_of, count_faults, range_faults}, declared.fault.PresentationFault.PresentationFault}
 use Rattle.presentation.specs.{Presented.{Presented, is_finished}, Told.presented_of, Verifying.url_faults}
+use Rattle.bridge_io.specs.Firsts.{first_of}
 use Rattle.presentation.proofs.{Ending.none_behind, Reached.none_first}
-use Rattle.live_meaning.specs.{Updates.{Refresh, Terms, Update, Values, is_reset, mpd_of, now_of}, Histories.{Past, Whole, begun_common}}
-use Rattle.live_meaning.specs.{Histories.{begun_with, common_with, force_by, gone_on, whole_of}, States.{State, Track, shown, state_of}}
-use Rattle.live_meaning.specs.{States.track_of, Refusals.{Ended, NotDynamic, Presentation, Refusal, clock_told, counts_kept, counts_listed}}
-use Rattle.live_meaning.specs.Refusals.{ended_told, first_refusal_of, first_refusals_of, first_told_by, first_told_with, joint_told}
-use Rattle.live_meaning.specs.Refusals.{long_told, mpd_told, refusal_behind, refusal_of, segments_told, told_by, told_if, told_with}
-use Rattle.live_meaning.specs.{Refusals.{update_refusal, urls_told, window_told}, Laws.IsAccepted}
 use Rattle.live_meaning.proofs.{Histories.{holds, sound}, Tracks.{Each, IsWithin, each_after, each_begun}}
 
 -- ---- where nothing is told

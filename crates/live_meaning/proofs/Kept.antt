@@ -1,33 +1,33 @@
 -- No playlist is ever empty, and numbers grow with the updates.
-use Rattle.std.proofs.Common.{◌≡◌, ℕ, zero, suc, ◌+◌, ◌-◌, ◌*◌, ◌≤◌, ◌<◌, Bool, true, false, cond, eqb, ltb, not, ℤ, List, [], ◌∷◌, ◌++◌, map}
-use Rattle.std.proofs.Common.{length, drop, filter, get_or, bytes_eq, Option, Some, None, Ok, refl, sym, ◌∙◌, ap, subst, inl, inr, arith}
-use Rattle.std.proofs.{Common.{length-append, length-drop}, Math.Nat.{mul-le-mul_left, one-le-pow}, lemmas.Bool.{and_parts, cases_Bool}}
-use Rattle.std.proofs.{lemmas.Bool.{cases_lt, ltb-false}, lemmas.Bool.Decides.nat_tests, lemmas.List.{length-map, map-append}}
+use Rattle.std.proofs.Common.{◌≡◌, ℕ, zero, suc, ◌+◌, ◌-◌, ◌*◌, ◌≤◌, ◌<◌, Bool, true, false, cond, eqb, ltb, not, ℤ, List, [], ◌∷◌, ◌++◌}
+use Rattle.std.proofs.Common.{map, length, drop, filter, get_or, bytes_eq, Option, Some, None, Ok, refl, sym, ◌∙◌, ap, subst, inl, inr}
+use Rattle.std.proofs.{Common.{arith, length-append, length-drop}, Math.Nat.{mul-le-mul_left, one-le-pow}, lemmas.Bool.and_parts}
+use Rattle.std.proofs.{lemmas.Bool.{cases_Bool, ltb-false}, lemmas.Bool.Decides.nat_tests, lemmas.List.{length-map, map-append}}
 use Rattle.std.proofs.lemmas.List.Elements.{All-nil, All-append, All-drop, All-head, All-weaker, filter_passes}
 use Rattle.std.proofs.{lemmas.List.FromFn.length-range_with_len, lemmas.List.Sums.{count_by-le-length, length-filter, prefix_len-le-length}}
 use Rattle.std.proofs.{lemmas.List.Sums.sum_by-cons, lemmas.Option.same_Some}
-use Rattle.std.specs.{Prelude.{All, IfSome, flat_map, is_none, if◌then◌else◌, option_map, slice_get, sum_by}, List.{fold, position_or_len}}
-use Rattle.std.specs.{List.range_with_len, Option.option_map_or, Result.result_ok}
+use Rattle.std.specs.{Prelude.{All, IfSome, flat_map, is_none, if◌then◌else◌, option_map, slice_get, sum_by}, List.position_or_len}
+use Rattle.std.specs.{List.range_with_len, Option.option_map_or}
 use Rattle.timeline.specs.{declared.window.Window.Window, Expansions.Timing, Listed.{answered_count, expansion, is_listed, is_out_of_range}}
 use Rattle.presentation.specs.{declared.fault.PresentationFault.TheVariants.NoSegments, declared.parts.Content.Content}
 use Rattle.presentation.specs.Counting.{count_faults, count_of_track, is_over, limit_faults, listed_count, number_in, sections_of}
 use Rattle.presentation.specs.{Counting.{track_faults, tracks_of, section_faults, whole_track_faults}, Presented.{Following, Presented}}
 use Rattle.presentation.specs.Presented.{content_at, is_finished, listed_at, listed_in, looked_at, start_of, whole_window, window_at}
-use Rattle.presentation.specs.{Presented.window_of, PresentedLaws.{PresentedAreFew, PresentedAreFollowed}, Told.presented_of}
+use Rattle.presentation.specs.{Presented.window_of, PresentedLaws.{PresentedAreFew, PresentedAreFollowed}}
 use Rattle.presentation.proofs.{Ending.none_behind, Reached.{none_first, none_within}}
 use Rattle.followed.specs.Durations.{Last, durations, last_behind, told, told_behind}
 use Rattle.followed.proofs.KeptPlaces.{next_is_first}
 use Rattle.live_meaning.specs.{Updates.{Refresh, Reset, Terms, Tick, Update, Values, is_reset, unit_of}, Segments.{Kept, Numbering}}
 use Rattle.live_meaning.specs.{Segments.{Segment, behind, id_at, listed_in_period, listed_of, place_behind, segments_of}, Known.Known}
 use Rattle.live_meaning.specs.{Known.{ids_of, is_new, known_at, known_with, periods_of}, Removal.{is_available, removed_of}}
-use Rattle.live_meaning.specs.Histories.{Common, Past, Whole, after, begun_common, begun_past, common_with, force_by, gone_on, least_length}
-use Rattle.live_meaning.specs.{Histories.{new_listed, numbering_of, past_after, whole_of}, States.{State, Track, kept_and_new}}
-use Rattle.live_meaning.specs.{States.{removed_from, shown, state_of, track_of}, Refusals.{Refusal, Window as Windowed, count_kept}}
-use Rattle.live_meaning.specs.{Refusals.{counts_kept, counts_listed, over_in_all, over_in_track, told_if}, Playlists.FollowedPlaylist}
-use Rattle.live_meaning.specs.{Playlists.{item_of, playlist_of, playlist_with}, Laws.{IsAccepted, IsSmall, NeverEmpty, NumbersStaySmall}}
-use Rattle.live_meaning.proofs.{Allowed.{IsAllowed, IsFirst, IsOwn, accepted_hold, told_none}, Histories.{mapped, sound}}
-use Rattle.live_meaning.proofs.{Ids.place_is, Orders.{behind_have, listed_have, made_in}, Reloads.shown_track, Tracks.{Each, IsWithin}}
-use Rattle.live_meaning.proofs.Tracks.{kept_segments, length-told, ranged, told-segments, track_goes_on}
+use Rattle.live_meaning.specs.Histories.{Common, Past, Whole, begun_common, begun_past, common_with, force_by, least_length, new_listed}
+use Rattle.live_meaning.specs.{Histories.{numbering_of, past_after, whole_of}, States.{State, Track, kept_and_new, removed_from, shown}}
+use Rattle.live_meaning.specs.{States.track_of, Refusals.{Window as Windowed, count_kept, counts_listed, over_in_track}}
+use Rattle.live_meaning.specs.{Playlists.{FollowedPlaylist, item_of, playlist_with}, Laws.{IsAccepted, IsSmall, NeverEmpty}}
+use Rattle.live_meaning.specs.Laws.{NumbersStaySmall}
+use Rattle.live_meaning.proofs.{Allowed.{IsAllowed, IsFirst, IsOwn, accepted_hold, told_none}, Histories.{mapped, sound}, Ids.place_is}
+use Rattle.live_meaning.proofs.{Orders.{behind_have, listed_have, made_in}, Reloads.shown_track, Tracks.{Each, IsWithin, kept_segments}}
+use Rattle.live_meaning.proofs.Tracks.{length-told, ranged, told-segments, track_goes_on}
 
 -- ---- how many segments are listed
 

@@ -1,25 +1,23 @@
 -- All segments that were listed stand in order, where each update lists its own in order, and those of one section lie in one Period.
-use Rattle.std.proofs.Common.{◌≡◌, ℕ, ◌+◌, ◌-◌, ◌≤◌, ◌<◌, zero, suc, ◌&&◌, ◌⊎◌, Bool, true, false, cond, eqb, get_or, List, [], ◌∷◌, ◌++◌, map}
-use Rattle.std.proofs.{Common.{Option, Some, None, refl, sym, ◌∙◌, ap, subst, inl, inr, arith}, lemmas.List.{append-nil, append_assoc}}
-use Rattle.std.proofs.{lemmas.Bool.{and_parts, cases_Bool, cases_lt, eqb-true, le-ltb}, lemmas.List.Elements.{All-nil, All-cons}}
-use Rattle.std.proofs.lemmas.List.Elements.{All-append, All-filter, All-head, All-map, All-tail, All-weaker, filter_passes}
-use Rattle.std.proofs.lemmas.Simd.{map-map}
-use Rattle.std.specs.{Prelude.{All, flat_map, length, option_map, slice_get}, Option.option_map_or, List.range_with_len, Result.result_ok}
+use Rattle.std.proofs.Common.{◌≡◌, ℕ, ◌+◌, ◌-◌, ◌≤◌, ◌<◌, zero, suc, ◌&&◌, Bool, true, false, cond, eqb, get_or, List, [], ◌∷◌, ◌++◌, map}
+use Rattle.std.proofs.{Common.{Option, Some, None, refl, sym, ◌∙◌, subst, inl, inr, arith}, lemmas.List.{append-nil, append_assoc}}
+use Rattle.std.proofs.{lemmas.Bool.{and_parts, cases_lt, eqb-true, le-ltb}, lemmas.List.Elements.{All-nil, All-append, All-filter}}
+use Rattle.std.proofs.{lemmas.List.Elements.{All-head, All-map, All-tail, All-weaker, filter_passes}, lemmas.Simd.map-map}
+use Rattle.std.proofs.lemmas.Option.{same_Some}
+use Rattle.std.specs.{Prelude.{All, flat_map, length, slice_get}, Option.option_map_or, List.range_with_len}
 use Rattle.exact_time.specs.{Laws.SumsAreFloors, Time.{AreRising, Time, before}}
 use Rattle.exact_time.proofs.TimeOrder.{before-true}
 use Rattle.timeline.specs.Expansions.{Timing}
-use Rattle.followed.specs.{Durations.{Last, last_behind, last_with}, Order.{Behind, BehindLast, InOrder, IsTimed}}
+use Rattle.followed.specs.{Durations.{Last, last_behind, last_with}, Order.{Behind, InOrder, IsTimed}}
 use Rattle.followed.proofs.ListedInOrder.{later_in_order, order-append, section_is_in_order, sections_are_in_order}
 use Rattle.followed.proofs.PrintedSections.{last_section, sections_sum}
 use Rattle.presentation.specs.{declared.parts.Content.Content, Presented.{Presented, content_at, listed_at, start_of}}
-use Rattle.presentation.proofs.Grids.{All-at}
 use Rattle.live_meaning.specs.Segments.{Numbering, Segment, behind, id_at, is_later, listed_in_period, listed_of, place_behind, place_of}
-use Rattle.live_meaning.specs.{Segments.segment_with, Updates.{Terms, Update, Refresh, is_reset, unit_of}, Histories.{Common, Whole, after}}
-use Rattle.live_meaning.specs.Histories.{all_of, begun_common, begun_with, common_with, gone_on, numbering_of, whole_of}
-use Rattle.live_meaning.specs.Laws.{AllAreInOrder, DoesLast, PeriodsAreListedInOrder, IsListedInOrder, SectionsNeverDrift}
+use Rattle.live_meaning.specs.{Segments.segment_with, Updates.{Terms, Update, is_reset, unit_of}, Histories.{Common, Whole, all_of}}
+use Rattle.live_meaning.specs.{Histories.{begun_common, begun_with, common_with, gone_on, numbering_of, whole_of}, Laws.AllAreInOrder}
+use Rattle.live_meaning.specs.Laws.{DoesLast, PeriodsAreListedInOrder, IsListedInOrder, SectionsNeverDrift}
 use Rattle.live_meaning.proofs.{Histories.{begun_is, gone_is, holds, past_holds}, Tracks.{Each, each_after, each_begun, last_goes_on}}
 use Rattle.live_meaning.proofs.Tracks.{place_goes_on}
-use Rattle.std.proofs.lemmas.Option.{same_Some}
 
 -- ---- what holds of each segment of an update
 

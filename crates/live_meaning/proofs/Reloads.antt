@@ -1,6 +1,6 @@
 -- Each playlist of a followed track may take the place of the one before it.
-use Rattle.std.proofs.Common.{◌≡◌, ℕ, ◌+◌, ◌-◌, ◌*◌, ◌^◌, ◌≤◌, zero, suc, Bool, false, List, [], ◌∷◌, ◌++◌, map, length, drop, sum, Option}
-use Rattle.std.proofs.{Common.{Some, None, Ok, refl, sym, ◌∙◌, ap, subst, inl, inr, arith}, lemmas.Bool.{cases_Bool, cases_lt}}
+use Rattle.std.proofs.Common.{◌≡◌, ℕ, ◌+◌, ◌-◌, ◌*◌, ◌^◌, ◌≤◌, zero, suc, Bool, false, List, [], ◌∷◌, ◌++◌, map, length, drop, sum, Some}
+use Rattle.std.proofs.{Common.{None, Ok, refl, sym, ◌∙◌, ap, subst, inl, inr, arith}, lemmas.Bool.{cases_Bool, cases_lt}}
 use Rattle.std.proofs.{lemmas.List.{length-map, map-append}, lemmas.List.Sums.sum_by-cons, lemmas.Option.{same_Some, slice_get-map}}
 use Rattle.std.proofs.{lemmas.Nat.pow-add, Math.Nat.{mul-le-mul_left, one-le-pow}}
 use Rattle.std.specs.{Prelude.{option_map, slice_get, sum_by}, Result.result_ok}
@@ -9,13 +9,13 @@ use Rattle.reload_law.specs.{Rules.lawful, Laws.{ReloadsItself, RulesAreSentence
 use Rattle.followed.specs.Durations.{durations, last_behind, told, told_behind}
 use Rattle.followed.proofs.{KeptPlaces.next_is_first, PrintedSections.told_goes_on}
 use Rattle.presentation.specs.Presented.{Presented, is_finished}
-use Rattle.live_meaning.specs.{Updates.{Terms, Update, unit_of}, Segments.{Kept, Segment, segments_of}, Removal.is_available, Histories.Common}
-use Rattle.live_meaning.specs.Histories.{Past, Whole, after, common_with, force_by, gone_on, least_length, new_listed, past_after, pasts_after, whole_of}
-use Rattle.live_meaning.specs.{States.{State, Track, shown, state_of, track_of}, Refusals.{Ended, refusal_of}, Playlists.FollowedPlaylist}
-use Rattle.live_meaning.specs.{Playlists.{item_of, playlist_of, playlist_with}, Grown.{IsLater, media_from}, Laws.ReloadsAreLawful}
-use Rattle.live_meaning.specs.Laws.{media_of, segment_of}
-use Rattle.live_meaning.proofs.{Grown.grown_is_lawful, Tracks.{length-told, past_behind, stays_within}}
-use Rattle.live_meaning.proofs.Histories.{histories_refuse, mapped, sound, whole_goes_on}
+use Rattle.live_meaning.specs.{Updates.{Terms, Update, unit_of}, Segments.{Kept, Segment, segments_of}, Removal.is_available}
+use Rattle.live_meaning.specs.Histories.{Common, Past, Whole, after, common_with, force_by, gone_on, least_length, new_listed, past_after}
+use Rattle.live_meaning.specs.{Histories.{pasts_after, whole_of}, States.{State, Track, shown, state_of, track_of}, Refusals.Ended}
+use Rattle.live_meaning.specs.{Refusals.refusal_of, Playlists.{FollowedPlaylist, item_of, playlist_of, playlist_with}, Grown.IsLater}
+use Rattle.live_meaning.specs.{Grown.media_from, Laws.{ReloadsAreLawful, media_of, segment_of}}
+use Rattle.live_meaning.proofs.{Grown.grown_is_lawful, Tracks.{length-told, past_behind, stays_within}, Histories.histories_refuse}
+use Rattle.live_meaning.proofs.Histories.{mapped, sound, whole_goes_on}
 
 -- ---- nothing follows an end
 

@@ -1,13 +1,15 @@
 -- What an update makes of a track's past is what it makes of what is kept of it.
 use Rattle.std.proofs.Common.{◌≡◌, ℕ, zero, suc, ◌+◌, ◌≤◌, List, [], ◌∷◌, ◌++◌, map, length, drop, Option, Some, None, refl, sym, ◌∙◌, ap}
-use Rattle.std.proofs.{Common.{subst, arith, length-append}, lemmas.Option.{same_Some, slice_get_read, slice_get_within}, lemmas.List.FromFn.{get_or-map-range_with_len, length-map-range_with_len}, lemmas.List.{drop-map, drop-drop, drop-append-le}}
+use Rattle.std.proofs.{Common.{subst, arith, length-append}, lemmas.Option.{same_Some, slice_get_read, slice_get_within}}
+use Rattle.std.proofs.{lemmas.List.FromFn.{get_or-map-range_with_len, length-map-range_with_len}, lemmas.List.{drop-map, drop-drop}}
+use Rattle.std.proofs.lemmas.List.{drop-append-le}
 use Rattle.std.specs.{Prelude.{Bool, ◌<◌, option_map, slice_get}, List.range_with_len}
 use Rattle.followed.specs.{Places.next_first, Durations.{Last, durations, last_behind, last_with, told, told_behind}}
 use Rattle.followed.proofs.{KeptPlaces.{next_from_kept, next_is_first}, PrintedSections.told_goes_on}
 use Rattle.presentation.specs.Presented.{Following}
 use Rattle.live_meaning.specs.{Updates.unit_of, Segments.{Kept, Segment, place_behind, segments_of}, Removal.{first_kept, is_available}}
-use Rattle.live_meaning.specs.{Removal.removed_of, Histories.{Common, Past, begun_past, begun_with, least_length, new_listed, past_after, pasts_after}}
-use Rattle.live_meaning.specs.States.{Track, kept_and_new, removed_from, track_after, track_of, tracks_after}
+use Rattle.live_meaning.specs.{Removal.removed_of, Histories.{Common, Past, begun_past, begun_with, least_length, new_listed, past_after}}
+use Rattle.live_meaning.specs.{Histories.pasts_after, States.{kept_and_new, removed_from, track_after, track_of, tracks_after}}
 
 -- ---- what gave a value
 
