@@ -1,17 +1,18 @@
 -- What an accepted update leaves in force.
 use Rattle.std.proofs.Common.{◌≡◌, ℕ, zero, suc, ◌+◌, ◌*◌, ◌<◌, Bool, true, false, ◌==◌, ◌&&◌, ◌||◌, not, ℤ, List, [], ◌∷◌, ◌++◌, map}
-use Rattle.std.proofs.Common.{filter, length, get_or, bytes_eq, Option, Some, None, Ok, refl, sym, ◌∙◌, ap, subst, inl, inr, arith}
-use Rattle.std.proofs.{Common.length-append, Math.Nat.mul-le-mul_left, lemmas.Bool.{and_parts, cases_Bool, eqb-true}}
-use Rattle.std.proofs.{lemmas.List.{append_assoc, length-map, map-append}, lemmas.List.Folds.{find-append, find_at, list_any_at}}
-use Rattle.std.proofs.lemmas.List.FromFn.{get_or-map-range_with_len, get_or-range_with_len, length-range_with_len}
-use Rattle.std.proofs.{lemmas.Option.{slice_get-get_or, slice_get-map}, lemmas.Slice.Eq.bytes_eq-Decides}
+use Rattle.std.proofs.Common.{filter, flat_map, length, get_or, bytes_eq, Option, Some, None, Ok, refl, sym, ◌∙◌, ap, subst, inl, inr}
+use Rattle.std.proofs.{Common.arith, Math.Nat.mul-le-mul_left, lemmas.Bool.{and_parts, cases_Bool, eqb-true}, lemmas.List.length-map}
+use Rattle.std.proofs.{lemmas.List.map-append, lemmas.List.Folds.{find-append, find_at, list_any_at}}
+use Rattle.std.proofs.lemmas.List.FromFn.{length-map-range_with_len, get_or-range_with_len, length-range_with_len}
+use Rattle.std.proofs.{lemmas.Option.slice_get-map, lemmas.Slice.Eq.bytes_eq-Decides}
 use Rattle.std.specs.{Prelude.{All, is_none, is_some, option_map, option_to_list, slice_get}, List.{find, list_any, position_or_len}}
 use Rattle.std.specs.{List.range_with_len, Option.{option_eq, option_map_or, option_or}}
 use Rattle.mpd_rules.specs.Laws.{PeriodIdsDiffer, are_once, ids_of as ids_said}
 use Rattle.presentation.specs.{declared.track.Section.Section, declared.track.Track.Track as Described, Counting.sections_of}
 use Rattle.presentation.specs.{Presented.{Presented, content_at, looked_at, start_of}, PresentedLaws.SectionsArePeriods, Rows.{Period, Row}}
 use Rattle.presentation.specs.{Rows.{first_rows, in_order, section_of, track_of}, Told.presented_of, declared.parts.Content.Content}
-use Rattle.presentation.proofs.{Ending.all_filled, Filling.length_in_order, FromMpd.is_told, Grids.{found, in_row}, Reached.none_within}
+use Rattle.presentation.proofs.{Ending.all_filled, Filling.length_in_order, FromMpd.is_told, Grids.{found, same_members}}
+use Rattle.presentation.proofs.Reached.{none_within}
 use Rattle.reload_law.specs.Rules.{same_part, same_range}
 use Rattle.url_parts.specs.{declared.address.Part.Part, declared.range.Range.Range}
 use Rattle.live_meaning.specs.{Updates.{Refresh, Reset, Terms, Tick, Update, Values}, Segments.{Segment, id_at, listed_of, place_of}}
@@ -19,26 +20,11 @@ use Rattle.live_meaning.specs.Known.{Attributes, Known, all_same, attributes_at,
 use Rattle.live_meaning.specs.{Known.{known_by, known_with, periods_of, same_attributes}, Histories.{Common, numbering_of}, States.State}
 use Rattle.live_meaning.specs.Refusals.{Changed, are_alike, differs_at, ids_in, is_alike, is_changed, lack_ids, moved_by, moved_told}
 use Rattle.live_meaning.specs.{Refusals.{mpd_told, older_than, rewritten_told, starts_otherwise, told_if}, Laws.{HasRisingPeriods, IsTyped}}
-use Rattle.live_meaning.proofs.{Allowed.{IsAllowed, IsFirst, negated, none_each, told_none}, Ids.{AreLast, get_behind, last_again}}
-use Rattle.live_meaning.proofs.{Ids.{last_at_first, last_with_new, new_ids, new_in, place_is, placed_at, placed_in}, Orders.listed_have}
+use Rattle.live_meaning.proofs.{Allowed.{IsAllowed, IsFirst, negated, none_each, told_none}, Ids.{AreLast, last_again, last_at_first}}
+use Rattle.live_meaning.proofs.{Ids.{last_with_new, new_ids, new_in, place_is, placed_at, placed_in}, Orders.listed_have, Tracks.ranged}
 use Rattle.live_meaning.proofs.Times.{IsSoundIn, period_timed, presented_sound}
 
 -- ---- ids of Periods
-
-abbrev names : List Section → (first count : ℕ) → List (List ℕ)
-names xs first count = map (λ s. option_map_or (λ section. section.id) (slice_get xs s) []) (range_with_len first count)
-
-names_are : (front xs : List Section) → names (front ++ xs) (length front) (length xs) ≡ map (λ section. section.id) xs
-names_are front [] = refl
-names_are front (x ∷ xs) =
-    let here : slice_get (front ++ x ∷ xs) (length front) ≡ Some x =
-    ap (slice_get (front ++ x ∷ xs)) (omega arith) ∙ get_behind front (x ∷ xs) 0 in
-    let more : length (front ++ x ∷ []) ≡ length front + 1 = omega (arith, length-append front (x ∷ [])) in
-    let rest : names (front ++ x ∷ xs) (length front + 1) (length xs) ≡ map (λ section. section.id) xs =
-    ap (λ (ys : List Section). names ys (length front + 1) (length xs)) (sym (append_assoc front (x ∷ []) xs))
-    ∙ ap (λ n. names ((front ++ x ∷ []) ++ xs) n (length xs)) (sym more)
-    ∙ names_are (front ++ x ∷ []) xs in
-    rw here (ap (λ (ids : List (List ℕ)). x.id ∷ ids) rest)
 
 pub id_there : (xs : List Section) (s : ℕ) → s < length xs
     → slice_get (map (λ section. section.id) xs) s ≡ Some (option_map_or (λ section. section.id) (slice_get xs s) [])
@@ -46,12 +32,15 @@ id_there [] s less = absurd (omega arith)
 id_there (x ∷ xs) zero less = refl
 id_there (x ∷ xs) (suc s) less = id_there xs s (omega arith)
 
-known_ids : (p : Presented) (ss : List ℕ) → ids_of (map (known_at p) ss) ≡ map (id_at p) ss
-known_ids p [] = refl
-known_ids p (s ∷ ss) = ap (λ (ids : List (List ℕ)). id_at p s ∷ ids) (known_ids p ss)
-
 ids_of_periods : (p : Presented) → ids_of (periods_of p) ≡ ids_in p
-ids_of_periods p = known_ids p (sections_of p) ∙ names_are [] p.sections
+ids_of_periods p =
+    let n : ℕ = length p.sections in
+    let many : length (ids_of (periods_of p)) ≡ n =
+    length-map (periods_of p) (λ (k : Known). k.id) ∙ length-map-range_with_len (known_at p) 0 n in
+    same_members (ids_of (periods_of p)) (ids_in p) (many ∙ sym (length-map p.sections (λ section. section.id))) (λ k below.
+    let less : k < n = omega (arith, below, many) in
+    slice_get-map (λ (k : Known). k.id) (periods_of p) k ∙ ap (option_map (λ (k : Known). k.id)) (ranged (known_at p) n k less)
+    ∙ sym (id_there p.sections k less))
 
 pub known_grown : (known : List Known) (p : Presented) → ids_of (known_with known p) ≡ ids_of known ++ new_in (ids_of known) (ids_in p)
 known_grown known p =
@@ -100,20 +89,12 @@ newly_known : (known : List Known) (p : Presented) (s : ℕ) → are_once (ids_i
     → known_by known (id_at p s) ≡ None → known_by (known_with known p) (id_at p s) ≡ Some (known_at p s)
 newly_known known p s once less none =
     let id : List ℕ = id_at p s in
-    let many : s < length (periods_of p) = omega (
-      arith,
-      less,
-      length-map (sections_of p) (known_at p),
-      length-range_with_len 0 (length p.sections),
-    ) in
-    let at : slice_get (periods_of p) s ≡ Some (known_at p s) =
-    slice_get-get_or (periods_of p) s (known_at p s) many
-    ∙ ap (λ k. Some k) (get_or-map-range_with_len (known_at p) 0 (length p.sections) s s (known_at p s) less (omega arith)) in
     find-append (has_id id) known (filter (is_new known) (periods_of p))
     ∙ ap (λ o. option_or o (find (has_id id) (filter (is_new known) (periods_of p)))) none
     ∙ find_kept (has_id id) (is_new known) (periods_of p)
     (λ k is. ap (λ x. is_none (known_by known x)) (sym ((bytes_eq-Decides id k.id).0 is)) ∙ ap is_none none)
-    ∙ known_once (periods_of p) s (known_at p s) (ap are_once (ids_of_periods p) ∙ once) at
+    ∙ known_once (periods_of p) s (known_at p s) (ap are_once (ids_of_periods p) ∙ once)
+    (ranged (known_at p) (length p.sections) s less)
 
 -- what initializes each track
 abbrev pub maps_of : List Attributes → List Part
@@ -285,24 +266,28 @@ known_of known t place = option_map (λ k. (k.start, slice_get (maps_of k.attrib
 abbrev pub IsKnown : List Known → ℕ → Segment → Type 0
 IsKnown known t x = known_of known t x.value.place ≡ Some (x.value.period_start, Some x.value.map)
 
+-- of places that each have a value
+each_given : {X : Type 0} (f : ℕ → Option X) (a n t : ℕ) → ((r : ℕ) → r < a + n → (x : X) × (f r ≡ Some x)) → t < n
+    → slice_get (flat_map (λ r. option_to_list (f r)) (range_with_len a n)) t ≡ f (t + a)
+each_given {X} f a zero t each less = absurd (omega arith)
+each_given {X} f a (suc n) zero each less =
+    let here = (each a (omega arith)).1 in let same : a ≡ 0 + a = omega arith in rw here (sym here ∙ ap f same)
+each_given {X} f a (suc n) (suc t) each less =
+    let same : t + (a + 1) ≡ suc t + a = omega arith in
+    rw (each a (omega arith)).1 (each_given f (a + 1) n t (λ r within. each r (omega arith)) (omega arith) ∙ ap f same)
+
 own_map : (p : Presented) (s t : ℕ) (content : Content) → length p.contents ≡ length p.sections * length p.tracks → s < length p.sections
     → t < length p.tracks → content_at p s t ≡ Some content → slice_get (maps_of (attributes_at p s)) t ≡ Some content.initialization
 own_map p s t content filled in_sections in_tracks at =
-    let own : ℕ → List Attributes = λ r. option_to_list (option_map attributes_of (content_at p s r)) in
+    let own : ℕ → Option Attributes = λ r. option_map attributes_of (content_at p s r) in
     let n : ℕ = length p.tracks in
-    let one : (r : ℕ) → r < n → length (own r) ≡ 1 =
-    λ r less. let there = found p.contents (s * n + r) (omega (arith, less, filled, mul-le-mul_left n in_sections)) in rw there.1 refl in
-    let here : get_or (range_with_len 0 n) t 0 ≡ t = get_or-range_with_len 0 n t 0 in_tracks ∙ omega arith in
-    let long : length (range_with_len 0 n) ≡ n = length-range_with_len 0 n in
-    let ranged : slice_get (range_with_len 0 n) t ≡ Some t = slice_get-get_or (range_with_len 0 n) t 0 (omega (arith, in_tracks, long))
-    ∙ ap (λ r. Some r) here in
-    let row = in_row own 1 (range_with_len 0 n) t 0 t
-    (λ j d within. one (get_or (range_with_len 0 n) j d)
-    (omega (arith, within, long, get_or-range_with_len 0 n j d (omega (arith, within, long))))) ranged (omega arith) in
-    let place : t * 1 + 0 ≡ t = omega arith in
+    let given : (r : ℕ) → r < 0 + n → (x : Attributes) × (own r ≡ Some x) = λ r less.
+    let there = found p.contents (s * n + r) (omega (arith, less, filled, mul-le-mul_left n in_sections)) in
+    (attributes_of there.0, ap (option_map attributes_of) there.1) in
+    let none : t + 0 ≡ t = omega arith in
     slice_get-map (λ (a : Attributes). a.initialization) (attributes_at p s) t
-    ∙ ap (λ k. option_map (λ (a : Attributes). a.initialization) (slice_get (attributes_at p s) k)) (sym place)
-    ∙ ap (option_map (λ (a : Attributes). a.initialization)) (row ∙ ap (λ o. slice_get (option_to_list (option_map attributes_of o)) 0) at)
+    ∙ ap (option_map (λ (a : Attributes). a.initialization)) (each_given own 0 n t given in_tracks ∙ ap own none
+    ∙ ap (option_map attributes_of) at)
 
 pub listed_known : (c : Common) (t : ℕ) → IsInForce c.opened c.known c.force → t < length c.opened.tracks
     → All (IsKnown c.known t) (listed_of (numbering_of c) c.force t)

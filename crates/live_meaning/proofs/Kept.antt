@@ -4,17 +4,17 @@ use Rattle.std.proofs.Common.{map, length, drop, filter, get_or, bytes_eq, Optio
 use Rattle.std.proofs.{Common.{arith, length-append, length-drop}, Math.Nat.{mul-le-mul_left, one-le-pow}, lemmas.Bool.and_parts}
 use Rattle.std.proofs.{lemmas.Bool.{cases_Bool, ltb-false}, lemmas.Bool.Decides.nat_tests, lemmas.List.{length-map, map-append}}
 use Rattle.std.proofs.lemmas.List.Elements.{All-nil, All-append, All-drop, All-head, All-weaker, filter_passes}
-use Rattle.std.proofs.{lemmas.List.FromFn.length-range_with_len, lemmas.List.Sums.{count_by-le-length, length-filter, prefix_len-le-length}}
-use Rattle.std.proofs.{lemmas.List.Sums.sum_by-cons, lemmas.Option.same_Some}
+use Rattle.std.proofs.{lemmas.List.FromFn.length-range_with_len, lemmas.List.Concat.length-flat_map, lemmas.List.Sums.count_by-le-length}
+use Rattle.std.proofs.{lemmas.List.Sums.{length-filter, prefix_len-le-length, sum_by-cons}, lemmas.Option.same_Some}
 use Rattle.std.specs.{Prelude.{All, IfSome, flat_map, is_none, if◌then◌else◌, option_map, slice_get, sum_by}, List.position_or_len}
 use Rattle.std.specs.{List.range_with_len, Option.option_map_or}
-use Rattle.timeline.specs.{declared.window.Window.Window, Expansions.Timing, Listed.{answered_count, expansion, is_listed, is_out_of_range}}
+use Rattle.timeline.specs.{declared.window.Window.Window, Expansions.Timing, Listed.{expansion, is_listed}}
 use Rattle.presentation.specs.{declared.fault.PresentationFault.TheVariants.NoSegments, declared.parts.Content.Content}
-use Rattle.presentation.specs.Counting.{count_faults, count_of_track, is_over, limit_faults, listed_count, number_in, sections_of}
-use Rattle.presentation.specs.{Counting.{track_faults, tracks_of, section_faults, whole_track_faults}, Presented.{Following, Presented}}
-use Rattle.presentation.specs.Presented.{content_at, is_finished, listed_at, listed_in, looked_at, start_of, whole_window, window_at}
-use Rattle.presentation.specs.{Presented.window_of, PresentedLaws.{PresentedAreFew, PresentedAreFollowed}}
-use Rattle.presentation.proofs.{Ending.none_behind, Reached.{none_first, none_within}}
+use Rattle.presentation.specs.Counting.{count_faults, count_of_track, is_over, limit_faults, listed_count, sections_of, track_faults}
+use Rattle.presentation.specs.{Counting.{tracks_of, section_faults, whole_track_faults}, Presented.{Following, Presented, content_at}}
+use Rattle.presentation.specs.Presented.{is_finished, listed_at, listed_in, looked_at, start_of, whole_window, window_at, window_of}
+use Rattle.presentation.specs.PresentedLaws.{PresentedAreFew, PresentedAreFollowed}
+use Rattle.presentation.proofs.{Ending.none_behind, Reached.{all_reached, none_first, none_within}, Tracks.all_counted}
 use Rattle.followed.specs.Durations.{Last, durations, last_behind, told, told_behind}
 use Rattle.followed.proofs.KeptPlaces.{next_is_first}
 use Rattle.live_meaning.specs.{Updates.{Refresh, Reset, Terms, Tick, Update, Values, is_reset, unit_of}, Segments.{Kept, Numbering}}
@@ -40,34 +40,23 @@ listed_many : (n : Numbering) (p : Presented) (t : ℕ) (ss : List ℕ)
     → length (flat_map (listed_in_period n p t) ss) ≡ length (flat_map (λ s. listed_at p s t) ss)
 listed_many n p t [] = refl
 listed_many n p t (s ∷ ss) =
-    omega (
-      arith,
-      made_many (made_in n p s) (λ content. listed_in (window_of p s) content.runs) (content_at p s t),
-      listed_many n p t ss,
+    rw (
       length-append (listed_in_period n p t s) (flat_map (listed_in_period n p t) ss),
       length-append (listed_at p s t) (flat_map (λ s. listed_at p s t) ss),
+      listed_many n p t ss,
     )
+    (ap (λ m. m + length (flat_map (λ s. listed_at p s t) ss))
+    (made_many (made_in n p s) (λ content. listed_in (window_of p s) content.runs) (content_at p s t)))
 
-counted : (window : Window) (o : Option Content)
-    → number_in (option_map_or (λ content. answered_count content.runs window) o (Ok 0)) ≤ length
-    (option_map_or (λ content. listed_in window content.runs) o [])
-counted window None = omega arith
-counted window (Some content) = elim (cases_Bool (is_out_of_range content.runs window)) [
-  | inl out ↦ rw out (omega arith)
-  | inr not_out ↦
-      rw not_out (omega arith)
-]
-
-all_counted : (p : Presented) (t : ℕ) (ss : List ℕ) → sum_by (listed_count p t) ss ≤ length (flat_map (λ s. listed_at p s t) ss)
-all_counted p t [] = omega arith
-all_counted p t (s ∷ ss) =
-    omega (
-      arith,
-      counted (window_of p s) (content_at p s t),
-      all_counted p t ss,
-      sum_by-cons (listed_count p t) s ss,
-      length-append (listed_at p s t) (flat_map (λ s. listed_at p s t) ss),
-    )
+sums-le : (f g : ℕ → ℕ) (a n : ℕ) → ((s : ℕ) → s < a + n → f s ≤ g s) → sum_by f (range_with_len a n) ≤ sum_by g (range_with_len a n)
+sums-le f g a zero each = omega arith
+sums-le f g a (suc n) each = omega (
+  arith,
+  each a (omega arith),
+  sums-le f g (a + 1) n (λ s within. each s (omega arith)),
+  sum_by-cons f a (range_with_len (a + 1) n),
+  sum_by-cons g a (range_with_len (a + 1) n),
+)
 
 -- a track of a followed presentation
 some_listed : (p : Presented) (t : ℕ) → is_finished p ≡ false → count_faults p ≡ [] → t < length p.tracks
@@ -76,9 +65,12 @@ some_listed p t followed none less =
     let tracks = none_first (flat_map (track_faults p) (tracks_of p)) (limit_faults (is_over p)) none in
     let track = none_within (track_faults p) (length p.tracks) t tracks less in
     let whole = none_behind (flat_map (section_faults p t) (sections_of p)) (whole_track_faults p t) track in
+    let counted = sums-le (listed_count p t) (λ s. length (listed_at p s t)) 0 (length p.sections)
+    (λ s within. omega (arith, all_counted p s t (all_reached p none t less s (omega arith)))) in
     elim (cases_Bool (eqb (count_of_track p t) 0)) [
       | inl nothing ↦ let never : NoSegments 0 t ∷ [] ≡ [] = rw (followed, nothing) at whole in absurd (cc)
-      | inr some ↦ let more : 0 < count_of_track p t = grind (arith, nat_tests) in omega (arith, all_counted p t (sections_of p), more)
+      | inr some ↦ let more : 0 < count_of_track p t = grind (arith, nat_tests) in
+          omega (arith, counted, length-flat_map (λ s. listed_at p s t) (sections_of p), more)
     ]
 
 -- none of the numbers of tracks is told

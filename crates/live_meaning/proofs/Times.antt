@@ -1,29 +1,32 @@
 -- In each Period of an MPD's presentation the ends of the listed segments rise, at each instant.
-use Rattle.std.proofs.Common.{◌≡◌, ℕ, zero, suc, ◌+◌, ◌*◌, Bool, ℤ, List, [], ◌∷◌, map, length, Option, Some, None, Ok, refl, sym, ap}
-use Rattle.std.proofs.{Common.{subst, inl, inr}, lemmas.Bool.cases_Bool, lemmas.List.Elements.{All-nil, All-filter, All-from_recursion}}
+use Rattle.std.proofs.Common.{◌≡◌, ℕ, ◌+◌, ◌*◌, Bool, ℤ, List, [], ◌∷◌, map, length, Option, Some, None, Ok, refl, sym, ap, subst, inl, inr}
+use Rattle.std.proofs.{lemmas.Bool.cases_Bool, lemmas.List.Elements.{All-nil, All-filter, All-from_recursion}}
 use Rattle.std.specs.{Prelude.{All, filter, unwrap_or}, List.AllByRecursion, Option.option_map_or}
-use Rattle.exact_time.specs.Time.{Time, AreRising}
+use Rattle.exact_time.specs.Time.{Time, AreRising, IsAtMost, IsTime}
 use Rattle.exact_time.proofs.TimeOrder.{IsAtMost-from_before, before_then_at_most}
 use Rattle.mpd_levels.specs.Segments.{Segments}
-use Rattle.timeline.specs.declared.entry.SEntry.{SEntry}
-use Rattle.timeline.specs.{declared.entry.End.End, declared.names.Names.Names, declared.window.Window.Window, Expansions.{Closed, Endless}}
-use Rattle.timeline.specs.Expansions.{Extent, Member, SegmentTimeline, Short, Timing, ended_by, extents, numbered, repeat_of, repeated}
-use Rattle.timeline.specs.{Limits.too_long, Listed.{instant_of, is_listed}, Steady.{AreLasting, Lasts, LastsTicks}}
-use Rattle.timeline.proofs.{KeptLemmas.all_append, Rises.{Lasts-from_ticks, LastsTicks-repeat, ends_rise, no_step_from}}
+use Rattle.timeline.specs.{declared.entry.SEntry.SEntry, declared.entry.End.End, declared.names.Names.Names, declared.window.Window.Window, Expansions.Extent}
+use Rattle.timeline.specs.{Expansions.{SegmentTimeline, Timing, extents, numbered}, Limits.too_long, Listed.{expansion, instant_of}}
+use Rattle.timeline.specs.Listed.{is_listed}
+use Rattle.timeline.proofs.Rises.{ends_rise, no_step_from}
 use Rattle.presentation.specs.{declared.parts.Content.Content, Presented.{Presented, content_at, listed_at, listed_in, window_of}}
 use Rattle.presentation.specs.{Scales.scale_of, Told.{presented_of, timeline_by}}
-use Rattle.presentation.proofs.{Ending.all_have, FromMpd.is_told, Grids.All-at, Pace.{IsSound, duration_sound, entries_sound}}
+use Rattle.presentation.proofs.{Ending.all_have, FromMpd.is_told, Grids.All-at, Pace.{IsSound, expansion_has, duration_sound}}
+use Rattle.presentation.proofs.Pace.{entries_sound}
 use Rattle.live_meaning.specs.{Updates.Values, Laws.DoesLast}
 
 -- ---- the segments that are listed of some whose ends rise
 
-skipped : (former : Time) (x : Timing) (xs : List Timing) → AllByRecursion DoesLast xs → AreRising (former ∷ x.end ∷ map (λ y. y.end) xs)
+abbrev HasEnd : Timing → Type 0
+HasEnd x = IsTime x.end
+
+skipped : (former : Time) (x : Timing) (xs : List Timing) → AllByRecursion HasEnd xs → AreRising (former ∷ x.end ∷ map (λ y. y.end) xs)
     → AreRising (former ∷ map (λ y. y.end) xs)
 skipped former x [] last rise = tt
 skipped former x (y ∷ ys) last rise =
-    (before_then_at_most former x.end y.end last.0.end rise.0 (IsAtMost-from_before x.end y.end rise.1.0), rise.1.1)
+    (before_then_at_most former x.end y.end last.0 rise.0 (IsAtMost-from_before x.end y.end rise.1.0), rise.1.1)
 
-later_rise : (test : Timing → Bool) (former : Time) (xs : List Timing) → AllByRecursion DoesLast xs
+later_rise : (test : Timing → Bool) (former : Time) (xs : List Timing) → AllByRecursion HasEnd xs
     → AreRising (former ∷ map (λ y. y.end) xs) → AreRising (former ∷ map (λ y. y.end) (filter test xs))
 later_rise test former [] last rise = tt
 later_rise test former (x ∷ xs) last rise = elim (cases_Bool (test x)) [
@@ -35,7 +38,7 @@ behind_first : (x : Timing) (xs : List Timing) → AreRising (x.end ∷ map (λ 
 behind_first x [] rise = tt
 behind_first x (y ∷ ys) rise = rise.1
 
-filter_rises : (test : Timing → Bool) (xs : List Timing) → AllByRecursion DoesLast xs → AreRising (map (λ y. y.end) xs)
+filter_rises : (test : Timing → Bool) (xs : List Timing) → AllByRecursion HasEnd xs → AreRising (map (λ y. y.end) xs)
     → AreRising (map (λ y. y.end) (filter test xs))
 filter_rises test [] last rise = tt
 filter_rises test (x ∷ xs) last rise = elim (cases_Bool (test x)) [
@@ -44,26 +47,6 @@ filter_rises test (x ∷ xs) last rise = elim (cases_Bool (test x)) [
 ]
 
 -- ---- the segments of a timeline
-
-repeated_last : (count : ℕ) (x : Extent) → LastsTicks x → AllByRecursion Lasts (repeated count x)
-unfolding repeated
-repeated_last zero x is = tt
-repeated_last (suc count) x is = (Lasts-from_ticks x is, repeated_last count (repeat_of x) (LastsTicks-repeat x is))
-
-extents_last : (instant : Time) (members : List Member) → AreLasting members → AllByRecursion Lasts (extents instant members)
-extents_last instant [] lasting = tt
-extents_last instant (Closed x ∷ later) lasting = (lasting.0, extents_last instant later lasting.1)
-extents_last instant (Short x ∷ later) lasting = extents_last instant later lasting
-extents_last instant (Endless x ∷ later) lasting =
-    all_append Lasts (repeated (ended_by instant x) x) (extents instant later) (repeated_last (ended_by instant x) x lasting.0)
-    (extents_last instant later (subst AreLasting (sym lasting.1) tt))
-
-numbered_last : (n : ℕ) (xs : List Extent) → AllByRecursion Lasts xs → AllByRecursion DoesLast (numbered n xs)
-numbered_last n [] all = tt
-numbered_last n (x ∷ xs) all = (
-  record { start = all.0.start_is; end = all.0.end_is; lasts = IsAtMost-from_before x.start x.end all.0.ends },
-  numbered_last (n + 1) xs all.1,
-)
 
 numbered_ends : (n : ℕ) (xs : List Extent) → map (λ y. y.end) (numbered n xs) ≡ map (λ y. y.end) xs
 numbered_ends n [] = refl
@@ -76,13 +59,15 @@ AreTimed xs = All DoesLast xs × AreRising (map (λ y. y.end) xs)
 listed_timed : (window : Window) (timeline : SegmentTimeline) → IsSound timeline.members → AreTimed (listed_in window timeline)
 listed_timed window timeline sound =
     let xs : List Extent = extents (instant_of window) timeline.members in
-    let last : AllByRecursion DoesLast (numbered timeline.first_number xs) =
-    numbered_last timeline.first_number xs (extents_last (instant_of window) timeline.members sound.lasting) in
+    let lasts = All-from_recursion (λ x. IsTime x.start × IsTime x.end × IsAtMost x.start x.end) (expansion timeline window) (expansion_has
+    (λ start end. IsTime start × IsTime end × IsAtMost start end)
+    (λ x is. (is.start_is, is.end_is, IsAtMost-from_before x.start x.end is.ends)) timeline window sound.lasting) in
     let rise : AreRising (map (λ (y : Extent). y.end) xs) =
     ends_rise timeline.members sound.lasting (no_step_from too_long None timeline.members sound.steady) (instant_of window) in (
-      All-filter (is_listed window) DoesLast (numbered timeline.first_number xs)
-          (All-from_recursion DoesLast (numbered timeline.first_number xs) last),
-      filter_rises (is_listed window) (numbered timeline.first_number xs) last
+      All-filter (is_listed window) DoesLast (expansion timeline window) (λ j d within. let is = lasts j d within in
+          record { start = is.0; end = is.1; lasts = is.2 }),
+      filter_rises (is_listed window) (expansion timeline window)
+          (expansion_has (λ start end. IsTime end) (λ x is. is.end_is) timeline window sound.lasting)
           (subst AreRising (sym (numbered_ends timeline.first_number xs)) rise),
     )
 
