@@ -1,12 +1,11 @@
 -- What accepted updates of typed MPDs leave: their segments stand in order, those of one section lie in one Period and have one map, and
 -- no duration is longer than the target allows.
-use Rattle.std.proofs.Common.{◌≡◌, ℕ, zero, suc, ◌+◌, ◌-◌, ◌*◌, ◌≤◌, ◌<◌, ◌/◌, ◌%◌, leb, ℤ, List, [], ◌∷◌, ◌++◌, map, length, Option, Some}
-use Rattle.std.proofs.{Common.{None, refl, sym, ◌∙◌, ap, subst, inl, inr, arith}, Math.Nat.{mul-le-mul_left, one-le-pow}}
-use Rattle.std.proofs.{lemmas.Bool.{cases_Bool, cases_lt, leb-true}, lemmas.Grind.div_ceil_times, lemmas.Nat.div-add-mod'}
-use Rattle.std.proofs.{lemmas.List.{append_assoc, length-map, map-append}, lemmas.List.Elements.{All-nil, All-cons, All-append, All-head}}
-use Rattle.std.proofs.{lemmas.List.Elements.{All-tail, All-weaker}, lemmas.List.FromFn.{get_or-map-range_with_len, length-range_with_len}}
-use Rattle.std.proofs.{lemmas.Option.same_Some, lemmas.Simd.map-map}
-use Rattle.std.specs.{Prelude.{All, flat_map, option_map, slice_get}, List.range_with_len, Option.option_map_or}
+use Rattle.std.proofs.Common.{◌≡◌, ℕ, ◌+◌, ◌-◌, ◌*◌, ◌≤◌, ◌<◌, ◌/◌, ◌%◌, leb, ℤ, List, [], ◌∷◌, ◌++◌, map, length, Option, Some, None, refl}
+use Rattle.std.proofs.{Common.{sym, ◌∙◌, ap, subst, inl, inr, arith}, Math.Nat.{mul-le-mul_left, one-le-pow}, lemmas.Bool.cases_Bool}
+use Rattle.std.proofs.{lemmas.Bool.{cases_lt, leb-true}, lemmas.Grind.div_ceil_times, lemmas.Nat.div-add-mod', lemmas.List.append_assoc}
+use Rattle.std.proofs.{lemmas.List.length-map, lemmas.List.Elements.{All-nil, All-cons, All-append, All-map, All-weaker}}
+use Rattle.std.proofs.{lemmas.List.FromFn.{get_or-map-range_with_len, length-range_with_len}, lemmas.Option.same_Some, lemmas.Simd.map-map}
+use Rattle.std.specs.{Prelude.{All, option_map, slice_get}, List.range_with_len, Option.option_map_or}
 use Rattle.exact_time.specs.{Time.Time, Laws.SumsAreFloors, Rounding.printed}
 use Rattle.mpd_rules.specs.Laws.{PeriodIdsDiffer}
 use Rattle.timeline.specs.Expansions.{Timing}
@@ -14,18 +13,18 @@ use Rattle.presentation.specs.{declared.parts.Content.Content, Presented.{Presen
 use Rattle.presentation.specs.{PresentedLaws.SectionsArePeriods, Printing.durations_of, Verifying.{greatest, longest_at, longest_of}}
 use Rattle.presentation.proofs.Grids.{All-at}
 use Rattle.hls_writer.specs.Finished.{rounded}
-use Rattle.followed.specs.{Durations.{Last, durations, last_behind, last_with, section_durations, told, told_behind}, Order.IsElsewhere}
-use Rattle.followed.proofs.PrintedSections.{goes_on, last_section, new_section, told_goes_on}
+use Rattle.followed.specs.Durations.{durations, last_behind, told, told_behind}
+use Rattle.live_meaning.proofs.{Tracks.{unmapped, Each, IsWithin}, Orders.{flat_have, behind_have, past_ordered, period_own}}
+use Rattle.live_meaning.proofs.{Orders.{periods_are_listed_in_order, sections_never_drift, steps_both}, Allowed.{IsAllowed, IsFirst, IsOwn}}
+use Rattle.live_meaning.proofs.{Allowed.accepted_hold, Grown.get_more, Histories.{mapped, of_pasts, past_is, past_holds, sound}}
+use Rattle.live_meaning.proofs.InForce.{IsInForce, IsKnown, first_in_force, known_of, later_in_force, listed_known, maps_of, rising}
+use Rattle.followed.proofs.PrintedSections.{told_apart, new_section, told_goes_on}
 use Rattle.live_meaning.specs.{Updates.{Terms, Update, Values, unit_of}, Segments.{Kept, Numbering, Segment, id_at, listed_in_period}}
 use Rattle.live_meaning.specs.{Segments.{listed_of, place_behind, place_of, segment_with}, Known.Known, Removal.half_more, Histories.Common}
 use Rattle.live_meaning.specs.Histories.{Past, Whole, all_of, begun_common, begun_past, past_after, common_with, longest_in, new_listed}
 use Rattle.live_meaning.specs.{Histories.{numbering_of, whole_of}, States.{State, shown, state_of, track_of}, Laws.AcceptedAreListedInOrder}
 use Rattle.live_meaning.specs.Laws.{AcceptedNeverDrift, AreTyped, DurationsFitTarget, IsAccepted, IsTyped, SectionsHaveOneMap}
 use Rattle.live_meaning.specs.Laws.{SectionsNeverFall}
-use Rattle.live_meaning.proofs.{Allowed.{IsAllowed, IsFirst, IsOwn, accepted_hold}, Grown.get_more, Histories.{mapped, of_pasts, past_is}}
-use Rattle.live_meaning.proofs.{Histories.{past_holds, sound}, InForce.{IsInForce, IsKnown, first_in_force, known_of, later_in_force}}
-use Rattle.live_meaning.proofs.{InForce.{listed_known, maps_of, rising}, Orders.{behind_have, past_ordered, period_own}}
-use Rattle.live_meaning.proofs.{Orders.{periods_are_listed_in_order, sections_never_drift, steps_both}, Tracks.{Each, IsWithin}}
 
 -- ---- durations of what the first MPD lists
 
@@ -41,69 +40,39 @@ greatest_at f n s less =
     subst (λ m. m ≤ greatest ns) (get_or-map-range_with_len f 0 n s s 0 less (omega arith))
     (greatest_is ns s 0 (omega (arith, less, length-map (range_with_len 0 n) f, length-range_with_len 0 n)))
 
-elsewhere_behind : (last : Option Last) (section later : ℕ) (xs : List Segment) → All (λ x. x.section ≡ section) xs → section < later
-    → IsElsewhere later last → IsElsewhere later (last_behind last xs)
-elsewhere_behind last section later [] own less is = is
-elsewhere_behind last section later (x ∷ xs) own less is =
-    elsewhere_behind (Some (last_with last x)) section later xs (All-tail (λ (y : Segment). y.section ≡ section) x xs own) less
-    (omega (arith, last_section last x, All-head (λ (y : Segment). y.section ≡ section) x xs own, less))
-
-one_section : (u : ℕ) (last : Option Last) (section : ℕ) (xs : List Segment) → IsElsewhere section last → All (λ x. x.section ≡ section) xs
-    → durations (told_behind u last xs) ≡ section_durations u xs
-one_section u last section [] elsewhere own = refl
-one_section u last section (x ∷ xs) elsewhere own =
-    let here : x.section ≡ section = All-head (λ (y : Segment). y.section ≡ section) x xs own in
-    new_section u last x xs (subst (λ (s : ℕ). IsElsewhere s last) (sym here) elsewhere)
-    (All-weaker (λ (y : Segment). y.section ≡ section) (λ y. y.section ≡ x.section) (λ y is. is
-    ∙ sym here) xs (All-tail (λ (y : Segment). y.section ≡ section) x xs own))
-
--- Period by Period
-module _ (P : ℕ → Type 0) (u : ℕ) (number : ℕ → ℕ) (list : ℕ → List Segment) (limit : ℕ) (rises : (s r : ℕ) → s < r → r < limit
-    → number s < number r)
-    (own : (s : ℕ) → All (λ x. x.section ≡ number s) (list s)) (each : (s : ℕ) → s < limit → All P (section_durations u (list s))) where
-  periods_told : (last : Option Last) (a n : ℕ) → a + n ≤ limit → ((s : ℕ) → a ≤ s → s < limit → IsElsewhere (number s) last)
-      → All P (durations (told_behind u last (flat_map list (range_with_len a n))))
-  periods_told last a zero le elsewhere = All-nil P
-  periods_told last a (suc n) le elsewhere =
-      let rest : List Segment = flat_map list (range_with_len (a + 1) n) in
-      let first : durations (told_behind u last (list a)) ≡ section_durations u (list a) =
-      one_section u last (number a) (list a) (elsewhere a (omega arith) (omega arith)) (own a) in
-      let own_told : List Kept = told_behind u last (list a) in
-      let others : List Kept = told_behind u (last_behind last (list a)) rest in
-      rw (goes_on u last (list a) rest, map-append (λ t. t.duration) own_told others, first)
-      (All-append P (section_durations u (list a)) (durations others) (each a (omega arith))
-      (periods_told (last_behind last (list a)) (a + 1) n (omega arith)
-      (λ s above within. elsewhere_behind last (number a) (number s) (list a) (own a) (rises a s (omega arith) within)
-      (elsewhere s (omega arith) within))))
-
-printed_at : (u place start : ℕ) (n : Numbering) (o : Option Content) (xs : List Timing)
-    → All (λ d. d ≤ greatest (durations_of u xs))
-    (section_durations u (option_map_or (λ content. map (segment_with n place start content) xs) o []))
-printed_at u place start n None xs = All-nil (λ d. d ≤ greatest (durations_of u xs))
-printed_at u place start n (Some content) [] = All-nil (λ d. d ≤ greatest (durations_of u []))
-printed_at u place start n (Some content) (x ∷ xs) =
-    subst (λ (ends : List Time). All (λ d. d ≤ greatest (durations_of u (x ∷ xs))) (printed u x.start (x.end ∷ ends)))
-    (sym (map-map (λ (y : Segment). y.end) (segment_with n place start content) xs)) (greatest_is (durations_of u (x ∷ xs)))
+module _ (u place start : ℕ) (n : Numbering) where
+  printed_at : (o : Option Content) (xs : List Timing) → let ks = told u (option_map_or (λ content. map (segment_with n place start content) xs) o []) in
+      All (λ k. k.duration ≤ greatest (durations_of u xs)) ks
+  printed_at None xs = All-nil (λ (k : Kept). k.duration ≤ greatest (durations_of u xs))
+  printed_at (Some content) [] = All-nil (λ (k : Kept). k.duration ≤ greatest (durations_of u []))
+  printed_at (Some content) (x ∷ xs) =
+      let made : Timing → Segment = segment_with n place start content in
+      let most : ℕ = greatest (durations_of u (x ∷ xs)) in
+      let own : durations (told u (map made (x ∷ xs))) ≡ durations_of u (x ∷ xs) =
+      new_section u None (made x) (map made xs) tt (All-map (λ (y : Segment). y.section ≡ (made x).section) made xs (λ j d within. refl))
+      ∙ ap (λ (ends : List Time). printed u x.start (x.end ∷ ends)) (map-map (λ (y : Segment). y.end) made xs) in
+      unmapped (λ d. d ≤ most) (λ (k : Kept). k.duration) (told u (map made (x ∷ xs)))
+      (subst (All (λ d. d ≤ most)) (sym own) (greatest_is (durations_of u (x ∷ xs))))
 
 -- none is longer than the longest one
 first_longest : (c : Common) (u t : ℕ) → IsInForce c.opened c.known c.force → t < length c.force.tracks
-    → All (λ d. d ≤ longest_in u c.force) (durations (told u (listed_of (numbering_of c) c.force t)))
+    → All (λ k. k.duration ≤ longest_in u c.force) (told u (listed_of (numbering_of c) c.force t))
 first_longest c u t is in_tracks =
     let p : Presented = c.force in
     let n : Numbering = numbering_of c in
     let rise = rising c is t in
-    let most : (s : ℕ) → s < length p.sections → longest_at p u t s ≤ longest_in u p =
-    λ s less. omega (
+    rw (told_apart u (λ s. place_of n.ids (id_at p s) + n.resets) (listed_in_period n p t) (length p.sections)
+    (λ s r less within. omega (arith, rise.places s r less within)) (period_own n p t) None 0 (length p.sections) (omega arith)
+    (λ s above within. tt))
+    (flat_have (λ (k : Kept). k.duration ≤ longest_in u p) (λ s. told u (listed_in_period n p t s)) 0 (length p.sections)
+    (λ s above less. All-weaker (λ (k : Kept). k.duration ≤ longest_at p u t s) (λ k. k.duration ≤ longest_in u p)
+    (λ k le. omega (
       arith,
-      greatest_at (longest_at p u t) (length p.sections) s less,
+      le,
+      greatest_at (longest_at p u t) (length p.sections) s (omega (arith, less)),
       greatest_at (longest_of p u) (length p.tracks) t in_tracks,
-    ) in
-    periods_told (λ d. d ≤ longest_in u p) u (λ s. place_of n.ids (id_at p s) + n.resets) (listed_in_period n p t) (length p.sections)
-    (λ s r less within. omega (arith, rise.places s r less within)) (period_own n p t)
-    (λ s less. All-weaker (λ d. d ≤ longest_at p u t s) (λ d. d ≤ longest_in u p) (λ d le. omega (arith, le, most s less))
-    (section_durations u (listed_in_period n p t s))
-    (printed_at u (place_of n.ids (id_at p s)) (start_of p s) n (content_at p s t) (listed_at p s t)))
-    None 0 (length p.sections) (omega arith) (λ s above within. tt)
+    )) (told u (listed_in_period n p t s))
+    (printed_at u (place_of n.ids (id_at p s)) (start_of p s) n (content_at p s t) (listed_at p s t))))
 
 -- half as much again, rounded up, is at least as much to the nearest second
 half_more_fits : (unit d longest : ℕ) → 0 < unit → d ≤ longest → rounded unit d ≤ half_more unit longest
@@ -128,7 +97,7 @@ half_more_fits unit d longest some le =
 -- ---- histories
 
 abbrev IsFitting : Common → List Segment → Type 0
-IsFitting c all = All (λ d. rounded (unit_of c.terms) d ≤ c.target) (durations (told (unit_of c.terms) all))
+IsFitting c all = All (λ k. rounded (unit_of c.terms) k.duration ≤ c.target) (told (unit_of c.terms) all)
 
 -- what all segments of a track have
 pub record IsTold (c : Common) (t : ℕ) (past : Past) : Type 0 where
@@ -159,8 +128,8 @@ module _ (differ : PeriodIdsDiffer) (sections : SectionsArePeriods) where
         λ t less. record {
           track = less;
           known = listed_known c t force less;
-          fits = All-weaker (λ d. d ≤ longest_in u p) (λ d. rounded u d ≤ c.target)
-              (λ d le. omega (arith, half_more_fits u d (longest_in u p) some le)) (durations (told u (listed_of (numbering_of c) p t)))
+          fits = All-weaker (λ (k : Kept). k.duration ≤ longest_in u p) (λ k. rounded u k.duration ≤ c.target)
+              (λ k le. omega (arith, half_more_fits u k.duration (longest_in u p) some le)) (told u (listed_of (numbering_of c) p t))
               (first_longest c u t force less);
         },
       )
@@ -186,8 +155,9 @@ module _ (differ : PeriodIdsDiffer) (sections : SectionsArePeriods) where
                   (behind_have (IsKnown c.known t) (last_behind None past.all) (place_behind 0 past.all) (listed_of (numbering_of c) p t)
                   (listed_known c t force told_so.track));
               fits =
-                  rw (told_goes_on unit past.all new, map-append (λ t. t.duration) (told unit past.all) fresh)
-                  (All-append (λ d. rounded unit d ≤ c.target) (durations (told unit past.all)) (durations fresh) told_so.fits own.long);
+                  rw (told_goes_on unit past.all new)
+                  (All-append (λ (k : Kept). rounded unit k.duration ≤ c.target) (told unit past.all) fresh told_so.fits
+                  (unmapped (λ d. rounded unit d ≤ c.target) (λ (k : Kept). k.duration) fresh own.long));
             },
       )
 
@@ -251,4 +221,5 @@ module _ (differ : PeriodIdsDiffer) (sections : SectionsArePeriods) where
       (λ w whole shown_is. subst (λ (s : State). Fit terms s (all_of terms history t)) shown_is
       (subst (λ (past : Past). Fit terms (shown w) past.all) (sym (past_is terms history t w whole)) (of_pasts (λ past. Fit terms (shown w) past.all) (slice_get w.pasts t) (All-nil (λ d. rounded (unit_of terms) d ≤ w.common.target))
       (λ past at. subst (λ (x : Terms). Fit x (shown w) past.all) (sound terms history w whole).its_terms
-      ((accepted_left terms history shows.accepted typed w whole).1 t past at).fits))))
+      (All-map (λ d. rounded (unit_of w.common.terms) d ≤ w.common.target) (λ (k : Kept). k.duration)
+      (told (unit_of w.common.terms) past.all) ((accepted_left terms history shows.accepted typed w whole).1 t past at).fits)))))

@@ -21,10 +21,10 @@ use Rattle.live_meaning.proofs.Tracks.{place_goes_on}
 
 -- ---- what holds of each segment of an update
 
-flat_have : (P : Segment → Type 0) (list : ℕ → List Segment) (a n : ℕ) → ((s : ℕ) → a ≤ s → s < a + n → All P (list s))
+pub flat_have : {X : Type 0} (P : X → Type 0) (list : ℕ → List X) (a n : ℕ) → ((s : ℕ) → a ≤ s → s < a + n → All P (list s))
     → All P (flat_map list (range_with_len a n))
-flat_have P list a zero each = All-nil P
-flat_have P list a (suc n) each =
+flat_have {X} P list a zero each = All-nil P
+flat_have {X} P list a (suc n) each =
     All-append P (list a) (flat_map list (range_with_len (a + 1) n)) (each a (omega arith) (omega arith))
     (flat_have P list (a + 1) n (λ s le less. each s (omega arith) (omega arith)))
 

@@ -2,8 +2,8 @@
 use Rattle.std.proofs.Common.{◌≡◌, ℕ, zero, suc, ◌+◌, ◌≤◌, List, [], ◌∷◌, ◌++◌, map, length, drop, Option, Some, None, refl, sym, ◌∙◌, ap}
 use Rattle.std.proofs.{Common.{subst, arith, length-append}, lemmas.Option.{same_Some, slice_get_read, slice_get_within}}
 use Rattle.std.proofs.{lemmas.List.FromFn.{get_or-map-range_with_len, length-map-range_with_len}, lemmas.List.{drop-map, drop-drop}}
-use Rattle.std.proofs.lemmas.List.{drop-append-le}
-use Rattle.std.specs.{Prelude.{Bool, ◌<◌, option_map, slice_get}, List.range_with_len}
+use Rattle.std.proofs.{lemmas.List.drop-append-le, lemmas.List.Elements.{All-nil, All-cons, All-head, All-tail}}
+use Rattle.std.specs.{Prelude.{Bool, ◌<◌, option_map, slice_get, All}, List.range_with_len}
 use Rattle.followed.specs.{Places.next_first, Durations.{Last, durations, last_behind, last_with, told, told_behind}}
 use Rattle.followed.proofs.{KeptPlaces.{next_from_kept, next_is_first}, PrintedSections.told_goes_on}
 use Rattle.presentation.specs.Presented.{Following}
@@ -31,6 +31,11 @@ told-segments u last (x ∷ xs) = ap (λ (ys : List Segment). x ∷ ys) (told-se
 pub kept_segments : (u n : ℕ) (all : List Segment) → segments_of (drop n (told u all)) ≡ drop n all
 kept_segments u n all = sym (drop-map (λ (k : Kept). k.segment) n (told u all))
     ∙ ap (λ (xs : List Segment). drop n xs) (told-segments u None all)
+
+pub unmapped : {X Y : Type 0} (P : Y → Type 0) (f : X → Y) (xs : List X) → All P (map f xs) → All (λ x. P (f x)) xs
+unmapped {X} {Y} P f [] all = All-nil (λ x. P (f x))
+unmapped {X} {Y} P f (x ∷ xs) all =
+    All-cons (λ x. P (f x)) x xs (All-head P (f x) (map f xs) all) (unmapped P f xs (All-tail P (f x) (map f xs) all))
 
 pub last_goes_on : (last : Option Last) (all more : List Segment) → last_behind last (all ++ more) ≡ last_behind (last_behind last all) more
 last_goes_on last [] more = refl
