@@ -1,18 +1,16 @@
 -- What is written of a first MPD means what the MPD means.
-use Rattle.std.proofs.Common.{◌≡◌, ℕ, ℤ, ◌^◌, ◌<◌, List, [], ◌∷◌, ◌++◌, map, length, Option, Some, None, Result, Ok, Err, refl, sym, ◌∙◌}
-use Rattle.std.proofs.{Common.{ap, subst, arith}, lemmas.List.FromFn.{get_or-range_with_len, length-range_with_len}}
-use Rattle.std.proofs.lemmas.Option.{slice_get-get_or, slice_get-map}
-use Rattle.std.specs.{Prelude.{option_map, slice_get}, List.range_with_len}
+use Rattle.std.proofs.Common.{◌≡◌, ℕ, ℤ, ◌^◌, ◌<◌, List, [], ◌∷◌, ◌++◌, map, length, Some, Ok, refl, sym, ◌∙◌, ap, subst, arith}
+use Rattle.std.proofs.lemmas.Option.{slice_get-map}
+use Rattle.std.specs.Prelude.{option_map, slice_get}
 use Rattle.presentation.specs.{declared.fault.PresentationFault.PresentationFault, Counting.{count_faults, tracks_of, unless_any}}
 use Rattle.presentation.specs.{MeaningLaws.VerifiedAreMeant, Presented.{Presented, listed_at}, Told.presented_of, Verifying.longest_of}
 use Rattle.presentation.specs.{Verifying.{url_faults, verified}, PresentedLaws.SectionsArePeriods}
 use Rattle.presentation.proofs.Reached.{all_reached}
 use Rattle.hls_writer.specs.Verified.{IsVerified}
 use Rattle.live_meaning.specs.{Updates.{Refresh, Terms, Values, unit_of}, Histories.{Common, begun_common, begun_past, begun_with}}
-use Rattle.live_meaning.specs.{Histories.numbering_of, States.{State, shown, track_of}, Refusals.{Refusal, begun_by, begun_of}}
-use Rattle.live_meaning.specs.{Refusals.first_refusal_of, Playlists.{FollowedPlaylist, live_text, playlist_of, playlist_with}}
-use Rattle.live_meaning.specs.Laws.{HistoriesBegin, media_of}
-use Rattle.live_meaning.proofs.{Allowed.{IsFirst, first_allowed}, InForce.first_in_force}
+use Rattle.live_meaning.specs.{Histories.numbering_of, States.{State, shown, track_of}, Refusals.{begun_of, first_refusal_of}}
+use Rattle.live_meaning.specs.{Playlists.{FollowedPlaylist, live_text, playlist_of, playlist_with}, Laws.{HistoriesBegin, media_of}}
+use Rattle.live_meaning.proofs.{Allowed.{IsFirst, first_allowed}, Histories.begun_from, InForce.first_in_force, Tracks.ranged}
 use Rattle.mpd_rules.specs.Laws.{PeriodIdsDiffer}
 use Rattle.laws_of_playlists.specs.{ReadMedia.track_media, Origins.{AreInPace, CameFromMpd, TracksAreWritable}, SameFiles.TracksMeanTheSame}
 use Rattle.laws_of_playlists.proofs.SameStatic.{in_turn}
@@ -26,21 +24,11 @@ pub record IsBegun (terms : Terms) (mpd : Values) (now : ℤ) (s : State) : Type
   pub first : IsFirst terms mpd now p
   pub state : s ≡ shown (begun_with (begun_common terms mpd now p))
 
-begun_from : (terms : Terms) (mpd : Values) (now : ℤ) (refusal : Option Refusal) (first : Result Presented PresentationFault) (s : State)
-    → first_refusal_of terms mpd now ≡ refusal → presented_of mpd terms.url (Some now) ≡ first → begun_by terms mpd now refusal first ≡ Ok s
-    → IsBegun terms mpd now s
-begun_from terms mpd now (Some refusal) first s told made is = absurd (cc)
-begun_from terms mpd now None (Err fault) s told made is = absurd (cc)
-begun_from terms mpd now None (Ok p) s told made is = record {
-  p = p;
-  first = first_allowed terms mpd now p told made;
-  state = (let same : shown (begun_with (begun_common terms mpd now p)) ≡ s = cc in sym same);
-}
-
 pub begun_is : (terms : Terms) (mpd : Values) (now : ℤ) (s : State) → begun_of terms mpd now ≡ Ok s → IsBegun terms mpd now s
 unfolding begun_of
-begun_is terms mpd now s is = begun_from terms mpd now (first_refusal_of terms mpd now)
-    (presented_of mpd terms.url (Some now)) s refl refl is
+begun_is terms mpd now s is =
+    begun_from terms mpd now s (first_refusal_of terms mpd now) (presented_of mpd terms.url (Some now)) (IsBegun terms mpd now s) is
+    (λ p told made same. record { p = p; first = first_allowed terms mpd now p told made; state = sym same })
 
 -- ---- its presentation
 
@@ -61,13 +49,9 @@ first_verified terms mpd now p first = record {
 first_playlist : (c : Common) (t : ℕ) → t < length c.opened.tracks
     → playlist_of (shown (begun_with c)) t ≡ Some (playlist_with c (track_of (unit_of c.terms) (begun_past c t)))
 first_playlist c t within =
-    let n : ℕ = length c.opened.tracks in
-    let ranged : slice_get (range_with_len 0 n) t ≡ Some t = slice_get-get_or (range_with_len 0 n) t 0
-    (omega (arith, within, length-range_with_len 0 n))
-    ∙ ap (λ k. Some k) (get_or-range_with_len 0 n t 0 within ∙ omega arith) in
-    ap (option_map (playlist_with c)) (slice_get-map (track_of (unit_of c.terms)) (map (begun_past c) (range_with_len 0 n)) t
-    ∙ ap (option_map (track_of (unit_of c.terms))) (slice_get-map (begun_past c) (range_with_len 0 n) t
-    ∙ ap (option_map (begun_past c)) ranged))
+    let unit : ℕ = unit_of c.terms in
+    ap (option_map (playlist_with c)) (slice_get-map (track_of unit) (begun_with c).pasts t
+    ∙ ap (option_map (track_of unit)) (ranged (begun_past c) (length c.opened.tracks) t within))
 
 -- ---- the law
 

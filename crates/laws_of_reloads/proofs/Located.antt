@@ -12,11 +12,11 @@ use Rattle.presentation.specs.Verifying.{part_fault, part_faults, url_faults}
 use Rattle.presentation.proofs.{Addressed.all_addressed, Grids.All-at, Reached.{none_first, none_later, none_within}}
 use Rattle.followed.specs.Durations.{Last}
 use Rattle.live_meaning.specs.{Updates.{Refresh, Reset, Terms, Tick, Update, Values, mpd_of, unit_of}, Segments.{Numbering, Segment}}
-use Rattle.live_meaning.specs.{Segments.{behind, is_later, listed_of}, Histories.{Common, Whole, begun_common, begun_with, common_with}}
-use Rattle.live_meaning.specs.{Histories.{force_by, gone_on, longest_in, new_listed, numbering_of, whole_of}, States.{State, Track, shown}}
-use Rattle.live_meaning.specs.{States.track_of, Refusals.{Presentation, Refusal, is_new_at, new_at, urls_in, urls_told}, Laws.IsAccepted}
-use Rattle.live_meaning.proofs.{Allowed.{IsAllowed, IsFirst, accepted_hold, none_mapped, none_of_each}, Histories.Sound, Orders.behind_have}
-use Rattle.live_meaning.proofs.{Orders.{listed_have, made_in}, Tracks.{Each, each_after, each_begun, each_both}}
+use Rattle.live_meaning.specs.{Segments.{behind, is_later, listed_of}, Histories.{Common, Past, Whole, begun_common, begun_past}}
+use Rattle.live_meaning.specs.{Histories.{common_with, past_after, force_by, longest_in, new_listed, numbering_of, whole_of}, States.State}
+use Rattle.live_meaning.specs.{States.{Track, shown, track_of}, Refusals.{is_new_at, new_at, urls_in}, Laws.IsAccepted}
+use Rattle.live_meaning.proofs.{Allowed.{IsAllowed, IsFirst, IsOwn, accepted_hold}, Orders.{behind_have, listed_have, made_in}, Tracks.Each}
+use Rattle.live_meaning.proofs.Tracks.{IsWithin}
 use Rattle.laws_of_playlists.specs.Origins.{AreInPace, AreLocated, AreShortInPace, CameFromMpd, InitializationsAreLocated, IsFound}
 use Rattle.laws_of_playlists.specs.Origins.{IsLocated, PartsAreLocated, ReadingsAreOfBytes}
 use Rattle.laws_of_reloads.specs.Laws.{IsRead, IsReadIfAny}
@@ -105,10 +105,9 @@ module _ (meant : MadeAreMeant) where
 
 -- ---- histories
 
-pub record AreAddressed (w : Whole) : Type 0 where
-  pub contents : All IsContentAddressed w.common.force.contents
-  pub target : w.common.target ≤ 10 ^ 11
-  pub each : Each (λ t past. All IsAddressed past.all) 0 w.pasts
+pub record AreAddressed (c : Common) : Type 0 where
+  pub contents : All IsContentAddressed c.force.contents
+  pub target : c.target ≤ 10 ^ 11
 
 module _ (meant : MadeAreMeant) (initializations : InitializationsAreLocated) (parts : PartsAreLocated) (readings : ReadingsAreOfBytes)
     (paced : AreInPace) (short : AreShortInPace) (terms : Terms) (url : IsAddress terms.url) where
@@ -129,21 +128,21 @@ module _ (meant : MadeAreMeant) (initializations : InitializationsAreLocated) (p
       let from = came mpd now p read made in
       λ j d within. record { initialization = initializations p from found j d within; parts = parts p from found j d within }
 
-  begins_addressed : (mpd : Values) (now : ℤ) (p : Presented) → IsReadIfAny (Some mpd) → IsFirst terms mpd now p
-      → AreAddressed (begun_with (begun_common terms mpd now p))
+  begins_addressed : (mpd : Values) (now : ℤ) (p : Presented) → IsRead mpd → IsFirst terms mpd now p →
+      let c = begun_common terms mpd now p in
+      AreAddressed c × ((t : ℕ) → t < length p.tracks → All IsAddressed (begun_past c t).all)
   begins_addressed mpd now p read first =
       let c : Common = begun_common terms mpd now p in
       let unit : ℕ = unit_of terms in
       let some : 1 ≤ unit = one-le-pow terms.digits 10 (omega arith) in
-      let contents = contents_addressed mpd now p read first.made in
-      record {
-        contents = contents;
-        target =
-            target_short unit (longest_in unit p) mpd.facts.max_segment some
-            (longest_short paced short p unit (came mpd now p read first.made) first.counts) (longest_told read.tree mpd read.typed);
-        each = each_begun c (λ t past. All IsAddressed past.all) (length p.tracks)
-            (λ t less. first_addressed meant c p t contents first.urls less) 0 (length p.tracks) (omega arith);
-      }
+      let contents = contents_addressed mpd now p read first.made in (
+        record {
+          contents = contents;
+          target = target_short unit (longest_in unit p) mpd.facts.max_segment some
+              (longest_short paced short p unit (came mpd now p read first.made) first.counts) (longest_told read.tree mpd read.typed);
+        },
+        λ t less. first_addressed meant c p t contents first.urls less,
+      )
 
   later_addressed : (s : State) (u : Update) (p : Presented) → s.common.terms ≡ terms → IsReadIfAny (mpd_of u)
       → force_by s.common.terms s.common.force u ≡ Ok p
@@ -155,26 +154,21 @@ module _ (meant : MadeAreMeant) (initializations : InitializationsAreLocated) (p
   later_addressed s (Tick now) p same read forced is =
       let one : looked_at now s.common.force ≡ p = cc in subst (λ (q : Presented). All IsContentAddressed q.contents) one is
 
-  goes_on_addressed : (w : Whole) (u : Update) (p : Presented) → IsReadIfAny (mpd_of u) → Sound terms w → IsAllowed (shown w) u p
-      → AreAddressed w → AreAddressed (gone_on w u p)
-  goes_on_addressed w u p read sound allowed is =
+  goes_on_addressed : (w : Whole) (u : Update) (p : Presented) → IsReadIfAny (mpd_of u) → w.common.terms ≡ terms → IsAllowed (shown w) u p
+      → AreAddressed w.common →
+      let c = common_with w.common u p in
+      AreAddressed c × ((t : ℕ) (past : Past) → IsWithin t past → IsOwn c t (track_of (unit_of c.terms) past) → All IsAddressed past.all
+      → All IsAddressed (past_after c t past).all)
+  goes_on_addressed w u p read its allowed is =
       let c : Common = common_with w.common u p in
-      let unit : ℕ = unit_of c.terms in
-      let own : ℕ → Track → List Refusal = λ t track. map Presentation (flat_map (urls_in c p t track) (sections_of p)) in
-      let contents = later_addressed (shown w) u p sound.its_terms read allowed.forced is.contents in
-      let none : Each (λ t past. own t (track_of unit past) ≡ []) 0 w.pasts =
-      none_of_each (urls_told c p) own (λ t track tracks. refl) unit 0 w.pasts allowed.urls in
-      record {
-        contents = contents;
-        target = is.target;
-        each = each_after c (λ t past. All IsAddressed past.all × (own t (track_of unit past) ≡ [])) (λ t past. All IsAddressed past.all)
-            (λ t past both. All-append IsAddressed past.all (new_listed c t past.all) both.0
-            (new_addressed meant c p t (track_of unit past) contents (none_mapped Presentation _ both.1))) 0 w.pasts
-            (each_both (λ t past. All IsAddressed past.all) (λ t past. own t (track_of unit past) ≡ []) 0 w.pasts is.each none);
-      }
+      let contents = later_addressed (shown w) u p its read allowed.forced is.contents in (
+        record { contents = contents; target = is.target },
+        λ t past within own all. All-append IsAddressed past.all (new_listed c t past.all) all
+            (new_addressed meant c p t (track_of (unit_of c.terms) past) contents own.urls),
+      )
 
   pub accepted_addressed : (history : List Update) → IsAccepted terms history
       → ((front : List Update) (u : Update) (back : List Update) → history ≡ front ++ u ∷ back → IsReadIfAny (mpd_of u)) → (w : Whole)
-      → whole_of terms history ≡ Some w → AreAddressed w
-  accepted_addressed history accepted read w is =
-      accepted_hold terms IsReadIfAny AreAddressed begins_addressed goes_on_addressed history accepted read w is
+      → whole_of terms history ≡ Some w → AreAddressed w.common × Each (λ t past. All IsAddressed past.all) w.pasts
+  accepted_addressed =
+      accepted_hold terms IsReadIfAny AreAddressed (λ c t past. All IsAddressed past.all) begins_addressed goes_on_addressed

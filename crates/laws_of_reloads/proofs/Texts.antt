@@ -6,7 +6,7 @@ use Rattle.std.proofs.Common.{Option, Some, None, Ok, IfSome, refl, sym, ◌∙�
 use Rattle.std.proofs.{lemmas.Bool.cases_Bool, lemmas.List.get_or_append_left, lemmas.List.Sums.fold-append}
 use Rattle.std.proofs.lemmas.List.Elements.{All-append, All-cons, All-drop, All-head, All-map, All-nil, All-tail}
 use Rattle.std.proofs.lemmas.Option.{slice_get-map}
-use Rattle.std.specs.{Prelude.{All, option_map, slice_get, unwrap_or}, List.fold, Option.option_map_or}
+use Rattle.std.specs.{Prelude.{All, option_map, slice_get, unwrap_or}, List.fold}
 use Rattle.bridge_io.specs.{Answer.and_then, Places.place_of}
 use Rattle.url_parts.specs.{declared.address.Part.Part, declared.range.Range.Range}
 use Rattle.hls_lines.specs.Lines.{PlaylistLine, lines_of}
@@ -20,11 +20,11 @@ use Rattle.followed.specs.Durations.{durations, told}
 use Rattle.live_meaning.specs.{Updates.{Terms, Update, Values, mpd_of, unit_of}, Segments.{Kept, Segment, segments_of}, Histories.Past}
 use Rattle.live_meaning.specs.{Histories.{Whole, all_of, no_past, past_of, whole_of}, States.{State, Track, shown, state_of, track_of}}
 use Rattle.live_meaning.specs.{Refusals.{Refusal, update_refusal}, Playlists.{FollowedPlaylist, first_section, head_of, item_of, live_text}}
-use Rattle.live_meaning.specs.{Playlists.{playlist_of, playlist_with}, Laws.{AcceptedAreAccepted, AreTyped, DurationsFitTarget, IsAccepted}}
-use Rattle.live_meaning.specs.Laws.{IsTyped, NumbersStaySmall, ReloadsAreLawful, SectionsHaveOneMap, SectionsNeverFall, Shows, accepted_of}
-use Rattle.live_meaning.specs.Laws.{media_of, segment_of, with_accepted}
-use Rattle.live_meaning.proofs.{Grown.get_drop, Ids.get_behind, Histories.{mapped, sound}, Reloads.looked_up, Tracks.kept_segments}
-use Rattle.live_meaning.proofs.Tracks.{told-segments, track_at}
+use Rattle.live_meaning.specs.{Playlists.playlist_with, Laws.{AcceptedAreAccepted, AreTyped, DurationsFitTarget, IsAccepted, IsTyped}}
+use Rattle.live_meaning.specs.Laws.{NumbersStaySmall, ReloadsAreLawful, SectionsHaveOneMap, SectionsNeverFall, Shows, accepted_of, media_of}
+use Rattle.live_meaning.specs.Laws.{segment_of, with_accepted}
+use Rattle.live_meaning.proofs.{Grown.get_drop, Ids.get_behind, Histories.{mapped, past_is, sound}, Reloads.shown_track}
+use Rattle.live_meaning.proofs.Tracks.{kept_segments, told-segments, unmapped}
 use Rattle.laws_of_playlists.specs.Origins.{AreInPace, AreShortInPace, InitializationsAreLocated, IsLocated, IsSomeBytes, PartsAreLocated}
 use Rattle.laws_of_playlists.specs.{Origins.ReadingsAreOfBytes, ReadMedia.{AreInOrder, FollowedAreRead, GoOn, IsReadableItem}}
 use Rattle.laws_of_playlists.specs.ReadMedia.{IsReadablePart, IsReadableRange, IsShortNumber, ReadsAs}
@@ -43,11 +43,6 @@ part_readable part is = record { address = is.address; range = range_readable pa
 -- no more whole seconds than to the nearest one
 rounded_least : (unit d : ℕ) → d / unit ≤ rounded unit d
 rounded_least unit d = elim (cases_Bool (leb unit (2 * (d % unit)))) [ inl is ↦ rw is (omega arith) | inr other ↦ rw other (omega arith) ]
-
-unmapped : {X Y : Type 0} (P : Y → Type 0) (f : X → Y) (xs : List X) → All P (map f xs) → All (λ x. P (f x)) xs
-unmapped {X} {Y} P f [] all = All-nil (λ x. P (f x))
-unmapped {X} {Y} P f (x ∷ xs) all =
-    All-cons (λ x. P (f x)) x xs (All-head P (f x) (map f xs) all) (unmapped P f xs (All-tail P (f x) (map f xs) all))
 
 kept_readable : (digits target first : ℕ) (all : List Segment) → target ≤ 10 ^ 11 → All IsAddressed all
     → All (λ d. rounded (10 ^ digits) d ≤ target) (durations (told (10 ^ digits) all))
@@ -135,7 +130,7 @@ module _ (never_fall : SectionsNeverFall) (one_map : SectionsHaveOneMap) (fit : 
       let digits : ℕ = w.common.terms.digits in
       let track : Track = track_of (10 ^ digits) past in
       let own : past_of terms history t ≡ past =
-      ap (λ o. option_map_or (λ w. unwrap_or (slice_get w.pasts t) no_past) o no_past) whole ∙ ap (λ o. unwrap_or o no_past) at in
+      past_is terms history t w whole ∙ ap (λ o. unwrap_or o no_past) at in
       let all : all_of terms history t ≡ past.all = ap (λ (p : Past). p.all) own in
       let follow : AllFollow (segments_of track.kept) = λ i j x y le at_x at_y.
       let there : (k : ℕ) → slice_get (segments_of track.kept) k ≡ slice_get (all_of terms history t) (past.first + k) = λ k.
@@ -148,7 +143,7 @@ module _ (never_fall : SectionsNeverFall) (one_map : SectionsHaveOneMap) (fit : 
       ) in
       let addressed = accepted_addressed meant initializations parts readings paced short terms followed.url history accepted read w
       whole in
-      let located : All IsAddressed past.all = track_at (λ t past. All IsAddressed past.all) w.pasts t past addressed.each at in
+      let located : All IsAddressed past.all = addressed.1 t past at in
       let fits : All (λ d. rounded (10 ^ digits) d ≤ w.common.target) (durations (told (10 ^ digits) past.all)) =
       subst (λ (xs : List Segment). All (λ d. rounded (10 ^ digits) d ≤ w.common.target) (durations (told (10 ^ digits) xs))) all
       (subst (λ (x : Terms). All (λ d. rounded (unit_of x) d ≤ w.common.target) (durations (told (unit_of x) (all_of terms history t))))
@@ -158,12 +153,12 @@ module _ (never_fall : SectionsNeverFall) (one_map : SectionsHaveOneMap) (fit : 
       let numbers = small terms history (shown w) t track shows there in
       let few = followed.few in
       let is = read_again (head_of w.common track) (map item_of track.kept) url (record {
-        target = omega (arith, addressed.target);
+        target = omega (arith, addressed.0.target);
         sequence = omega (arith, numbers.0, numbers.1.listed, few);
         first_section = first_short w.common.accepted track.kept numbers.1.sections (omega (arith, numbers.0, few));
       }) (record {
         few = subst (λ (x : Terms). x.digits ≤ 9) (sym its_terms) followed.digits;
-        each = kept_readable digits w.common.target past.first past.all addressed.target located fits;
+        each = kept_readable digits w.common.target past.first past.all addressed.0.target located fits;
         order = in_order track.kept follow;
       }) in (
         is.0,
@@ -179,14 +174,15 @@ module _ (never_fall : SectionsNeverFall) (one_map : SectionsHaveOneMap) (fit : 
       )
 
   pub followed_texts_are_read : FollowedTextsAreRead
-  unfolding state_of
   followed_texts_are_read terms history s t playlist url followed shows there =
       let C : Type 0 = ReadsAs (live_text playlist) url (media_of playlist) in
-      mapped shown (whole_of terms history) s C shows.leaves (λ w whole shown_is.
-      mapped (λ past. playlist_with w.common (track_of (unit_of w.common.terms) past)) (slice_get w.pasts t) playlist C
-      (sym (looked_up w t) ∙ ap (λ (s : State). playlist_of s t) shown_is ∙ there) (λ past at same.
-      subst (λ (p : FollowedPlaylist). ReadsAs (live_text p) url (media_of p)) same
-      (past_is_read terms history w t past url followed shows.accepted whole at)))
+      mapped (playlist_with s.common) (slice_get s.tracks t) playlist C there (λ track at same.
+      let is = shown_track terms history s t track shows.leaves at in
+      let unit : ℕ = unit_of is.w.common.terms in
+      let own : playlist_with is.w.common (track_of unit is.past) ≡ playlist =
+      ap (λ (s : State). playlist_with s.common (track_of unit is.past)) is.state ∙ ap (playlist_with s.common) is.its_track ∙ same in
+      subst (λ (p : FollowedPlaylist). ReadsAs (live_text p) url (media_of p)) own
+      (past_is_read terms history is.w t is.past url followed shows.accepted is.whole is.at))
 
 -- ---- reloads
 
