@@ -1,10 +1,9 @@
 -- What is written of a first MPD means what the MPD means.
-use Rattle.std.proofs.Common.{◌≡◌, ℕ, ℤ, ◌^◌, ◌<◌, List, [], ◌∷◌, ◌++◌, map, length, Some, Ok, refl, sym, ◌∙◌, ap, subst, arith}
+use Rattle.std.proofs.Common.{◌≡◌, ℕ, ℤ, ◌^◌, ◌<◌, [], ◌∷◌, map, length, Some, Ok, refl, sym, ◌∙◌, ap, subst, arith}
 use Rattle.std.proofs.lemmas.Option.{slice_get-map}
 use Rattle.std.specs.Prelude.{option_map, slice_get}
-use Rattle.presentation.specs.{declared.fault.PresentationFault.PresentationFault, Counting.{count_faults, tracks_of, unless_any}}
-use Rattle.presentation.specs.{MeaningLaws.VerifiedAreMeant, Presented.{Presented, listed_at}, Told.presented_of, Verifying.longest_of}
-use Rattle.presentation.specs.{Verifying.{url_faults, verified}, PresentedLaws.SectionsArePeriods}
+use Rattle.presentation.specs.{Counting.tracks_of, MeaningLaws.VerifiedAreMeant, Presented.{Presented, listed_at}, Told.presented_of}
+use Rattle.presentation.specs.{Verifying.{longest_of, verified}, PresentedLaws.SectionsArePeriods}
 use Rattle.presentation.proofs.Reached.{all_reached}
 use Rattle.hls_writer.specs.Verified.{IsVerified}
 use Rattle.live_meaning.specs.{Updates.{Refresh, Terms, Values, unit_of}, Histories.{Common, begun_common, begun_past, begun_with}}
@@ -32,16 +31,11 @@ begun_is terms mpd now s is =
 
 -- ---- its presentation
 
-none_both : {X : Type 0} (faults more : List PresentationFault) (x : X) → faults ≡ [] → more ≡ [] → unless_any (faults ++ more) x ≡ Ok x
-none_both [] [] x none none_more = refl
-none_both [] (fault ∷ more) x none none_more = absurd (cc)
-none_both (fault ∷ faults) more x none none_more = absurd (cc)
-
 first_verified : (terms : Terms) (mpd : Values) (now : ℤ) (p : Presented) → IsFirst terms mpd now p → IsVerified p terms.digits
 unfolding verified
 first_verified terms mpd now p first = record {
   longest = map (longest_of p (10 ^ terms.digits)) (tracks_of p);
-  is = none_both (count_faults p) (url_faults p) (map (longest_of p (10 ^ terms.digits)) (tracks_of p)) first.counts first.urls;
+  is = rw (first.counts, first.urls) refl;
 }
 
 -- ---- its playlists

@@ -7,16 +7,16 @@ use Rattle.std.specs.{Prelude.{All, flat_map}, Option.option_map_or}
 use Rattle.url_parts.specs.{declared.address.Part.Part, Addresses.IsAddress}
 use Rattle.timeline.specs.{declared.fault.ListFault.ListFault, Expansions.{SegmentTimeline, Timing}, Listed.part_of_timing}
 use Rattle.presentation.specs.{declared.fault.PresentationFault.PresentationFault, declared.parts.Content.Content, Counting.sections_of}
-use Rattle.presentation.specs.{Laws.HasAddress, MeaningLaws.MadeAreMeant, Presented.{Presented, listed_at, looked_at}, Told.presented_of}
+use Rattle.presentation.specs.{Laws.HasAddress, MeaningLaws.MadeAreMeant, Presented.{Presented, listed_at}, Told.presented_of}
 use Rattle.presentation.specs.Verifying.{part_fault, part_faults, url_faults}
 use Rattle.presentation.proofs.{Addressed.all_addressed, Grids.All-at, Reached.{none_first, none_later, none_within}}
 use Rattle.followed.specs.Durations.{Last}
-use Rattle.live_meaning.specs.{Updates.{Refresh, Reset, Terms, Tick, Update, Values, mpd_of, unit_of}, Segments.{Numbering, Segment}}
-use Rattle.live_meaning.specs.{Segments.{behind, is_later, listed_of}, Histories.{Common, Past, Whole, begun_common, begun_past}}
-use Rattle.live_meaning.specs.{Histories.{common_with, past_after, force_by, longest_in, new_listed, numbering_of, whole_of}, States.State}
-use Rattle.live_meaning.specs.{States.{Track, shown, track_of}, Refusals.{is_new_at, new_at, urls_in}, Laws.IsAccepted}
-use Rattle.live_meaning.proofs.{Allowed.{IsAllowed, IsFirst, IsOwn, accepted_hold}, Orders.{behind_have, listed_have, made_in}, Tracks.Each}
-use Rattle.live_meaning.proofs.Tracks.{IsWithin}
+use Rattle.live_meaning.specs.{Updates.{Terms, Update, Values, mpd_of, unit_of}, Segments.{Numbering, Segment, behind, is_later, listed_of}}
+use Rattle.live_meaning.specs.Histories.{Common, Past, Whole, begun_common, begun_past, common_with, past_after, longest_in, new_listed}
+use Rattle.live_meaning.specs.{Histories.{numbering_of, whole_of}, States.{Track, shown, track_of}, Refusals.{is_new_at, new_at, urls_in}}
+use Rattle.live_meaning.specs.Laws.{IsAccepted}
+use Rattle.live_meaning.proofs.{Histories.forced, Allowed.{IsAllowed, IsFirst, IsOwn, accepted_hold}, Orders.{behind_have, listed_have}}
+use Rattle.live_meaning.proofs.{Orders.made_in, Tracks.{Each, IsWithin}}
 use Rattle.laws_of_playlists.specs.Origins.{AreInPace, AreLocated, AreShortInPace, CameFromMpd, InitializationsAreLocated, IsFound}
 use Rattle.laws_of_playlists.specs.Origins.{IsLocated, PartsAreLocated, ReadingsAreOfBytes}
 use Rattle.laws_of_reloads.specs.Laws.{IsRead, IsReadIfAny}
@@ -144,16 +144,6 @@ module _ (meant : MadeAreMeant) (initializations : InitializationsAreLocated) (p
         λ t less. first_addressed meant c p t contents first.urls less,
       )
 
-  later_addressed : (s : State) (u : Update) (p : Presented) → s.common.terms ≡ terms → IsReadIfAny (mpd_of u)
-      → force_by s.common.terms s.common.force u ≡ Ok p
-      → All IsContentAddressed s.common.force.contents → All IsContentAddressed p.contents
-  later_addressed s (Refresh mpd now) p same read forced is = contents_addressed mpd now p read
-      (subst (λ (x : Terms). force_by x s.common.force (Refresh mpd now) ≡ Ok p) same forced)
-  later_addressed s (Reset mpd now) p same read forced is = contents_addressed mpd now p read
-      (subst (λ (x : Terms). force_by x s.common.force (Reset mpd now) ≡ Ok p) same forced)
-  later_addressed s (Tick now) p same read forced is =
-      let one : looked_at now s.common.force ≡ p = cc in subst (λ (q : Presented). All IsContentAddressed q.contents) one is
-
   goes_on_addressed : (w : Whole) (u : Update) (p : Presented) → IsReadIfAny (mpd_of u) → w.common.terms ≡ terms → IsAllowed (shown w) u p
       → AreAddressed w.common →
       let c = common_with w.common u p in
@@ -161,7 +151,9 @@ module _ (meant : MadeAreMeant) (initializations : InitializationsAreLocated) (p
       → All IsAddressed (past_after c t past).all)
   goes_on_addressed w u p read its allowed is =
       let c : Common = common_with w.common u p in
-      let contents = later_addressed (shown w) u p its read allowed.forced is.contents in (
+      let contents = forced (λ q. All IsContentAddressed q.contents) w.common.terms w.common.force u p allowed.forced
+      (λ mpd now told made. contents_addressed mpd now p (subst IsReadIfAny told read)
+      (subst (λ (x : Terms). presented_of mpd x.url (Some now) ≡ Ok p) its made)) (λ now. is.contents) in (
         record { contents = contents; target = is.target },
         λ t past within own all. All-append IsAddressed past.all (new_listed c t past.all) all
             (new_addressed meant c p t (track_of (unit_of c.terms) past) contents own.urls),

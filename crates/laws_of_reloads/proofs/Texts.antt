@@ -9,7 +9,6 @@ use Rattle.std.proofs.lemmas.Option.{slice_get-map}
 use Rattle.std.specs.{Prelude.{All, option_map, slice_get, unwrap_or}, List.fold}
 use Rattle.bridge_io.specs.{Answer.and_then, Places.place_of}
 use Rattle.url_parts.specs.{declared.address.Part.Part, declared.range.Range.Range}
-use Rattle.hls_lines.specs.Lines.{PlaylistLine, lines_of}
 use Rattle.hls_media.specs.Media.{lines_or_fault, media_in, media_of as read_media, media_values, values_or_fault}
 use Rattle.hls_media.specs.{declared.fault.MediaFault.MediaFault, declared.media.Media.Media}
 use Rattle.hls_writer.specs.Finished.{rounded}
@@ -84,8 +83,7 @@ counted : (digits first : ℕ) (ks : List Kept) → ((i : ℕ) (x : Segment) →
 counted digits first [] from = refl
 counted digits first (k ∷ ks) from =
     let here : first + (k.segment.section - first) ≡ k.segment.section = omega (arith, from 0 k.segment refl) in
-    ap (λ n. read.segment_in n digits (item_of k) ∷ map (read.segment_of first first digits) (map item_of ks)) here
-    ∙ ap (λ xs. segment_of digits (item_of k) ∷ xs) (counted digits first ks (λ i x at. from (suc i) x at))
+    cc (here, counted digits first ks (λ i x at. from (suc i) x at))
 
 segments_are : (digits : ℕ) (ks : List Kept) → AllFollow (segments_of ks)
     → read.segments_of (first_section ks) digits (map item_of ks) ≡ map (segment_of digits) (map item_of ks)
@@ -224,16 +222,11 @@ values_given : (fault : Option MediaFault) (media given : Media) → values_or_f
 values_given None media given is = cc
 values_given (Some fault) media given is = absurd (cc)
 
-lines_given : (text url : List ℕ) (media given : Media) (lines : List PlaylistLine) → lines_of text ≡ Ok lines
-    → media_values url lines ≡ media
-    → read_media text url ≡ Ok given → media ≡ given
-unfolding hls.media_of media_in
-lines_given text url media given lines told is found =
-    let of_lines = ap (λ r. and_then (lines_or_fault r) (media_in (place_of text (length text)) url)) (sym told) ∙ found in
-    sym is ∙ values_given _ (media_values url lines) given of_lines
-
 only_meaning : (text url : List ℕ) (media given : Media) → ReadsAs text url media → read_media text url ≡ Ok given → media ≡ given
-only_meaning text url media given is found = lines_given text url media given is.0 is.1.0 is.1.1 found
+unfolding hls.media_of media_in
+only_meaning text url media given is found =
+    let of_lines = ap (λ r. and_then (lines_or_fault r) (media_in (place_of text (length text)) url)) (sym is.1.0) ∙ found in
+    sym is.1.1 ∙ values_given _ (media_values url is.0) given of_lines
 
 module _ (texts : FollowedTextsAreRead) (reload : ReloadsAreLawful) (sentences : RulesAreSentences) (accepted : AcceptedAreAccepted) where
   pub followed_texts_reload : FollowedTextsReload

@@ -3,8 +3,12 @@
 use Rattle.std.proofs.Common.{◌≡◌, ℕ, ◌+◌, ◌-◌, ◌*◌, ◌≤◌, ◌<◌, ◌/◌, ◌%◌, leb, ℤ, List, [], ◌∷◌, ◌++◌, map, length, Option, Some, None, refl}
 use Rattle.std.proofs.{Common.{sym, ◌∙◌, ap, subst, inl, inr, arith}, Math.Nat.{mul-le-mul_left, one-le-pow}, lemmas.Bool.cases_Bool}
 use Rattle.std.proofs.{lemmas.Bool.{cases_lt, leb-true}, lemmas.Grind.div_ceil_times, lemmas.Nat.div-add-mod', lemmas.List.append_assoc}
-use Rattle.std.proofs.{lemmas.List.length-map, lemmas.List.Elements.{All-nil, All-cons, All-append, All-map, All-weaker}}
-use Rattle.std.proofs.{lemmas.List.FromFn.{get_or-map-range_with_len, length-range_with_len}, lemmas.Option.same_Some, lemmas.Simd.map-map}
+use Rattle.std.proofs.{lemmas.List.Elements.{All-nil, All-cons, All-append, All-map, All-weaker}, lemmas.Option.same_Some}
+use Rattle.std.proofs.lemmas.Simd.{map-map}
+use Rattle.live_meaning.proofs.{Tracks.{ranged, unmapped, Each, IsWithin}, Orders.{flat_have, behind_have, past_ordered, period_own}}
+use Rattle.live_meaning.proofs.{Orders.{periods_are_listed_in_order, sections_never_drift, steps_both}, Allowed.{IsAllowed, IsFirst, IsOwn}}
+use Rattle.live_meaning.proofs.{Allowed.accepted_hold, Grown.get_more, Histories.{mapped, of_pasts, past_is, past_holds, sound}}
+use Rattle.live_meaning.proofs.InForce.{IsInForce, IsKnown, first_in_force, known_of, later_in_force, listed_known, maps_of, rising}
 use Rattle.std.specs.{Prelude.{All, option_map, slice_get}, List.range_with_len, Option.option_map_or}
 use Rattle.exact_time.specs.{Time.Time, Laws.SumsAreFloors, Rounding.printed}
 use Rattle.mpd_rules.specs.Laws.{PeriodIdsDiffer}
@@ -14,10 +18,6 @@ use Rattle.presentation.specs.{PresentedLaws.SectionsArePeriods, Printing.durati
 use Rattle.presentation.proofs.Grids.{All-at}
 use Rattle.hls_writer.specs.Finished.{rounded}
 use Rattle.followed.specs.Durations.{durations, last_behind, told, told_behind}
-use Rattle.live_meaning.proofs.{Tracks.{unmapped, Each, IsWithin}, Orders.{flat_have, behind_have, past_ordered, period_own}}
-use Rattle.live_meaning.proofs.{Orders.{periods_are_listed_in_order, sections_never_drift, steps_both}, Allowed.{IsAllowed, IsFirst, IsOwn}}
-use Rattle.live_meaning.proofs.{Allowed.accepted_hold, Grown.get_more, Histories.{mapped, of_pasts, past_is, past_holds, sound}}
-use Rattle.live_meaning.proofs.InForce.{IsInForce, IsKnown, first_in_force, known_of, later_in_force, listed_known, maps_of, rising}
 use Rattle.followed.proofs.PrintedSections.{told_apart, new_section, told_goes_on}
 use Rattle.live_meaning.specs.{Updates.{Terms, Update, Values, unit_of}, Segments.{Kept, Numbering, Segment, id_at, listed_in_period}}
 use Rattle.live_meaning.specs.{Segments.{listed_of, place_behind, place_of, segment_with}, Known.Known, Removal.half_more, Histories.Common}
@@ -36,9 +36,7 @@ greatest_is (n ∷ ns) =
 
 greatest_at : (f : ℕ → ℕ) (n s : ℕ) → s < n → f s ≤ greatest (map f (range_with_len 0 n))
 greatest_at f n s less =
-    let ns : List ℕ = map f (range_with_len 0 n) in
-    subst (λ m. m ≤ greatest ns) (get_or-map-range_with_len f 0 n s s 0 less (omega arith))
-    (greatest_is ns s 0 (omega (arith, less, length-map (range_with_len 0 n) f, length-range_with_len 0 n)))
+    let ns : List ℕ = map f (range_with_len 0 n) in All-at (λ m. m ≤ greatest ns) ns s (f s) (greatest_is ns) (ranged f n s less)
 
 module _ (u place start : ℕ) (n : Numbering) where
   printed_at : (o : Option Content) (xs : List Timing) → let ks = told u (option_map_or (λ content. map (segment_with n place start content) xs) o []) in
@@ -77,19 +75,16 @@ first_longest c u t is in_tracks =
 -- half as much again, rounded up, is at least as much to the nearest second
 half_more_fits : (unit d longest : ℕ) → 0 < unit → d ≤ longest → rounded unit d ≤ half_more unit longest
 half_more_fits unit d longest some le =
-    let q : ℕ = d / unit in
     let h : ℕ = half_more unit longest in
     let enough = (div_ceil_times (3 * longest) (2 * unit) (omega arith)).0 in
     let parts = div-add-mod' d unit in
     elim (cases_Bool (leb unit (2 * (d % unit)))) [
-      | inl is ↦ rw is (elim (cases_lt q h) [
+      | inl is ↦ rw is (elim (cases_lt (d / unit) h) [
         | inl less ↦ omega (arith, less)
-        | inr more ↦
-            absurd (omega (arith, enough, parts, leb-true _ _ is, mul-le-mul_left unit more))
+        | inr more ↦ absurd (omega (arith, enough, parts, leb-true _ _ is, mul-le-mul_left unit more))
       ])
-      | inr other ↦ rw other (elim (cases_lt h q) [
-        | inl less ↦
-            absurd (omega (arith, enough, parts, mul-le-mul_left unit less))
+      | inr other ↦ rw other (elim (cases_lt h (d / unit)) [
+        | inl less ↦ absurd (omega (arith, enough, parts, mul-le-mul_left unit less))
         | inr more ↦ more
       ])
     ]

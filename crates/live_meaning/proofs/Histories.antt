@@ -1,15 +1,16 @@
 -- A state with an update more is the state of the history with that update.
-use Rattle.std.proofs.Common.{◌≡◌, ℕ, ℤ, List, [], ◌∷◌, ◌++◌, length, ◌≤◌, Option, Some, None, Result, Ok, Err, refl, sym, ◌∙◌, ap, subst, arith}
-use Rattle.std.proofs.{Common.length-append, lemmas.Option.same_Some, lemmas.List.{append-nil, append_assoc}, lemmas.List.Sums.fold-append}
-use Rattle.std.specs.{Prelude.{option_map, slice_get, unwrap_or}, List.fold, Option.option_map_or, Result.result_ok}
-use Rattle.presentation.specs.{declared.fault.PresentationFault.PresentationFault, Presented.Presented, Told.presented_of}
-use Rattle.live_meaning.specs.{Updates.{Terms, Update, Refresh, Reset, Tick, Values}, Histories.{Common, Past, Whole, after, begun_common}}
-use Rattle.live_meaning.specs.{Histories.{begun_with, common_with, force_by, gone_on, no_past, past_of, whole_of}, States.{State, shown}}
-use Rattle.live_meaning.specs.{States.{state_of, state_with}, Refusals.{Refusal, begun_by, begun_of, first_refusal_of, next_of, next_with}}
-use Rattle.live_meaning.specs.{Refusals.{refusal_of, update_refusal}, Laws.{AcceptedAreAccepted, HistoriesBegin, HistoriesGoOn}}
-use Rattle.live_meaning.specs.Laws.{HistoriesRefuse, IsAccepted, Shows, with_accepted}
-use Rattle.live_meaning.proofs.Tracks.{Each, IsWithin, each_after, each_begun, stays_within, tracks_go_on}
 pub use Rattle.live_meaning.proofs.Tracks.{mapped}
+use Rattle.std.proofs.Common.{◌≡◌, ℕ, ℤ, List, [], ◌∷◌, ◌++◌, length, ◌≤◌, Option, Some, None, Result, Ok, Err, refl, sym, ◌∙◌, ap, subst}
+use Rattle.std.proofs.{Common.{arith, length-append}, lemmas.Option.same_Some, lemmas.List.{append-nil, append_assoc}}
+use Rattle.std.proofs.lemmas.List.Sums.{fold-append}
+use Rattle.live_meaning.specs.{Updates.{mpd_of, Terms, Update, Refresh, Reset, Tick, Values}, Histories.{Common, Past, Whole, after}}
+use Rattle.live_meaning.specs.Histories.{begun_common, begun_with, common_with, force_by, gone_on, no_past, past_of, whole_of}
+use Rattle.live_meaning.specs.{States.{State, shown, state_of, state_with}, Refusals.{Refusal, begun_by, begun_of, first_refusal_of}}
+use Rattle.live_meaning.specs.{Refusals.{next_of, next_with, refusal_of, update_refusal}, Laws.{AcceptedAreAccepted, HistoriesBegin}}
+use Rattle.live_meaning.specs.Laws.{HistoriesGoOn, HistoriesRefuse, IsAccepted, Shows, with_accepted}
+use Rattle.presentation.specs.{Presented.{looked_at, Presented}, declared.fault.PresentationFault.PresentationFault, Told.presented_of}
+use Rattle.std.specs.{Prelude.{option_map, slice_get, unwrap_or}, List.fold, Option.option_map_or, Result.result_ok}
+use Rattle.live_meaning.proofs.Tracks.{Each, IsWithin, each_after, each_begun, stays_within, tracks_go_on}
 
 -- ---- what gave a value
 
@@ -65,6 +66,14 @@ module _ (terms : Terms) (H : List Update → Whole → Type 0) (IsGiven : List 
       → IsGiven front u)
       → (w : Whole) → whole_of terms history ≡ Some w → H history w
   holds history given w is = all_hold [] history None refl given (λ v never. absurd (cc)) w is
+
+-- what is in force is presented by an MPD, or looked at anew
+pub forced : (P : Presented → Type 0) (terms : Terms) (former : Presented) (u : Update) (p : Presented) → force_by terms former u ≡ Ok p
+    → ((mpd : Values) (now : ℤ) → mpd_of u ≡ Some mpd → presented_of mpd terms.url (Some now) ≡ Ok p → P p)
+    → ((now : ℤ) → P (looked_at now former)) → P p
+forced P terms former (Refresh mpd now) p is made looked = made mpd now refl is
+forced P terms former (Reset mpd now) p is made looked = made mpd now refl is
+forced P terms former (Tick now) p is made looked = subst P (let same : looked_at now former ≡ p = cc in same) (looked now)
 
 -- what each history leaves
 pub record IsSound (terms : Terms) (history : List Update) (w : Whole) : Type 0 where

@@ -1,10 +1,11 @@
 -- What an accepted update leaves in force.
 use Rattle.std.proofs.Common.{◌≡◌, ℕ, zero, suc, ◌+◌, ◌*◌, ◌<◌, Bool, true, false, ◌==◌, ◌&&◌, ◌||◌, not, ℤ, List, [], ◌∷◌, ◌++◌, map}
 use Rattle.std.proofs.Common.{filter, flat_map, length, get_or, bytes_eq, Option, Some, None, Ok, refl, sym, ◌∙◌, ap, subst, inl, inr}
-use Rattle.std.proofs.{Common.arith, Math.Nat.mul-le-mul_left, lemmas.Bool.{and_parts, cases_Bool, eqb-true}, lemmas.List.length-map}
-use Rattle.std.proofs.{lemmas.List.map-append, lemmas.List.Folds.{find-append, find_at, list_any_at}}
+use Rattle.std.proofs.{Common.{arith, zero-add}, Math.Nat.mul-le-mul_left, lemmas.Bool.{and_parts, cases_Bool, eqb-true}}
+use Rattle.std.proofs.{lemmas.List.{length-map, map-append}, lemmas.List.Folds.{find-append, find_at, list_any_at}}
 use Rattle.std.proofs.lemmas.List.FromFn.{length-map-range_with_len, get_or-range_with_len, length-range_with_len}
-use Rattle.std.proofs.{lemmas.Option.slice_get-map, lemmas.Slice.Eq.bytes_eq-Decides}
+use Rattle.std.proofs.{lemmas.Option.slice_get-map, lemmas.Slice.Eq.bytes_eq-Decides, lemmas.Bool.Decides.nat_tests}
+use Rattle.bridge_io.proofs.Texts.{same_bytes}
 use Rattle.std.specs.{Prelude.{All, is_none, is_some, option_map, option_to_list, slice_get}, List.{find, list_any, position_or_len}}
 use Rattle.std.specs.{List.range_with_len, Option.{option_eq, option_map_or, option_or}}
 use Rattle.mpd_rules.specs.Laws.{PeriodIdsDiffer, are_once, ids_of as ids_said}
@@ -15,14 +16,14 @@ use Rattle.presentation.proofs.{Ending.all_filled, Filling.length_in_order, From
 use Rattle.presentation.proofs.Reached.{none_within}
 use Rattle.reload_law.specs.Rules.{same_part, same_range}
 use Rattle.url_parts.specs.{declared.address.Part.Part, declared.range.Range.Range}
-use Rattle.live_meaning.specs.{Updates.{Refresh, Reset, Terms, Tick, Update, Values}, Segments.{Segment, id_at, listed_of, place_of}}
-use Rattle.live_meaning.specs.Known.{Attributes, Known, all_same, attributes_at, attributes_of, goes_on, has_id, ids_of, is_new, known_at}
-use Rattle.live_meaning.specs.{Known.{known_by, known_with, periods_of, same_attributes}, Histories.{Common, numbering_of}, States.State}
+use Rattle.live_meaning.specs.{Updates.{Terms, Update, Values}, Segments.{Segment, id_at, listed_of, place_of}, Known.{Attributes, Known}}
+use Rattle.live_meaning.specs.Known.{all_same, attributes_at, attributes_of, goes_on, has_id, ids_of, is_new, known_at, known_by}
+use Rattle.live_meaning.specs.{Known.{known_with, periods_of, same_attributes}, Histories.{Common, numbering_of}, States.State}
 use Rattle.live_meaning.specs.Refusals.{Changed, are_alike, differs_at, ids_in, is_alike, is_changed, lack_ids, moved_by, moved_told}
 use Rattle.live_meaning.specs.{Refusals.{mpd_told, older_than, rewritten_told, starts_otherwise, told_if}, Laws.{HasRisingPeriods, IsTyped}}
 use Rattle.live_meaning.proofs.{Allowed.{IsAllowed, IsFirst, negated, none_each, told_none}, Ids.{AreLast, last_again, last_at_first}}
 use Rattle.live_meaning.proofs.{Ids.{last_with_new, new_ids, new_in, place_is, placed_at, placed_in}, Orders.listed_have, Tracks.ranged}
-use Rattle.live_meaning.proofs.Times.{IsSoundIn, period_timed, presented_sound}
+use Rattle.live_meaning.proofs.{Histories.forced, Times.{IsSoundIn, period_timed, presented_sound}}
 
 -- ---- ids of Periods
 
@@ -156,13 +157,7 @@ presented_filled mpd url now p made =
 -- ---- later MPDs
 
 unchanged : (a b c d e f : Bool) → (a || b || not c || not d || not e || f) ≡ false → (c ≡ true) × (d ≡ true) × (e ≡ true) × (f ≡ false)
-unchanged false false true true true false is = (refl, refl, refl, refl)
-unchanged false false true true true true is = absurd (cc)
-unchanged true b c d e f is = absurd (cc)
-unchanged false true c d e f is = absurd (cc)
-unchanged false false false d e f is = absurd (cc)
-unchanged false false true false e f is = absurd (cc)
-unchanged false false true true false f is = absurd (cc)
+unchanged a b c d e f is = (grind (arith, nat_tests), grind (arith, nat_tests), grind (arith, nat_tests), grind (arith, nat_tests))
 
 alike_many : (ones others : List Described) → are_alike ones others ≡ true → length ones ≡ length others
 alike_many [] [] is = refl
@@ -182,7 +177,7 @@ one_range (Some a) (Some b) is =
 one_part : (a b : Part) → same_part a b ≡ true → a ≡ b
 one_part a b is =
     let both = and_parts (bytes_eq a.address b.address) (option_eq same_range a.range b.range) is in
-    ap (λ text. let part : Part = record { address = text; range = a.range } in part) ((bytes_eq-Decides a.address b.address).0 both.0)
+    ap (λ text. let part : Part = record { address = text; range = a.range } in part) (same_bytes a.address b.address both.0)
     ∙ ap (λ range. let part : Part = record { address = b.address; range = range } in part) (one_range a.range b.range both.1)
 
 same_maps : (ones others : List Attributes) → all_same ones others ≡ true → maps_of ones ≡ maps_of others
@@ -193,13 +188,13 @@ same_maps (a ∷ ones) (b ∷ others) is =
     let both = and_parts (same_attributes a b) (all_same ones others) is in
     let own = and_parts (a.timescale == b.timescale && a.time_offset == b.time_offset)
     (same_part a.initialization b.initialization) both.0 in
-    ap (λ part. part ∷ maps_of ones) (one_part _ _ own.1) ∙ ap (λ parts. b.initialization ∷ parts) (same_maps ones others both.1)
+    cc (one_part a.initialization b.initialization own.1, same_maps ones others both.1)
 
 not_any : (test : ℕ → Bool) (n s : ℕ) → list_any test (range_with_len 0 n) ≡ false → s < n → test s ≡ false
 not_any test n s none less = elim (cases_Bool (test s)) [
   | inl is ↦
-      let here : get_or (range_with_len 0 n) s 0 ≡ s = get_or-range_with_len 0 n s 0 less ∙ omega arith in
-      let some = list_any_at test (range_with_len 0 n) s 0 (omega (arith, less, length-range_with_len 0 n)) (ap test here ∙ is) in
+      let long = length-range_with_len 0 n in
+      let some = list_any_at test (range_with_len 0 n) s 0 (omega (arith, less, long)) (rw (get_or-range_with_len 0 n s 0 less, zero-add s) is) in
       absurd (cc)
   | inr other ↦ other
 ]
@@ -239,23 +234,18 @@ mpd_in_force s mpd url now p is none made =
 
 pub later_in_force : (s : State) (u : Update) (p : Presented) → IsAllowed s u p → IsInForce s.common.opened s.common.known s.common.force
     → IsInForce s.common.opened (known_with s.common.known p) p
-later_in_force s (Refresh mpd now) p allowed is = mpd_in_force s mpd s.common.terms.url now p is allowed.mpd allowed.forced
-later_in_force s (Reset mpd now) p allowed is = mpd_in_force s mpd s.common.terms.url now p is allowed.mpd allowed.forced
-later_in_force s (Tick now) p allowed is =
-    let forced = allowed.forced in
-    let same : looked_at now s.common.force ≡ p = cc in
-    let at : IsInForce s.common.opened s.common.known p =
-    subst (λ (q : Presented). IsInForce s.common.opened s.common.known q) same
-    (record { last = is.last; sound = is.sound; tracks = is.tracks; filled = is.filled; same = is.same }) in
-    record {
-      last =
-          subst (λ (ids : List (List ℕ)). AreLast ids (ids_in p)) (sym (known_grown s.common.known p))
-          (last_again (ids_of s.common.known) (ids_in p) at.last);
-      sound = at.sound;
-      tracks = at.tracks;
-      filled = at.filled;
-      same = λ r less. let own = at.same r less in (own.0, (stays_known s.common.known p (id_at p r) own.0 own.1.0, own.1.1));
-    }
+later_in_force s u p allowed is =
+    let c : Common = s.common in
+    forced (λ q. IsInForce c.opened (known_with c.known q) q) c.terms c.force u p allowed.forced
+    (λ mpd now told made. mpd_in_force s mpd c.terms.url now p is (ap (λ o. mpd_told s o p) (sym told) ∙ allowed.mpd) made)
+    (λ now. let p : Presented = looked_at now c.force in record {
+      last = subst (λ (ids : List (List ℕ)). AreLast ids (ids_in p)) (sym (known_grown c.known p))
+          (last_again (ids_of c.known) (ids_in p) is.last);
+      sound = is.sound;
+      tracks = is.tracks;
+      filled = is.filled;
+      same = λ r less. let own = is.same r less in (own.0, (stays_known c.known p (id_at p r) own.0 own.1.0, own.1.1));
+    })
 
 -- ---- what is known of each listed segment
 

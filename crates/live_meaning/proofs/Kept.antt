@@ -1,8 +1,8 @@
 -- No playlist is ever empty, and numbers grow with the updates.
 use Rattle.std.proofs.Common.{◌≡◌, ℕ, zero, suc, ◌+◌, ◌-◌, ◌*◌, ◌≤◌, ◌<◌, Bool, true, false, cond, eqb, ltb, not, ℤ, List, [], ◌∷◌, ◌++◌}
-use Rattle.std.proofs.Common.{map, length, drop, filter, get_or, bytes_eq, Option, Some, None, Ok, refl, sym, ◌∙◌, ap, subst, inl, inr}
-use Rattle.std.proofs.{Common.{arith, length-append, length-drop}, Math.Nat.{mul-le-mul_left, one-le-pow}, lemmas.Bool.and_parts}
-use Rattle.std.proofs.{lemmas.Bool.{cases_Bool, ltb-false}, lemmas.Bool.Decides.nat_tests, lemmas.List.{length-map, map-append}}
+use Rattle.std.proofs.Common.{map, length, drop, filter, get_or, bytes_eq, Option, Some, None, refl, sym, ◌∙◌, ap, subst, inl, inr, arith}
+use Rattle.std.proofs.{Common.{length-append, length-drop}, Math.Nat.{mul-le-mul_left, one-le-pow}, lemmas.Bool.{and_parts, cases_Bool}}
+use Rattle.std.proofs.{lemmas.Bool.ltb-false, lemmas.Bool.Decides.nat_tests, lemmas.List.{length-map, map-append}}
 use Rattle.std.proofs.lemmas.List.Elements.{All-nil, All-append, All-drop, All-head, All-weaker, filter_passes}
 use Rattle.std.proofs.{lemmas.List.FromFn.length-range_with_len, lemmas.List.Concat.length-flat_map, lemmas.List.Sums.count_by-le-length}
 use Rattle.std.proofs.{lemmas.List.Sums.{length-filter, prefix_len-le-length, sum_by-cons}, lemmas.Option.same_Some}
@@ -12,22 +12,21 @@ use Rattle.timeline.specs.{declared.window.Window.Window, Expansions.Timing, Lis
 use Rattle.presentation.specs.{declared.fault.PresentationFault.TheVariants.NoSegments, declared.parts.Content.Content}
 use Rattle.presentation.specs.Counting.{count_faults, count_of_track, is_over, limit_faults, listed_count, sections_of, track_faults}
 use Rattle.presentation.specs.{Counting.{tracks_of, section_faults, whole_track_faults}, Presented.{Following, Presented, content_at}}
-use Rattle.presentation.specs.Presented.{is_finished, listed_at, listed_in, looked_at, start_of, whole_window, window_at, window_of}
+use Rattle.presentation.specs.Presented.{is_finished, listed_at, listed_in, start_of, whole_window, window_at, window_of}
 use Rattle.presentation.specs.PresentedLaws.{PresentedAreFew, PresentedAreFollowed}
 use Rattle.presentation.proofs.{Ending.none_behind, Reached.{all_reached, none_first, none_within}, Tracks.all_counted}
 use Rattle.followed.specs.Durations.{Last, durations, last_behind, told, told_behind}
 use Rattle.followed.proofs.KeptPlaces.{next_is_first}
-use Rattle.live_meaning.specs.{Updates.{Refresh, Reset, Terms, Tick, Update, Values, is_reset, unit_of}, Segments.{Kept, Numbering}}
-use Rattle.live_meaning.specs.{Segments.{Segment, behind, id_at, listed_in_period, listed_of, place_behind, segments_of}, Known.Known}
-use Rattle.live_meaning.specs.{Known.{ids_of, is_new, known_at, known_with, periods_of}, Removal.{is_available, removed_of}}
-use Rattle.live_meaning.specs.Histories.{Common, Past, Whole, begun_common, begun_past, common_with, force_by, least_length, new_listed}
-use Rattle.live_meaning.specs.{Histories.{numbering_of, past_after, whole_of}, States.{State, Track, kept_and_new, removed_from, shown}}
-use Rattle.live_meaning.specs.{States.track_of, Refusals.{Window as Windowed, count_kept, counts_listed, over_in_track}}
-use Rattle.live_meaning.specs.{Playlists.{FollowedPlaylist, item_of, playlist_with}, Laws.{IsAccepted, IsSmall, NeverEmpty}}
-use Rattle.live_meaning.specs.Laws.{NumbersStaySmall}
-use Rattle.live_meaning.proofs.{Allowed.{IsAllowed, IsFirst, IsOwn, accepted_hold, told_none}, Histories.{mapped, sound}, Ids.place_is}
-use Rattle.live_meaning.proofs.{Orders.{behind_have, listed_have, made_in}, Reloads.shown_track, Tracks.{Each, IsWithin, kept_segments}}
-use Rattle.live_meaning.proofs.Tracks.{length-told, ranged, told-segments, track_goes_on}
+use Rattle.live_meaning.specs.{Updates.{Terms, Update, Values, is_reset, unit_of}, Segments.{Kept, Numbering, Segment, behind, id_at}}
+use Rattle.live_meaning.specs.{Segments.{listed_in_period, listed_of, place_behind, segments_of}, Known.{Known, ids_of, is_new, known_at}}
+use Rattle.live_meaning.specs.{Known.{known_with, periods_of}, Removal.{is_available, removed_of}, Histories.{Common, Past, Whole}}
+use Rattle.live_meaning.specs.Histories.{begun_common, begun_past, common_with, least_length, new_listed, numbering_of, past_after}
+use Rattle.live_meaning.specs.{Histories.whole_of, States.{State, Track, kept_and_new, removed_from, shown, track_of}}
+use Rattle.live_meaning.specs.{Refusals.{Window as Windowed, count_kept, counts_listed, over_in_track}, Playlists.FollowedPlaylist}
+use Rattle.live_meaning.specs.{Playlists.{item_of, playlist_with}, Laws.{IsAccepted, IsSmall, NeverEmpty, NumbersStaySmall}}
+use Rattle.live_meaning.proofs.{Allowed.{IsAllowed, IsFirst, IsOwn, accepted_hold, told_none}, Histories.{forced, mapped, sound}}
+use Rattle.live_meaning.proofs.{Ids.place_is, Orders.{behind_have, listed_have, made_in}, Reloads.shown_track, Tracks.{Each, IsWithin}}
+use Rattle.live_meaning.proofs.Tracks.{kept_segments, length-told, ranged, told-segments, track_goes_on}
 
 -- ---- how many segments are listed
 
@@ -230,20 +229,14 @@ module _ (few : PresentedAreFew) (followed : PresentedAreFollowed) where
             },
       )
 
-  later_few : (s : State) (u : Update) (p : Presented) → length s.common.force.sections ≤ 1000
-      → force_by s.common.terms s.common.force u ≡ Ok p → length p.sections ≤ 1000
-  later_few s (Refresh mpd now) p is forced = (few mpd s.common.terms.url (Some now) p forced).0
-  later_few s (Reset mpd now) p is forced = (few mpd s.common.terms.url (Some now) p forced).0
-  later_few s (Tick now) p is forced = let same : looked_at now s.common.force ≡ p = cc in
-      subst (λ (q : Presented). length q.sections ≤ 1000) same is
-
   goes_on_kept : (w : Whole) (u : Update) (p : Presented) → IsAllowed (shown w) u p → IsFew w.common →
       let c = common_with w.common u p in
       IsFew c × ((t : ℕ) (past : Past) → IsWithin t past → IsOwn c t (track_of (unit_of c.terms) past) → IsKept w.common.accepted past
       → IsKept c.accepted (past_after c t past))
   goes_on_kept w u p allowed is =
       let c : Common = common_with w.common u p in
-      let sections = later_few (shown w) u p is.sections allowed.forced in
+      let sections = forced (λ q. length q.sections ≤ 1000) w.common.terms w.common.force u p allowed.forced
+      (λ mpd now told made. (few mpd w.common.terms.url (Some now) p made).0) (λ now. is.sections) in
       let known : length c.known ≤ 1000 * c.accepted = omega (arith, few_known w.common.known p, sections, is.known) in
       let resets : c.resets < c.accepted = omega (arith, resets_most (is_reset u) w.common.resets, is.resets) in (
         record { target = is.target; sections = sections; known = known; resets = resets },

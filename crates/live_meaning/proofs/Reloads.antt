@@ -1,13 +1,13 @@
 -- Each playlist of a followed track may take the place of the one before it.
-use Rattle.std.proofs.Common.{◌≡◌, ℕ, ◌+◌, ◌-◌, ◌*◌, ◌^◌, ◌≤◌, zero, suc, Bool, false, List, [], ◌∷◌, ◌++◌, map, length, drop, sum, Some}
-use Rattle.std.proofs.{Common.{None, Ok, refl, sym, ◌∙◌, ap, subst, inl, inr, arith}, lemmas.Bool.{cases_Bool, cases_lt}}
-use Rattle.std.proofs.{lemmas.List.{length-map, map-append}, lemmas.List.Sums.sum_by-cons, lemmas.Option.{same_Some, slice_get-map}}
-use Rattle.std.proofs.{lemmas.Nat.pow-add, Math.Nat.{mul-le-mul_left, one-le-pow}}
+use Rattle.std.proofs.Common.{◌≡◌, ℕ, ◌+◌, ◌-◌, ◌*◌, ◌^◌, ◌≤◌, Bool, false, List, [], ◌∷◌, ◌++◌, map, length, drop, sum, Some, None, Ok}
+use Rattle.std.proofs.{Common.{refl, sym, ◌∙◌, ap, subst, inl, inr, arith}, lemmas.Bool.{cases_Bool, cases_lt}, lemmas.List.length-map}
+use Rattle.std.proofs.{lemmas.List.{map-append, drop-map}, lemmas.Simd.map-map, lemmas.List.Sums.sum-map, lemmas.Option.same_Some}
+use Rattle.std.proofs.{lemmas.Option.slice_get-map, lemmas.Nat.pow-add, Math.Nat.{mul-le-mul_left, one-le-pow}}
 use Rattle.std.specs.{Prelude.{option_map, slice_get, sum_by}, Result.result_ok}
 use Rattle.hls_media.specs.{declared.media.Media.Media, declared.media.MediaSegment.MediaSegment}
 use Rattle.reload_law.specs.{Rules.lawful, Laws.{ReloadsItself, RulesAreSentences}}
 use Rattle.followed.specs.Durations.{durations, last_behind, told, told_behind}
-use Rattle.followed.proofs.{KeptPlaces.next_is_first, PrintedSections.told_goes_on}
+use Rattle.followed.proofs.{KeptPlaces.{next_is_first, sum-scaled}, PrintedSections.told_goes_on}
 use Rattle.presentation.specs.Presented.{Presented, is_finished}
 use Rattle.live_meaning.specs.{Updates.{Terms, Update, unit_of}, Segments.{Kept, Segment, segments_of}, Removal.is_available}
 use Rattle.live_meaning.specs.Histories.{Common, Past, Whole, after, common_with, force_by, gone_on, least_length, new_listed, past_after}
@@ -29,50 +29,24 @@ goes_on s u none =
 
 -- ---- what a playlist is read as
 
-read : (digits : ℕ) → Kept → MediaSegment
+abbrev read : (digits : ℕ) → Kept → MediaSegment
 read digits k = segment_of digits (item_of k)
-
-read_items : (digits : ℕ) (ts : List Kept) → map (segment_of digits) (map item_of ts) ≡ map (read digits) ts
-unfolding read
-read_items digits [] = refl
-read_items digits (t ∷ ts) = ap (λ (xs : List MediaSegment). segment_of digits (item_of t) ∷ xs) (read_items digits ts)
-
-read_from : (digits n : ℕ) (ts : List Kept) → map (segment_of digits) (map item_of (drop n ts)) ≡ drop n (map (read digits) ts)
-read_from digits zero ts = read_items digits ts
-read_from digits (suc n) [] = refl
-read_from digits (suc n) (t ∷ ts) = read_from digits n ts
 
 -- the segments of all, from the first kept one on
 media_is : (c : Common) (unit : ℕ) (past : Past) →
     media_of (playlist_with c (track_of unit past)) ≡ media_from c.target past.first (is_finished c.force)
     (map (read c.terms.digits) (told unit past.all))
-media_is c unit past =
-    ap (λ (xs : List MediaSegment). let m : Media = record {
-      target = c.target;
-      sequence = past.first;
-      ended = is_finished c.force;
-      segments = xs;
-    } in m) (read_from c.terms.digits past.first (told unit past.all))
+media_is c unit past = simp (drop-map, map-map)
 
 -- ---- units and nanoseconds
 
-nanos : (digits : ℕ) (ts : List Kept) → sum_by (λ segment. segment.duration) (map (read digits) ts) ≡ sum (durations ts) * 10 ^ (9 - digits)
-unfolding read
-nanos digits [] = omega arith
-nanos digits (t ∷ ts) =
-    omega (
-      arith,
-      sum_by-cons (λ (segment : MediaSegment). segment.duration) (segment_of digits (item_of t))
-          (map (λ k. segment_of digits (item_of k)) ts),
-      nanos digits ts,
-      ap (λ n. n * 10 ^ (9 - digits)) (sum_by-cons (λ n. n) t.duration (durations ts)),
-    )
-
 nanos_from : (digits n : ℕ) (ts : List Kept)
     → sum_by (λ segment. segment.duration) (drop n (map (read digits) ts)) ≡ sum (drop n (durations ts)) * 10 ^ (9 - digits)
-nanos_from digits zero ts = nanos digits ts
-nanos_from digits (suc n) [] = omega arith
-nanos_from digits (suc n) (t ∷ ts) = nanos_from digits n ts
+nanos_from digits n ts =
+    let same : map (λ (segment : MediaSegment). segment.duration) (drop n (map (read digits) ts))
+    ≡ map (λ d. d * 10 ^ (9 - digits)) (drop n (durations ts)) = simp (drop-map, map-map) in
+    sym (sum-map (λ (segment : MediaSegment). segment.duration) (drop n (map (read digits) ts))) ∙ ap sum same
+    ∙ sum-scaled (10 ^ (9 - digits)) (drop n (durations ts))
 
 three_targets_last : (digits target units : ℕ) → 3 * target * 10 ^ digits ≤ units → 3 * 10 ^ 9 * target ≤ units * 10 ^ (9 - digits)
 three_targets_last digits target units le = elim (cases_lt 9 digits) [
