@@ -1,10 +1,10 @@
 -- Each playlist of a followed track may take the place of the one before it.
-use Rattle.std.proofs.Common.{◌≡◌, ℕ, ◌+◌, ◌-◌, ◌*◌, ◌^◌, ◌≤◌, Bool, false, List, [], ◌∷◌, ◌++◌, map, length, drop, sum, Some, None, Ok}
-use Rattle.std.proofs.{Common.{refl, sym, ◌∙◌, ap, subst, inl, inr, arith}, lemmas.Bool.{cases_Bool, cases_lt}, lemmas.List.length-map}
-use Rattle.std.proofs.{lemmas.List.{map-append, drop-map}, lemmas.Simd.map-map, lemmas.List.Sums.sum-map, lemmas.Option.same_Some}
-use Rattle.std.proofs.{lemmas.Option.slice_get-map, lemmas.Nat.pow-add, Math.Nat.{mul-le-mul_left, one-le-pow}}
+use Rattle.std.proofs.Common.{◌≡◌, ℕ, ◌+◌, ◌-◌, ◌*◌, ◌^◌, ◌≤◌, false, List, [], ◌∷◌, ◌++◌, map, length, drop, sum, Some, None, Ok, refl}
+use Rattle.std.proofs.{Common.{sym, ◌∙◌, ap, subst, inl, inr, arith}, lemmas.Bool.cases_Bool, lemmas.List.{length-map, map-append}}
+use Rattle.std.proofs.{lemmas.List.drop-map, lemmas.Simd.map-map, lemmas.List.Sums.sum-map, lemmas.Option.{same_Some, slice_get-map}}
+use Rattle.std.proofs.{lemmas.Nat.pow-add, Math.Nat.{mul-le-mul_left, one-le-pow}}
 use Rattle.std.specs.{Prelude.{option_map, slice_get, sum_by}, Result.result_ok}
-use Rattle.hls_media.specs.{declared.media.Media.Media, declared.media.MediaSegment.MediaSegment}
+use Rattle.hls_media.specs.declared.media.MediaSegment.{MediaSegment}
 use Rattle.reload_law.specs.{Rules.lawful, Laws.{ReloadsItself, RulesAreSentences}}
 use Rattle.followed.specs.Durations.{durations, last_behind, told, told_behind}
 use Rattle.followed.proofs.{KeptPlaces.{next_is_first, sum-scaled}, PrintedSections.told_goes_on}
@@ -49,22 +49,13 @@ nanos_from digits n ts =
     ∙ sum-scaled (10 ^ (9 - digits)) (drop n (durations ts))
 
 three_targets_last : (digits target units : ℕ) → 3 * target * 10 ^ digits ≤ units → 3 * 10 ^ 9 * target ≤ units * 10 ^ (9 - digits)
-three_targets_last digits target units le = elim (cases_lt 9 digits) [
-  | inl more ↦
-      let parts : digits ≡ 9 + (digits - 9) = omega arith in
-      let tens : 10 ^ digits ≡ 10 ^ 9 * 10 ^ (digits - 9) = ap (λ (n : ℕ). 10 ^ n) parts ∙ pow-add 10 9 (digits - 9) in
-      let none : 9 - digits ≡ 0 = omega arith in
-      let one : 10 ^ (9 - digits) ≡ 1 = ap (λ (n : ℕ). 10 ^ n) none in
-      let times = ap (λ n. units * n) one in
-      let some : 1 ≤ 10 ^ (digits - 9) = one-le-pow (digits - 9) 10 (omega arith) in
-      let whole : 3 * target * 10 ^ digits ≡ 3 * target * (10 ^ 9 * 10 ^ (digits - 9)) = ap (λ n. 3 * target * n) tens in
-      omega (arith, times, whole, mul-le-mul_left (3 * target * 10 ^ 9) some)
-  | inr few ↦
-      let nine : 9 ≡ digits + (9 - digits) = omega arith in
-      let tens : 10 ^ 9 ≡ 10 ^ digits * 10 ^ (9 - digits) = ap (λ (n : ℕ). 10 ^ n) nine ∙ pow-add 10 digits (9 - digits) in
-      let times = ap (λ n. 3 * target * n) tens in
-      omega (arith, times, mul-le-mul_left (10 ^ (9 - digits)) le)
-]
+three_targets_last digits target units le =
+    let same : 9 + (digits - 9) ≡ digits + (9 - digits) = omega arith in
+    let tens : 10 ^ 9 * 10 ^ (digits - 9) ≡ 10 ^ digits * 10 ^ (9 - digits) =
+    sym (pow-add 10 9 (digits - 9)) ∙ ap (λ (n : ℕ). 10 ^ n) same ∙ pow-add 10 digits (9 - digits) in
+    let times = ap (λ n. 3 * target * n) tens in
+    let some : 1 ≤ 10 ^ (digits - 9) = one-le-pow (digits - 9) 10 (omega arith) in
+    omega (arith, times, mul-le-mul_left (3 * target * 10 ^ 9) some, mul-le-mul_left (10 ^ (9 - digits)) le)
 
 -- ---- states
 
@@ -110,7 +101,7 @@ module _ (sentences : RulesAreSentences) (itself : ReloadsItself) where
       let grow : map (read digits) ts ≡ olds ++ news =
       ap (λ (ks : List Kept). map (read digits) ks) (told_goes_on unit past.all new)
       ∙ map-append (read digits) (told unit past.all) (told_behind unit (last_behind None past.all) new) in
-      let later : IsLater c.target past.first next (map (read digits) ts) = record {
+      let later : IsLater c.target past.first next (olds ++ news) = subst (IsLater c.target past.first next) grow (record {
         rises = is.rises;
         within = omega (arith, stays_within c t past within, length-map ts (read digits), length-told unit None all);
         lasts =
@@ -120,18 +111,11 @@ module _ (sentences : RulesAreSentences) (itself : ReloadsItself) where
               three_targets_last digits c.target (sum (drop next (durations ts)))
                   (is.lasts rises),
             );
-      } in
+      }) in
       let there : past.first ≤ length olds =
       omega (arith, within, length-map (told unit past.all) (read digits), length-told unit None past.all) in
-      let grown =
-      grown_is_lawful sentences itself c.target past.first next (is_finished p) olds news there
-      (subst (λ (xs : List MediaSegment). IsLater c.target past.first next xs) grow later) in
-      let old_is = media_is w.common unit past ∙ ap (λ (e : Bool). media_from c.target past.first e olds) unended in
-      let new_is =
-      media_is c unit (past_after c t past) ∙ ap (λ (xs : List MediaSegment). media_from c.target next (is_finished p) xs) grow in
-      ap (λ (m : Media). lawful m (media_of (playlist_with c (track_of unit (past_after c t past))))) old_is
-      ∙ ap (λ (m : Media). lawful (media_from c.target past.first false olds) m) new_is
-      ∙ grown
+      rw (media_is w.common unit past, unended, media_is c unit (past_after c t past), grow)
+      (grown_is_lawful sentences itself c.target past.first next (is_finished p) olds news there later)
 
   pub reloads_are_lawful : ReloadsAreLawful
   unfolding state_of

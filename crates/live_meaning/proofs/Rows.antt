@@ -30,18 +30,10 @@ abbrev lasting : ℕ → Extent
 lasting n = record { start = at 0; end = at n }
 
 abbrev content : List Member → Content
-content members =
-    record {
-      initialization = part;
-      runs = record {
-        members = members;
-        ticks = 1;
-        origin = 0;
-        offset = 0;
-        first_number = 1;
-        names = Addresses [];
-      };
-    }
+content members = record {
+  initialization = part;
+  runs = record { members = members; ticks = 1; origin = 0; offset = 0; first_number = 1; names = Addresses [] };
+}
 
 abbrev video : Described
 video = record { kind = Video; set = 0; language = None; codecs = None; bandwidth = 1000; size = None; frame_rate = None }
@@ -50,15 +42,14 @@ abbrev period : (start : ℕ) → Section
 period start = record { id = 112 ∷ []; start = start; length = None }
 
 abbrev presented : (start : ℕ) → List Member → Option Following → Presented
-presented start members following =
-    record {
-      tracks = video ∷ [];
-      sections = period start ∷ [];
-      contents = content members ∷ [];
-      left_out = 0;
-      following = following;
-      places = [];
-    }
+presented start members following = record {
+  tracks = video ∷ [];
+  sections = period start ∷ [];
+  contents = content members ∷ [];
+  left_out = 0;
+  following = following;
+  places = [];
+}
 
 -- with segments as long as the first one and a depth, at an instant
 abbrev live_by : Extent → (depth now : ℕ) → Presented

@@ -64,11 +64,7 @@ next_rises {X} former enough (Some test) ns all =
 pub first_rises : (f : Option Following) (units former : ℕ) (ts : List Kept)
     → first_kept f units former ts ≡ former + removed_of f units (drop former ts)
 first_rises f units former ts =
-    next_rises former units (option_map is_available f) (durations ts) (segments_of ts)
-    ∙ ap (λ (ns : List ℕ). former + next_first 0 (option_map is_available f) units ns (drop former (segments_of ts)))
-    (drop-map (λ (t : Kept). t.duration) former ts)
-    ∙ ap (λ (xs : List Segment). former + next_first 0 (option_map is_available f) units (durations (drop former ts)) xs)
-    (drop-map (λ (t : Kept). t.segment) former ts)
+    simp drop-map at (next_rises former units (option_map is_available f) (durations ts) (segments_of ts))
 
 -- ---- one track
 
