@@ -24,22 +24,20 @@ use Rattle.laws_of_playlists.proofs.OriginKept.{are_untold}
 
 -- ---- the longest duration that an MPD tells
 
-pub IsShort : Option ℕ → Type 0
+abbrev pub IsShort : Option ℕ → Type 0
 IsShort o = IfSome o (λ n. n < 10 ^ 19)
 
 in_range : (whole : Bool) (nanos : ℕ) → IsShort (result_ok (if whole then (if ltb nanos (10 ^ 19) then Ok nanos else Err Range)
     else Err Calendar))
-unfolding IsShort
 in_range true nanos = elim (cases_Bool (ltb nanos (10 ^ 19))) [ inl less ↦ rw less (ltb-true _ _ less) | inr more ↦ rw more tt ]
 in_range false nanos = tt
 
 parts_in_range : (o : Option DurationParts) → IsShort (result_ok (option_map_or answer_of o (Err Shape)))
-unfolding IsShort
 parts_in_range None = tt
 parts_in_range (Some p) = in_range ((extent_of p).months == 0) (extent_of p).nanos
 
 text_in_range : (o : Option (List ℕ)) → IsShort (option_and_then duration_within o)
-unfolding IsShort duration_of
+unfolding duration_of
 text_in_range None = tt
 text_in_range (Some text) = parts_in_range (parts_of (trimmed Space text))
 
@@ -83,7 +81,6 @@ longest_short paced short p unit from none =
     (short (listed_at p s t) unit (paced p s t from (all_reached p none t in_tracks s in_sections)))))
 
 told_or_none : (o : Option ℕ) → IsShort o → unwrap_or o 0 ≤ 10 ^ 10 * 10 ^ 9
-unfolding IsShort
 told_or_none None is = omega arith
 told_or_none (Some n) is = omega (arith, is)
 

@@ -61,14 +61,13 @@ kept_readable digits target first all short addressed fits =
 
 -- ---- segments in order
 
-Follows : Segment → Segment → Type 0
+abbrev Follows : Segment → Segment → Type 0
 Follows x y = (x.section ≤ y.section) × (x.section ≡ y.section → y.value.map ≡ x.value.map)
 
-AllFollow : List Segment → Type 0
+abbrev AllFollow : List Segment → Type 0
 AllFollow xs = (i j : ℕ) (x y : Segment) → i ≤ j → slice_get xs i ≡ Some x → slice_get xs j ≡ Some y → Follows x y
 
 go_on : (k : Kept) (ks : List Kept) → AllFollow (segments_of (k ∷ ks)) → GoOn (item_of k) (map item_of ks)
-unfolding AllFollow Follows
 go_on k [] follow = tt
 go_on k (m ∷ ks) follow =
     let next = follow 0 1 k.segment m.segment (omega arith) refl refl in
@@ -87,7 +86,6 @@ counted digits first (k ∷ ks) from =
 
 segments_are : (digits : ℕ) (ks : List Kept) → AllFollow (segments_of ks)
     → read.segments_of (first_section ks) digits (map item_of ks) ≡ map (segment_of digits) (map item_of ks)
-unfolding AllFollow Follows
 segments_are digits [] follow = refl
 segments_are digits (k ∷ ks) follow =
     counted digits k.segment.section (k ∷ ks) (λ i x at. (follow 0 i k.segment x (omega arith) refl at).0)
@@ -119,7 +117,7 @@ module _ (never_fall : SectionsNeverFall) (one_map : SectionsHaveOneMap) (fit : 
       → IsAccepted terms history → whole_of terms history ≡ Some w → slice_get w.pasts t ≡ Some past
       → let playlist = playlist_with w.common (track_of (unit_of w.common.terms) past) in
       ReadsAs (live_text playlist) url (media_of playlist)
-  unfolding state_of AllFollow Follows
+  unfolding state_of
   past_is_read terms history w t past url followed accepted whole at =
       let shows : Shows terms history (shown w) = record { accepted = accepted; leaves = ap (option_map shown) whole } in
       let read = each_read history followed.read in

@@ -35,27 +35,23 @@ made_many : (make : Content → Timing → Segment) (list : Content → List Tim
 made_many make list None = refl
 made_many make list (Some content) = length-map (list content) (make content)
 
-listed_many : (n : Numbering) (p : Presented) (t : ℕ) (ss : List ℕ)
-    → length (flat_map (listed_in_period n p t) ss) ≡ length (flat_map (λ s. listed_at p s t) ss)
-listed_many n p t [] = refl
-listed_many n p t (s ∷ ss) =
-    rw (
-      length-append (listed_in_period n p t s) (flat_map (listed_in_period n p t) ss),
-      length-append (listed_at p s t) (flat_map (λ s. listed_at p s t) ss),
-      listed_many n p t ss,
-    )
-    (ap (λ m. m + length (flat_map (λ s. listed_at p s t) ss))
-    (made_many (made_in n p s) (λ content. listed_in (window_of p s) content.runs) (content_at p s t)))
-
-sums-le : (f g : ℕ → ℕ) (a n : ℕ) → ((s : ℕ) → s < a + n → f s ≤ g s) → sum_by f (range_with_len a n) ≤ sum_by g (range_with_len a n)
-sums-le f g a zero each = omega arith
-sums-le f g a (suc n) each = omega (
+same_sums : (f g : ℕ → ℕ) (a n : ℕ) → ((s : ℕ) → s < a + n → f s ≡ g s) → sum_by f (range_with_len a n) ≡ sum_by g (range_with_len a n)
+same_sums f g a zero each = refl
+same_sums f g a (suc n) each = omega (
   arith,
   each a (omega arith),
-  sums-le f g (a + 1) n (λ s within. each s (omega arith)),
+  same_sums f g (a + 1) n (λ s within. each s (omega arith)),
   sum_by-cons f a (range_with_len (a + 1) n),
   sum_by-cons g a (range_with_len (a + 1) n),
 )
+
+listed_many : (n : Numbering) (p : Presented) (t : ℕ)
+    → length (listed_of n p t) ≡ length (flat_map (λ s. listed_at p s t) (sections_of p))
+listed_many n p t =
+    length-flat_map (listed_in_period n p t) (sections_of p)
+    ∙ same_sums (λ s. length (listed_in_period n p t s)) (λ s. length (listed_at p s t)) 0 (length p.sections)
+    (λ s less. made_many (made_in n p s) (λ content. listed_in (window_of p s) content.runs) (content_at p s t))
+    ∙ sym (length-flat_map (λ s. listed_at p s t) (sections_of p))
 
 -- a track of a followed presentation
 some_listed : (p : Presented) (t : ℕ) → is_finished p ≡ false → count_faults p ≡ [] → t < length p.tracks
@@ -64,8 +60,8 @@ some_listed p t followed none less =
     let tracks = none_first (flat_map (track_faults p) (tracks_of p)) (limit_faults (is_over p)) none in
     let track = none_within (track_faults p) (length p.tracks) t tracks less in
     let whole = none_behind (flat_map (section_faults p t) (sections_of p)) (whole_track_faults p t) track in
-    let counted = sums-le (listed_count p t) (λ s. length (listed_at p s t)) 0 (length p.sections)
-    (λ s within. omega (arith, all_counted p s t (all_reached p none t less s (omega arith)))) in
+    let counted = same_sums (listed_count p t) (λ s. length (listed_at p s t)) 0 (length p.sections)
+    (λ s within. all_counted p s t (all_reached p none t less s (omega arith))) in
     elim (cases_Bool (eqb (count_of_track p t) 0)) [
       | inl nothing ↦ let never : NoSegments 0 t ∷ [] ≡ [] = rw (followed, nothing) at whole in absurd (cc)
       | inr some ↦ let more : 0 < count_of_track p t = grind (arith, nat_tests) in
@@ -220,7 +216,7 @@ module _ (few : PresentedAreFew) (followed : PresentedAreFollowed) where
       ∙ is_followed mpd.facts.live _ first.live in (
         record { target = omega arith; sections = sections; known = known; resets = omega arith },
         λ t less.
-            let many = listed_many (numbering_of c) p t (sections_of p) in
+            let many = listed_many (numbering_of c) p t in
             record {
               some = omega (arith, many, some_listed p t live first.counts less);
               first = omega arith;
