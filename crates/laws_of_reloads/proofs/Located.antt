@@ -2,7 +2,7 @@
 use Rattle.timeline.specs.declared.fault.ListFault.TheVariants as list_fault
 use Rattle.std.proofs.Common.{◌≡◌, ℕ, ◌+◌, ◌-◌, ◌^◌, ◌≤◌, ◌<◌, Bool, true, ℤ, List, [], ◌∷◌, ◌++◌, map, filter, length, Option, Some, None}
 use Rattle.std.proofs.{Common.{Result, Ok, Err, IfSome, refl, sym, ◌∙◌, ap, subst, inl, inr, arith}, Math.Nat.one-le-pow}
-use Rattle.std.proofs.{lemmas.Bool.cases_Bool, lemmas.List.Elements.{All-nil, All-append, All-cons, All-head, All-tail, filter_passes}}
+use Rattle.std.proofs.{lemmas.Bool.cases_Bool, lemmas.List.Elements.{All-nil, All-append, All-cons, All-tail, filter_passes}}
 use Rattle.std.specs.{Prelude.{All, flat_map}, Option.option_map_or}
 use Rattle.url_parts.specs.{declared.address.Part.Part, Addresses.IsAddress}
 use Rattle.timeline.specs.{declared.fault.ListFault.ListFault, Expansions.{SegmentTimeline, Timing}, Listed.part_of_timing}
@@ -45,11 +45,8 @@ left_have {X} P test [] all = All-nil (λ x. test x ≡ true → P x)
 left_have {X} P test (x ∷ xs) all = elim (cases_Bool (test x)) [
   | inl is ↦
       let here : All P (x ∷ filter test xs) = rw is at all in
-      All-cons (λ x. test x ≡ true → P x) x xs (λ _. All-head P x (filter test xs) here)
-      (left_have P test xs (All-tail P x (filter test xs) here))
-  | inr other ↦
-      let rest : All P (filter test xs) = rw other at all in
-      All-cons (λ x. test x ≡ true → P x) x xs (λ is. absurd (cc)) (left_have P test xs rest)
+      All-cons (λ x. test x ≡ true → P x) x xs (λ _. here 0 x (omega arith)) (left_have P test xs (All-tail P x (filter test xs) here))
+  | inr other ↦ All-cons (λ x. test x ≡ true → P x) x xs (λ is. absurd (cc)) (left_have P test xs (rw other at all))
 ]
 
 -- ---- segments of a presentation with addresses

@@ -174,11 +174,16 @@ module _ (differ : PeriodIdsDiffer) (sections : SectionsArePeriods) where
   accepted_never_drift floors terms history accepted typed t section k x xs end own at =
       sections_never_drift floors terms history (accepted_are_listed_in_order terms history accepted typed) t section k x xs end own at
 
+  steps_in : (terms : Terms) (history : List Update) (t i j : ℕ) (x y : Segment) → IsAccepted terms history → AreTyped history → i ≤ j
+      → slice_get (all_of terms history t) i ≡ Some x → slice_get (all_of terms history t) j ≡ Some y
+      → (x.value.place ≤ y.value.place) × (x.section + y.value.place ≤ y.section + x.value.place)
+  steps_in terms history t i j x y accepted typed =
+      steps_both 0 0 _ (all_of terms history t) i j x y
+      (past_ordered terms history t (accepted_are_listed_in_order terms history accepted typed)).1.steps
+
   pub sections_never_fall : SectionsNeverFall
   sections_never_fall terms history t i j x y accepted typed le at_x at_y =
-      let steps = (past_ordered terms history t (accepted_are_listed_in_order terms history accepted typed)).1.steps in
-      let is = steps_both 0 0 _ (all_of terms history t) i j x y steps le at_x at_y in
-      omega (arith, is.0, is.1)
+      let is = steps_in terms history t i j x y accepted typed le at_x at_y in omega (arith, is.0, is.1)
 
   past_known : (terms : Terms) (history : List Update) (t : ℕ) → IsAccepted terms history → AreTyped history
       → (known : List Known) × All (IsKnown known t) (all_of terms history t)
@@ -186,21 +191,13 @@ module _ (differ : PeriodIdsDiffer) (sections : SectionsArePeriods) where
       past_holds (λ past. (known : List Known) × All (IsKnown known t) past.all) terms history t ([], All-nil (IsKnown [] t))
       (λ w is past at. (w.common.known, ((accepted_left terms history accepted typed w is).1 t past at).known))
 
-  one_place : (terms : Terms) (history : List Update) (t i j : ℕ) (x y : Segment) → IsAccepted terms history → AreTyped history
-      → slice_get (all_of terms history t) i ≡ Some x → slice_get (all_of terms history t) j ≡ Some y → x.section ≡ y.section
-      → x.value.place ≡ y.value.place
-  one_place terms history t i j x y accepted typed at_x at_y same =
-      let all : List Segment = all_of terms history t in
-      let steps = (past_ordered terms history t (accepted_are_listed_in_order terms history accepted typed)).1.steps in
-      elim (cases_lt i j) [
-        | inl less ↦ let is = steps_both 0 0 _ all i j x y steps (omega arith) at_x at_y in omega (arith, is.0, is.1)
-        | inr le ↦ let is = steps_both 0 0 _ all j i y x steps le at_y at_x in omega (arith, is.0, is.1)
-      ]
-
   pub sections_have_one_map : SectionsHaveOneMap
   sections_have_one_map terms history t i j x y accepted typed at_x at_y same =
       let all : List Segment = all_of terms history t in
-      let place : x.value.place ≡ y.value.place = one_place terms history t i j x y accepted typed at_x at_y same in
+      let place : x.value.place ≡ y.value.place = elim (cases_lt i j) [
+        | inl less ↦ let is = steps_in terms history t i j x y accepted typed (omega arith) at_x at_y in omega (arith, is.0, is.1)
+        | inr le ↦ let is = steps_in terms history t j i y x accepted typed le at_y at_x in omega (arith, is.0, is.1)
+      ] in
       let known = past_known terms history t accepted typed in
       let own : (x.value.period_start, Some x.value.map) ≡ (y.value.period_start, Some y.value.map) =
       same_Some _ _ (sym (All-at (IsKnown known.0 t) all i x known.1 at_x) ∙ ap (known_of known.0 t) place
