@@ -1,7 +1,7 @@
 -- What is written of a first MPD means what the MPD means.
 use Rattle.std.proofs.Common.{◌≡◌, ℕ, ℤ, ◌^◌, ◌<◌, [], ◌∷◌, map, length, Some, Ok, refl, sym, ◌∙◌, ap, subst, arith}
 use Rattle.std.proofs.lemmas.Option.{slice_get-map}
-use Rattle.std.specs.Prelude.{option_map, slice_get}
+use Rattle.std.specs.Prelude.{option_map}
 use Rattle.presentation.specs.{Counting.tracks_of, MeaningLaws.VerifiedAreMeant, Presented.{Presented, listed_at}, Told.presented_of}
 use Rattle.presentation.specs.{Verifying.{longest_of, verified}, PresentedLaws.SectionsArePeriods}
 use Rattle.presentation.proofs.Reached.{all_reached}

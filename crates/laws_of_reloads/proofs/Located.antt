@@ -1,6 +1,6 @@
 -- Segments of accepted updates have addresses, and so have their maps.
 use Rattle.timeline.specs.declared.fault.ListFault.TheVariants as list_fault
-use Rattle.std.proofs.Common.{◌≡◌, ℕ, ◌+◌, ◌-◌, ◌^◌, ◌≤◌, ◌<◌, Bool, true, ℤ, List, [], ◌∷◌, ◌++◌, map, filter, length, Option, Some, None}
+use Rattle.std.proofs.Common.{◌≡◌, ℕ, ◌+◌, ◌-◌, ◌^◌, ◌≤◌, ◌<◌, Bool, true, ℤ, List, [], ◌∷◌, ◌++◌, filter, length, Option, Some, None}
 use Rattle.std.proofs.{Common.{Result, Ok, Err, IfSome, refl, sym, ◌∙◌, ap, subst, inl, inr, arith}, Math.Nat.one-le-pow}
 use Rattle.std.proofs.{lemmas.Bool.cases_Bool, lemmas.List.Elements.{All-nil, All-append, All-cons, All-tail, filter_passes}}
 use Rattle.std.specs.{Prelude.{All, flat_map}, Option.option_map_or}

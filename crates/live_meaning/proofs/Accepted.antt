@@ -1,6 +1,6 @@
 -- What accepted updates of typed MPDs leave: their segments stand in order, those of one section lie in one Period and have one map, and
 -- no duration is longer than the target allows.
-use Rattle.std.proofs.Common.{◌≡◌, ℕ, ◌+◌, ◌-◌, ◌*◌, ◌≤◌, ◌<◌, ◌/◌, ◌%◌, leb, ℤ, List, [], ◌∷◌, ◌++◌, map, length, Option, Some, None, refl}
+use Rattle.std.proofs.Common.{◌≡◌, ℕ, ◌+◌, ◌*◌, ◌≤◌, ◌<◌, ◌/◌, ◌%◌, leb, ℤ, List, [], ◌∷◌, ◌++◌, map, length, Option, Some, None, refl}
 use Rattle.std.proofs.{Common.{sym, ◌∙◌, ap, subst, inl, inr, arith}, Math.Nat.{mul-le-mul_left, one-le-pow}, lemmas.Bool.cases_Bool}
 use Rattle.std.proofs.{lemmas.Bool.{cases_lt, leb-true}, lemmas.Grind.div_ceil_times, lemmas.Nat.div-add-mod', lemmas.List.append_assoc}
 use Rattle.std.proofs.{lemmas.List.Elements.{All-nil, All-cons, All-append, All-map, All-weaker}, lemmas.Option.same_Some}

@@ -1,6 +1,6 @@
 -- What an accepted update leaves in force.
 use Rattle.std.proofs.Common.{◌≡◌, ℕ, zero, suc, ◌+◌, ◌*◌, ◌<◌, Bool, true, false, ◌==◌, ◌&&◌, ◌||◌, not, ℤ, List, [], ◌∷◌, ◌++◌, map}
-use Rattle.std.proofs.Common.{filter, flat_map, length, get_or, bytes_eq, Option, Some, None, Ok, refl, sym, ◌∙◌, ap, subst, inl, inr}
+use Rattle.std.proofs.Common.{filter, flat_map, length, bytes_eq, Option, Some, None, Ok, refl, sym, ◌∙◌, ap, subst, inl, inr}
 use Rattle.std.proofs.{Common.{arith, zero-add}, Math.Nat.mul-le-mul_left, lemmas.Bool.{and_parts, cases_Bool, eqb-true}}
 use Rattle.std.proofs.{lemmas.List.{length-map, map-append}, lemmas.List.Folds.{find-append, find_at, list_any_at}}
 use Rattle.std.proofs.lemmas.List.FromFn.{length-map-range_with_len, get_or-range_with_len, length-range_with_len}
