@@ -154,20 +154,18 @@ histories_refuse terms history u before shows = rw shows.leaves refl
 pub histories_go_on : HistoriesGoOn
 unfolding state_of next_of
 histories_go_on terms history u before later shows next =
-    next_is before u later (refusal_of before u) (force_by before.common.terms before.common.force u)
-    (Shows terms (history ++ u ∷ []) later) next
-    (λ p none force same. record {
-      accepted = accepts_more terms history u shows.accepted (histories_refuse terms history u before shows ∙ none);
-      leaves =
-          mapped shown (whole_of terms history) before (option_map shown (whole_of terms (history ++ u ∷ [])) ≡ Some later) shows.leaves
-          (λ w whole shown_is.
-          let is = sound terms history w whole in
-          let forced : force_by terms w.common.force u ≡ Ok p = subst (λ (s : State). force_by terms s.common.force u ≡ Ok p) (sym shown_is)
-          (subst (λ (x : Terms). force_by x before.common.force u ≡ Ok p) (ap (λ (s : State). s.common.terms) (sym shown_is)
-          ∙ is.its_terms) force) in
-          ap (option_map shown) (gone_is terms history u w p whole forced)
-          ∙ ap (λ (s : State). Some s) (shown_goes_on w u p is.within ∙ ap (λ (s : State). state_with s u p) shown_is ∙ same));
-    })
+    let C : Type 0 = Shows terms (history ++ u ∷ []) later in
+    mapped shown (whole_of terms history) before C shows.leaves (λ w whole shown_is.
+    next_is (shown w) u later (refusal_of (shown w) u) (force_by w.common.terms w.common.force u) C
+    (subst (λ (s : State). next_of s u ≡ Ok later) (sym shown_is) next) (λ p none force same.
+    let is = sound terms history w whole in
+    let refused = histories_refuse terms history u before shows ∙ ap (λ (s : State). refusal_of s u) (sym shown_is) ∙ none in
+    let forced = subst (λ (x : Terms). force_by x w.common.force u ≡ Ok p) is.its_terms force in
+    record {
+      accepted = accepts_more terms history u shows.accepted refused;
+      leaves = ap (option_map shown) (gone_is terms history u w p whole forced)
+          ∙ ap (λ (s : State). Some s) (shown_goes_on w u p is.within ∙ same);
+    }))
 
 none_accepted : (terms : Terms) → IsAccepted terms []
 none_accepted terms earlier v later is = absurd (omega (arith, ap length is, length-append earlier (v ∷ later)))
