@@ -3,6 +3,7 @@ use Rattle.std.proofs.Common.{◌≡◌, ℕ, zero, suc, ◌+◌, Bool, true, fa
 use Rattle.std.proofs.{Common.{bytes_eq, refl, sym, ◌∙◌, ap, subst, inl, inr, arith}, lemmas.Bool.{and_parts, cases_Bool, cases_lt, le-ltb}}
 use Rattle.std.proofs.{lemmas.Bool.lt-ltb, lemmas.List.{append-nil, append_assoc, take-append-drop}, lemmas.List.Folds.list_any-append}
 use Rattle.std.proofs.{lemmas.List.Sums.prefix_len-le-length, lemmas.Option.same_Some, lemmas.Slice.Eq.{bytes_eq-Decides, starts_is}}
+use Rattle.std.proofs.lemmas.Bool.Decides.{nat_tests}
 use Rattle.std.specs.{Prelude.{is_none, slice_get}, List.{list_all, list_any, position_or_len, starts_with}}
 use Rattle.bridge_io.proofs.Texts.{bytes_eq_sym, equals_itself}
 use Rattle.std.proofs.lemmas.{List.Elements.filter-append, List.Folds.list_any_at, Option.{get_or_from_slice_get, slice_get_within}}
@@ -82,10 +83,7 @@ once-behind (x ∷ xs) ys once = once-behind xs ys (and_parts (not (list_any (by
 
 unknown : (known : List Known) (id : List ℕ) → is_none (known_by known id) ≡ not (list_any (bytes_eq id) (ids_of known))
 unknown [] id = refl
-unknown (k ∷ known) id = elim (cases_Bool (bytes_eq id k.id)) [
-  | inl same ↦ rw same refl
-  | inr other ↦ rw other (unknown known id)
-]
+unknown (k ∷ known) id = grind (arith, nat_tests, unknown known id)
 
 pub new_in : List (List ℕ) → List (List ℕ) → List (List ℕ)
 new_in ids xs = filter (λ id. not (list_any (bytes_eq id) ids)) xs

@@ -56,8 +56,7 @@ ids_are_said (period ∷ periods) = ap (λ (ids : List (List ℕ)). (section_of 
 
 position_mapped : (known : List Known) (id : List ℕ) → position_or_len (bytes_eq id) (ids_of known) ≡ position_or_len (has_id id) known
 position_mapped [] id = refl
-position_mapped (k ∷ known) id =
-    elim (cases_Bool (bytes_eq id k.id)) [ inl is ↦ rw is refl | inr other ↦ rw other (ap (λ n. 1 + n) (position_mapped known id)) ]
+position_mapped (k ∷ known) id = grind (arith, nat_tests, position_mapped known id)
 
 -- what is known of an id stands at its place
 known_at_place : (known : List Known) (id : List ℕ) → slice_get known (place_of (ids_of known) id) ≡ known_by known id

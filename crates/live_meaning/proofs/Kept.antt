@@ -80,10 +80,7 @@ few_in from (m ∷ ns) (suc t) n none at = few_in (from + 1) ns t n (none_behind
 position_within : (test : Segment → Bool) (xs ys : List Segment) → All (λ y. test y ≡ true) ys → position_or_len test (xs ++ ys) ≤ length xs
 position_within test [] [] all = omega arith
 position_within test [] (y ∷ ys) all = rw (All-head (λ (z : Segment). test z ≡ true) y ys all) (omega arith)
-position_within test (x ∷ xs) ys all = elim (cases_Bool (test x)) [
-  | inl is ↦ rw is (omega arith)
-  | inr other ↦ rw other (omega (arith, position_within test xs ys all))
-]
+position_within test (x ∷ xs) ys all = grind (arith, nat_tests, position_within test xs ys all)
 
 removed_most : (f : Option Following) (units : ℕ) (kept new : List Kept)
     → IfSome f (λ f. All (λ x. is_available f x ≡ true) (segments_of new))

@@ -1,9 +1,8 @@
 -- All segments that were listed stand in order, where each update lists its own in order, and those of one section lie in one Period.
-use Rattle.std.proofs.Common.{◌≡◌, ℕ, ◌+◌, ◌-◌, ◌≤◌, ◌<◌, zero, suc, ◌&&◌, Bool, true, false, cond, eqb, get_or, List, [], ◌∷◌, ◌++◌, map}
-use Rattle.std.proofs.{Common.{Option, Some, None, refl, sym, ◌∙◌, subst, inl, inr, arith}, lemmas.List.{append-nil, append_assoc}}
-use Rattle.std.proofs.{lemmas.Bool.{and_parts, cases_lt, eqb-true, le-ltb}, lemmas.List.Elements.{All-nil, All-append, All-filter}}
-use Rattle.std.proofs.{lemmas.List.Elements.{All-head, All-map, All-tail, All-weaker, filter_passes}, lemmas.Simd.map-map}
-use Rattle.std.proofs.lemmas.Option.{same_Some}
+use Rattle.std.proofs.Common.{◌≡◌, ℕ, ◌+◌, ◌-◌, ◌≤◌, ◌<◌, zero, suc, Bool, true, false, cond, get_or, List, [], ◌∷◌, ◌++◌, map, Option}
+use Rattle.std.proofs.{Common.{Some, None, refl, sym, ◌∙◌, subst, inl, inr, arith}, lemmas.List.{append-nil, append_assoc}}
+use Rattle.std.proofs.lemmas.List.Elements.{All-nil, All-append, All-filter, All-head, All-map, All-tail, All-weaker, filter_passes}
+use Rattle.std.proofs.{lemmas.Simd.map-map, lemmas.Option.same_Some, lemmas.Bool.Decides.nat_tests}
 use Rattle.std.specs.{Prelude.{All, flat_map, length, slice_get}, Option.option_map_or, List.range_with_len}
 use Rattle.exact_time.specs.{Laws.SumsAreFloors, Time.{AreRising, Time, before}}
 use Rattle.exact_time.proofs.TimeOrder.{before-true}
@@ -67,13 +66,7 @@ IsLastNumbered resets (Some last) place = last.section ≤ place + resets
 
 later_is_behind : (last : Last) (place resets : ℕ) (x : Segment) → last.section ≤ place + resets → IsNumbered resets x
     → is_later last place x.value.place x.end ≡ true → Behind last x.section x.end
-later_is_behind last place resets x le numbered is = elim (cases_lt place x.value.place) [
-  | inl less ↦ inl (omega arith)
-  | inr not_less ↦
-      let both = and_parts (eqb place x.value.place) (before last.end x.end) (rw (le-ltb place x.value.place not_less) at is) in
-      let one : place ≡ x.value.place = eqb-true _ _ both.0 in
-      elim (cases_lt last.section x.section) [ inl less ↦ inl less | inr same ↦ inr (omega arith, before-true last.end x.end both.1) ]
-]
+later_is_behind last place resets x le numbered is = grind (arith, nat_tests, before-true last.end x.end)
 
 pub behind_in_order : (last : Option Last) (place resets : ℕ) (xs : List Segment) → IsLastNumbered resets last place
     → All (IsNumbered resets) xs → InOrder None xs → InOrder last (behind last place xs)
@@ -94,11 +87,7 @@ behind_have P (Some last) place xs all = All-filter (λ x. is_later last place x
 -- ---- segments of one section lie in one Period
 
 later_place : (last : Last) (place p : ℕ) (end : Time) → is_later last place p end ≡ true → place ≤ p
-later_place last place p end is = elim (cases_lt place p) [
-  | inl less ↦ omega arith
-  | inr le ↦ let same : (eqb place p && before last.end end) ≡ true = rw (le-ltb place p le) at is in
-      omega (arith, eqb-true place p (and_parts _ _ same).0)
-]
+later_place last place p end is = grind (arith, nat_tests)
 
 behind_later : (last : Option Last) (place resets : ℕ) (xs : List Segment) → IsLastNumbered resets last place
     → All (λ x. place ≤ x.value.place) (behind last place xs)
