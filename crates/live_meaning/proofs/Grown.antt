@@ -1,6 +1,6 @@
 -- Playlists that grow at their end, and lose segments at their front.
-use Rattle.std.proofs.Common.{◌≡◌, ℕ, zero, suc, ◌+◌, ◌-◌, ◌≤◌, Bool, true, false, leb, List, [], ◌∷◌, ◌++◌, drop, Some, None, refl, ◌∙◌}
-use Rattle.std.proofs.{Common.{sym, ap, subst, inl, inr, arith, length-append, length-drop}, lemmas.Bool.{cases_Bool, leb-true}}
+use Rattle.std.proofs.Common.{◌≡◌, ℕ, zero, suc, ◌+◌, ◌-◌, Bool, true, false, List, [], ◌∷◌, ◌++◌, drop, Some, refl, ap, subst, arith}
+use Rattle.std.proofs.{Common.{length-append, length-drop}, lemmas.Bool.Decides.nat_tests}
 use Rattle.std.specs.Prelude.{slice_get}
 use Rattle.hls_media.specs.{declared.media.Media.Media, declared.media.MediaSegment.MediaSegment}
 use Rattle.reload_law.specs.{Rules.{same_segment, same_section}, Laws.{IsInBoth, IsLawful, ReloadsItself, RulesAreSentences, segment_at}}
@@ -21,13 +21,7 @@ get_more {X} (y ∷ xs) ys (suc k) x at = get_more xs ys k x at
 -- the segment with a number is the one at this place of all
 at_place : (target first : ℕ) (ended : Bool) (all : List MediaSegment) (number : ℕ) (x : MediaSegment)
     → segment_at number (media_from target first ended all) ≡ Some x → slice_get all number ≡ Some x
-at_place target first ended all number x at = elim (cases_Bool (leb first number)) [
-  | inl is ↦
-      let le : first ≤ number = leb-true _ _ is in
-      let there : first + (number - first) ≡ number = omega arith in
-      ap (λ n. slice_get all n) (sym there) ∙ sym (get_drop first all (number - first)) ∙ (rw is at at)
-  | inr other ↦ let never : None ≡ Some x = rw other at at in absurd (cc)
-]
+at_place target first ended all number x at = grind (arith, nat_tests, get_drop first all (number - first))
 
 -- ---- lists that grow
 

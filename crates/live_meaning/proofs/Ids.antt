@@ -1,12 +1,11 @@
 -- The Periods in force are the last ones of those that are known.
 use Rattle.std.proofs.Common.{◌≡◌, ℕ, zero, suc, ◌+◌, Bool, true, false, ◌||◌, not, List, [], ◌∷◌, ◌++◌, length, drop, take, filter, Some}
-use Rattle.std.proofs.{Common.{bytes_eq, refl, sym, ◌∙◌, ap, subst, inl, inr, arith}, lemmas.Bool.{and_parts, cases_Bool, cases_lt, le-ltb}}
-use Rattle.std.proofs.{lemmas.Bool.lt-ltb, lemmas.List.{append-nil, append_assoc, take-append-drop}, lemmas.List.Folds.list_any-append}
-use Rattle.std.proofs.{lemmas.List.Sums.prefix_len-le-length, lemmas.Option.same_Some, lemmas.Slice.Eq.{bytes_eq-Decides, starts_is}}
-use Rattle.std.proofs.lemmas.Bool.Decides.{nat_tests}
+use Rattle.std.proofs.{Common.{bytes_eq, refl, sym, ◌∙◌, ap, subst, inl, inr, arith}, lemmas.Bool.{and_parts, cases_Bool}}
+use Rattle.std.proofs.{lemmas.List.{append-nil, append_assoc, take-append-drop}, lemmas.List.Folds.{list_any-append, list_any_at}}
+use Rattle.std.proofs.{lemmas.List.Sums.prefix_len-le-length, lemmas.Option.{same_Some, get_or_from_slice_get, slice_get_within}}
+use Rattle.std.proofs.{lemmas.Slice.Eq.{bytes_eq-Decides, starts_is}, lemmas.Bool.Decides.nat_tests, lemmas.List.Elements.filter-append}
 use Rattle.std.specs.{Prelude.{is_none, slice_get}, List.{list_all, list_any, position_or_len, starts_with}}
 use Rattle.bridge_io.proofs.Texts.{bytes_eq_sym, equals_itself}
-use Rattle.std.proofs.lemmas.{List.Elements.filter-append, List.Folds.list_any_at, Option.{get_or_from_slice_get, slice_get_within}}
 use Rattle.mpd_rules.specs.Laws.{are_once}
 use Rattle.live_meaning.specs.{Segments.place_of, Known.{Known, goes_on, goes_on_from, ids_of, is_new, known_by}}
 
@@ -46,10 +45,7 @@ found_at (y ∷ ids) (suc k) x once at =
     rw (apart, rest) more
 
 pub place_is : (ids : List (List ℕ)) (id : List ℕ) → place_of ids id ≡ position_or_len (bytes_eq id) ids
-place_is ids id = elim (cases_lt (position_or_len (bytes_eq id) ids) (length ids)) [
-  | inl less ↦ rw (lt-ltb _ _ less) refl
-  | inr le ↦ rw (le-ltb _ _ le) (omega (arith, prefix_len-le-length (λ x. not (bytes_eq id x)) ids))
-]
+place_is ids id = grind (arith, nat_tests, prefix_len-le-length (λ x. not (bytes_eq id x)) ids)
 
 pub placed_at : (ids : List (List ℕ)) (k : ℕ) (x : List ℕ) → are_once ids ≡ true → slice_get ids k ≡ Some x → place_of ids x ≡ k
 placed_at ids k x once at = place_is ids x ∙ found_at ids k x once at
@@ -61,19 +57,16 @@ are_absent ids xs = list_all (λ id. not (list_any (bytes_eq id) ids)) xs
 absent-head : (x : List ℕ) (xs ys : List (List ℕ)) → are_absent (x ∷ xs) ys ≡ true
     → (list_any (bytes_eq x) ys ≡ false) × (are_absent xs ys ≡ true)
 absent-head x xs [] absent = (refl, refl)
-absent-head x xs (y ∷ ys) absent =
-    let split = and_parts (not (bytes_eq y x || list_any (bytes_eq y) xs)) (are_absent (x ∷ xs) ys) absent in
-    let apart = neither (bytes_eq y x) (list_any (bytes_eq y) xs) (negated _ split.0) in
-    let rest = absent-head x xs ys split.1 in
-    (rw (bytes_eq_sym x y, apart.0, rest.0) refl, rw (apart.1, rest.1) refl)
+absent-head x xs (y ∷ ys) absent = (
+  grind (arith, nat_tests, bytes_eq_sym x y, absent-head x xs ys),
+  grind (arith, nat_tests, absent-head x xs ys),
+)
 
 -- those of two lists stand once, where those of the second aren't in the first
 once-append : (xs ys : List (List ℕ)) → are_once xs ≡ true → are_once ys ≡ true → are_absent xs ys ≡ true → are_once (xs ++ ys) ≡ true
 once-append [] ys first second absent = second
 once-append (x ∷ xs) ys first second absent =
-    let split = and_parts (not (list_any (bytes_eq x) xs)) (are_once xs) first in
-    let rest = absent-head x xs ys absent in
-    rw (list_any-append (bytes_eq x) xs ys, negated _ split.0, rest.0, once-append xs ys split.1 second rest.1) refl
+    grind (arith, nat_tests, list_any-append (bytes_eq x) xs ys, absent-head x xs ys absent, once-append xs ys)
 
 once-behind : (xs ys : List (List ℕ)) → are_once (xs ++ ys) ≡ true → are_once ys ≡ true
 once-behind [] ys once = once
@@ -91,10 +84,7 @@ new_in ids xs = filter (λ id. not (list_any (bytes_eq id) ids)) xs
 pub new_ids : (known ks : List Known) → ids_of (filter (is_new known) ks) ≡ new_in (ids_of known) (ids_of ks)
 unfolding new_in
 new_ids known [] = refl
-new_ids known (k ∷ ks) = elim (cases_Bool (list_any (bytes_eq k.id) (ids_of known))) [
-  | inl is ↦ rw (unknown known k.id, is) (new_ids known ks)
-  | inr not ↦ rw (unknown known k.id, not) (ap (λ (ids : List (List ℕ)). k.id ∷ ids) (new_ids known ks))
-]
+new_ids known (k ∷ ks) = grind (arith, nat_tests, unknown known k.id, new_ids known ks)
 
 all_new : (ids xs : List (List ℕ)) → are_absent ids xs ≡ true → new_in ids xs ≡ xs
 unfolding new_in
@@ -104,7 +94,7 @@ all_new ids (x ∷ xs) absent =
     rw split.0 (ap (λ (ys : List (List ℕ)). x ∷ ys) (all_new ids xs split.1))
 
 there : (front xs : List (List ℕ)) (x : List ℕ) → list_any (bytes_eq x) (front ++ x ∷ xs) ≡ true
-there front xs x = rw (list_any-append (bytes_eq x) front (x ∷ xs), equals_itself x) (elim (cases_Bool (list_any (bytes_eq x) front)) [ inl is ↦ rw is refl | inr other ↦ rw other refl ])
+there front xs x = grind (arith, nat_tests, list_any-append (bytes_eq x) front (x ∷ xs), equals_itself x)
 
 none_new : (front xs : List (List ℕ)) → new_in (front ++ xs) xs ≡ []
 unfolding new_in

@@ -72,13 +72,7 @@ known_once known j k once at =
 find_kept : (test keep : Known → Bool) (ks : List Known) → ((k : Known) → test k ≡ true → keep k ≡ true)
     → find test (filter keep ks) ≡ find test ks
 find_kept test keep [] all = refl
-find_kept test keep (k ∷ ks) all = elim (cases_Bool (test k)) [
-  | inl is ↦ rw (all k is, is) refl
-  | inr other ↦ elim (cases_Bool (keep k)) [
-    | inl kept ↦ rw (kept, other) (find_kept test keep ks all)
-    | inr gone ↦ rw (gone, other) (find_kept test keep ks all)
-  ]
-]
+find_kept test keep (k ∷ ks) all = grind (arith, nat_tests, all k, find_kept test keep ks all)
 
 stays_known : (known : List Known) (p : Presented) (id : List ℕ) (k : Known) → known_by known id ≡ Some k
     → known_by (known_with known p) id ≡ Some k
