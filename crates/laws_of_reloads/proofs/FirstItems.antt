@@ -88,7 +88,8 @@ module _ (n : Numbering) (s start digits : ℕ) (content : Content) (unreset : n
   section_read (x ∷ xs) meant =
       let unit : ℕ = 10 ^ digits in
       same_read (told unit (map made (x ∷ xs))) (x ∷ xs) (durations_of unit (x ∷ xs)) (told-segments unit None (map made (x ∷ xs)))
-      (new_section unit None (made x) (map made xs) tt (All-map (λ (y : Segment). y.section ≡ (made x).section) made xs (λ j d within. refl))
+      (new_section unit None (made x) (map made xs) tt
+      (All-map (λ (y : Segment). y.section ≡ (made x).section) made xs (λ j d within. refl))
       ∙ ap (printed unit x.start) (same_ends (x ∷ xs))) meant
 
 -- ---- of a track
@@ -96,8 +97,8 @@ module _ (n : Numbering) (s start digits : ℕ) (content : Content) (unreset : n
 module _ (n : Numbering) (p : Presented) (digits t : ℕ) (unreset : n.resets ≡ 0)
     (placed : (s : ℕ) → s < length p.sections → place_of n.ids (id_at p s) ≡ s) where
   period_read : (s : ℕ) (o : Option Content) → IfSome o (λ content. All (IsMeant content.runs) (listed_at p s t))
-      → read_kept digits (told (10 ^ digits) (option_map_or (λ content. map (segment_with n s (start_of p s) content) (listed_at p s t)) o []))
-      ≡ read_items digits (option_map_or (content_items (10 ^ digits) s (listed_at p s t)) o [])
+      → read_kept digits (told (10 ^ digits)
+      (option_map_or (λ content. map (segment_with n s (start_of p s) content) (listed_at p s t)) o [])) ≡ read_items digits (option_map_or (content_items (10 ^ digits) s (listed_at p s t)) o [])
   period_read s None are = refl
   period_read s (Some content) are = section_read n s (start_of p s) digits content unreset (listed_at p s t) are
 

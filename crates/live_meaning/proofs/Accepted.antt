@@ -39,8 +39,8 @@ greatest_at f n s less =
     let ns : List ℕ = map f (range_with_len 0 n) in All-at (λ m. m ≤ greatest ns) ns s (f s) (greatest_is ns) (ranged f n s less)
 
 module _ (u place start : ℕ) (n : Numbering) where
-  printed_at : (o : Option Content) (xs : List Timing) → let ks = told u (option_map_or (λ content. map (segment_with n place start content) xs) o []) in
-      All (λ k. k.duration ≤ greatest (durations_of u xs)) ks
+  printed_at : (o : Option Content) (xs : List Timing) → All (λ k. k.duration ≤ greatest (durations_of u xs))
+      (told u (option_map_or (λ content. map (segment_with n place start content) xs) o []))
   printed_at None xs = All-nil (λ (k : Kept). k.duration ≤ greatest (durations_of u xs))
   printed_at (Some content) [] = All-nil (λ (k : Kept). k.duration ≤ greatest (durations_of u []))
   printed_at (Some content) (x ∷ xs) =
@@ -211,7 +211,8 @@ module _ (differ : PeriodIdsDiffer) (sections : SectionsArePeriods) where
       λ terms s all. All (λ d. rounded (unit_of terms) d ≤ s.common.target) (durations (told (unit_of terms) all)) in
       mapped shown (whole_of terms history) s (Fit terms s (all_of terms history t)) shows.leaves
       (λ w whole shown_is. subst (λ (s : State). Fit terms s (all_of terms history t)) shown_is
-      (subst (λ (past : Past). Fit terms (shown w) past.all) (sym (past_is terms history t w whole)) (of_pasts (λ past. Fit terms (shown w) past.all) (slice_get w.pasts t) (All-nil (λ d. rounded (unit_of terms) d ≤ w.common.target))
+      (subst (λ (past : Past). Fit terms (shown w) past.all) (sym (past_is terms history t w whole))
+      (of_pasts (λ past. Fit terms (shown w) past.all) (slice_get w.pasts t) (All-nil (λ d. rounded (unit_of terms) d ≤ w.common.target))
       (λ past at. subst (λ (x : Terms). Fit x (shown w) past.all) (sound terms history w whole).its_terms
       (All-map (λ d. rounded (unit_of w.common.terms) d ≤ w.common.target) (λ (k : Kept). k.duration)
       (told (unit_of w.common.terms) past.all) ((accepted_left terms history shows.accepted typed w whole).1 t past at).fits)))))

@@ -170,8 +170,8 @@ histories_go_on terms history u before later shows next =
 none_accepted : (terms : Terms) → IsAccepted terms []
 none_accepted terms earlier v later is = absurd (omega (arith, ap length is, length-append earlier (v ∷ later)))
 
-pub begun_from : (terms : Terms) (mpd : Values) (now : ℤ) (s : State) (refusal : Option Refusal) (first : Result Presented PresentationFault)
-    (C : Type 0) → begun_by terms mpd now refusal first ≡ Ok s
+pub begun_from : (terms : Terms) (mpd : Values) (now : ℤ) (s : State) (refusal : Option Refusal)
+    (first : Result Presented PresentationFault) (C : Type 0) → begun_by terms mpd now refusal first ≡ Ok s
     → ((p : Presented) → refusal ≡ None → first ≡ Ok p → shown (begun_with (begun_common terms mpd now p)) ≡ s → C) → C
 begun_from terms mpd now s (Some refusal) first C is found = absurd (cc)
 begun_from terms mpd now s None (Ok p) C is found = found p refl refl (cc)

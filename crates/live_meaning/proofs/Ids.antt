@@ -37,12 +37,7 @@ found_at : (ids : List (List ℕ)) (k : ℕ) (x : List ℕ) → are_once ids ≡
     → position_or_len (bytes_eq x) ids ≡ k
 found_at [] k x once at = absurd (cc)
 found_at (y ∷ ids) zero x once at = let there = (bytes_eq-Decides x y).1 (sym (same_Some _ _ at)) in rw there refl
-found_at (y ∷ ids) (suc k) x once at =
-    let split = and_parts (not (list_any (bytes_eq y) ids)) (are_once ids) once in
-    let apart = other y ids k x (negated (list_any (bytes_eq y) ids) split.0) at in
-    let rest = found_at ids k x split.1 at in
-    let more : 1 + k ≡ suc k = omega arith in
-    rw (apart, rest) more
+found_at (y ∷ ids) (suc k) x once at = grind (arith, nat_tests, other y ids k x, found_at ids k x)
 
 pub place_is : (ids : List (List ℕ)) (id : List ℕ) → place_of ids id ≡ position_or_len (bytes_eq id) ids
 place_is ids id = grind (arith, nat_tests, prefix_len-le-length (λ x. not (bytes_eq id x)) ids)
@@ -70,7 +65,7 @@ once-append (x ∷ xs) ys first second absent =
 
 once-behind : (xs ys : List (List ℕ)) → are_once (xs ++ ys) ≡ true → are_once ys ≡ true
 once-behind [] ys once = once
-once-behind (x ∷ xs) ys once = once-behind xs ys (and_parts (not (list_any (bytes_eq x) (xs ++ ys))) (are_once (xs ++ ys)) once).1
+once-behind (x ∷ xs) ys once = grind (arith, nat_tests, once-behind xs ys)
 
 -- ---- what is new of some Periods
 
@@ -89,9 +84,7 @@ new_ids known (k ∷ ks) = grind (arith, nat_tests, unknown known k.id, new_ids 
 all_new : (ids xs : List (List ℕ)) → are_absent ids xs ≡ true → new_in ids xs ≡ xs
 unfolding new_in
 all_new ids [] absent = refl
-all_new ids (x ∷ xs) absent =
-    let split = and_parts (not (list_any (bytes_eq x) ids)) (are_absent ids xs) absent in
-    rw split.0 (ap (λ (ys : List (List ℕ)). x ∷ ys) (all_new ids xs split.1))
+all_new ids (x ∷ xs) absent = grind (arith, nat_tests, all_new ids xs)
 
 there : (front xs : List (List ℕ)) (x : List ℕ) → list_any (bytes_eq x) (front ++ x ∷ xs) ≡ true
 there front xs x = grind (arith, nat_tests, list_any-append (bytes_eq x) front (x ∷ xs), equals_itself x)

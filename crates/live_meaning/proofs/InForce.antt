@@ -187,7 +187,8 @@ not_any : (test : ℕ → Bool) (n s : ℕ) → list_any test (range_with_len 0 
 not_any test n s none less = elim (cases_Bool (test s)) [
   | inl is ↦
       let long = length-range_with_len 0 n in
-      let some = list_any_at test (range_with_len 0 n) s 0 (omega (arith, less, long)) (rw (get_or-range_with_len 0 n s 0 less, zero-add s) is) in
+      let some = list_any_at test (range_with_len 0 n) s 0 (omega (arith, less, long))
+      (rw (get_or-range_with_len 0 n s 0 less, zero-add s) is) in
       absurd (cc)
   | inr other ↦ other
 ]

@@ -137,8 +137,8 @@ all_climb : (last : Option Last) (place resets : ℕ) (xs : List Segment) → Al
 all_climb last place resets [] later order numbered = omega arith
 all_climb last place resets (x ∷ xs) later (timed, behind, order) numbered =
     let here : x.section ≡ x.value.place + resets = numbered 0 x (omega arith) in
-    climb place resets x xs (later 0 x (omega arith)) here (climbs (last_with last x) x.value.place resets xs (last_section last x ∙ here) order
-    (All-tail (IsNumbered resets) x xs numbered))
+    climb place resets x xs (later 0 x (omega arith)) here
+    (climbs (last_with last x) x.value.place resets xs (last_section last x ∙ here) order (All-tail (IsNumbered resets) x xs numbered))
 
 steps_at : (place resets most : ℕ) (xs : List Segment) (k : ℕ) (x : Segment) → Steps place resets most xs → slice_get xs k ≡ Some x
     → (place ≤ x.value.place) × (x.value.place + resets ≤ x.section)

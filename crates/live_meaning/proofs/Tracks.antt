@@ -120,13 +120,14 @@ past_at c from (suc t) (past ∷ pasts) =
     let same : t + (from + 1) ≡ suc t + from = omega arith in
     past_at c (from + 1) t pasts ∙ ap (λ n. option_map (past_after c n) (slice_get pasts t)) same
 
-pub past_behind : (c : Common) (t : ℕ) (pasts : List Past) → slice_get (pasts_after c 0 pasts) t ≡ option_map (past_after c t) (slice_get pasts t)
+pub past_behind : (c : Common) (t : ℕ) (pasts : List Past)
+    → slice_get (pasts_after c 0 pasts) t ≡ option_map (past_after c t) (slice_get pasts t)
 past_behind c t pasts =
     let none : t + 0 ≡ t = omega arith in past_at c 0 t pasts ∙ ap (λ n. option_map (past_after c n) (slice_get pasts t)) none
 
 -- what an update makes of each, and what the first one begins
-pub each_after : (c : Common) (P Q : ℕ → Past → Type 0) → ((t : ℕ) (past : Past) → P t past → Q t (past_after c t past)) → (pasts : List Past)
-    → Each P pasts → Each Q (pasts_after c 0 pasts)
+pub each_after : (c : Common) (P Q : ℕ → Past → Type 0) → ((t : ℕ) (past : Past) → P t past → Q t (past_after c t past))
+    → (pasts : List Past) → Each P pasts → Each Q (pasts_after c 0 pasts)
 each_after c P Q goes pasts each t past at =
     mapped (past_after c t) (slice_get pasts t) past (Q t past) (sym (past_behind c t pasts) ∙ at)
     (λ former there same. subst (Q t) same (goes t former (each t former there)))
