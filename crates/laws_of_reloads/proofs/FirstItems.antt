@@ -98,7 +98,8 @@ module _ (n : Numbering) (p : Presented) (digits t : ℕ) (unreset : n.resets �
     (placed : (s : ℕ) → s < length p.sections → place_of n.ids (id_at p s) ≡ s) where
   period_read : (s : ℕ) (o : Option Content) → IfSome o (λ content. All (IsMeant content.runs) (listed_at p s t))
       → read_kept digits (told (10 ^ digits)
-      (option_map_or (λ content. map (segment_with n s (start_of p s) content) (listed_at p s t)) o [])) ≡ read_items digits (option_map_or (content_items (10 ^ digits) s (listed_at p s t)) o [])
+      (option_map_or (λ content. map (segment_with n s (start_of p s) content) (listed_at p s t)) o []))
+      ≡ read_items digits (option_map_or (content_items (10 ^ digits) s (listed_at p s t)) o [])
   period_read s None are = refl
   period_read s (Some content) are = section_read n s (start_of p s) digits content unreset (listed_at p s t) are
 

@@ -5,7 +5,8 @@ use Rattle.std.specs.{Prelude.{All, filter, unwrap_or}, List.AllByRecursion, Opt
 use Rattle.exact_time.specs.Time.{Time, AreRising, IsAtMost, IsTime}
 use Rattle.exact_time.proofs.TimeOrder.{IsAtMost-from_before, before_then_at_most}
 use Rattle.mpd_levels.specs.Segments.{Segments}
-use Rattle.timeline.specs.{declared.entry.SEntry.SEntry, declared.entry.End.End, declared.names.Names.Names, declared.window.Window.Window, Expansions.Extent}
+use Rattle.timeline.specs.{declared.entry.SEntry.SEntry, declared.entry.End.End, declared.names.Names.Names}
+use Rattle.timeline.specs.{declared.window.Window.Window, Expansions.Extent}
 use Rattle.timeline.specs.{Expansions.{SegmentTimeline, Timing, extents, numbered}, Limits.too_long, Listed.{expansion, instant_of}}
 use Rattle.timeline.specs.Listed.{is_listed}
 use Rattle.timeline.proofs.Rises.{ends_rise, no_step_from}

@@ -1,5 +1,6 @@
 -- What is related place by place: what a loop has behind it to what it has before it, and members at one place.
-use Rattle.std.proofs.Common.{◌≡◌, ℕ, zero, suc, ◌+◌, List, [], ◌∷◌, ◌++◌, drop, Option, Some, None, refl, sym, ◌∙◌, ap, subst, append_assoc}
+use Rattle.std.proofs.Common.{◌≡◌, ℕ, zero, suc, ◌+◌, List, [], ◌∷◌, ◌++◌, drop, Option, Some, None, refl, sym, ◌∙◌, ap}
+use Rattle.std.proofs.Common.{subst, append_assoc}
 use Rattle.std.specs.{Prelude.{MatchOption, option_and_then, slice_get}, Option.option_copied, Borrow.Bor}
 use Rattle.meaning.specs.Same.{Pairwise}
 

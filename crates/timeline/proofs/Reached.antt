@@ -362,7 +362,8 @@ module _ (entries : List SEntry) (m new : MediaRuns) (s : SEntry) (later : List 
         (λ y. natural (y.start.ticks +ℤ pos l.origin) < 2 ^ 64) (is.runs.timed l)
         (timed-in l run.step run.count run.start (omega (arith, next.near)));
     lasting = λ l more last. subst AreLasting (sym (members_new l more)) (is.runs.lasting l (map Closed (added l) ++ more)
-        (repeated_last run.count (extent_in l run.start run.step) more (record { one_scale = refl; end_is = l.positive; rises = omega (arith, ints) }) last));
+        (repeated_last run.count (extent_in l run.start run.step) more
+        (record { one_scale = refl; end_is = l.positive; rises = omega (arith, ints) }) last));
     judged = judged_new;
   }
 
@@ -458,7 +459,8 @@ module _ (entries : List SEntry) (t : LaidTimeline) (is : IsMedia entries t.medi
   pub laid_timeline : IsLaidTimeline t
   laid_timeline = record {
     media = is.runs;
-    lasting = λ none. ap (list_any (λ s. s.d == 0)) rest ∙ any_drop (λ s. s.d == 0) (length t.media.runs.items) entries (sym no_time ∙ none);
+    lasting = λ none. ap (list_any (λ s. s.d == 0)) rest
+        ∙ any_drop (λ s. s.d == 0) (length t.media.runs.items) entries (sym no_time ∙ none);
   }
 
   pub lays_out : LaysOut entries t

@@ -8,8 +8,8 @@ use Rattle.timeline.specs.{declared.media_run.MediaRun.MediaRun, declared.names.
 use Rattle.timeline.specs.{declared.media_runs.MediaRuns.MediaRuns, declared.shared_timeline.LaidTimeline.LaidTimeline}
 use Rattle.timeline.specs.{declared.timelines.Reach.TheVariants.Count, Building.{breaks_in, placed_in}, Expansions.{Member, Closed}}
 use Rattle.timeline.specs.{Expansions.SegmentTimeline, Faults.{ends_open, segment_fault}, Ratios.natural, Reaches.{IsReach, start_of}}
-use Rattle.timeline.specs.{RunSegments.{AreLaid, TimedRun, all_extents, placed_run}, SegmentTimelines.timeline_of_members, Steady.AreLasting}
-use Rattle.timeline.specs.Timelines.{expansion_of_timeline, extent_from, members_from, reach_of}
+use Rattle.timeline.specs.{RunSegments.{AreLaid, TimedRun, all_extents, placed_run}, SegmentTimelines.timeline_of_members}
+use Rattle.timeline.specs.{Steady.AreLasting, Timelines.{expansion_of_timeline, extent_from, members_from, reach_of}}
 
 -- the S elements that have no run here
 abbrev pub rest_of : List SEntry → MediaRuns → List SEntry
@@ -74,7 +74,8 @@ expansion_of_laid scale end t =
     map Closed (all_extents (map (placed_run scale.ticks scale.offset) t.media.runs.items)) ++ members_from scale end t.media.former t.rest
 
 abbrev pub timeline_of_laid : LaidTimeline → End → Bool → Scale → Names → Result SegmentTimeline TimeFault
-timeline_of_laid t end live scale names = timeline_of_members t.no_time (ends_open t.rest) (expansion_of_laid scale end t) end live scale names
+timeline_of_laid t end live scale names =
+    timeline_of_members t.no_time (ends_open t.rest) (expansion_of_laid scale end t) end live scale names
 
 -- S elements are laid out so
 pub record LaysOut (entries : List SEntry) (t : LaidTimeline) : Type 0 where

@@ -10,7 +10,8 @@ returns-in_ok-mpd-in-Mpd-clause-listed g c =
     let values = segments_mpd c.in_ok-mpd-in-Mpd.mpd in
     first_listed terms values c.in-Mpd.now c.answers_allow_listings.ensures.counted
     (first_appends terms c.args.frame.now) c.begin_session.result
-    (first_read terms c.args.frame.now c.in-Mpd.now c.in-Mpd.body values c.in-Mpd.is c.in_ok-mpd-in-Mpd.ensures.mpd) c.begin_session.ensures.state
+    (first_read terms c.args.frame.now c.in-Mpd.now c.in-Mpd.body values c.in-Mpd.is c.in_ok-mpd-in-Mpd.ensures.mpd)
+    c.begin_session.ensures.state
 
 pub returns-in_ok-mpd-in-Mpd-clause-first : goal.returns-in_ok-mpd-in-Mpd-clause-first
 returns-in_ok-mpd-in-Mpd-clause-first g c =

@@ -13,4 +13,5 @@ pub returns-in_ok-mpd-in-Reset-clause-state : goal.returns-in_ok-mpd-in-Reset-cl
 returns-in_ok-mpd-in-Reset-clause-state g c =
     let values = segments_mpd c.in_ok-mpd-in-Reset.mpd in let x = c.args.frame.now in
     next_by _ c.args.session.now x (Reset values c.in-Reset.now) c.reset.result c.taken-in-Reset.result
-    (reset_so x c.in-Reset.now c.in-Reset.body values c.in-Reset.is c.in_ok-mpd-in-Reset.ensures.mpd) c.reset.ensures.next c.taken-in-Reset.ensures
+    (reset_so x c.in-Reset.now c.in-Reset.body values c.in-Reset.is c.in_ok-mpd-in-Reset.ensures.mpd)
+    c.reset.ensures.next c.taken-in-Reset.ensures

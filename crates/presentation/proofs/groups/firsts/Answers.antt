@@ -1,6 +1,7 @@
 use Rattle.presentation.proofs.groups.firsts.Goals as goal
 use Rattle.presentation.proofs.groups.firsts.Goals.{then-is_new+in_ok-push, else-is_new}
-use Rattle.std.proofs.Common.{◌≡◌, ℕ, ◌+◌, ◌==◌, Bool, true, false, not, ◌&&◌, List, [], ◌∷◌, ◌++◌, map, drop, refl, sym, ◌∙◌, ap, inl, inr, arith, suc, get_or, drop-cons}
+use Rattle.std.proofs.Common.{◌≡◌, ℕ, ◌+◌, ◌==◌, Bool, true, false, not, ◌&&◌, List, [], ◌∷◌, ◌++◌, map, drop}
+use Rattle.std.proofs.Common.{refl, sym, ◌∙◌, ap, inl, inr, arith, suc, get_or, drop-cons}
 use Rattle.std.proofs.{lemmas.Bool.cases_Bool, lemmas.List.map-append}
 use Rattle.std.specs.{Prelude.if◌then◌else◌, List.list_any}
 use Rattle.presentation.specs.{declared.groups.Rendition.Rendition, declared.groups.Sameness.Sameness, Groups.{firsts, is_same, key_of}}
