@@ -24,13 +24,13 @@ neither false b is = (refl, is)
 -- what stands in a list passes no test that its own elements don't
 other : (id : List ℕ) (ids : List (List ℕ)) (k : ℕ) (x : List ℕ) → list_any (bytes_eq id) ids ≡ false → slice_get ids k ≡ Some x
     → bytes_eq x id ≡ false
-other id ids k x none at = elim (cases_Bool (bytes_eq id x)) [
-  | inl is ↦
-      let same = ap (bytes_eq id) (get_or_from_slice_get ids k x x at) ∙ is in
-      let some = list_any_at (bytes_eq id) ids k x (slice_get_within ids k x at) same in
-      absurd (cc)
-  | inr apart ↦ bytes_eq_sym x id ∙ apart
-]
+other id ids k x none at = grind (
+  arith,
+  nat_tests,
+  bytes_eq_sym x id,
+  get_or_from_slice_get ids k x x at,
+  list_any_at (bytes_eq id) ids k x (slice_get_within ids k x at),
+)
 
 -- where each stands once, it is found at its place
 found_at : (ids : List (List ℕ)) (k : ℕ) (x : List ℕ) → are_once ids ≡ true → slice_get ids k ≡ Some x

@@ -1,10 +1,10 @@
 -- What an accepted update leaves in force.
 use Rattle.std.proofs.Common.{◌≡◌, ℕ, zero, suc, ◌+◌, ◌*◌, ◌<◌, Bool, true, false, ◌==◌, ◌&&◌, ◌||◌, not, ℤ, List, [], ◌∷◌, ◌++◌, map}
-use Rattle.std.proofs.Common.{filter, flat_map, length, bytes_eq, Option, Some, None, Ok, refl, sym, ◌∙◌, ap, subst, inl, inr}
-use Rattle.std.proofs.{Common.{arith, zero-add}, Math.Nat.mul-le-mul_left, lemmas.Bool.{and_parts, cases_Bool, eqb-true}}
-use Rattle.std.proofs.{lemmas.List.{length-map, map-append}, lemmas.List.Folds.{find-append, find_at, list_any_at}}
-use Rattle.std.proofs.lemmas.List.FromFn.{length-map-range_with_len, get_or-range_with_len, length-range_with_len}
-use Rattle.std.proofs.{lemmas.Option.slice_get-map, lemmas.Slice.Eq.bytes_eq-Decides, lemmas.Bool.Decides.nat_tests}
+use Rattle.std.proofs.Common.{filter, flat_map, length, bytes_eq, Option, Some, None, Ok, refl, sym, ◌∙◌, ap, subst, arith}
+use Rattle.std.proofs.{Math.Nat.mul-le-mul_left, lemmas.Bool.{and_parts, eqb-true}, lemmas.List.{length-map, map-append}}
+use Rattle.std.proofs.{lemmas.List.Folds.{find-append, find_at, list_any_at}, lemmas.List.FromFn.length-map-range_with_len}
+use Rattle.std.proofs.{lemmas.List.FromFn.{get_or-range_with_len, length-range_with_len}, lemmas.Option.slice_get-map}
+use Rattle.std.proofs.{lemmas.Slice.Eq.bytes_eq-Decides, lemmas.Bool.Decides.nat_tests}
 use Rattle.bridge_io.proofs.Texts.{same_bytes}
 use Rattle.std.specs.{Prelude.{All, is_none, is_some, option_map, option_to_list, slice_get}, List.{find, list_any, position_or_len}}
 use Rattle.std.specs.{List.range_with_len, Option.{option_eq, option_map_or, option_or}}
@@ -184,14 +184,13 @@ same_maps (a ∷ ones) (b ∷ others) is =
     cc (one_part a.initialization b.initialization own.1, same_maps ones others both.1)
 
 not_any : (test : ℕ → Bool) (n s : ℕ) → list_any test (range_with_len 0 n) ≡ false → s < n → test s ≡ false
-not_any test n s none less = elim (cases_Bool (test s)) [
-  | inl is ↦
-      let long = length-range_with_len 0 n in
-      let some = list_any_at test (range_with_len 0 n) s 0 (omega (arith, less, long))
-      (rw (get_or-range_with_len 0 n s 0 less, zero-add s) is) in
-      absurd (cc)
-  | inr other ↦ other
-]
+not_any test n s none less = grind (
+  arith,
+  nat_tests,
+  list_any_at test (range_with_len 0 n) s 0,
+  length-range_with_len 0 n,
+  get_or-range_with_len 0 n s 0 less,
+)
 
 -- a known Period has neither moved nor changed
 as_known : (c : Common) (p : Presented) (s : ℕ) (k : Known) → moved_told c p ≡ [] → list_any (differs_at c p) (sections_of p) ≡ false

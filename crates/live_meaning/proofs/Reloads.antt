@@ -1,8 +1,8 @@
 -- Each playlist of a followed track may take the place of the one before it.
 use Rattle.std.proofs.Common.{◌≡◌, ℕ, ◌+◌, ◌-◌, ◌*◌, ◌^◌, ◌≤◌, false, List, [], ◌∷◌, ◌++◌, map, length, drop, sum, Some, None, Ok, refl}
-use Rattle.std.proofs.{Common.{sym, ◌∙◌, ap, subst, inl, inr, arith}, lemmas.Bool.cases_Bool, lemmas.List.{length-map, map-append}}
-use Rattle.std.proofs.{lemmas.List.drop-map, lemmas.Simd.map-map, lemmas.List.Sums.sum-map, lemmas.Option.{same_Some, slice_get-map}}
-use Rattle.std.proofs.{lemmas.Nat.pow-add, Math.Nat.{mul-le-mul_left, one-le-pow}}
+use Rattle.std.proofs.{Common.{sym, ◌∙◌, ap, subst, arith}, lemmas.List.{length-map, map-append, drop-map}, lemmas.Simd.map-map}
+use Rattle.std.proofs.{lemmas.List.Sums.sum-map, lemmas.Option.{same_Some, slice_get-map}, lemmas.Nat.pow-add, Math.Nat.mul-le-mul_left}
+use Rattle.std.proofs.{Math.Nat.one-le-pow, lemmas.Bool.Decides.nat_tests}
 use Rattle.std.specs.{Prelude.{option_map, slice_get, sum_by}, Result.result_ok}
 use Rattle.hls_media.specs.declared.media.MediaSegment.{MediaSegment}
 use Rattle.reload_law.specs.{Rules.lawful, Laws.{ReloadsItself, RulesAreSentences}}
@@ -11,9 +11,9 @@ use Rattle.followed.proofs.{KeptPlaces.{next_is_first, sum-scaled}, PrintedSecti
 use Rattle.presentation.specs.Presented.{Presented, is_finished}
 use Rattle.live_meaning.specs.{Updates.{Terms, Update, unit_of}, Segments.{Kept, Segment, segments_of}, Removal.is_available}
 use Rattle.live_meaning.specs.Histories.{Common, Past, Whole, after, common_with, force_by, gone_on, least_length, new_listed, past_after}
-use Rattle.live_meaning.specs.{Histories.{pasts_after, whole_of}, States.{State, Track, shown, state_of, track_of}, Refusals.Ended}
-use Rattle.live_meaning.specs.{Refusals.refusal_of, Playlists.{FollowedPlaylist, item_of, playlist_of, playlist_with}, Grown.IsLater}
-use Rattle.live_meaning.specs.{Grown.media_from, Laws.{ReloadsAreLawful, media_of, segment_of}}
+use Rattle.live_meaning.specs.{Histories.{pasts_after, whole_of}, States.{State, Track, shown, state_of, track_of}, Refusals.refusal_of}
+use Rattle.live_meaning.specs.{Playlists.{FollowedPlaylist, item_of, playlist_of, playlist_with}, Grown.{IsLater, media_from}}
+use Rattle.live_meaning.specs.Laws.{ReloadsAreLawful, media_of, segment_of}
 use Rattle.live_meaning.proofs.{Grown.grown_is_lawful, Tracks.{length-told, past_behind, stays_within}, Histories.histories_refuse}
 use Rattle.live_meaning.proofs.Histories.{mapped, sound, whole_goes_on}
 
@@ -21,11 +21,7 @@ use Rattle.live_meaning.proofs.Histories.{mapped, sound, whole_goes_on}
 
 goes_on : (s : State) (u : Update) → refusal_of s u ≡ None → is_finished s.common.force ≡ false
 unfolding refusal_of
-goes_on s u none =
-    elim (cases_Bool (is_finished s.common.force)) [
-      | inl is ↦ let never : Some Ended ≡ None = rw is at none in absurd (cc)
-      | inr other ↦ other
-    ]
+goes_on s u none = grind (arith, nat_tests)
 
 -- ---- what a playlist is read as
 
