@@ -1,5 +1,5 @@
 -- The Periods in force are the last ones of those that are known.
-use Rattle.std.proofs.Common.{◌≡◌, ℕ, zero, suc, ◌+◌, Bool, true, false, ◌||◌, not, List, [], ◌∷◌, ◌++◌, length, drop, take, filter, Some}
+use Rattle.std.proofs.Common.{◌≡◌, ℕ, zero, suc, ◌+◌, Bool, true, false, not, List, [], ◌∷◌, ◌++◌, length, drop, take, filter, Some}
 use Rattle.std.proofs.{Common.{bytes_eq, refl, sym, ◌∙◌, ap, subst, inl, inr, arith}, lemmas.Bool.{and_parts, cases_Bool}}
 use Rattle.std.proofs.{lemmas.List.{append-nil, append_assoc, take-append-drop}, lemmas.List.Folds.{list_any-append, list_any_at}}
 use Rattle.std.proofs.{lemmas.List.Sums.prefix_len-le-length, lemmas.Option.{same_Some, get_or_from_slice_get, slice_get_within}}
@@ -8,16 +8,6 @@ use Rattle.std.specs.{Prelude.{is_none, slice_get}, List.{list_all, list_any, po
 use Rattle.bridge_io.proofs.Texts.{bytes_eq_sym, equals_itself}
 use Rattle.mpd_rules.specs.Laws.{are_once}
 use Rattle.live_meaning.specs.{Segments.place_of, Known.{Known, goes_on, goes_on_from, ids_of, is_new, known_by}}
-
--- ---- tests
-
-negated : (a : Bool) → not a ≡ true → a ≡ false
-negated true is = absurd (cc)
-negated false is = refl
-
-neither : (a b : Bool) → (a || b) ≡ false → (a ≡ false) × (b ≡ false)
-neither true b is = absurd (cc)
-neither false b is = (refl, is)
 
 -- ---- ids that stand once
 
