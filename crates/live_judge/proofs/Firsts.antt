@@ -1,9 +1,9 @@
 -- The first refusal of lists in order.
 use Rattle.live_judge.specs.declared.walk.Rule.TheVariants as rules
-use Rattle.std.proofs.Common.{◌≡◌, ℕ, zero, suc, ◌+◌, List, [], ◌∷◌, ◌++◌, drop, Some, refl, ◌∙◌, arith, ◌==◌, map, true}
+use Rattle.std.proofs.Common.{◌≡◌, ℕ, zero, suc, ◌+◌, ◌<◌, List, [], ◌∷◌, ◌++◌, drop, Some, refl, sym, ◌∙◌, ap, arith, ◌==◌, map, true}
 use Rattle.std.proofs.{lemmas.Option.same_Some, lemmas.Bool.eq-eqb}
-use Rattle.std.specs.Prelude.{None, is_some, slice_get, true}
-use Rattle.presentation.proofs.Reached.{none_first, none_later}
+use Rattle.std.specs.{Prelude.{None, flat_map, is_some, slice_get, true}, List.range_with_len}
+use Rattle.presentation.proofs.{Counts.{from_on, from_on-end, from_on-first, from_on-start}, Reached.{none_first, none_later}}
 use Rattle.live_meaning.specs.Refusals.{Refusal, uneven_from, uneven_told}
 use Rattle.live_judge.specs.{declared.fault.RefreshFault.RefreshFault, declared.track.LiveTrack.LiveTrack, Faults.Tells, Walk.each}
 use Rattle.live_judge.specs.{Walk.{told_at, told_by}, declared.coming.Next.Next, declared.track_next.TrackNext.TrackNext}
@@ -19,6 +19,33 @@ told_behind fault xs ys none tells = rw none tells
 
 pub none_told : (xs ys : List Refusal) → xs ≡ [] → ys ≡ [] → xs ++ ys ≡ []
 none_told xs ys none later = rw (none, later) refl
+
+-- ---- by places
+
+module _ (list : ℕ → List Refusal) (n : ℕ) where
+  abbrev pub all_told : List Refusal
+  all_told = flat_map list (range_with_len 0 n)
+
+  -- there is none before a place
+  abbrev pub IsNoneBefore : ℕ → Type 0
+  IsNoneBefore i = all_told ≡ flat_map list (from_on i n)
+
+  pub none_yet : IsNoneBefore 0
+  none_yet = ap (flat_map list) (sym (from_on-start n))
+
+  at_place : (i : ℕ) → i < n → IsNoneBefore i → all_told ≡ list i ++ flat_map list (from_on (i + 1) n)
+  at_place i within before = before ∙ ap (flat_map list) (from_on-first i n within)
+
+  pub none_here : (i : ℕ) → i < n → IsNoneBefore i → list i ≡ [] → IsNoneBefore (i + 1)
+  none_here i within before none =
+      at_place i within before ∙ ap (λ (xs : List Refusal). xs ++ flat_map list (from_on (i + 1) n)) none
+
+  pub first_here : (i : ℕ) (fault : RefreshFault) → i < n → IsNoneBefore i → Tells fault (list i) → Tells fault all_told
+  first_here i fault within before tells =
+      rw (at_place i within before) (told_first fault (list i) (flat_map list (from_on (i + 1) n)) tells)
+
+  pub none_at_all : (i : ℕ) → i ≡ n → IsNoneBefore i → all_told ≡ []
+  none_at_all i end before = before ∙ ap (λ j. flat_map list (from_on j n)) end ∙ ap (flat_map list) (from_on-end n)
 
 -- ---- by tracks
 

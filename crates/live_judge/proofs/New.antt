@@ -141,7 +141,7 @@ module _ (n : Numbering) (p : Presented) (place : ℕ) (of : Track) (t s : ℕ) 
   pub new_made : AreMade
   new_made = made_by (content_at p s t) refl
 
-  new_own : All (λ (x : Segment). x.section ≡ place + s + n.resets) (new_in n p place of t s)
+  pub new_own : All (λ (x : Segment). x.section ≡ place + s + n.resets) (new_in n p place of t s)
   new_own = elim new_made [
     | inl none ↦ rw none.1 (All-nil (λ (x : Segment). x.section ≡ place + s + n.resets))
     | inr made ↦ rw made.1 (All-map (λ (x : Segment). x.section ≡ place + s + n.resets) (segment_with n (place + s) (start_of p s) made.0)
