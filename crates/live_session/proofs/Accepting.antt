@@ -6,9 +6,9 @@ use Rattle.std.proofs.lemmas.List.Elements.{All-cons, All-head, All-tail, All-ap
 use Rattle.std.specs.Prelude.{option_map, unwrap_or, IsErrAnd, MatchResult}
 use Rattle.followed.specs.Durations.{durations}
 use Rattle.followed.proofs.KeptPlaces.{next_is_first}
-use Rattle.live_meaning.specs.{Removal.is_available, Segments.{Kept, segments_of}, States.{Track, State, kept_and_new, new_count, new_of}}
-use Rattle.live_meaning.specs.{States.{new_told, removed_from, state_with, track_after, tracks_after}, Updates.{Update, mpd_of, unit_of}}
-use Rattle.live_meaning.specs.{Known.{Known, ids_of}, Histories.{Common, common_with}, Refusals.{ids_in, next_of}, Laws.HistoriesGoOn}
+use Rattle.live_meaning.specs.{Removal.is_available, Segments.Kept, States.{Track, State, kept_and_new, new_count, new_of, new_told}}
+use Rattle.live_meaning.specs.{States.{removed_from, state_with, track_after, tracks_after}, Updates.{Update, mpd_of, unit_of}, Known.Known}
+use Rattle.live_meaning.specs.{Known.ids_of, Histories.{Common, common_with}, Refusals.{ids_in, next_of}, Laws.HistoriesGoOn}
 use Rattle.live_meaning.specs.Laws.{NumbersStaySmall, Shows}
 use Rattle.live_judge.specs.{declared.standing.Standing.Standing, declared.track.LiveTrack.LiveTrack, Shown.{in_force, track_shown}}
 use Rattle.live_judge.specs.{Shown.{common_shown, kepts_of, state_shown, track_of}, declared.coming.Coming.Coming}
@@ -32,25 +32,20 @@ pub fewer : (s : Standing) (track : LiveTrack) (count : ℕ) → 1 ≤ s.target 
     → (count < length track.items.items) × (track.first + count < 2 ^ 64)
 fewer s track count target paired can same =
     let kept = (track_shown track).kept in
-    let some = can.some in
-    let fits = can.fits in
-    let least = 3 * s.target * 10 ^ s.digits in
     let as_many = length-map kept (λ (t : Kept). t.segment) in
     let here = length-kepts track.items.items track.facts.items paired in
-    let next = next_is_first 0 least (option_map is_available (in_force s).following) (durations kept) (segments_of kept) in
-    let long : 0 < 3 * s.target * 10 ^ s.digits = omega (arith, mul-le-mul_left (3 * s.target) (one-le-pow s.digits 10 (omega arith))) in
-    let stays = next.some long (length-map kept (λ (t : Kept). t.duration) ∙ sym as_many) (omega (arith, as_many)) in
+    let next = next_is_first 0 (3 * s.target * 10 ^ s.digits) (option_map is_available (in_force s).following) (durations kept) _ in
+    let stays = next.some (omega (arith, mul-le-mul_left (3 * s.target) (one-le-pow s.digits 10 (omega arith))))
+    (length-map kept (λ (t : Kept). t.duration) ∙ sym as_many) (omega (arith, as_many, can.some)) in
     let first = ap (λ (t : Track). t.first) same in
-    (omega (arith, stays, as_many, here, first), omega (arith, stays, as_many, here, first))
+    (omega (arith, stays, as_many, here, first), omega (arith, stays, as_many, here, first, can.fits))
 
 -- ---- a session
 
 paired_there : (t : LiveTrack) → AreSideBySide t → IsKept (track_shown t) → IsPaired t
 paired_there t paired kept =
-    let some = kept.some in
-    let few = kept.few in
     let many = length-kepts t.items.items t.facts.items paired in
-    record { paired = paired; some = omega (arith, many); few = omega (arith, many) }
+    record { paired = paired; some = omega (arith, many, kept.some); few = omega (arith, many, kept.few) }
 
 pub live : {s : Standing} {tracks : List LiveTrack} → IsSession s tracks → IsLive s tracks
 live {s} {tracks} is = record {
@@ -80,9 +75,7 @@ same_shown new old same = same_by inside_of (λ (q : Inside). track_of q.2 (time
 
 pub same_paired : (new old : List LiveTrack) → map inside_of new ≡ map inside_of old → All AreSideBySide old → All AreSideBySide new
 same_paired new old same paired =
-    of_shown (λ (q : Inside). length q.0 ≡ length q.1) inside_of new
-    (subst (All (λ (q : Inside). length q.0 ≡ length q.1)) (sym same)
-    (All-map (λ (q : Inside). length q.0 ≡ length q.1) inside_of old paired))
+    let P = λ (q : Inside). length q.0 ≡ length q.1 in of_shown P inside_of new (rw same (All-map P inside_of old paired))
 
 pub same_state : (s : Standing) (new old : List LiveTrack) → map inside_of new ≡ map inside_of old → state_shown s new ≡ state_shown s old
 same_state s new old same = rw (same_shown new old same) refl
@@ -117,43 +110,35 @@ module _ (c : Common) where
   before_one : (t : ℕ) (track : Track) → IsWithin (track_after c t track)
       → IsTrimmable (track_grown c t track) × (length (new_of c t track) ≤ 200000000000)
   before_one t track is =
-      let some = is.some in
-      let listed = is.listed in
       let ks = kept_and_new c t track in
       let cut = length-drop (removed_from c ks) ks in
       let more = length-append track.kept (new_told c t track) in
       let told = length-told (unit_of c.terms) track.last (new_of c t track) in
-      (record { some = omega (arith, cut); fits = omega (arith, cut) }, omega (arith, cut, more, told))
+      (record { some = omega (arith, cut, is.some); fits = omega (arith, cut, is.some) }, omega (arith, cut, more, told, is.listed))
 
   before_all : (t : ℕ) (tracks : List Track) → All IsWithin (tracks_after c t tracks) → All IsTrimmable (tracks_grown c t tracks)
   before_all t [] all = All-nil IsTrimmable
   before_all t (track ∷ tracks) all =
-      All-cons IsTrimmable (track_grown c t track) (tracks_grown c (t + 1) tracks)
-      (before_one t track (All-head IsWithin (track_after c t track) (tracks_after c (t + 1) tracks) all)).0
-      (before_all (t + 1) tracks (All-tail IsWithin (track_after c t track) (tracks_after c (t + 1) tracks) all))
+      All-cons IsTrimmable _ _ (before_one t track (All-head IsWithin _ _ all)).0 (before_all (t + 1) tracks (All-tail IsWithin _ _ all))
 
   few_new : (t : ℕ) (tracks : List Track) → All IsWithin (tracks_after c t tracks) → new_count c t tracks ≤ length tracks * 200000000000
   few_new t [] all = omega arith
   few_new t (track ∷ tracks) all =
-      let own = (before_one t track (All-head IsWithin (track_after c t track) (tracks_after c (t + 1) tracks) all)).1 in
-      let rest = few_new (t + 1) tracks (All-tail IsWithin (track_after c t track) (tracks_after c (t + 1) tracks) all) in omega arith
+      omega (arith, (before_one t track (All-head IsWithin _ _ all)).1, few_new (t + 1) tracks (All-tail IsWithin _ _ all))
 
   dated_after : (t : ℕ) (tracks : List Track) → All AreDated (tracks_grown c t tracks) → All AreDated (tracks_after c t tracks)
   dated_after t [] all = All-nil AreDated
   dated_after t (track ∷ tracks) all =
-      All-cons AreDated (track_after c t track) (tracks_after c (t + 1) tracks)
-      (All-drop IsDated (removed_from c (kept_and_new c t track)) (kept_and_new c t track)
-      (All-head AreDated (track_grown c t track) (tracks_grown c (t + 1) tracks) all))
-      (dated_after (t + 1) tracks (All-tail AreDated (track_grown c t track) (tracks_grown c (t + 1) tracks) all))
+      All-cons AreDated _ _ (All-drop IsDated (removed_from c (kept_and_new c t track)) _ (All-head AreDated _ _ all))
+      (dated_after (t + 1) tracks (All-tail AreDated _ _ all))
 
 pub grown_dated : (tracks : List Track) (news : List (List Kept)) → All AreDated tracks → All (All IsDated) news
     → All AreDated (grown tracks news)
 grown_dated tracks [] all new = all
 grown_dated [] (n ∷ news) all new = All-nil AreDated
 grown_dated (t ∷ tracks) (n ∷ news) all new =
-    All-cons AreDated (with_all t n) (grown tracks news)
-    (subst (All IsDated) (sym (kept_with t n))
-    (All-append IsDated t.kept n (All-head AreDated t tracks all) (All-head (All IsDated) n news new)))
+    All-cons AreDated (with_all t n) _
+    (rw (kept_with t n) (All-append IsDated t.kept n (All-head AreDated t _ all) (All-head (All IsDated) n _ new)))
     (grown_dated tracks news (All-tail AreDated t tracks all) (All-tail (All IsDated) n news new))
 
 trimmed_all : (s : Standing) (t : ℕ) (tracks : List Track)
@@ -214,8 +199,7 @@ module _ {s : Standing} {tracks : List LiveTrack} {coming : Coming} {now : ℤ} 
     within = λ k d inside. record {
       some = (kept k d inside).some;
       listed = at_all (λ (track : Track). track.first + length track.kept ≤ 200000000000) (tracks_after c 0 state.tracks)
-          (λ t track at. let listed = (small session.reached.terms (session.reached.history ++ u ∷ []) then t track shows at).1.listed in
-          omega (arith, listed)) k d inside;
+          (λ t track at. omega (arith, (small _ _ then t track shows at).1.listed)) k d inside;
     }
 
     pub can_go_on : (standing : Standing) (made : List MadeTrack) → standing.target ≡ s.target
@@ -238,29 +222,23 @@ module _ {s : Standing} {tracks : List LiveTrack} {coming : Coming} {now : ℤ} 
       new = changed (record s { known = s.known ++ map known_shown plan.periods.items }) newest plan.change
 
       new_is : standing ≡ new
-      new_is = standing_is ∙ ap (λ ks. changed (record s { known = ks }) newest plan.change) known_is
+      new_is = rw (standing_is, known_is) refl
 
       common_is : common_shown new ≡ c
       common_is =
-          let forces = newest_force newest s.newest s.opened in
-          let at = now_at coming now in
-          let instant = is.instant in
-          let published = is.published in
-          let seen = is.known in let resets = is.resets in cc
+          grind (arith, newest_force newest s.newest s.opened, now_at coming now, is.instant, is.published, is.known, is.resets)
 
       module _ (final : List LiveTrack) (paired : All AreSideBySide final) (same : map inside_of room ≡ map inside_of tracks)
           (shown : map track_shown final ≡ map (trimmed standing) (grown (map track_shown room) news)) where
         tracks_are : map track_shown final ≡ tracks_after c 0 state.tracks
         tracks_are =
-            rw (shown, new_is, same_shown room tracks same, is.made.grown_is)
-            (subst (λ (k : Common). map (trimmed new) (tracks_grown k 0 state.tracks) ≡ tracks_after k 0 state.tracks) common_is
-            (trimmed_all new 0 state.tracks))
+            rw (shown, new_is, same_shown room tracks same, is.made.grown_is, ← common_is) (trimmed_all new 0 state.tracks)
 
         state_is : then ≡ state_shown new final
         state_is = rw (tracks_are, common_is) refl
 
         pub taken : (count : ℕ) → count ≡ sum (map length news) → IsTaken state u count (state_shown standing final) before after
-        taken count counted = subst (λ (x : Standing). IsTaken state u count (state_shown x final) before after) (sym new_is)
+        taken count counted = rw new_is
             (record {
               next = next ∙ ap (λ (x : State). Ok x) state_is;
               appended = counted ∙ is.made.numbered ∙ sym is.appended;
@@ -268,7 +246,7 @@ module _ {s : Standing} {tracks : List LiveTrack} {coming : Coming} {now : ℤ} 
             })
 
         pub session_after : SoundStatesGoOn → NumbersGoOn → IsSession standing final
-        session_after sound numbers = subst (λ (x : Standing). IsSession x final) (sym new_is) (record {
+        session_after sound numbers = rw new_is (record {
           reached = subst IsReached state_is (record {
             terms = session.reached.terms;
             history = session.reached.history ++ u ∷ [];

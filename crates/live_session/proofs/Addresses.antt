@@ -7,15 +7,15 @@ use Rattle.std.proofs.lemmas.List.Elements.{All-append, All-cons, All-head, All-
 use Rattle.std.specs.{Prelude.{true, slice_get}, List.range_with_len, Option.option_map_or}
 use Rattle.bridge_io.specs.Firsts.{first_of}
 use Rattle.template_ids.specs.Templates.{named}
-use Rattle.timeline.specs.{Expansions.{SegmentTimeline, Timing}, Listed.part_of_timing, declared.names.Names.Names}
-use Rattle.timeline.specs.{declared.names.RefPart.RefPart, Names.{listed_part, own_part, part_at, part_of, referred}}
+use Rattle.timeline.specs.{Expansions.{SegmentTimeline, Timing}, declared.names.Names.Names, declared.names.RefPart.RefPart}
+use Rattle.timeline.specs.Names.{listed_part, own_part, part_at, part_of, referred}
 use Rattle.url_parts.specs.{Addresses.resolve, declared.address.Part.Part, declared.fault.UrlFault.TheVariants.Refused}
 use Rattle.url_parts.specs.{declared.fault.UrlFault.UrlFault, declared.range.Range.Range}
 use Rattle.presentation.specs.{declared.fault.PresentationFault.PresentationFault, declared.parts.Content.Content, Counting.sections_of}
 use Rattle.presentation.specs.{Presented.{Presented, content_at, listed_at}, Verifying.{fault_at, part_fault, part_faults}}
 use Rattle.live_meaning.specs.{Segments.{Segment, id_at, is_later, place_of}, Known.ids_of, Histories.{Common, availability_start_of}}
 use Rattle.live_meaning.specs.{Histories.numbering_of, States.{Track, new_count, new_of}, Refusals.{Presentation, Refusal, is_of_address}}
-use Rattle.live_meaning.specs.Refusals.{makes_segments, new_at, urls_in, urls_told}
+use Rattle.live_meaning.specs.Refusals.{makes_segments, urls_in, urls_told}
 use Rattle.presentation.proofs.Grids.{All-at}
 use Rattle.live_judge.proofs.{Contents.length-new, New.new_is}
 use Rattle.live_session.specs.New.{faults_by, new_all, new_faults_in, new_faults_of, new_in, new_timings}
@@ -47,8 +47,7 @@ name_address s t k (names.Addresses parts) place number time = own_address s t k
 parts_address : (timeline : SegmentTimeline) (s t k : ℕ) (xs : List Timing) → All IsOfAddress (part_faults timeline s t k xs)
 parts_address timeline s t k [] = All-nil IsOfAddress
 parts_address timeline s t k (x ∷ xs) =
-    All-append IsOfAddress (part_fault s t k (part_of_timing timeline x)) (part_faults timeline s t (k + 1) xs)
-    (name_address s t k timeline.names _ _ _) (parts_address timeline s t (k + 1) xs)
+    All-append IsOfAddress _ _ (name_address s t k timeline.names _ _ _) (parts_address timeline s t (k + 1) xs)
 
 content_address : (s t k : ℕ) (xs : List Timing) (o : Option Content)
     → All IsOfAddress (option_map_or (λ content. part_faults content.runs s t k xs) o [])
@@ -65,8 +64,7 @@ urls_of c p t track = flat_map (urls_in c p t track) (sections_of p)
 
 all_address : (c : Common) (p : Presented) (t : ℕ) (track : Track) → All IsOfAddress (urls_of c p t track)
 all_address c p t track =
-    all_flat IsOfAddress (urls_in c p t track) (sections_of p)
-    (λ s. content_address s t (length (listed_at p s t) - length (new_at c p track t s)) (new_at c p track t s) (content_at p s t))
+    all_flat IsOfAddress (urls_in c p t track) (sections_of p) (λ s. content_address s t _ _ (content_at p s t))
 
 -- ---- the first of them
 
@@ -128,10 +126,9 @@ none_among : (c : Common) (k t : ℕ) (track : Track) (ss : List ℕ)
 none_among c k t track [] none = refl
 none_among c k t track (s ∷ ss) none =
     let both = length-append (new_in (numbering_of c) c.force k track t s) (flat_map (new_in (numbering_of c) c.force k track t) ss) in
-    let here : new_timings c.force k track t s ≡ [] = nil_from_length (new_timings c.force k track t s)
-    (omega (arith, both, length-new (numbering_of c) c.force k track t s)) in
-    rw (none_by s t (length (listed_at c.force s t)) (new_timings c.force k track t s) (content_at c.force s t) here)
-    (none_among c k t track ss (omega (arith, both)))
+    let here : new_timings c.force k track t s ≡ [] =
+    nil_from_length _ (omega (arith, both, length-new (numbering_of c) c.force k track t s)) in
+    rw (none_by s t _ _ (content_at c.force s t) here) (none_among c k t track ss (omega (arith, both)))
 
 pub none_urls : (c : Common) (k : ℕ) → ((s : ℕ) → s < length c.force.sections → place_of (ids_of c.known) (id_at c.force s) ≡ k + s)
     → (t : ℕ) (tracks : List Track) → new_count c t tracks ≡ 0 → urls_told c c.force t tracks ≡ []

@@ -2,8 +2,8 @@
 use Rattle.presentation.specs.declared.fault.PresentationFault.TheVariants as presented
 use Rattle.live_judge.specs.declared.fault.RefreshFault.TheVariants as faults
 use Rattle.std.proofs.Common.{◌≡◌, ℕ, zero, suc, ◌+◌, ◌-◌, ◌≤◌, ◌<◌, ℤ, Bool, true, false, not, nat_lt, ◌==◌, ◌&&◌, List, [], ◌∷◌, ◌++◌}
-use Rattle.std.proofs.Common.{map, flat_map, filter, length, sum, All, Option, Some, None, Result, Ok, Err, refl, sym, ◌∙◌, ap, subst, inl}
-use Rattle.std.proofs.{Common.{inr, arith, pos, replicate}, lemmas.Bool.{cases_Bool, le-ltb, lt-ltb, ltb-false, or_parts}}
+use Rattle.std.proofs.Common.{map, flat_map, filter, length, sum, All, Option, Some, None, Result, Ok, Err, refl, sym, ◌∙◌, ap, subst}
+use Rattle.std.proofs.{Common.{arith, pos, replicate}, lemmas.Bool.{le-ltb, lt-ltb, ltb-false, or_parts}}
 use Rattle.std.proofs.{lemmas.List.Concat.length-flat_map, lemmas.List.Elements.{All-nil, All-cons, All-append, All-head, All-replicate}}
 use Rattle.std.proofs.{lemmas.List.Sums.{sum-map, sum_by-cons}, lemmas.List.{length-map, map-append}, lemmas.List.FromFn.fill_by_all}
 use Rattle.std.proofs.{lemmas.Option.get_or_from_slice_get, lemmas.Simd.map-map}
@@ -16,30 +16,31 @@ use Rattle.presentation.specs.{declared.fault.PresentationFault.PresentationFaul
 use Rattle.presentation.specs.Counting.{count_faults, count_of_all, count_of_track, counted, faults_of_count, is_over, limit_faults}
 use Rattle.presentation.specs.Counting.{listed_count, number_in, place_at, refusal, section_faults, sections_of, track_faults, tracks_of}
 use Rattle.presentation.specs.{Counting.{unless_any, whole_track_faults}, Presented.{Presented, content_at, is_finished, listed_at}}
-use Rattle.presentation.specs.{Presented.{listed_in, window_of, Following, looked_at}, Printing.IsCounted, Told.presented_of}
-use Rattle.presentation.specs.{Verifying.{part_faults, url_faults, url_faults_at, url_faults_of}, declared.track.Section.Section}
-use Rattle.presentation.specs.{PresentedLaws.{PresentedAreFew, PresentedAreFollowed, SectionsArePeriods}, Rows.{Period, section_of}}
+use Rattle.presentation.specs.{Presented.{listed_in, window_of, looked_at}, Printing.IsCounted, Told.presented_of, Verifying.part_faults}
+use Rattle.presentation.specs.{Verifying.{url_faults, url_faults_at, url_faults_of}, PresentedLaws.{PresentedAreFew, PresentedAreFollowed}}
+use Rattle.presentation.specs.PresentedLaws.{SectionsArePeriods}
 use Rattle.presentation.proofs.{Reached.{all_reached, none_later, none_first}, Ending.none_behind, Grids.All-at}
 use Rattle.live_meaning.specs.{Updates.{Terms, Values, unit_of, Refresh}, Segments.{Segment, listed_of, listed_in_period, id_at}}
-use Rattle.live_meaning.specs.{States.{Track, new_count, shown, track_of, State}, Histories.{Common, begun_common, begun_past, begun_with}}
-use Rattle.live_meaning.specs.{Histories.{numbering_of, availability_start_of}, Refusals.{Presentation, Refusal}}
-use Rattle.live_meaning.specs.Refusals.{Window as Windowed, begun_of, counts_listed, first_appended_by, first_refusal_of, first_told_by}
-use Rattle.live_meaning.specs.Refusals.{makes_segments, over_in_all, over_in_track, told_if, urls_in, urls_told, window_told, NotDynamic}
-use Rattle.live_meaning.specs.{Refusals.ids_in, Known.{Known, ids_of, known_at, known_with, periods_of}}
-use Rattle.live_meaning.specs.{Playlists.{item_of, playlist_with}, Laws.{HistoriesBegin, IsTyped, NeverEmpty, NumbersStaySmall, Shows}}
+use Rattle.live_meaning.specs.{States.{Track, new_count, shown, track_of}, Histories.{Common, begun_common, begun_past, begun_with}}
+use Rattle.live_meaning.specs.{Histories.{numbering_of, availability_start_of}, Refusals.{Presentation, Refusal, Window as Windowed}}
+use Rattle.live_meaning.specs.Refusals.{begun_of, counts_listed, first_appended_by, first_refusal_of, first_told_by, over_in_all}
+use Rattle.live_meaning.specs.{Refusals.{over_in_track, told_if, urls_in, urls_told, window_told, NotDynamic, ids_in}, Known.Known}
+use Rattle.live_meaning.specs.{Known.{ids_of, known_at, known_with, periods_of}, Playlists.{item_of, playlist_with}, Laws.HistoriesBegin}
+use Rattle.live_meaning.specs.Laws.{IsTyped, NeverEmpty, NumbersStaySmall, Shows}
 use Rattle.live_judge.specs.{declared.fault.RefreshFault.RefreshFault, Faults.{Tells, of_presentation, told}}
 use Rattle.live_judge.specs.{declared.standing.Standing.Standing, Known.StandsAt, declared.track.LiveTrack.LiveTrack}
 use Rattle.live_judge.specs.{FirstStates.FirstStatesAreSound, Shown.{common_shown, in_force, state_shown, track_shown}, SoundGoesOn.IsKept}
 use Rattle.live_judge.specs.SoundGoesOn.{NumbersFit}
-use Rattle.live_judge.proofs.{Firsts.{IsNoneBefore, first_here, none_at_all, none_told, told_first}, FirstStates.all_new}
+use Rattle.live_judge.proofs.Firsts.{IsNoneBefore, first_here, none_at_all, none_here, none_told, none_yet, told_first}
+use Rattle.live_judge.proofs.FirstStates.{all_new}
 use Rattle.live_judge.proofs.Places.{place_there}
 use Rattle.live_session.specs.Begun.{IsUnbegun, empty_tracks, first_judged, AreFirst, IsBegunBy, IsFirst, IsFirstMpd, IsFirstStanding}
 use Rattle.live_session.specs.{Growth.{tracks_grown, grown}, Kept.{empty_track, AreSideBySide}, Making.{AreUnmade, AreMade, IsMakeable}}
 use Rattle.live_session.specs.{Making.all_kept, Sessions.{CountsRefused, IsSession}, declared.made.MadeTrack.MadeTrack}
-use Rattle.live_session.specs.{declared.maker.Maker.Maker, New.{IsBegun, joins, new_all, numbers_of, shown_by}, Written.{AreDated, IsDated}}
+use Rattle.live_session.specs.{declared.maker.Maker.Maker, New.{joins, new_all, numbers_of, shown_by}, Written.{AreDated, IsDated}}
 use Rattle.live_session.proofs.{Addresses.{all_flat, same_over, urls_make}, Refusing.{some_as, told_as}, Sections.filter_all}
 use Rattle.live_session.proofs.{Accepting.grown_dated, Growing.{at_all, mapped_at}, Presenting.looked_same}
-use Rattle.mpd_rules.specs.Laws.{PeriodIdsDiffer, are_once, ids_of as ids_said}
+use Rattle.mpd_rules.specs.Laws.{PeriodIdsDiffer, are_once}
 use Rattle.live_meaning.proofs.{Allowed.{negated, none_mapped, told_none}, InForce.id_there, Kept.few_known}
 
 -- ---- faults of counts
@@ -57,9 +58,8 @@ section_told p t s (Err fault) = All-cons IsTold (presented.Timeline fault (plac
 
 counts_told : (p : Presented) → All IsTold (count_faults p)
 counts_told p =
-    All-append IsTold (flat_map (track_faults p) (tracks_of p)) (limit_faults (is_over p))
-    (all_flat IsTold (track_faults p) (tracks_of p)
-    (λ t. All-append IsTold (flat_map (section_faults p t) (sections_of p)) (whole_track_faults p t)
+    All-append IsTold _ (limit_faults (is_over p)) (all_flat IsTold (track_faults p) (tracks_of p)
+    (λ t. All-append IsTold _ (whole_track_faults p t)
     (all_flat IsTold (section_faults p t) (sections_of p) (λ s. section_told p t s (count_at p t s)))
     (all_if IsTold (not (is_finished p) && count_of_track p t == 0) (presented.NoSegments 0 t) refl)))
     (all_if IsTold (is_over p) presented.Limit refl)
@@ -68,9 +68,7 @@ tells_first : (fs : List PresentationFault) (n : ℕ) (fault : PresentationFault
     → Tells (faults.Presentation fault) (map Presentation fs)
 tells_first [] n fault all is = absurd (cc)
 tells_first (f ∷ fs) n fault all is =
-    let same : f ≡ fault = cc in
-    let known : refusal fault ≡ Some fault = subst IsTold same (All-head IsTold f fs all) in
-    rw (known, same) (refl, refl)
+    let known = All-head IsTold f fs all in let same : f ≡ fault = cc in rw (← same, known) (refl, refl)
 
 pub count_refused : (p : Presented) (fault : PresentationFault) → counted p ≡ Err fault
     → Tells (faults.Presentation fault) (map Presentation (count_faults p))
@@ -97,9 +95,6 @@ content_many : (o : Option Content) (window : Window) → IfSome o (λ content. 
 content_many None window reached = refl
 content_many (Some content) window reached = rw reached refl
 
-listed_many : (p : Presented) (t s : ℕ) → IsCounted p s t → listed_count p t s ≡ length (listed_at p s t)
-listed_many p t s reached = content_many (content_at p s t) (window_of p s) reached
-
 abbrev pub many : Presented → ℕ → ℕ
 many p t = length (flat_map (λ s. listed_at p s t) (sections_of p))
 
@@ -115,14 +110,10 @@ module _ (p : Presented) (none : count_faults p ≡ []) where
   pub reached : (s t : ℕ) → s < length p.sections → t < length p.tracks → IsCounted p s t
   reached s t in_sections in_tracks = all_reached p none t in_tracks s in_sections
 
-  track_many : (t : ℕ) → t < length p.tracks → count_of_track p t ≡ many p t
-  track_many t less =
-      sums_alike (listed_count p t) (λ s. length (listed_at p s t)) 0 (length p.sections)
-      (λ s least within. listed_many p t s (reached s t (omega (arith, within)) less))
-      ∙ sym (length-flat_map (λ s. listed_at p s t) (sections_of p))
-
   all_many : count_of_all p ≡ sum_by (many p) (tracks_of p)
-  all_many = sums_alike (count_of_track p) (many p) 0 (length p.tracks) (λ t least less. track_many t (omega (arith, less)))
+  all_many = sums_alike _ _ 0 (length p.tracks) (λ t _ less. sums_alike (listed_count p t) _ 0 (length p.sections)
+      (λ s _ within. content_many (content_at p s t) (window_of p s) (reached s t (omega (arith, within)) (omega (arith, less))))
+      ∙ sym (length-flat_map (λ s. listed_at p s t) (sections_of p)))
 
 -- ---- limits
 
@@ -130,17 +121,16 @@ within_all : (f : ℕ → ℕ) (a n total : ℕ) → total + sum_by f (range_wit
     → over_in_all a total (map f (range_with_len a n)) ≡ []
 within_all f a zero total le = refl
 within_all f a (suc n) total le =
-    let more : total + f a ≤ 500000 = omega (arith, le, sum_by-cons f a (range_with_len (a + 1) n)) in
-    rw (le-ltb 500000 (total + f a) more)
-    (within_all f (a + 1) n (total + f a) (omega (arith, le, sum_by-cons f a (range_with_len (a + 1) n))))
+    let parts = sum_by-cons f a (range_with_len (a + 1) n) in
+    rw (le-ltb 500000 (total + f a) (omega (arith, parts))) (within_all f (a + 1) n (total + f a) (omega (arith, parts)))
+
+never_over : (b : Bool) → limit_faults b ≡ [] → b ≡ false
+never_over true none = absurd (cc)
+never_over false none = refl
 
 pub all_within : (p : Presented) → count_faults p ≡ [] → over_in_all 0 0 (counts_listed p) ≡ []
 all_within p none =
-    let over : is_over p ≡ false = elim (cases_Bool (is_over p)) [
-      | inl so ↦ absurd (let never : limit_faults true ≡ [] = rw so at (none_later (flat_map (track_faults p) (tracks_of p))
-          (limit_faults (is_over p)) none) in cc)
-      | inr other ↦ other
-    ] in
+    let over : is_over p ≡ false = never_over (is_over p) (none_later (flat_map (track_faults p) (tracks_of p)) _ none) in
     let few : count_of_all p ≤ 500000 = ltb-false 500000 (count_of_all p) (or_parts _ _ over).1 in
     within_all (many p) 0 (length p.tracks) 0 (omega (arith, few, all_many p none))
 
@@ -158,16 +148,16 @@ few_here p t few = rw (le-ltb 20000 (many p t) few) refl
 pub many_told : (p : Presented) (t count : ℕ) → t < length p.tracks → IsNoneBefore (over_at p) (length p.tracks) t → count ≡ many p t
     → 20000 < count → Tells (faults.Window t count) (window_told (counts_listed p))
 many_told p t count less before is over =
-    told_first (faults.Window t count) (over_in_track 0 (counts_listed p)) (over_in_all 0 0 (counts_listed p))
-    (subst (λ (rs : List Refusal). Tells (faults.Window t count) rs) (sym (over_all p 0 (length p.tracks)))
+    told_first (faults.Window t count) (over_in_track 0 (counts_listed p)) _ (rw (over_all p 0 (length p.tracks))
     (first_here (over_at p) (length p.tracks) t (faults.Window t count) less before
     (rw (is, lt-ltb 20000 (many p t) (omega (arith, is, over))) (refl, refl))))
 
 pub none_too_many : (p : Presented) (t : ℕ) → count_faults p ≡ [] → t ≡ length p.tracks → IsNoneBefore (over_at p) (length p.tracks) t
     → window_told (counts_listed p) ≡ []
 none_too_many p t none end before =
-    none_told (over_in_track 0 (counts_listed p)) (over_in_all 0 0 (counts_listed p))
-    (over_all p 0 (length p.tracks) ∙ none_at_all (over_at p) (length p.tracks) t end before) (all_within p none)
+    none_told _ _ (over_all p 0 (length p.tracks) ∙ none_at_all (over_at p) (length p.tracks) t end before) (all_within p none)
+
+pub ruleset within_window = (none_yet, none_here, few_here, none_too_many)
 
 -- ---- tracks of which nothing was listed
 
@@ -176,10 +166,7 @@ filtered_none : (s t : ℕ) (xs : List Timing) (o : Option Content)
     (filter (λ x. true) xs)) o []
     ≡ option_map_or (λ content. part_faults content.runs s t 0 xs) o []
 filtered_none s t xs None = refl
-filtered_none s t xs (Some content) =
-    let all = filter_all xs in
-    let none : length xs - length (filter (λ (x : Timing). true) xs) ≡ 0 = omega (arith, ap (λ (ys : List Timing). length ys) all) in
-    rw (none, all) refl
+filtered_none s t xs (Some content) = let none : length xs - length xs ≡ 0 = omega arith in rw (filter_all xs, none) refl
 
 made_many : (make : Content → Timing → Segment) (list : Content → List Timing) (o : Option Content)
     → length (option_map_or (λ content. map (make content) (option_map_or list o [])) o []) ≡ length (option_map_or list o [])
@@ -200,10 +187,8 @@ module _ (c : Common) where
 
   listed_all : (t : ℕ) → length (listed_of (numbering_of c) c.force t) ≡ many c.force t
   listed_all t =
-      length-flat_map (listed_in_period (numbering_of c) c.force t) (sections_of c.force)
-      ∙ sums_alike (λ s. length (listed_in_period (numbering_of c) c.force t s)) (λ s. length (listed_at c.force s t)) 0
-      (length c.force.sections)
-      (λ s least within. made_many _ (λ content. listed_in (window_of c.force s) content.runs) (content_at c.force s t))
+      length-flat_map (listed_in_period (numbering_of c) c.force t) (sections_of c.force) ∙ sums_alike _ _ 0 (length c.force.sections)
+      (λ s _ _. made_many _ (λ content. listed_in (window_of c.force s) content.runs) (content_at c.force s t))
       ∙ sym (length-flat_map (λ s. listed_at c.force s t) (sections_of c.force))
 
   pub first_count : (a n : ℕ) → new_count c a (replicate n empty_track) ≡ sum_by (many c.force) (range_with_len a n)
@@ -224,17 +209,12 @@ module _ (terms : Terms) (mpd : Values) (now : ℤ) where
   begun_refused (Some r) is = rw is refl
 
   -- by its presentation
-  refused_by : (fault : PresentationFault) → presented_of mpd terms.url (Some now) ≡ Err fault
-      → first_refusal_of terms mpd now ≡ Some (Presentation fault)
-  unfolding first_refusal_of
-  refused_by fault is = ap (λ r. first_of (first_told_by mpd r)) is
-
   pub refused_presented : (e : PresentationFault) → IfSome (refusal e) (λ f. presented_of mpd terms.url (Some now) ≡ Err f)
       → IfSome (told (of_presentation e)) (λ r. begun_of terms mpd now ≡ Err r)
+  unfolding first_refusal_of
   refused_presented e refused =
       told_as e (λ r. begun_of terms mpd now ≡ Err r)
-      (some_as (refusal e) (λ f. presented_of mpd terms.url (Some now) ≡ Err f) (λ f. begun_of terms mpd now ≡ Err (Presentation f))
-      (λ f is. begun_refused (Some (Presentation f)) (refused_by f is)) refused)
+      (some_as (refusal e) _ _ (λ f is. begun_refused (Some (Presentation f)) (ap (λ r. first_of (first_told_by mpd r)) is)) refused)
 
   module _ (p : Presented) (made : presented_of mpd terms.url (Some now) ≡ Ok p) where
     abbrev common : Common
@@ -251,31 +231,25 @@ module _ (terms : Terms) (mpd : Values) (now : ℤ) where
 
     module _ (none : first_judged mpd p ≡ []) where
       refusal_left : first_refusal_of terms mpd now ≡ first_of (urls_told common p 0 (empty_tracks p))
-      refusal_left = refusal_is ∙ ap (λ (rs : List Refusal). first_of (rs ++ map Presentation (url_faults p))) none
-          ∙ ap first_of (sym (first_urls common 0 (length p.tracks)))
+      refusal_left = rw (refusal_is, none, first_urls common 0 (length p.tracks)) refl
 
       pub appended : first_appended_by terms mpd now ≡ new_count common 0 (empty_tracks p)
       unfolding first_appended_by
       appended =
-          let makes : makes_segments (first_refusal_of terms mpd now) ≡ true = ap makes_segments refusal_left
-          ∙ urls_make common p 0 (empty_tracks p) in
-          let many_are : sum (counts_listed p) ≡ new_count common 0 (empty_tracks p) = sum-map (many p) (tracks_of p)
-          ∙ sym (first_count common 0 (length p.tracks)) in
-          rw (made, makes) many_are
+          rw (made, refusal_left, urls_make common p 0 (empty_tracks p), first_count common 0 (length p.tracks))
+          (sum-map (many p) (tracks_of p))
 
       -- by that
       pub refused_made : (e : RefreshFault) (before after : ℕ) → AreUnmade common (empty_tracks p) e before after
           → IsUnbegun terms mpd now e before after
       refused_made e before after is = record {
-        refused = some_as (told e) (λ r. first_of (urls_told common p 0 (empty_tracks p)) ≡ Some r) (λ r. begun_of terms mpd now ≡ Err r)
-            (λ r first. begun_refused (Some r) (refusal_left ∙ first)) is.refused;
+        refused = some_as (told e) _ _ (λ r first. begun_refused (Some r) (refusal_left ∙ first)) is.refused;
         counted = subst (λ n. CountsRefused n before after e) (sym appended) is.counted;
       }
 
       pub gives_begun : urls_told common p 0 (empty_tracks p) ≡ [] → begun_of terms mpd now ≡ Ok (shown (begun_with common))
       unfolding begun_of
-      gives_begun urls =
-          let accepted : first_refusal_of terms mpd now ≡ None = refusal_left ∙ ap first_of urls in rw (accepted, made) refl
+      gives_begun urls = rw (refusal_left, urls, made) refl
 
 -- ---- tracks of which nothing was listed
 
@@ -283,11 +257,10 @@ pub empty_makeable : {m : Maker} (tracks : List LiveTrack) (n : ℕ) → map tra
     → All AreSideBySide tracks → (t : ℕ) (track : LiveTrack) → slice_get tracks t ≡ Some track → IsMakeable m t track
 empty_makeable {m} tracks n is paired t track at =
     let shown : track_shown track ≡ empty_track = All-at (λ x. x ≡ empty_track) (map track_shown tracks) t (track_shown track)
-    (subst (All (λ x. x ≡ empty_track)) (sym is) (All-replicate (λ x. x ≡ empty_track) n empty_track refl))
-    (mapped_at track_shown tracks t track at) in
+    (rw is (All-replicate (λ x. x ≡ empty_track) n empty_track refl)) (mapped_at track_shown tracks t track at) in
     record {
       paired = All-at AreSideBySide tracks t track paired at;
-      begun = subst (λ (x : Track). IsBegun m.resets x) (sym shown) (record { begun = tt; numbered = tt });
+      begun = rw shown (record { begun = tt; numbered = tt });
       near = subst (λ (x : Track). joins x.last (new_all (numbers_of m) (shown_by m) m.place x t)) (sym shown) tt;
     }
 
@@ -301,13 +274,12 @@ pub first_are : (c : Common) (slice room final : List LiveTrack) (made : List Ma
     → map track_shown final ≡ grown (map track_shown room) (all_kept made) → All AreSideBySide final
     → AreMade c (map track_shown slice) made before after → AreFirst c final before after
 first_are c slice room final made before after empty same last paired is =
-    let own = subst (λ ts. AreMade c ts made before after) empty is in
-    let shown : map track_shown final ≡ grown (empty_tracks c.force) (all_kept made) = last
-    ∙ ap (λ ts. grown ts (all_kept made)) (same ∙ empty) in
+    let own = rw empty at is in
+    let shown : map track_shown final ≡ grown (empty_tracks c.force) (all_kept made) = rw (last, same, empty) refl in
     record {
       shown = shown ∙ own.grown_is;
       paired = paired;
-      dated = subst (All AreDated) (sym shown) (grown_dated (empty_tracks c.force) (all_kept made)
+      dated = rw shown (grown_dated (empty_tracks c.force) (all_kept made)
           (All-replicate AreDated (length c.force.tracks) empty_track (All-nil IsDated)) own.dates);
       urls = own.urls;
       counted = own.counted;
@@ -318,8 +290,7 @@ first_are c slice room final made before after empty same last paired is =
 pub first_known : (p : Presented) (known news : List Known) → known ≡ []
     → news ≡ map (known_at p) (range_with_len 0 (length p.sections - 0)) → known ++ news ≡ known_with [] p
 first_known p known news none are =
-    let all : length p.sections - 0 ≡ length p.sections = omega arith in
-    rw (none, are, all, all_new (periods_of p)) refl
+    let all : length p.sections - 0 ≡ length p.sections = omega arith in rw (none, are, all, all_new (periods_of p)) refl
 
 -- ---- a first MPD of which nothing is refused but addresses
 
@@ -329,15 +300,6 @@ known_ids p =
     ∙ sym (fill_by_all (id_at p) (ids_in p) (length p.sections) [] (length-map p.sections _)
     (λ k less. get_or_from_slice_get (ids_in p) k (id_at p k) [] (id_there p.sections k less)))
 
-ids_are_said : (periods : List Period) → map (λ (section : Section). section.id) (map section_of periods) ≡ ids_said periods
-ids_are_said [] = refl
-ids_are_said (period ∷ periods) = ap (λ (ids : List (List ℕ)). (section_of period).id ∷ ids) (ids_are_said periods)
-
-start_own : (live : Bool) (f : Following) → live ≡ true
-    → option_map_or (λ (f : Following). f.availability_start) (if live then Some f else None) (pos 0) ≡ f.availability_start
-start_own true f is = refl
-start_own false f is = absurd (cc)
-
 pub first_mpd : (differ : PeriodIdsDiffer) (sections : SectionsArePeriods) (followed : PresentedAreFollowed) (few : PresentedAreFew)
     (terms : Terms) (mpd : Values) (now : ℤ) (p : Presented) → presented_of mpd terms.url (Some now) ≡ Ok p → first_judged mpd p ≡ []
     → IsTyped (Some mpd) → IsFirstMpd terms mpd now p
@@ -346,22 +308,15 @@ first_mpd differ sections followed few terms mpd now p made judged typed =
     let living = told_if (not mpd.facts.live) NotDynamic in
     let both = none_first (counts ++ living) (window_told (counts_listed p)) judged in
     let live = negated mpd.facts.live (told_none (not mpd.facts.live) NotDynamic (none_behind counts living both)) in
-    let f : Following = record {
-      instant = now;
-      availability_start = unwrap_or mpd.facts.availability_start (pos 0);
-      depth = mpd.facts.depth;
-    } in
-    let once : are_once (ids_in p) ≡ true = ap (λ (ss : List Section). are_once (map (λ (section : Section). section.id) ss))
-    (sections mpd terms.url (Some now) p made)
-    ∙ ap are_once (ids_are_said mpd.periods) ∙ (differ typed.0 mpd typed.1 live).once in
+    let once : are_once (ids_in p) ≡ true = rw (sections mpd terms.url (Some now) p made, map-map)
+    (differ typed.0 mpd typed.1 live).once in
     record {
       made = made;
       judged = judged;
       typed = typed;
       counts = none_mapped Presentation (count_faults p) (none_first counts living both);
       looked = looked_same followed mpd now p terms.url made;
-      start = sym (ap (λ o. option_map_or (λ (f : Following). f.availability_start) o (pos 0)) (followed mpd terms.url (Some now) p made)
-          ∙ start_own mpd.facts.live f live);
+      start = rw (followed mpd terms.url (Some now) p made, live) refl;
       stands = record { once = ap are_once (known_ids p) ∙ once; within = omega arith; behind = known_ids p };
       few = few mpd terms.url (Some now) p made;
     }
@@ -386,26 +341,19 @@ module _ {terms : Terms} {mpd : Values} {now : ℤ} {p : Presented} (is : IsFirs
     places = λ s less. place_there (ids_of c.known) (ids_in p) 0 s (id_at p s) is.stands (id_there p.sections s less);
   }
 
-  pub first_counted : (before after : ℕ) → after ≡ before + new_count c 0 (empty_tracks p)
-      → after ≡ before + first_appended_by terms mpd now
-  first_counted before after counted = counted ∙ ap (λ n. before + n) (sym (appended terms mpd now p is.made is.judged))
-
   -- ---- the session
 
   module _ {tracks : List LiveTrack} {before after : ℕ} (are : AreFirst c tracks before after) {s : Standing}
       (standing : IsFirstStanding terms mpd now p s) where
-    state_is : shown (begun_with c) ≡ state_shown s tracks
-    state_is = rw (are.shown ∙ first_grown c 0 (length p.tracks), standing.common) refl
-
     begun_as : begun_of terms mpd now ≡ Ok (state_shown s tracks)
-    begun_as = gives_begun terms mpd now p is.made is.judged are.urls ∙ ap (λ (state : State). Ok state) state_is
+    begun_as = rw (are.shown ∙ first_grown c 0 (length p.tracks), standing.common) (gives_begun terms mpd now p is.made is.judged are.urls)
 
     module _ (begins : HistoriesBegin) where
       shows : Shows terms (Refresh mpd now ∷ []) (state_shown s tracks)
       shows = begins terms mpd now (state_shown s tracks) begun_as
 
       pub begun_by : IsBegunBy terms mpd now (state_shown s tracks) before after
-      begun_by = record { next = begun_as; history = shows; counted = first_counted before after are.counted }
+      begun_by = record { next = begun_as; history = shows; counted = rw (appended terms mpd now p is.made is.judged) are.counted }
 
       pub is_session : FirstStatesAreSound → NeverEmpty → NumbersStaySmall → IsSession s tracks
       is_session sounds some small = record {

@@ -1,50 +1,30 @@
 -- Lists element by element, and tracks as they are changed one after another.
-use Rattle.std.proofs.Common.{◌≡◌, ℕ, zero, suc, ◌+◌, ◌<◌, ◌≤◌, List, [], ◌∷◌, map, length, drop, All, Some, refl, sym, ◌∙◌, ap, inl, inr}
-use Rattle.std.proofs.{Common.arith, lemmas.Bool.{cases_eq, cases_lt}, lemmas.List.Elements.{All-nil, All-cons, All-head, All-tail}}
-use Rattle.std.proofs.{lemmas.List.length-set, lemmas.Option.{same_Some, slice_get-get_or, slice_get_within}, lemmas.Simd.map-map}
-use Rattle.std.specs.Prelude.{get_or, slice_get, slice_set}
-use Rattle.circular_buffer.proofs.Places.{slice_get-set_same, slice_get-some}
+use Rattle.std.proofs.Common.{◌≡◌, ℕ, suc, ◌+◌, ◌<◌, ◌≤◌, List, [], ◌∷◌, map, length, drop, All, Some, refl, sym, ◌∙◌, ap, inl, inr, arith}
+use Rattle.std.proofs.lemmas.{Bool.{cases_eq, cases_lt}, List.{drop-drop, length-set}}
+use Rattle.std.proofs.lemmas.{Option.{same_Some, slice_get-get_or, slice_get-map, slice_get_within}, Simd.map-map}
+use Rattle.std.specs.Prelude.{get_or, option_map, slice_get, slice_set}
+use Rattle.circular_buffer.proofs.Places.{slice_get-drop, slice_get-set_other, slice_get-set_same, slice_get-some}
+use Rattle.presentation.proofs.Grids.{All-at}
 use Rattle.live_judge.specs.{declared.track.LiveTrack.LiveTrack, Shown.track_shown}
 use Rattle.live_session.specs.{declared.made.MadeTrack.MadeTrack, Growth.{HaveRoom, grown, inside_of}, Kept.{HasRoom, with_all}}
 use Rattle.live_session.specs.{Made.all_made, Making.all_kept}
 
 pub mapped_at : {X Y : Type 0} (f : X → Y) (xs : List X) (t : ℕ) (x : X) → slice_get xs t ≡ Some x → slice_get (map f xs) t ≡ Some (f x)
-mapped_at f [] t x at = absurd (cc)
-mapped_at f (y ∷ xs) zero x at = let same : y ≡ x = cc in ap (λ z. Some (f z)) same
-mapped_at f (y ∷ xs) (suc t) x at = mapped_at f xs t x at
+mapped_at f xs t x at = slice_get-map f xs t ∙ ap (option_map f) at
 
 -- what holds at each place, and of what is shown of each
 pub at_all : {X : Type 0} (P : X → Type 0) (xs : List X) → ((t : ℕ) (x : X) → slice_get xs t ≡ Some x → P x) → All P xs
-at_all P [] each = All-nil P
-at_all P (x ∷ xs) each = All-cons P x xs (each zero x refl) (at_all P xs (λ t y at. each (suc t) y at))
+at_all P xs each = λ k d within. each k (get_or xs k d) (slice_get-get_or xs k d within)
 
 pub of_shown : {X Y : Type 0} (P : Y → Type 0) (show : X → Y) (xs : List X) → All P (map show xs) → All (λ x. P (show x)) xs
-of_shown P show [] all = All-nil (λ x. P (show x))
-of_shown P show (x ∷ xs) all =
-    All-cons (λ x. P (show x)) x xs (All-head P (show x) (map show xs) all) (of_shown P show xs (All-tail P (show x) (map show xs) all))
+of_shown P show xs all = at_all (λ x. P (show x)) xs (λ t x at. All-at P (map show xs) t (show x) all (mapped_at show xs t x at))
 
 -- lists of which the same is shown
 pub same_by : {X Y Z : Type 0} (f : X → Y) (g : Y → Z) (xs ys : List X) → map f xs ≡ map f ys
     → map (λ x. g (f x)) xs ≡ map (λ x. g (f x)) ys
-same_by f g [] [] same = refl
-same_by f g [] (y ∷ ys) same = absurd (cc)
-same_by f g (x ∷ xs) [] same = absurd (cc)
-same_by f g (x ∷ xs) (y ∷ ys) same =
-    let first : f x ≡ f y = cc in let rest : map f xs ≡ map f ys = cc in rw (first, same_by f g xs ys rest) refl
-
-pub all_set : {X : Type 0} (P : X → Type 0) (xs : List X) (i : ℕ) (y : X) → All P xs → P y → All P (slice_set xs i y)
-all_set P [] i y all here = all
-all_set P (x ∷ xs) zero y all here = All-cons P y xs here (All-tail P x xs all)
-all_set P (x ∷ xs) (suc i) y all here = All-cons P x (slice_set xs i y) (All-head P x xs all) (all_set P xs i y (All-tail P x xs all) here)
+same_by f g xs ys same = sym (map-map g f xs) ∙ ap (map g) same ∙ map-map g f ys
 
 -- ---- the first ones are changed, each as it should be
-
-get_set_other : {X : Type 0} (xs : List X) (i t : ℕ) (y : X) → (t ≡ i → ⊥) → slice_get (slice_set xs i y) t ≡ slice_get xs t
-get_set_other [] i t y other = refl
-get_set_other (x ∷ xs) zero zero y other = absurd (other refl)
-get_set_other (x ∷ xs) zero (suc t) y other = refl
-get_set_other (x ∷ xs) (suc i) zero y other = refl
-get_set_other (x ∷ xs) (suc i) (suc t) y other = get_set_other xs i t y (λ e. other (ap suc e))
 
 pub record AreChanged {X : Type 0} (Is : ℕ → X → X → Type 0) (old new : List X) (k : ℕ) : Type 0 where
   pub many : length new ≡ length old
@@ -75,9 +55,9 @@ module _ {X : Type 0} {Is : ℕ → X → X → Type 0} {old new : List X} {k : 
           let other : y ≡ b = same_Some y b (sym (slice_get-set_same new k y within)
           ∙ ap (slice_get (slice_set new k y)) (sym same) ∙ new_at) in
           rw (same, ← one, ← other) is
-      | inr other ↦ are.done i a b (omega (arith, other)) old_at (sym (get_set_other new k i y other) ∙ new_at)
+      | inr other ↦ are.done i a b (omega (arith, other)) old_at (sym (slice_get-set_other new k i y other) ∙ new_at)
     ];
-    later = λ i least. get_set_other new k i y (λ e. omega arith) ∙ are.later i (omega arith);
+    later = λ i least. slice_get-set_other new k i y (λ e. omega arith) ∙ are.later i (omega arith);
   }
 
   pub all_alike : {Z : Type 0} (f : X → Z) → ((i : ℕ) (x y : X) → Is i x y → f y ≡ f x) → map f new ≡ map f old
@@ -118,19 +98,15 @@ grown_alike : (old new : List LiveTrack) (made : List MadeTrack) → length new 
     → ((i : ℕ) (x y : LiveTrack) → slice_get old i ≡ Some x → slice_get new i ≡ Some y → IsGrown made i x y)
     → ((i : ℕ) → length made ≤ i → slice_get new i ≡ slice_get old i)
     → map track_shown new ≡ grown (map track_shown old) (all_kept made)
-grown_alike [] [] [] many each later = refl
-grown_alike [] [] (m ∷ made) many each later = refl
-grown_alike [] (y ∷ new) made many each later = absurd (omega arith)
-grown_alike (x ∷ old) [] made many each later = absurd (omega arith)
-grown_alike (x ∷ old) (y ∷ new) [] many each later =
-    maps_alike track_shown track_shown (x ∷ old) (y ∷ new) many
+grown_alike old new [] many each later =
+    maps_alike track_shown track_shown old new many
     (λ i a b at new_at. ap track_shown (same_Some b a (sym new_at ∙ later i (omega arith) ∙ at)))
+grown_alike [] [] (m ∷ made) many each later = refl
+grown_alike [] (y ∷ new) (m ∷ made) many each later = absurd (omega arith)
+grown_alike (x ∷ old) [] (m ∷ made) many each later = absurd (omega arith)
 grown_alike (x ∷ old) (y ∷ new) (m ∷ made) many each later =
-    rw (
-      each 0 x y refl refl m refl,
-      grown_alike old new made (omega arith) (λ i a b. each (suc i) a b)
-          (λ i least. later (suc i) (omega arith)),
-    ) refl
+    let rest = grown_alike old new made (omega arith) (λ i a b. each (suc i) a b) (λ i least. later (suc i) (omega arith)) in
+    rw (each 0 x y refl refl m refl, rest) refl
 
 pub all_grown : {old new : List LiveTrack} {k : ℕ} (made : List MadeTrack) → AreChanged (IsGrown made) old new k → k ≡ length made
     → map track_shown new ≡ grown (map track_shown old) (all_kept made)
@@ -140,7 +116,7 @@ all_grown {old} {new} made are end =
     (λ i least. are.later i (omega arith))
 
 pub drop_next : {X : Type 0} (k : ℕ) (xs ys : List X) (y : X) → y ∷ ys ≡ drop k xs → (ys ≡ drop (k + 1) xs) × (slice_get xs k ≡ Some y)
-drop_next zero [] ys y is = absurd (cc)
-drop_next zero (x ∷ xs) ys y is = (cc, cc)
-drop_next (suc k) [] ys y is = absurd (cc)
-drop_next (suc k) (x ∷ xs) ys y is = let e : suc k + 1 ≡ suc (k + 1) = omega arith in rw e (drop_next k xs ys y is)
+drop_next k xs ys y is = (
+  ap (drop 1) is ∙ drop-drop 1 k xs,
+  sym (slice_get-drop k xs 0 k (omega arith)) ∙ ap (λ zs. slice_get zs 0) (sym is),
+)

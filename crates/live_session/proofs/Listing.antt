@@ -1,6 +1,6 @@
 -- The playlist of a track by what is written of its segments.
 use Rattle.std.proofs.Common.{◌≡◌, List, [], ◌∷◌, ◌++◌, map, length, All, Some, None, refl, sym, ◌∙◌, ap, arith}
-use Rattle.std.proofs.lemmas.List.Elements.{All-cons, All-head, All-nil, All-tail}
+use Rattle.std.proofs.{lemmas.List.Elements.{All-cons, All-head, All-nil, All-tail}, lemmas.List.length-map, lemmas.Option.slice_get-map}
 use Rattle.std.specs.Prelude.{slice_get}
 use Rattle.iso_time.specs.Instant.{IsWritable}
 use Rattle.hls_writer.specs.{declared.items.MediaHead.MediaHead, declared.items.MediaItem.MediaItem, Items.{head_of, item_of, items_text}}
@@ -52,3 +52,5 @@ all_behind P (x ∷ xs) ys all = all_behind P xs ys (All-tail P x (xs ++ ys) all
 pub all_before : {X : Type 0} (P : X → Type 0) (xs ys : List X) → All P (xs ++ ys) → All P xs
 all_before P [] ys all = All-nil P
 all_before P (x ∷ xs) ys all = All-cons P x xs (All-head P x (xs ++ ys) all) (all_before P xs ys (All-tail P x (xs ++ ys) all))
+
+pub ruleset listed = (items_in, length-map, slice_get-map)

@@ -1,15 +1,14 @@
 -- What is new of an update: its Periods, and the segments that its maker is to make.
 use Rattle.live_judge.specs.declared.coming.Coming.TheVariants as comes
 use Rattle.std.proofs.Common.{◌≡◌, ℕ, zero, suc, ◌+◌, ◌-◌, ◌<◌, ◌≤◌, ℤ, true, false, List, [], ◌∷◌, ◌++◌, map, length, drop, None, refl}
-use Rattle.std.proofs.Common.{sym, ◌∙◌, ap, arith, length-drop, length-append, zero-add, ◌==◌, pos, Some, inl, inr, ◌&&◌, cond}
-use Rattle.std.proofs.{Common.{get_or, All, Option, subst}, lemmas.List.{length-map, map-append, drop_all, append-nil, nil_from_length}}
-use Rattle.std.proofs.{lemmas.Option.{slice_get_past, slice_get-map}, lemmas.Bool.{eq-eqb, and_parts, cases_Bool}}
-use Rattle.std.proofs.{lemmas.Bool.{cases_lt, eqb-true, le-ltb}, lemmas.List.Elements.{All-head, filter_passes, All-nil}}
+use Rattle.std.proofs.Common.{sym, ◌∙◌, ap, arith, length-drop, length-append, zero-add, ◌==◌, pos, Some, inl, inr, ◌&&◌, cond, get_or, All}
+use Rattle.std.proofs.{Common.{Option, subst}, lemmas.List.{length-map, map-append, drop_all, append-nil, nil_from_length}}
+use Rattle.std.proofs.{lemmas.Option.{slice_get_past, slice_get-map}, lemmas.Bool.{eq-eqb, cases_Bool}, lemmas.Bool.Decides.nat_tests}
+use Rattle.std.proofs.lemmas.List.Elements.{All-head, filter_passes, All-nil}
 use Rattle.std.specs.{Prelude.{filter, is_none, slice_get, unwrap_or, IfSome, option_map}, List.range_with_len}
-use Rattle.mpd_rules.specs.Laws.{are_once}
 use Rattle.presentation.specs.Presented.{Presented}
-use Rattle.live_meaning.specs.{Segments.{id_at, Segment, behind, is_later, listed_of, place_of}, Updates.{mpd_of, is_reset}, Known.Known}
-use Rattle.live_meaning.specs.{Known.{ids_of, is_new, known_at, known_with, periods_of}, Refusals.{ids_in, Step, extent_of, joint_told}}
+use Rattle.live_meaning.specs.{Segments.{id_at, Segment, behind, is_later, place_of}, Updates.{mpd_of, is_reset}, Known.{Known, ids_of}}
+use Rattle.live_meaning.specs.{Known.{is_new, known_at, known_with, periods_of}, Refusals.{ids_in, Step, extent_of, joint_told}}
 use Rattle.live_meaning.specs.{Refusals.step_behind, States.{new_count, new_of, Track}, Histories.{numbering_of, Common}}
 use Rattle.live_meaning.proofs.{InForce.id_there, Allowed.told_none, Orders.{IsNumbered, behind_have, listed_numbered}}
 use Rattle.live_judge.specs.{declared.coming.Next.Next, declared.coming.Coming.Coming, declared.standing.Standing.Standing, Coming.Comes}
@@ -22,6 +21,7 @@ use Rattle.live_session.specs.{Growth.{track_grown, tracks_grown}, Making.{AreMa
 use Rattle.exact_time.specs.Time.{Time, before}
 use Rattle.timeline.specs.Faults.{is_apart}
 use Rattle.presentation.proofs.Grids.{All-at}
+use Rattle.circular_buffer.proofs.Places.{slice_get-some}
 use Rattle.followed.specs.Durations.{Last}
 use Rattle.live_session.proofs.{Addresses.{all_by, none_urls}, Refusing.some_as}
 
@@ -32,33 +32,20 @@ ends known p place is =
     let ids = length-map known (λ (k : Known). k.id) in
     omega (arith, is.within, length-drop place (ids_of known), length-map p.sections (λ section. section.id))
 
-none_there : {X : Type 0} (xs : List X) (k : ℕ) → length xs ≤ k → is_none (slice_get xs k) ≡ true
-none_there xs k past = ap is_none (slice_get_past xs k past)
-
-some_there : {X : Type 0} (xs : List X) (k : ℕ) → k < length xs → is_none (slice_get xs k) ≡ false
-some_there [] k within = absurd (omega arith)
-some_there (x ∷ xs) zero within = refl
-some_there (x ∷ xs) (suc k) within = some_there xs k (omega arith)
-
 module _ (known : List Known) (p : Presented) (place : ℕ) (is : StandsAt (ids_of (known_with known p)) (ids_in p) place) where
   abbrev more : List Known
   more = filter (is_new known) (periods_of p)
 
   is_new_at : (s : ℕ) → s < length p.sections → is_new known (known_at p s) ≡ is_none (slice_get known (place + s))
   is_new_at s less =
-      let both : StandsAt (ids_of known ++ ids_of more) (ids_in p) place = let same = map-append
-      (λ (k : Known). k.id) known more in record {
-        once = ap (λ (ids : List (List ℕ)). are_once ids) (sym same) ∙ is.once;
-        within = omega (arith, is.within, ap (λ (ids : List (List ℕ)). length ids) same);
-        behind = ap (drop place) (sym same) ∙ is.behind;
-      } in
+      let both = subst (λ ids. StandsAt ids (ids_in p) place) (map-append (λ (k : Known). k.id) known more) is in
       ap is_none (known_before known (ids_of more) (ids_in p) place s (id_at p s) both (id_there p.sections s less))
 
   all_new : (a n : ℕ) → a + n ≤ length p.sections → length known ≤ place + a
       → filter (is_new known) (map (known_at p) (range_with_len a n)) ≡ map (known_at p) (range_with_len a n)
   all_new a zero within past = refl
   all_new a (suc n) within past =
-      let here : is_new known (known_at p a) ≡ true = is_new_at a (omega arith) ∙ none_there known (place + a) past in
+      let here : is_new known (known_at p a) ≡ true = is_new_at a (omega arith) ∙ ap is_none (slice_get_past known (place + a) past) in
       rw here (ap (λ (ks : List Known). known_at p a ∷ ks) (all_new (a + 1) n (omega arith) (omega arith)))
 
   new_from : (k a n : ℕ) → a + n ≤ length p.sections → k ≤ n → length known ≡ place + a + k
@@ -69,7 +56,8 @@ module _ (known : List Known) (p : Presented) (place : ℕ) (is : StandsAt (ids_
       rw (same, all) (all_new a n within (omega (arith, end)))
   new_from (suc k) a zero within fits end = absurd (omega arith)
   new_from (suc k) a (suc n) within fits end =
-      let here : is_new known (known_at p a) ≡ false = is_new_at a (omega arith) ∙ some_there known (place + a) (omega (arith, end)) in
+      let here : is_new known (known_at p a) ≡ false = is_new_at a (omega arith)
+      ∙ ap is_none (slice_get-some known (place + a) (omega (arith, end))).1 in
       let same : a + 1 + k ≡ a + suc k = omega arith in
       let left : n - k ≡ suc n - suc k = omega arith in
       rw (here, new_from k (a + 1) n (omega arith) (omega arith) (omega (arith, end)), same, left) refl
@@ -158,11 +146,7 @@ above l [] all = tt
 above l (x ∷ xs) all = λ same. absurd (omega (arith, All-head (λ (y : Segment). l.section < y.section) x xs all, same))
 
 later_place : (last : Last) (place p : ℕ) (end : Time) → is_later last place p end ≡ true → place ≤ p
-later_place last place p end is = elim (cases_lt place p) [
-  | inl less ↦ omega arith
-  | inr le ↦ let same : (place == p && before last.end end) ≡ true = rw (le-ltb place p le) at is in omega
-      (arith, eqb-true place p (and_parts _ _ same).0)
-]
+later_place last place p end is = grind (arith, nat_tests)
 
 reset_joins : (last : Option Last) (place former resets : ℕ) (xs : List Segment) → IfSome last (λ l. l.section ≤ place + former)
     → resets ≡ former + 1
@@ -189,8 +173,7 @@ module _ (n : Next) (is : IsNext n) (t : ℕ) (x : LiveTrack) (at : slice_get n.
   joined none = elim (cases_Bool (is_reset (update_of n.coming n.now))) [
     | inl turned ↦
         let more : (coming_of n).resets ≡ former + 1 = ap (λ b. cond b (former + 1) former) turned in
-        reset_joins (track_shown x).last (track_shown x).place former (coming_of n).resets
-        (listed_of (numbering_of (coming_of n)) (p_of n) t) sound_there.section more
+        reset_joins (track_shown x).last (track_shown x).place former _ _ sound_there.section more
         (listed_numbered (numbering_of (coming_of n)) (p_of n) t)
     | inr other ↦
         let steps = subst (λ b. joint_told b (coming_of n) (map track_shown n.tracks.now) ≡ []) other none in

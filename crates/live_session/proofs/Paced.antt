@@ -7,7 +7,7 @@ use Rattle.timeline.specs.{Expansions.Timing, declared.window.Window.Window, Lis
 use Rattle.presentation.specs.{Printing.{begin_of, durations_of, printed_timings, with_durations, GoesOn}, Verifying.greatest}
 use Rattle.presentation.specs.{Verifying.longest_left, declared.segments.Behind.Behind, Kept.{ArePacedBehind, rounding_at}}
 use Rattle.std.specs.Prelude.{IfSome, true}
-use Rattle.presentation.proofs.GoingOn.{paced_there}
+use Rattle.presentation.proofs.{Counts.from_on-first, GoingOn.paced_there}
 use Rattle.live_session.specs.{New.later_listed, Paced.IsDatable, Making.IsNear}
 use Rattle.exact_time.proofs.TimeOrder.{IsAtMost-from_before, IsAtMost-trans, IsAtMost_refl, at_most-from, before-true, not_at_most-from}
 use Rattle.exact_time.proofs.Times.{IsTime-difference, difference-le}
@@ -79,3 +79,7 @@ near_period x is =
       low = omega (arith, ints, short);
       high = IsAtMost-trans start end (seconds 100000000000) limits.end_is (IsAtMost-from_before start end limits.begins) limits.near;
     }
+
+pub ruleset dated = (least_nanos, most_nanos, ints)
+
+pub ruleset in_order = (from_on-first)

@@ -1,13 +1,12 @@
 -- What is planned of an update, and why it is refused.
-use Rattle.std.proofs.Common.{◌≡◌, false, true, ℕ, ◌+◌, ◌-◌, ℤ, List, [], ◌∷◌, ◌++◌, map, length, None, Result, Ok, Err, refl, sym, ◌∙◌, ap}
-use Rattle.std.proofs.Common.{subst, inl, inr, arith}
+use Rattle.std.proofs.Common.{◌≡◌, false, true, ℕ, ◌+◌, ◌-◌, ℤ, List, [], ◌++◌, map, length, None, Result, Ok, Err, refl, sym, ◌∙◌, ap}
+use Rattle.std.proofs.{Common.{subst, inl, inr, arith}, lemmas.List.{length-map, nil_from_length}}
 use Rattle.std.specs.{Prelude.MatchResult, List.range_with_len}
 use Rattle.bridge_io.specs.Firsts.{first_of}
-use Rattle.presentation.specs.{Counting.range_faults, Presented.{Presented, is_finished, looked_at}}
+use Rattle.presentation.specs.Presented.{Presented, is_finished, looked_at}
 use Rattle.presentation.proofs.{Ending.none_behind, Reached.none_first}
 use Rattle.live_meaning.specs.{Updates.{Update, is_reset, mpd_of, now_of}, Known.{ids_of, known_at}, Histories.published_by, States.State}
-use Rattle.live_meaning.specs.Refusals.{Ended, Presentation, appended_by, clock_told, counts_kept, ended_told, ids_in, joint_told}
-use Rattle.live_meaning.specs.Refusals.{long_told, makes_segments, mpd_told, urls_told, window_told}
+use Rattle.live_meaning.specs.Refusals.{Ended, appended_by, clock_told, ended_told, ids_in, makes_segments, urls_told}
 use Rattle.live_meaning.proofs.Allowed.{told_none}
 use Rattle.live_judge.specs.{declared.coming.Coming.Coming, declared.coming.Next.Next, declared.fault.RefreshFault.RefreshFault}
 use Rattle.live_judge.specs.{declared.standing.Standing.Standing, declared.track.LiveTrack.LiveTrack, Known.{StandsAt, known_shown}}
@@ -18,10 +17,6 @@ use Rattle.live_session.specs.{declared.change.Plan.Plan, Changes.{IsPlan, IsPla
 use Rattle.live_session.specs.Changes.{new_in_all, shown_in}
 use Rattle.live_session.proofs.{NewTracks.{resets_at, comes_same, known_are, seen as seen_all}, Addresses.urls_make, Refusing.appended_new}
 use Rattle.live_session.proofs.Refusing.{now_at, refused_early, refused_judged, refused_made, refused_there, refused_wanting}
-
-none_mapped : {X Y : Type 0} (f : X → Y) (xs : List X) → map f xs ≡ [] → xs ≡ []
-none_mapped f [] none = refl
-none_mapped f (x ∷ xs) none = absurd (cc)
 
 abbrev IsTimely : Standing → ℤ → Type 0
 IsTimely s now = ended_told (common_shown s) ++ clock_told (common_shown s) now ≡ []
@@ -35,22 +30,20 @@ unended s now timely = told_none (is_finished (in_force s)) Ended
 
 pub timely_there : (s : Standing) (coming : Coming) (now : ℤ) → IsTimely s now
     → ended_told (common_shown s) ++ clock_told (common_shown s) (now_of (update_of coming now)) ≡ []
-timely_there s coming now timely = ap (λ i. ended_told (common_shown s) ++ clock_told (common_shown s) i) (now_at coming now) ∙ timely
+timely_there s coming now timely = rw (now_at coming now) timely
 
 pub refused_now : (s : Standing) (tracks : List LiveTrack) (coming : Coming) (now : ℤ) (e : RefreshFault) (steps : ℕ)
     → Tells e (ended_told (common_shown s) ++ clock_told (common_shown s) now)
     → IsRefused (state_shown s tracks) (update_of coming now) e steps steps
 refused_now s tracks coming now e steps tells =
-    refused_early (state_shown s tracks) (update_of coming now) steps steps e
-    (subst (λ i. Tells e (ended_told (common_shown s) ++ clock_told (common_shown s) i)) (sym (now_at coming now)) tells) refl
+    refused_early _ _ _ _ e (rw (now_at coming now) tells) refl
 
 pub judged_refused : (s : Standing) (tracks : List LiveTrack) (coming : Coming) (force : Presented) (now : ℤ) → IsTimely s now
     → IsPresented s coming now force → (e : RefreshFault) (before : ℕ)
     → Tells e (told_before (state_shown s tracks) (update_of coming now) (looked_at now force))
     → IsRefused (state_shown s tracks) (update_of coming now) e before before
 judged_refused s tracks coming force now timely presented e before tells =
-    refused_judged (state_shown s tracks) (update_of coming now) before before (timely_there s coming now timely) (looked_at now force)
-    presented.forced e tells refl
+    refused_judged _ _ before before (timely_there s coming now timely) _ presented.forced e tells refl
 
 -- ---- as it is judged
 
@@ -62,12 +55,7 @@ module _ (n : Next) where
   u = update_of n.coming n.now
 
   joined_own : IsJudged n.standing.now n.tracks.now n.coming n.force.now n.now → IsJoined n
-  joined_own judged =
-      let c = coming_of n in
-      none_first (joint_told (is_reset u) c (shown_in n)) (long_told c 0 (shown_in n))
-      (none_first (joint_told (is_reset u) c (shown_in n) ++ long_told c 0 (shown_in n)) (window_told (counts_kept c 0 (shown_in n)))
-      (none_behind (map Presentation (range_faults (p_of n)) ++ mpd_told state (mpd_of u) (p_of n)) (timed_told (is_reset u) c (shown_in n))
-      judged))
+  joined_own judged = none_first _ _ (none_first _ _ (none_behind _ (timed_told (is_reset u) (coming_of n) (shown_in n)) judged))
 
   module _ (is : IsNext n) (timely : IsTimely n.standing.now n.now) (presented : IsPresented n.standing.now n.coming n.now n.force.now)
       (judged : IsJudged n.standing.now n.tracks.now n.coming n.force.now n.now) (before after : ℕ) where
@@ -103,9 +91,9 @@ module _ (n : Next) where
       many = has.made.many;
       appended = appended;
       unmade = has.made.none;
-      seen = λ tick. none_mapped known_shown plan.periods.items
-          (has.periods ∙ (let left : length (n.force.now).sections - first_new n ≡ 0 = omega (arith, seen_at tick) in
-          ap (λ k. map (known_at n.force.now) (range_with_len (first_new n) k)) left));
+      seen = λ tick. let left : length (n.force.now).sections - first_new n ≡ 0 = omega (arith, seen_at tick) in
+          nil_from_length _ (sym (length-map plan.periods.items known_shown)
+          ∙ ap (λ ks. length ks) (has.periods ∙ ap (λ k. map (known_at n.force.now) (range_with_len (first_new n) k)) left));
     }
 
     planned_own : (r : Result Plan RefreshFault)

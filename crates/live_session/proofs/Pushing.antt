@@ -4,7 +4,7 @@ use Rattle.std.proofs.{Common.{ap, inl, inr, arith, length-append, length-drop, 
 use Rattle.std.proofs.lemmas.List.{append-nil}
 use Rattle.std.specs.{Prelude.{option_map, ◌==◌, if◌then◌else◌, false}, Option.option_map_or}
 use Rattle.circular_buffer.specs.Buffer.{keep_last}
-use Rattle.circular_buffer.proofs.Places.{slice_get-append_right, slice_get-drop}
+use Rattle.circular_buffer.proofs.Places.{slice_get-drop, slice_get-last}
 use Rattle.exact_time.specs.{Time.Time, Tick.time_of}
 use Rattle.hls_writer.specs.declared.items.MediaItem.{MediaItem}
 use Rattle.followed.specs.Durations.{Last, duration_behind, last_behind, last_with, told_behind}
@@ -36,9 +36,6 @@ kepts-drop (suc n) (i ∷ items) (f ∷ facts) = kepts-drop n items facts
 
 -- ---- the last one
 
-last-push : (ks : List Kept) (k : Kept) → last_kept (ks ++ k ∷ []) ≡ Some k
-last-push ks k = slice_get-append_right ks (k ∷ []) (length (ks ++ k ∷ []) - 1) 0 (omega (arith, length-append ks (k ∷ [])))
-
 last-with : (begin : Time) (last : Option Kept) (k : Kept)
     → Some (last_from
     (if option_map_or (λ (l : Last). l.section == k.segment.section)
@@ -52,17 +49,15 @@ last-with begin (Some l) k = elim (cases_eq l.segment.section k.segment.section)
 ]
 
 -- a segment behind the others
-pushed : (begin : Time) (first : ℕ) (ks : List Kept) (k : Kept)
-    → track_of first (begun_at (track_of first begin ks) begin k.segment.start k.segment.section) (ks ++ k ∷ [])
-    ≡ with_kept (track_of first begin ks) k
-pushed begin first ks k = rw (last-push ks k, last-with begin (last_kept ks) k) refl
-
 pub push_shown : (items news : List MediaItem) (facts others : List Fact) (item : MediaItem) (fact : Fact) (begin next : Time) (first : ℕ)
     → length items ≡ length facts → news ≡ items ++ item ∷ [] → others ≡ facts ++ fact ∷ []
     → next ≡ begun_at (track_of first begin (kepts_of items facts)) begin (time_of fact.span.start) item.section
     → track_of first next (kepts_of news others) ≡ with_kept (track_of first begin (kepts_of items facts)) (kept_of item fact)
 push_shown items news facts others item fact begin next first same one other is =
-    rw (one, other, is, kepts-push items facts item fact same) (pushed begin first (kepts_of items facts) (kept_of item fact))
+    let ks = kepts_of items facts in
+    let k = kept_of item fact in
+    let last : last_kept (ks ++ k ∷ []) ≡ Some k = slice_get-last ks k _ (omega (arith, length-append ks (k ∷ []))) in
+    rw (one, other, is, kepts-push items facts item fact same, last, last-with begin (last_kept ks) k) refl
 
 -- ---- many of them
 

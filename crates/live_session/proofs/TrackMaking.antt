@@ -1,50 +1,49 @@
 -- The new segments of a track, section by section, and those of all tracks.
-use Rattle.std.proofs.Common.{◌≡◌, ℕ, ◌+◌, ◌-◌, ◌^◌, ◌<◌, ◌≤◌, List, [], ◌∷◌, ◌++◌, map, flat_map, length, drop, All, Option, sum, Some}
-use Rattle.std.proofs.{Common.{None, refl, sym, ◌∙◌, ap, subst, inl, inr, arith, append_assoc, zero-add}, lemmas.Bool.cases_lt}
-use Rattle.std.proofs.{lemmas.List.{append-nil, drop_all, map-append}, lemmas.List.Elements.{All-nil, All-push}}
-use Rattle.std.proofs.{lemmas.List.Sums.sum_by-cons, lemmas.Option.slice_get-get_or}
-use Rattle.std.specs.{Prelude.{get_or, slice_get, true, IfSome}, List.range_with_len}
+use Rattle.std.proofs.Common.{◌≡◌, ℕ, ◌+◌, ◌-◌, ◌^◌, ◌<◌, ◌≤◌, List, [], ◌∷◌, ◌++◌, map, length, drop, All, Option, sum, Some, None, refl}
+use Rattle.std.proofs.{Common.{sym, ◌∙◌, ap, inl, arith, append_assoc}, lemmas.List.{append-nil, drop_all, map-append}}
+use Rattle.std.proofs.{lemmas.List.Elements.{All-nil, All-push}, lemmas.List.Sums.sum_by-cons, lemmas.Option.slice_get-get_or}
+use Rattle.std.specs.{Prelude.{get_or, slice_get, IfSome}, List.range_with_len, Option.option_map_or}
 use Rattle.bridge_io.specs.Firsts.{first_of}
-use Rattle.presentation.specs.{declared.fault.PresentationFault.PresentationFault, Counting.refusal, Presented.Presented}
+use Rattle.presentation.specs.{declared.fault.PresentationFault.PresentationFault, Counting.refusal, Presented.{Presented, content_at}}
+use Rattle.presentation.specs.{Presented.listed_at, declared.parts.Content.Content}
 use Rattle.presentation.proofs.Counts.{from_on-first}
 use Rattle.live_meaning.specs.{Updates.unit_of, Segments.{Kept, Numbering, Segment, segments_of}, Histories.Common, States.Track}
-use Rattle.live_meaning.specs.{States.{new_count, new_of, new_told}, Refusals.{Presentation, is_of_address, urls_told}}
+use Rattle.live_meaning.specs.{States.{new_count, new_of, new_told}, Refusals.urls_told}
 use Rattle.live_meaning.proofs.Tracks.{length-told}
 use Rattle.live_judge.specs.{declared.track.LastKept.LastKept, declared.track.LiveTrack.LiveTrack, Faults.of_presentation}
 use Rattle.live_judge.specs.{declared.fault.RefreshFault.TheVariants.Memory, Shown.{last_of, track_shown}}
-use Rattle.live_judge.proofs.Firsts.{rest_at}
-use Rattle.live_session.specs.{declared.made.MadeTrack.MadeTrack, declared.maker.Maker.Maker, Made.all_made, Growth.{grown, tracks_grown}}
-use Rattle.live_session.specs.Making.{AreMade, AreUnmade, IsMadeBehind, IsMakerFor, IsNotMade, IsSectionMakeable, all_kept, first_section}
-use Rattle.live_session.specs.{Making.number_of, New.{IsBegun, joins, new_all, new_among, new_faults_among, new_faults_in, new_faults_of}}
-use Rattle.live_session.specs.{New.{new_in, numbers_of, shown_by, track_at}, Written.IsDated}
+use Rattle.live_judge.proofs.{Firsts.rest_at, New.none_earlier}
+use Rattle.live_session.specs.New.{faults_by, segments_in, IsBegun, joins, new_all, new_among, new_faults_among, new_faults_in}
+use Rattle.live_session.specs.{New.{new_faults_of, new_in, numbers_of, shown_by, track_at}, declared.made.MadeTrack.MadeTrack}
+use Rattle.live_session.specs.{declared.maker.Maker.Maker, Made.all_made, Growth.{grown, tracks_grown}, Making.{AreMade, AreUnmade}}
+use Rattle.live_session.specs.Making.{IsMadeBehind, IsMakerFor, IsNotMade, IsSectionMakeable, all_kept, first_section, number_of}
+use Rattle.live_session.specs.Written.{IsDated}
 use Rattle.live_session.proofs.{Addresses.{all_by, first_address, first_mapped, urls_by, urls_of}, Pushing.grown as pushed_all}
-use Rattle.live_session.proofs.{Refusing.{counts_made, some_as, told_as}, Sections.{Stood, joins_next, none_faults, none_new, skip, stands}}
-use Rattle.live_session.proofs.{Sections.stands_next, Making.{IsOnWay, last_made, segments_told, way_begun, way_done, way_next}}
-use Rattle.live_session.proofs.Making.{way_refused, way_segments}
+use Rattle.live_session.proofs.{Refusing.{counts_made, some_as, told_as}, Sections.{Stood, joins_next, skip, stands, stands_next}}
+use Rattle.live_session.proofs.Making.{IsOnWay, last_made, segments_told, way_begun, way_done, way_next, way_refused, way_segments}
 
 -- ---- from a section on
 
-range_end : (s n : ℕ) → n ≤ s → range_with_len s (n - s) ≡ []
-range_end s n least = let e : n - s ≡ 0 = omega arith in ap (range_with_len s) e
+nothing_of : {X : Type 0} (f : Content → List X) (o : Option Content) → ((content : Content) → f content ≡ []) → option_map_or f o [] ≡ []
+nothing_of f None none = refl
+nothing_of f (Some content) none = none content
 
 -- none is new before the last one's Period
 none_before : (m : Maker) (t s : ℕ) (last : Option LastKept) → s < first_section m.place last
     → (new_in (numbers_of m) (shown_by m) m.place (track_at last) t s ≡ []) ×
     (new_faults_in (shown_by m) m.place (track_at last) t s ≡ [])
 none_before m t s None less = absurd (omega arith)
-none_before m t s (Some l) less = (
-  none_new (shown_by m) m.place t s (numbers_of m) (last_of l) (track_at (Some l)) refl (omega arith),
-  none_faults (shown_by m) m.place t s (last_of l) (track_at (Some l)) refl (omega arith),
-)
+none_before m t s (Some l) less =
+    rw (none_earlier (shown_by m) m.place (track_at (Some l)) t s (last_of l) refl (omega arith)) (
+      nothing_of (segments_in (numbers_of m) m.place (shown_by m) s []) (content_at (shown_by m) s t) (λ content. refl),
+      nothing_of (faults_by s t (length (listed_at (shown_by m) s t)) []) (content_at (shown_by m) s t) (λ content. refl),
+    )
 
-within_place : (m : Maker) (s : ℕ) (last : Option LastKept) → first_section m.place last ≤ s → IfSome last (λ l. l.place ≤ m.place + s)
-within_place m s None least = tt
-within_place m s (Some l) least = omega arith
-
-numbered_there : (m : Maker) (s : ℕ) (last : Option LastKept) → first_section m.place last ≤ s → IsBegun m.resets (track_at last)
-    → IfSome (track_at last).last (λ l. l.section ≤ number_of m s)
-numbered_there m s None least begun = tt
-numbered_there m s (Some l) least begun = let numbered = begun.numbered in omega (arith, numbered)
+-- and the last one lies at most in a section from which on they are new
+last_there : (m : Maker) (s : ℕ) (last : Option LastKept) → first_section m.place last ≤ s → IsBegun m.resets (track_at last)
+    → IfSome last (λ l. l.place ≤ m.place + s) × IfSome (track_at last).last (λ l. l.section ≤ number_of m s)
+last_there m s None least begun = (tt, tt)
+last_there m s (Some l) least begun = (omega arith, omega (arith, begun.numbered))
 
 -- ---- a track
 
@@ -73,34 +72,18 @@ module _ (m : Maker) (t : ℕ) (last : Option LastKept) where
         (untold_from s) made before after
     pub stood : Stood track.last (segments_of made) (number_of m s)
 
-  none_between : {X : Type 0} (f : ℕ → List X) → ((s : ℕ) → s < first_section m.place last → f s ≡ [])
-      → flat_map f (range_with_len 0 count) ≡ flat_map f (range_with_len (first_section m.place last) (count - first_section m.place last))
-  none_between f none = let first = first_section m.place last in elim (cases_lt count first) [
-    | inl less ↦
-        let e : count ≡ count + 0 = omega arith in
-        ap (λ i. flat_map f (range_with_len 0 i)) e ∙ skip f 0 count 0 (λ j low high. none j (omega arith))
-        ∙ ap (flat_map f) (sym (range_end first count (omega arith)))
-    | inr more ↦
-        let e : count ≡ first + (count - first) = omega arith in
-        ap (λ i. flat_map f (range_with_len 0 i)) e ∙ skip f 0 first (count - first) (λ j low high. none j (omega arith))
-        ∙ ap (λ i. flat_map f (range_with_len i (count - first))) (zero-add first)
-  ]
-
   pub none_yet : (before : ℕ) → TrackSoFar (first_section m.place last) [] before before
   none_yet before = record {
-    way = way_begun (10 ^ m.digits) track.last [] (new_all n p m.place track t) (left_from (first_section m.place last))
-        (new_faults_of p m.place track t) (untold_from (first_section m.place last)) before
-        (none_between (new_in n p m.place track t) (λ s less. (none_before m t s last less).0))
-        (none_between (new_faults_in p m.place track t) (λ s less. (none_before m t s last less).1));
+    way = way_begun (10 ^ m.digits) track.last [] _ _ _ _ before
+        (skip (new_in n p m.place track t) (first_section m.place last) count (λ s less. (none_before m t s last less).0))
+        (skip (new_faults_in p m.place track t) (first_section m.place last) count (λ s less. (none_before m t s last less).1));
     stood = inl refl;
   }
 
   module _ {s : ℕ} {made : List Kept} {before mid : ℕ} (so_far : TrackSoFar s made before mid) where
     pub track_made : count ≤ s → IsMadeBehind (10 ^ m.digits) track.last (new_all n p m.place track t) (new_faults_of p m.place track t) []
         made before mid
-    track_made least =
-        way_done so_far.way (ap (new_among n p m.place track t) (range_end s count least))
-        (ap (new_faults_among p m.place track t) (range_end s count least))
+    track_made least = let e : count - s ≡ 0 = omega arith in way_done so_far.way (rw e refl) (rw e refl)
 
     module _ (less : s < count) where
       abbrev new : List Segment
@@ -117,18 +100,15 @@ module _ (m : Maker) (t : ℕ) (last : Option LastKept) where
           → IsNotMade (new_faults_in p m.place track t s) (length new) fault mid after
           → IsNotMade (new_faults_of p m.place track t) (length (new_all n p m.place track t)) fault before after
       section_refused fault after is =
-          way_refused so_far.way new (left_from (s + 1)) (new_faults_in p m.place track t s)
-          (untold_from (s + 1)) left_here untold_here after
-          fault is
+          way_refused so_far.way new (left_from (s + 1)) _ (untold_from (s + 1)) left_here untold_here after fault is
 
       module _ (least : first_section m.place last ≤ s) (begun : IsBegun m.resets track) where
         pub section_makeable : joins track.last (new_all n p m.place track t) → IsSectionMakeable m s t last made
         section_makeable near = record {
-          reached = within_place m s last least;
+          reached = (last_there m s last least begun).0;
           begun = begun;
           near = joins_next n p m.place t s track (segments_of made) (left_from (s + 1))
-              (subst (λ (xs : List Segment). joins track.last xs)
-              (sym (way_segments so_far.way) ∙ ap (λ xs. segments_of made ++ xs) left_here) near) so_far.stood;
+              (rw (← way_segments so_far.way, left_here) at near) so_far.stood;
           stands = stands track.last (segments_of made) (number_of m s) so_far.stood;
         }
 
@@ -136,13 +116,11 @@ module _ (m : Maker) (t : ℕ) (last : Option LastKept) where
             → IsMadeBehind (10 ^ m.digits) track.last new (new_faults_in p m.place track t s) made next mid after
             → TrackSoFar (s + 1) next before after
         section_made next after is = record {
-          way = way_next so_far.way new (left_from (s + 1)) (new_faults_in p m.place track t s) (untold_from (s + 1)) left_here untold_here
-              after next is;
+          way = way_next so_far.way new (left_from (s + 1)) _ (untold_from (s + 1)) left_here untold_here after next is;
           stood =
-              let segs : segments_of next ≡ segments_of made ++ new = ap segments_of is.made_is
-              ∙ segments_told (10 ^ m.digits) (last_made track.last made) made new in
               let e : m.place + s + m.resets + 1 ≡ number_of m (s + 1) = omega arith in
-              rw (segs, ← e) (stands_next n p m.place t s track (segments_of made) (numbered_there m s last least begun) so_far.stood);
+              rw (is.made_is, segments_told (10 ^ m.digits) (last_made track.last made) made new, ← e)
+              (stands_next n p m.place t s track (segments_of made) (last_there m s last least begun).1 so_far.stood);
         }
 
 -- ---- all tracks
@@ -160,9 +138,8 @@ module _ (c : Common) where
   told_numbered : (t : ℕ) (tracks : List Track) → sum (map length (all_told c t tracks)) ≡ new_count c t tracks
   told_numbered t [] = refl
   told_numbered t (track ∷ tracks) =
-      let own = length-told (unit_of c.terms) track.last (new_of c t track) in
       let first = sum_by-cons (λ (k : ℕ). k) (length (new_told c t track)) (map length (all_told c (t + 1) tracks)) in
-      omega (arith, told_numbered (t + 1) tracks)
+      omega (arith, first, length-told (unit_of c.terms) track.last (new_of c t track), told_numbered (t + 1) tracks)
 
 pub wanting : {c : Common} {tracks : List Track} {before after : ℕ} → before ≤ after → after ≤ before + new_count c 0 tracks
     → AreUnmade c tracks Memory before after
@@ -211,8 +188,7 @@ module _ (c : Common) (tracks : List LiveTrack) where
         let told : all_made next.segments.items ≡ new_told c t (track_shown track) = rw (all_is, ← for.digits) made_is.made_is in
         record {
           kept = rw (pushed, append_assoc (all_kept made) (all_made next.segments.items ∷ []) rest, told) (rw shown_first at so_far.kept);
-          urls = so_far.urls ∙ ap (urls_told c c.force t) shown_first
-              ∙ ap (λ fs. map Presentation fs ++ urls_told c c.force (t + 1) (shown_from (t + 1))) (urls_are ∙ made_is.none);
+          urls = rw (so_far.urls, shown_first, urls_are, made_is.none) refl;
           counted = omega (arith, so_far.counted, made_is.counted, many_is);
           least = omega (arith, so_far.least, made_is.counted);
           dates = rw pushed
@@ -224,26 +200,21 @@ module _ (c : Common) (tracks : List LiveTrack) where
         → AreUnmade c (map track_shown tracks) (of_presentation fault) before after
     track_refused {made} {before} {mid} {after} {fault} so_far not_made =
         let here = urls_of c c.force t (track_shown track) in
-        let first : IfSome (refusal fault) (λ f. slice_get here 0 ≡ Some f) =
-        subst (λ fs. IfSome (refusal fault) (λ f. slice_get fs 0 ≡ Some f)) (sym urls_are) not_made.refused in
+        let first : IfSome (refusal fault) (λ f. slice_get here 0 ≡ Some f) = rw urls_are not_made.refused in
         record {
           refused = told_as fault (λ r. first_of (urls_told c c.force 0 (map track_shown tracks)) ≡ Some r)
-              (some_as (refusal fault) (λ f. slice_get here 0 ≡ Some f)
-              (λ f. first_of (urls_told c c.force 0 (map track_shown tracks)) ≡ Some (Presentation f))
-              (λ f at. ap first_of (so_far.urls ∙ ap (urls_told c c.force t) shown_first)
+              (some_as (refusal fault) _ _ (λ f at. ap first_of (so_far.urls ∙ ap (urls_told c c.force t) shown_first)
               ∙ first_mapped here (urls_told c c.force (t + 1) (shown_from (t + 1))) f at) first);
           counted = counts_made (new_count c 0 (map track_shown tracks)) before after fault (omega (arith, so_far.least, not_made.least))
               (omega (arith, so_far.counted, not_made.most_made, many_is))
-              (some_as (refusal fault) (λ f. slice_get here 0 ≡ Some f) (λ f. is_of_address f ≡ true)
-              (λ f at. first_address c c.force t (track_shown track) f at) first);
+              (some_as (refusal fault) _ _ (first_address c c.force t (track_shown track)) first);
         }
 
   pub tracks_made : {t : ℕ} {made : List MadeTrack} {before after : ℕ} → length tracks ≤ t → AllSoFar t made before after
       → AreMade c (map track_shown tracks) made before after
   tracks_made {t} {made} least so_far =
       let end : shown_from t ≡ [] = ap (map track_shown) (drop_all t tracks least) in
-      let kept : all_kept made ≡ all_told c 0 (map track_shown tracks) = sym (append-nil (all_kept made))
-      ∙ ap (λ ts. all_kept made ++ all_told c t ts) (sym end) ∙ so_far.kept in
+      let kept = rw (end, append-nil (all_kept made)) at so_far.kept in
       record {
         grown_is = ap (grown (map track_shown tracks)) kept ∙ grown_told c 0 (map track_shown tracks);
         urls = so_far.urls ∙ ap (urls_told c c.force t) end;

@@ -34,6 +34,7 @@ use url_parts::Base;
 const TRACK_LIMIT: u128 = 20_000;
 
 /// Judges a first MPD, of which there is a presentation, by all rules but that on the addresses of segments. It takes no memory.
+#[tactic(auto, using(crate::proofs::Beginning::count_none))]
 pub(crate) fn check_first(mpd: &Mpd, opened: &Presentation) -> Result<(), RefreshFault>
     ensures { Judges result (spec.first_judged (segments_mpd mpd.now) opened.now) }
 {
@@ -49,6 +50,7 @@ pub(crate) fn check_first(mpd: &Mpd, opened: &Presentation) -> Result<(), Refres
 
 /// Whether no more segments of a track are listed than may be kept. All tracks together are within their limit, since they are
 /// counted.
+#[tactic(auto, using(crate::proofs::Beginning::within_window))]
 fn check_window(opened: &Presentation) -> Result<(), RefreshFault>
     requires { count_faults opened.now ≡ [] }
     ensures { Judges result (window_told (counts_listed opened.now)) }
@@ -63,6 +65,7 @@ fn check_window(opened: &Presentation) -> Result<(), RefreshFault>
 }
 
 /// How many segments of a track are listed.
+#[tactic(auto, using(crate::proofs::Beginning::reached))]
 fn count_of(opened: &Presentation, track: usize) -> u128
     requires track { track < length opened.now.tracks }
     requires counted { count_faults opened.now ≡ [] }
@@ -87,6 +90,7 @@ fn count_in(opened: &Presentation, section: usize, track: usize) -> u64
 }
 
 /// The tracks of a first MPD with all segments that it lists.
+#[tactic(auto, using(crate::proofs::Accepting::same_paired))]
 pub(crate) fn first_tracks<L: Ledger>(
     alloc: Global,
     opened: &Presentation,

@@ -51,6 +51,7 @@ pub(crate) struct Change {
 }
 
 /// The presentation of the MPD that comes, if one does.
+#[tactic(auto, using(crate::proofs::Presenting::presented_still, crate::proofs::Presenting::some_comes))]
 pub(crate) fn presented(
     alloc: Global,
     standing: &Standing,
@@ -82,6 +83,7 @@ pub(crate) fn force_by<'a>(
 }
 
 /// Judges an update whose presentation is there, and makes what it changes.
+#[tactic(auto, using(crate::proofs::Planning::unended))]
 pub(crate) fn prepare<'a, L: Ledger>(
     alloc: Global,
     standing: &'a Standing,
@@ -150,6 +152,7 @@ fn made_of<L: Ledger>(
 }
 
 /// Whether an update lists new segments.
+#[tactic(auto, using(crate::proofs::NewTracks::none_left))]
 fn has_new(next: &Next<'_>) -> bool
     requires { IsNext next.now }
     ensures some { result ≡ true → 0 < spec.new_in_all next.entry.now }
@@ -164,6 +167,7 @@ fn has_new(next: &Next<'_>) -> bool
 }
 
 /// What makes them.
+#[tactic(auto, using(crate::proofs::NewTracks::resets_most))]
 fn maker_of<'a>(alloc: Global, next: &Next<'a>) -> Maker<'a>
     requires next { IsNext next.now }
     requires readable { IsReadable (next.now.standing.now).availability_start }

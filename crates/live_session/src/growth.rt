@@ -12,6 +12,7 @@ use live_judge::{LiveTrack, Standing, removed_of};
 
 /// Makes room for what was made of each track. Where nothing was made of any, no memory is taken. An error leaves the segments as
 /// they were.
+#[tactic(auto, using(crate::proofs::Growing::none_changed, crate::proofs::Growing::have_room))]
 pub(crate) fn make_room(tracks: &mut Vec<LiveTrack>, made: &[MadeTrack]) -> Result<(), NoMemory>
     requires { length made.now ≤ length tracks.old.items }
     ensures same { map spec.inside_of tracks.new.items ≡ map spec.inside_of tracks.old.items }
@@ -37,6 +38,7 @@ pub(crate) fn count_made(made: &[MadeTrack]) -> u64
 }
 
 /// Adds what was made of each track behind its segments.
+#[tactic(auto, using(crate::proofs::Growing::none_changed, crate::proofs::Growing::all_grown))]
 pub(crate) fn grow_all(tracks: &mut Vec<LiveTrack>, made: Vec<MadeTrack>)
     requires room { spec.HaveRoom tracks.old.items made.items }
     requires tracks { length made.items ≤ length tracks.old.items }
@@ -52,6 +54,7 @@ pub(crate) fn grow_all(tracks: &mut Vec<LiveTrack>, made: Vec<MadeTrack>)
 }
 
 /// Removes from the front of each track what isn't available any more, unless too little is left.
+#[tactic(auto, using(crate::proofs::Growing::none_changed))]
 pub(crate) fn trim_all(standing: &Standing, tracks: &mut Vec<LiveTrack>)
     requires target { 1 ≤ standing.now.target }
     requires paired { All AreSideBySide tracks.old.items }
@@ -65,6 +68,7 @@ pub(crate) fn trim_all(standing: &Standing, tracks: &mut Vec<LiveTrack>)
 }
 
 /// Removes from the front of a track what isn't available any more, unless too little is left.
+#[tactic(auto, using(crate::proofs::Accepting::fewer))]
 fn trim(standing: &Standing, track: &mut LiveTrack)
     requires target { 1 ≤ standing.now.target }
     requires paired { AreSideBySide track.old }

@@ -39,6 +39,7 @@ fn half_more(units: u64, unit: u32) -> u64
 }
 
 /// The longest printed duration in units of the last decimal.
+#[tactic(auto, using(crate::proofs::Paced::in_order))]
 fn longest_in(presentation: &Presentation, now: Instant, digits: Digits) -> u64
     requires counted { (s t : ℕ) → s < length presentation.now.sections → t < length presentation.now.tracks
         → IsCounted (looked_at now presentation.now) s t }
@@ -52,6 +53,7 @@ fn longest_in(presentation: &Presentation, now: Instant, digits: Digits) -> u64
 }
 
 /// The longest one of a track.
+#[tactic(auto, using(crate::proofs::Paced::in_order))]
 fn longest_of(presentation: &Presentation, now: Instant, digits: Digits, track: usize) -> u64
     requires track { track < length presentation.now.tracks }
     requires counted { (s : ℕ) → s < length presentation.now.sections → IsCounted (looked_at now presentation.now) s track }
@@ -65,6 +67,7 @@ fn longest_of(presentation: &Presentation, now: Instant, digits: Digits, track: 
 }
 
 /// The longest one of a track in a section.
+#[tactic(auto, using(crate::proofs::Paced::longest_printed))]
 fn longest_at(
     presentation: &Presentation,
     now: Instant,

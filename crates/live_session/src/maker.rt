@@ -55,6 +55,7 @@ struct Section<'a> {
 
 impl<'a> Maker<'a> {
     /// The new segments of all tracks, or the first one without an address.
+    #[tactic(auto, using(crate::proofs::TrackMaking::no_track_yet))]
     pub(crate) fn make_all<L: Ledger>(
         &self,
         tracks: &[LiveTrack],
@@ -271,6 +272,7 @@ fn behind_in(last: Option<LastKept>, number: u64) -> Option<Behind>
 }
 
 /// When a segment begins that begins at a time of a Period.
+#[tactic(auto, using(crate::proofs::Paced::dated))]
 fn date_of(availability_start: Instant, period_start: Nanos, start: Tick) -> Instant
     requires readable { IsReadable availability_start }
     requires near { spec.IsNear (time_of start) }

@@ -84,6 +84,7 @@ impl<'a> NewSegments<'a> {
 }
 
 /// The place of the first listed segment, or of the first one that ends after a time.
+#[tactic(auto, using(presentation::proofs::GoingOn::listed_later, presentation::proofs::Printing::all_listed))]
 pub(crate) fn begin_at(runs: &Runs, window: &Window, end: Option<Tick>) -> Cursor
     requires window { IsWindowOf runs.now window.now }
     requires reached { IsReached runs.now window.now }

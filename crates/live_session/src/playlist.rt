@@ -55,6 +55,7 @@ impl LivePlaylist<'_> {
     }
 
     /// The section number of the first segment (RFC 8216, 4.3.3.3).
+    #[tactic(auto, using(crate::proofs::Listing::first_there, crate::proofs::Listing::first_none))]
     pub fn first_section(&self) -> u64
         ensures { result ≡ self.now.head.first_section }
     {
@@ -72,6 +73,7 @@ impl LivePlaylist<'_> {
     }
 
     /// How many segments are kept.
+    #[tactic(auto, using(crate::proofs::Listing::listed))]
     pub fn len(&self) -> usize
         ensures { result ≡ length self.now.items }
     {
@@ -81,6 +83,7 @@ impl LivePlaylist<'_> {
     /// The segment at a place, counted from 0.
     ///
     /// Requires that the place is in range.
+    #[tactic(auto, using(crate::proofs::Listing::listed))]
     pub fn item(&self, place: usize) -> &MediaItem
         requires { place < length self.now.items }
         ensures { slice_get self.now.items place ≡ Some (item_of result.now) }

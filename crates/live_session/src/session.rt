@@ -72,6 +72,7 @@ impl Session {
     /// of decimals.
     ///
     /// Requires that the MPD's values are those of an MPD of which nothing is refused, as `rules` gives them.
+    #[tactic(auto, using(crate::proofs::Refusing::begun_next))]
     pub fn begin<L: Ledger>(
         alloc: Global,
         mpd: &Mpd,

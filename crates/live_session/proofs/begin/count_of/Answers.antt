@@ -2,12 +2,7 @@ use Rattle.std.proofs.Common.{◌+◌, ℕ, List, ap, arith, flat_map, length, l
 use Rattle.timeline.specs.Expansions.{Timing}
 use Rattle.presentation.specs.Presented.{listed_at}
 use Rattle.presentation.proofs.Counts.{from_on, from_on-first}
-use Rattle.live_session.proofs.Beginning.{reached}
 use Rattle.live_session.proofs.begin.count_of.Goals as goal
-
-pub count_in-requires-clause-counted : goal.count_in-requires-clause-counted
-count_in-requires-clause-counted c = let same = ap (λ xs. length xs) c.sections.ensures in
-    reached c.args.opened.now c.requires.counted c.loop-section.section c.args.track (omega arith) c.requires.track
 
 pub loop-section-preserved : goal.loop-section-preserved
 loop-section-preserved c = let s = c.loop-section.section in let n = length c.args.opened.now.sections in

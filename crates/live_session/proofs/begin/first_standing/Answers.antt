@@ -1,9 +1,7 @@
 use Rattle.live_session.proofs.begin.first_standing.Goals as goal
-use Rattle.std.proofs.Common.{◌∙◌, ◌^◌, ◌≡◌, [], List, ap, map, refl}
-use Rattle.mpd_rules.specs.{Laws.are_once, Views.segments_mpd}
-use Rattle.presentation.specs.Presented.{Presented}
-use Rattle.live_meaning.specs.{Histories.longest_in, Known.{Known, ids_of, known_with, periods_of}, Removal.target_of}
-use Rattle.live_judge.specs.Known.{known_shown}
+use Rattle.std.proofs.Common.{◌∙◌, ◌≡◌, [], List, ap, refl}
+use Rattle.mpd_rules.specs.Laws.{are_once}
+use Rattle.live_meaning.specs.{Known.{Known, ids_of, known_with, periods_of}, Removal.target_of}
 use Rattle.live_judge.proofs.FirstStates.{all_new}
 use Rattle.live_session.proofs.Beginning.{first_known}
 
@@ -11,19 +9,16 @@ pub extend-requires : goal.extend-requires
 extend-requires c =
     let p = c.args.opened in
     ap (λ (ks : List Known). are_once (ids_of ks))
-    (first_known p c.new-known.result (map known_shown c.in_ok-periods_from.field-0.items) c.new-known.ensures c.in_ok-periods_from.ensures
-    ∙ all_new (periods_of p)) ∙ c.requires.once
+    (first_known p _ _ c.new-known.ensures c.in_ok-periods_from.ensures ∙ all_new (periods_of p)) ∙ c.requires.once
 
 pub returns : goal.returns
 returns c =
-    let p = c.args.opened in let unit = 10 ^ c.args.digits in let facts = (segments_mpd c.args.mpd.now).facts in
-    let known : c.extend.new.self ≡ known_with [] p = c.in_ok-extend.ensures.ok ∙ first_known p c.new-known.result
-    (map known_shown c.in_ok-periods_from.field-0.items) c.new-known.ensures c.in_ok-periods_from.ensures in
-    let target : c.target_of.result ≡ target_of unit (longest_in unit p) facts.max_segment = c.target_of.ensures.target
-    ∙ ap (λ (q : Presented). target_of unit (longest_in unit q) c.max_segment.result) c.requires.looked
-    ∙ ap (target_of unit (longest_in unit p)) c.max_segment.ensures in
+    let p = c.args.opened in
+    let known : c.extend.new.self ≡ known_with [] p = c.in_ok-extend.ensures.ok
+    ∙ first_known p _ _ c.new-known.ensures c.in_ok-periods_from.ensures in
+    let target = c.target_of.ensures.target in
     record {
-      common = rw (c.in_ok-copy.ensures, c.publish_time.ensures, known, target, c.requires.looked) refl;
+      common = rw (c.in_ok-copy.ensures, c.publish_time.ensures, known, target, c.max_segment.ensures, c.requires.looked) refl;
       place = refl;
       start = c.start_of.ensures.start;
       readable = c.start_of.ensures.readable;

@@ -1,10 +1,8 @@
 use Rattle.live_session.proofs.begin.first_tracks.Goals as goal
-use Rattle.std.proofs.{Common.{◌∙◌, All, arith, ap, length, map, subst, sym}, lemmas.Result.err_from_is_err_and}
+use Rattle.std.proofs.{Common.{◌∙◌, arith, ap, length, map, sym}, lemmas.Result.err_from_is_err_and}
 use Rattle.live_meaning.specs.States.{new_count}
-use Rattle.live_judge.specs.{Shown.track_shown}
-use Rattle.live_session.specs.{Growth.HaveRoom, Kept.AreSideBySide}
-use Rattle.live_session.proofs.{Accepting.{same_paired, same_shown}, Beginning.{empty_makeable, first_are, first_slice}}
-use Rattle.live_session.proofs.TrackMaking.{wanting}
+use Rattle.live_judge.specs.Shown.{track_shown}
+use Rattle.live_session.proofs.{Accepting.same_shown, Beginning.{empty_makeable, first_are, first_slice}, TrackMaking.wanting}
 
 pub returns-in_err-tracks : goal.returns-in_err-tracks
 returns-in_err-tracks g c = λ common is.
@@ -14,14 +12,13 @@ returns-in_err-tracks g c = λ common is.
 pub make_all-requires-clause-tracks : goal.make_all-requires-clause-tracks
 make_all-requires-clause-tracks g c =
     empty_makeable c.as_slice.result.now c.len.result (ap (map track_shown) c.as_slice.ensures.value ∙ c.in_ok-tracks.ensures.shown)
-    (subst (All AreSideBySide) (sym c.as_slice.ensures.value) c.in_ok-tracks.ensures.paired)
+    (rw c.as_slice.ensures.value c.in_ok-tracks.ensures.paired)
 
 pub returns-in-Err : goal.returns-in-Err
 returns-in-Err g c = λ common is.
-    rw (← first_slice common c.args.opened.now c.args.now c.as_slice.result.now c.in_ok-tracks.tracks.items c.len.result
-    c.as_slice.ensures.value
-    c.in_ok-tracks.ensures.shown (omega (arith, c.len.ensures, ap (λ xs. length xs) c.tracks.ensures)) is.force)
-    (c.in-Err.ensures.made common
+    let empty = first_slice common c.args.opened.now c.args.now c.as_slice.result.now c.in_ok-tracks.tracks.items c.len.result
+    c.as_slice.ensures.value c.in_ok-tracks.ensures.shown (omega (arith, c.len.ensures, ap (λ xs. length xs) c.tracks.ensures)) is.force in
+    rw empty at (c.in-Err.ensures.made common
     (record { force = is.force; digits = is.printed; resets = is.resets; start = is.starts; places = is.places }))
 
 pub returns-in_err-make_room : goal.returns-in_err-make_room
@@ -36,19 +33,14 @@ returns-in_err-make_room g c = λ common is.
     (omega (arith, made.counted, many)))
 
 pub grow_all-requires-clause-room : goal.grow_all-requires-clause-room
-grow_all-requires-clause-room g c = subst (HaveRoom c.make_room.new.tracks.items) c.as_slice-2.ensures.value c.in_ok-make_room.ensures.room
-
-pub grow_all-requires-clause-paired : goal.grow_all-requires-clause-paired
-grow_all-requires-clause-paired g c =
-    same_paired c.make_room.new.tracks.items c.in_ok-tracks.tracks.items c.in_ok-make_room.ensures.same c.in_ok-tracks.ensures.paired
+grow_all-requires-clause-room g c = rw c.as_slice-2.ensures.value at c.in_ok-make_room.ensures.room
 
 pub returns : goal.returns
 returns g c = λ common is.
-    first_are common c.as_slice.result.now c.make_room.new.tracks.items c.grow_all.new.tracks.items c.in-Ok.made.items c.args.steps.now
-    c.make_all.new.steps
-    (first_slice common c.args.opened.now c.args.now c.as_slice.result.now c.in_ok-tracks.tracks.items c.len.result c.as_slice.ensures.value
-    c.in_ok-tracks.ensures.shown (omega (arith, c.len.ensures, ap (λ xs. length xs) c.tracks.ensures)) is.force)
-    (same_shown c.make_room.new.tracks.items c.in_ok-tracks.tracks.items c.in_ok-make_room.ensures.same
-    ∙ sym (ap (map track_shown) c.as_slice.ensures.value)) c.grow_all.ensures.shown c.grow_all.ensures.paired
+    first_are common _ _ _ _ _ _
+    (first_slice common c.args.opened.now c.args.now _ _ _ c.as_slice.ensures.value c.in_ok-tracks.ensures.shown
+    (omega (arith, c.len.ensures, ap (λ xs. length xs) c.tracks.ensures)) is.force)
+    (same_shown _ _ c.in_ok-make_room.ensures.same ∙ sym (ap (map track_shown) c.as_slice.ensures.value)) c.grow_all.ensures.shown
+    c.grow_all.ensures.paired
     (c.in-Ok.ensures.made common
     (record { force = is.force; digits = is.printed; resets = is.resets; start = is.starts; places = is.places }))

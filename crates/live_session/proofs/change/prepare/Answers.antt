@@ -1,25 +1,20 @@
-use Rattle.live_session.proofs.{Accepting.live, Planning.{joined, judged_refused, planned, unended}}
+use Rattle.live_session.proofs.{Accepting.live, Planning.{joined, judged_refused, planned}}
 use Rattle.live_session.proofs.change.prepare.Goals as goal
 
 pub judge-requires-clause-live : goal.judge-requires-clause-live
 judge-requires-clause-live g c = live c.requires.session
 
-pub judge-requires-clause-unended : goal.judge-requires-clause-unended
-judge-requires-clause-unended g c = unended c.args.standing.now c.args.now c.requires.timely
-
 pub plan_of-requires-clause-joined : goal.plan_of-requires-clause-joined
 plan_of-requires-clause-joined g c =
     let is = c.in-Ok.ensures.next in
-    joined c.in-Ok.next c.args.standing.now c.args.tracks.now c.args.coming c.args.force.now c.args.now is.1 is.2 is.3 is.4 is.5
-    c.in-Ok.ensures.judged
+    joined c.in-Ok.next _ _ _ _ _ is.1 is.2 is.3 is.4 is.5 c.in-Ok.ensures.judged
 
 pub returns-in-Err : goal.returns-in-Err
 returns-in-Err g c =
-    judged_refused c.args.standing.now c.args.tracks.now c.args.coming c.args.force.now c.args.now c.requires.timely c.requires.presented
-    c.in-Err.fault c.args.steps.now c.in-Err.ensures.judged
+    judged_refused _ _ _ _ _ c.requires.timely c.requires.presented c.in-Err.fault _ c.in-Err.ensures.judged
 
 pub returns-in-Ok : goal.returns-in-Ok
 returns-in-Ok g c =
     let is = c.in-Ok.ensures.next in
-    planned c.in-Ok.next c.args.standing.now c.args.tracks.now c.args.coming c.args.force.now c.args.now is.1 is.2 is.3 is.4 is.5 is.0
-    c.requires.timely c.requires.presented c.in-Ok.ensures.judged c.args.steps.now c.plan_of.new.steps c.plan_of.result c.plan_of.ensures
+    planned c.in-Ok.next _ _ _ _ _ is.1 is.2 is.3 is.4 is.5 is.0 c.requires.timely c.requires.presented c.in-Ok.ensures.judged _ _
+    c.plan_of.result c.plan_of.ensures

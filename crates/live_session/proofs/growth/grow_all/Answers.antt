@@ -1,9 +1,9 @@
 use Rattle.live_session.proofs.growth.grow_all.Goals as goal
-use Rattle.std.proofs.{Common.{rules, ◌≡◌, ◌∷◌, ◌∙◌, ◌<◌, ap, sym, arith, length}, lemmas.Option.same_Some}
+use Rattle.std.proofs.{Common.{◌≡◌, ◌∷◌, ◌∙◌, ◌<◌, ap, sym, arith, length}, lemmas.List.Elements.All-set, lemmas.Option.same_Some}
 use Rattle.std.specs.Vec.Iter.{into_iter_items}
 use Rattle.live_judge.specs.Shown.{track_shown}
 use Rattle.live_session.specs.{declared.made.MadeTrack.MadeTrack, Kept.{AreSideBySide, with_all}, Made.all_made}
-use Rattle.live_session.proofs.Growing.{all_grown, all_set, changed_next, drop_next, still_at}
+use Rattle.live_session.proofs.Growing.{changed_next, drop_next, still_at}
 
 pub push_all-requires-clause-room : goal.push_all-requires-clause-room
 push_all-requires-clause-room c =
@@ -25,9 +25,5 @@ loop-made-preserved c =
           (omega (arith, inv.place, inv.grown.many, c.requires.tracks, ap (λ xs. length xs) is)) c.index_mut.ensures.value
           (λ m at. c.push_all.ensures.shown ∙ ap (λ (x : MadeTrack). with_all (track_shown old) (all_made x.segments.items))
           (same_Some c.in-Some.made m (sym next.1 ∙ at)));
-      paired = all_set AreSideBySide l.tracks.items l.track c.push_all.new.track inv.paired c.push_all.ensures.paired;
+      paired = All-set AreSideBySide l.tracks.items l.track c.push_all.new.track c.push_all.ensures.paired inv.paired;
     }
-
-pub returns-clause-shown : goal.returns-clause-shown
-returns-clause-shown c = let inv = c.loop-made.invariant in
-    let end : c.loop-made.track ≡ length c.args.made.items = search rules in all_grown c.args.made.items inv.grown end

@@ -2,10 +2,7 @@ use Rattle.live_session.proofs.growth.make_room.Goals as goal
 use Rattle.std.proofs.{Common.{◌≡◌, ◌∙◌, ap, sym, arith, Some, slice_get, length, rules, subst}, Math.Seq.map-set_same}
 use Rattle.std.proofs.lemmas.Option.{same_Some, slice_get-get_or}
 use Rattle.live_session.specs.{declared.made.MadeTrack.MadeTrack, Growth.inside_of, Kept.HasRoom}
-use Rattle.live_session.proofs.Growing.{IsReserved, all_alike, changed_next, have_room, none_changed, same_inside}
-
-pub loop-track-init : goal.loop-track-init
-loop-track-init c = none_changed (IsReserved c.args.made.now) c.args.tracks.now.items
+use Rattle.live_session.proofs.Growing.{all_alike, changed_next, same_inside}
 
 pub returns-in_err-reserve-clause-same : goal.returns-in_err-reserve-clause-same
 returns-in_err-reserve-clause-same c = let l = c.loop-track in let old = c.index_mut.result.now in
@@ -28,6 +25,3 @@ loop-track-preserved c = let l = c.loop-track in let old = c.index_mut.result.no
 
 pub returns-clause-same : goal.returns-clause-same
 returns-clause-same c = all_alike c.loop-track.invariant inside_of (λ i x y is. is.0)
-
-pub returns-clause-room : goal.returns-clause-room
-returns-clause-room c = have_room c.args.made.now c.loop-track.invariant (omega arith) (omega (arith, c.requires))

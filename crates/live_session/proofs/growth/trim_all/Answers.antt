@@ -1,15 +1,9 @@
 use Rattle.live_session.proofs.growth.trim_all.Goals as goal
-use Rattle.std.proofs.Common.{◌≡◌, ℕ, map, subst, sym, arith}
+use Rattle.std.proofs.{Common.{map, subst, sym, arith}, lemmas.List.Elements.All-set}
 use Rattle.presentation.proofs.Grids.{All-at}
-use Rattle.live_judge.specs.{declared.track.LiveTrack.LiveTrack, Shown.track_shown}
+use Rattle.live_judge.specs.Shown.{track_shown}
 use Rattle.live_session.specs.{Growth.{IsTrimmable, trimmed}, Kept.AreSideBySide}
-use Rattle.live_session.proofs.Growing.{all_changed, all_set, changed_next, mapped_at, none_changed, still_at}
-
-pub loop-track-init : goal.loop-track-init
-loop-track-init c = record {
-  trimmed = none_changed (λ (i : ℕ) (x y : LiveTrack). track_shown y ≡ trimmed c.args.standing.now (track_shown x)) c.args.tracks.now.items;
-  paired = c.requires.paired;
-}
+use Rattle.live_session.proofs.Growing.{all_changed, changed_next, mapped_at, still_at}
 
 pub trim-requires-clause-paired : goal.trim-requires-clause-paired
 trim-requires-clause-paired c = let l = c.loop-track in
@@ -26,7 +20,7 @@ pub loop-track-preserved : goal.loop-track-preserved
 loop-track-preserved c = let l = c.loop-track in record {
   trimmed = changed_next l.invariant.trimmed c.index_mut.result.now c.trim.new.track (omega (arith, l.invariant.trimmed.many))
       c.index_mut.ensures.value c.trim.ensures.shown;
-  paired = all_set AreSideBySide l.tracks.items l.track c.trim.new.track l.invariant.paired c.trim.ensures.paired;
+  paired = All-set AreSideBySide l.tracks.items l.track c.trim.new.track c.trim.ensures.paired l.invariant.paired;
 }
 
 pub returns-clause-shown : goal.returns-clause-shown

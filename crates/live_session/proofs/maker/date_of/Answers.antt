@@ -3,11 +3,6 @@ use Rattle.std.proofs.{Common.arith, lemmas.Int.ints}
 use Rattle.exact_time.specs.Tick.{time_of}
 use Rattle.live_session.proofs.Paced.{least_nanos, most_nanos}
 
-pub overflow_add-result-2 : goal.overflow_add-result-2
-overflow_add-result-2 c =
-    let low = least_nanos (time_of c.args.start) c.requires.near in let high = most_nanos (time_of c.args.start) c.requires.near in
-    omega (arith, ints)
-
 pub invariant_of-result : goal.invariant_of-result
 invariant_of-result c =
     let low = least_nanos (time_of c.args.start) c.requires.near in let high = most_nanos (time_of c.args.start) c.requires.near in

@@ -1,14 +1,8 @@
 use Rattle.live_session.proofs.maker.Maker.make_all.Goals as goal
-use Rattle.std.proofs.Common.{◌≡◌, ◌∙◌, Some, ap, arith, length, length-append, slice_get, sym}
-use Rattle.std.proofs.lemmas.{Option.slice_get-get_or, Result.err_from_is_err_and}
+use Rattle.std.proofs.{Common.{◌≡◌, ◌∙◌, Some, ap, arith, length, length-append, slice_get, sym}, lemmas.Option.slice_get-get_or}
+use Rattle.std.proofs.lemmas.Result.{err_from_is_err_and}
 use Rattle.live_session.specs.declared.made.MadeTrack.{MadeTrack}
-use Rattle.live_session.proofs.TrackMaking.{no_track_yet, track_next, track_refused, tracks_made, wanting}
-
-pub loop-track-init : goal.loop-track-init
-loop-track-init g c = record {
-  count = ap (λ xs. length xs) c.new-all.ensures.items;
-  so_far = λ common is. rw c.new-all.ensures.items (no_track_yet common c.args.tracks.now c.args.steps.now);
-}
+use Rattle.live_session.proofs.TrackMaking.{track_next, track_refused, tracks_made, wanting}
 
 pub make_track-requires-clause-kept : goal.make_track-requires-clause-kept
 make_track-requires-clause-kept g c =

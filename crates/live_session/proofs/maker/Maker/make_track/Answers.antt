@@ -27,8 +27,7 @@ returns-in-Err g c =
     let last = c.last_kept-last in
     let same = ap (λ xs. length xs) c.sections.ensures in
     rw (← last.ensures.last, ← last.ensures.place)
-    (section_refused c.args.self.now c.args.track last.result c.loop-section.invariant.so_far (omega arith) c.in-Err.fault
-    c.make_section.new.steps c.in-Err.ensures)
+    (section_refused _ _ last.result c.loop-section.invariant.so_far (omega arith) c.in-Err.fault _ c.in-Err.ensures)
 
 pub loop-section-preserved : goal.loop-section-preserved
 loop-section-preserved g c =

@@ -1,7 +1,7 @@
 use Rattle.live_session.proofs.playlist.LivePlaylist.write.Goals as goal
 use Rattle.std.proofs.Common.{ap}
 use Rattle.iso_time.specs.Instant.{IsWritable}
-use Rattle.hls_writer.specs.{declared.items.MediaItem.MediaItem}
+use Rattle.hls_writer.specs.declared.items.MediaItem.{MediaItem}
 use Rattle.live_session.proofs.Listing.{all_before, all_behind, all_dated, text_is}
 
 pub write_item_slices-requires-clause-front : goal.write_item_slices-requires-clause-front
@@ -16,10 +16,10 @@ write_item_slices-requires-clause-back g c =
 
 pub returns-clause-ok : goal.returns-clause-ok
 returns-clause-ok g c =
-    rw (← text_is c.head.result c.self.invariant c.head.ensures (ap (λ p. p.items) c.self.view_is), ← c.as_slices.ensures)
-    c.write_item_slices.ensures.ok
+    let text = text_is c.head.result c.self.invariant c.head.ensures (ap (λ p. p.items) c.self.view_is) in
+    rw (c.as_slices.ensures, text) at c.write_item_slices.ensures.ok
 
 pub returns-clause-err : goal.returns-clause-err
 returns-clause-err g c =
-    rw (← text_is c.head.result c.self.invariant c.head.ensures (ap (λ p. p.items) c.self.view_is), ← c.as_slices.ensures)
-    c.write_item_slices.ensures.err
+    let text = text_is c.head.result c.self.invariant c.head.ensures (ap (λ p. p.items) c.self.view_is) in
+    rw (c.as_slices.ensures, text) at c.write_item_slices.ensures.err

@@ -1,8 +1,5 @@
-use Rattle.live_judge.specs.declared.fault.RefreshFault.TheVariants as faults
 use Rattle.live_session.proofs.session.Session.begun.Goals as goal
 use Rattle.std.proofs.{Common.arith, lemmas.Result.err_from_is_err_and}
-use Rattle.mpd_rules.specs.Views.{segments_mpd}
-use Rattle.live_judge.specs.Faults.{of_presentation}
 use Rattle.live_session.proofs.{Beginning.{refused_made, begun_by, counted_now, is_first, is_session, periods_once}, TrackMaking.wanting}
 
 pub first_tracks-requires-clause-counted : goal.first_tracks-requires-clause-counted
@@ -12,9 +9,7 @@ pub returns-in_err-tracks : goal.returns-in_err-tracks
 returns-in_err-tracks g c =
     let first = c.requires.first in
     let p = err_from_is_err_and c.from_residual.result c.from_residual.ensures.1 in
-    rw (p.1, p.2) (refused_made (record { url = c.args.base.now; digits = c.args.digits })
-    (segments_mpd c.args.mpd.now) c.args.now c.args.opened first.made first.judged
-    (of_presentation c.in_err-tracks.field-0.0) c.args.steps.now c.first_tracks.new.steps
+    rw (p.1, p.2) (refused_made _ _ _ _ first.made first.judged _ _ _
     (c.in_err-tracks.ensures _ (is_first first c.start_of.result c.start_of.ensures.start)))
 
 pub first_standing-requires-clause-once : goal.first_standing-requires-clause-once
@@ -28,8 +23,7 @@ returns-in_err-standing g c =
     let first = c.requires.first in
     let are = c.in_ok-tracks.ensures _ (is_first first c.start_of.result c.start_of.ensures.start) in
     let p = err_from_is_err_and c.from_residual-in_err-standing.result c.from_residual-in_err-standing.ensures.1 in
-    rw (p.1, p.2) (refused_made (record { url = c.args.base.now; digits = c.args.digits })
-    (segments_mpd c.args.mpd.now) c.args.now c.args.opened first.made first.judged faults.Memory c.args.steps.now c.first_tracks.new.steps
+    rw (p.1, p.2) (refused_made _ _ _ _ first.made first.judged _ _ _
     (wanting (omega (arith, are.counted)) (omega (arith, are.counted))))
 
 pub invariant_of-result : goal.invariant_of-result
