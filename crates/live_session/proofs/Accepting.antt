@@ -1,31 +1,30 @@
 -- What an accepted update leaves, and what goes from the fronts of its tracks.
 use Rattle.std.proofs.Common.{◌≡◌, ℕ, ◌+◌, ◌*◌, ◌^◌, ◌<◌, ◌≤◌, length, sym, ◌∙◌, ap, arith, ℤ, List, [], ◌∷◌, ◌++◌, map, sum, All, get_or}
-use Rattle.std.proofs.{Common.{Option, Some, None, Ok, Result, refl, subst, length-append, length-drop}, Math.Nat.mul-le-mul_left}
-use Rattle.std.proofs.{Math.Nat.one-le-pow, lemmas.List.length-map, lemmas.Result.err_from_is_err_and, lemmas.List.Elements.All-nil}
-use Rattle.std.proofs.lemmas.List.Elements.{All-cons, All-head, All-tail, All-append, All-drop, All-map}
+use Rattle.std.{proofs.Common.{Option, Some, None, Ok, Result, refl, subst, length-append, length-drop}, proofs.Math.Nat.mul-le-mul_left}
+use Rattle.std.{proofs.Math.Nat.one-le-pow, proofs.lemmas.List.length-map, proofs.lemmas.Result.err_from_is_err_and}
+use Rattle.std.proofs.lemmas.List.Elements.{All-nil, All-cons, All-head, All-tail, All-append, All-drop, All-map}
 use Rattle.std.specs.Prelude.{option_map, unwrap_or, IsErrAnd, MatchResult}
-use Rattle.followed.specs.Durations.{durations}
-use Rattle.followed.proofs.KeptPlaces.{next_is_first}
-use Rattle.live_meaning.specs.{Removal.is_available, Segments.Kept, States.{Track, State, kept_and_new, new_count, new_of, new_told}}
-use Rattle.live_meaning.specs.{States.{removed_from, state_with, track_after, tracks_after}, Updates.{Update, mpd_of, unit_of}, Known.Known}
-use Rattle.live_meaning.specs.{Known.ids_of, Histories.{Common, common_with}, Refusals.{ids_in, next_of}, Laws.HistoriesGoOn}
-use Rattle.live_meaning.specs.Laws.{NumbersStaySmall, Shows}
-use Rattle.live_judge.specs.{declared.standing.Standing.Standing, declared.track.LiveTrack.LiveTrack, Shown.{in_force, track_shown}}
-use Rattle.live_judge.specs.{Shown.{common_shown, kepts_of, state_shown, track_of}, declared.coming.Coming.Coming}
-use Rattle.live_judge.specs.{declared.fault.RefreshFault.RefreshFault, declared.fault.RefreshFault.TheVariants.Memory}
-use Rattle.live_judge.specs.{declared.track.Fact.Fact, Coming.update_of, Known.{StandsAt, known_shown}, Sound.{IsLive, IsPaired}}
-use Rattle.live_judge.specs.SoundGoesOn.{IsKept, KeptGoOn, NumbersGoOn, SoundStatesGoOn}
+use Rattle.followed.{specs.Durations.durations, proofs.KeptPlaces.next_is_first}
+use Rattle.live_meaning.{specs.Removal.is_available, specs.Segments.Kept, specs.States.{Track, State, kept_and_new, new_count, new_of}}
+use Rattle.live_meaning.{specs.States.{new_told, removed_from, state_with, track_after, tracks_after}, specs.Updates.{Update, mpd_of}}
+use Rattle.live_meaning.{specs.Updates.unit_of, specs.Known.{Known, ids_of}, specs.Histories.{Common, common_with}, specs.Refusals.ids_in}
+use Rattle.live_meaning.{specs.Refusals.next_of, specs.Laws.{HistoriesGoOn, NumbersStaySmall, Shows}, proofs.Tracks.length-told}
+use Rattle.live_judge.{specs.declared.standing.Standing.Standing, specs.declared.track.LiveTrack.LiveTrack, specs.Shown.in_force}
+use Rattle.live_judge.{specs.Shown.{track_shown, common_shown, kepts_of, state_shown, track_of}, specs.declared.coming.Coming.Coming}
+use Rattle.live_judge.{specs.declared.fault.RefreshFault.RefreshFault, specs.declared.fault.RefreshFault.TheVariants.Memory}
+use Rattle.live_judge.{specs.declared.track.Fact.Fact, specs.Coming.update_of, specs.Known.{StandsAt, known_shown}, specs.Sound.IsLive}
+use Rattle.live_judge.{specs.Sound.IsPaired, specs.SoundGoesOn.{IsKept, KeptGoOn, NumbersGoOn, SoundStatesGoOn}}
 use Rattle.live_judge.proofs.Keeping.{length-kepts}
-use Rattle.live_session.specs.{Growth.{IsTrimmable, trimmed, HaveRoom, grown, inside_of, track_grown, tracks_grown}, Kept.AreSideBySide}
-use Rattle.live_session.specs.{Kept.{without_front, with_all}, declared.change.Plan.Plan, declared.made.MadeTrack.MadeTrack}
-use Rattle.live_session.specs.{declared.session.Appended.Appended, Changes.{CanGoOn, IsLeft, IsPlan, IsRefused, IsTaken, changed, force_of}}
-use Rattle.live_session.specs.{Changes.newest_with, Making.all_kept, Sessions.{IsReached, IsSession}, Written.{AreDated, IsDated}}
-use Rattle.live_session.specs.Written.{IsWritten}
-use Rattle.exact_time.specs.{Tick.time_of, declared.tick.Tick.Tick}
+use Rattle.live_session.specs.Growth.{IsTrimmable, trimmed, HaveRoom, grown, inside_of, track_grown, tracks_grown}
+use Rattle.live_session.{specs.Kept.{AreSideBySide, without_front, with_all}, specs.declared.change.Plan.Plan}
+use Rattle.live_session.{specs.declared.made.MadeTrack.MadeTrack, specs.declared.session.Appended.Appended, specs.Changes.{CanGoOn, IsLeft}}
+use Rattle.live_session.{specs.Changes.{IsPlan, IsRefused, IsTaken, changed, force_of, newest_with}, specs.Making.all_kept}
+use Rattle.live_session.{specs.Sessions.{IsReached, IsSession}, specs.Written.{AreDated, IsDated, IsWritten}, proofs.Growing.at_all}
+use Rattle.live_session.{proofs.Growing.{of_shown, same_by}, proofs.Pushing.kept_with, proofs.Refusing.{gives_accepted, now_at}}
+use Rattle.live_session.proofs.Refusing.{refused_wanting}
+use Rattle.exact_time.{specs.Tick.time_of, specs.declared.tick.Tick.Tick}
 use Rattle.hls_writer.specs.declared.items.MediaItem.{MediaItem}
 use Rattle.presentation.specs.Presented.{Presented, looked_at}
-use Rattle.live_meaning.proofs.Tracks.{length-told}
-use Rattle.live_session.proofs.{Growing.{at_all, of_shown, same_by}, Pushing.kept_with, Refusing.{gives_accepted, now_at, refused_wanting}}
 
 pub fewer : (s : Standing) (track : LiveTrack) (count : ℕ) → 1 ≤ s.target → AreSideBySide track → IsTrimmable (track_shown track)
     → trimmed s (track_shown track) ≡ without_front count (track_shown track)

@@ -1,30 +1,28 @@
 -- The new segments of a section as they are made one by one, each with the duration that it has behind those before it.
 use Rattle.timeline.specs.declared.fault.ListFault.TheVariants as list_fault
 use Rattle.std.proofs.Common.{◌≡◌, ℕ, ◌+◌, ◌≤◌, List, [], ◌∷◌, ◌++◌, length, All, Option, Some, None, refl, sym, ◌∙◌, ap, arith}
-use Rattle.std.proofs.{Common.{append_assoc, length-append, ◌-◌, map, inl, inr, ◌^◌, Result, Ok, Err, subst}, lemmas.List.append-nil}
-use Rattle.std.proofs.{lemmas.List.{length-map, map-append, nil_from_length}, lemmas.Bool.{cases_eq, eq-eqb, ne_eqb}, Math.Nat.sub-zero}
-use Rattle.std.proofs.{lemmas.Option.same_Some, lemmas.List.Elements.All-push}
-use Rattle.std.specs.{Prelude.{slice_get, IfSome, option_map, IsSome}, Result.result_unwrap_or}
-use Rattle.presentation.specs.{declared.fault.PresentationFault.PresentationFault, Counting.refusal, declared.parts.Content.Content}
-use Rattle.presentation.specs.{Kept.{printed_left, rounding_at}, Printing.{PrintedTiming, begin_of, IsCounted, PrintedRest, with_durations}}
-use Rattle.presentation.specs.{MeaningLaws.MadeAreMeant, Presented.{Presented, content_at, listed_at, listed_in, start_of, window_of}}
-use Rattle.presentation.specs.Verifying.{fault_at, part_faults, times_of}
-use Rattle.followed.specs.Durations.{Last, duration_behind, last_behind, last_with, told_behind}
-use Rattle.live_meaning.specs.Segments.{Kept, Segment, segments_of, Numbering, segment_with}
-use Rattle.live_meaning.proofs.Tracks.{last_goes_on, told-segments}
+use Rattle.std.{proofs.Common.{append_assoc, length-append, ◌-◌, map, inl, inr, ◌^◌, Result, Ok, Err, subst}, proofs.lemmas.List.append-nil}
+use Rattle.std.{proofs.lemmas.List.{length-map, map-append, nil_from_length}, proofs.lemmas.Bool.{cases_eq, eq-eqb, ne_eqb}}
+use Rattle.std.{proofs.Math.Nat.sub-zero, proofs.lemmas.Option.same_Some, proofs.lemmas.List.Elements.All-push, specs.Prelude.slice_get}
+use Rattle.std.{specs.Prelude.{IfSome, option_map, IsSome}, specs.Result.result_unwrap_or}
+use Rattle.presentation.{specs.declared.fault.PresentationFault.PresentationFault, specs.Counting.refusal}
+use Rattle.presentation.{specs.declared.parts.Content.Content, specs.Kept.{printed_left, rounding_at}, specs.Printing.PrintedTiming}
+use Rattle.presentation.{specs.Printing.{begin_of, IsCounted, PrintedRest, with_durations}, specs.MeaningLaws.MadeAreMeant}
+use Rattle.presentation.{specs.Presented.{Presented, content_at, listed_at, listed_in, start_of, window_of}, specs.Verifying.fault_at}
+use Rattle.presentation.specs.Verifying.{part_faults, times_of}
+use Rattle.followed.{specs.Durations.{Last, duration_behind, last_behind, last_with, told_behind}, proofs.PrintedSections.goes_on}
+use Rattle.live_meaning.{specs.Segments.{Kept, Segment, segments_of, Numbering, segment_with}, proofs.Tracks.{last_goes_on, told-segments}}
 use Rattle.live_session.specs.Making.{IsMadeBehind, IsNotMade, StandsBefore, behind_in, IsKeptNext, IsRefused, IsSection, IsSectionMakeable}
-use Rattle.live_session.specs.{Making.end_in, Written.IsDated, declared.made.Made.Made, declared.maker.Maker.Maker}
-use Rattle.live_session.specs.{declared.maker.Section.Section, Made.{all_made, made_kept}, New.{later_listed, new_faults_in, new_in}}
-use Rattle.live_session.specs.New.{numbers_of, shown_by, track_at}
-use Rattle.exact_time.specs.{Time.Time, Floor.floor_in, Rounding.{rounding_behind, rounding_from, Rounding, differences}, Tick.time_of}
-use Rattle.exact_time.proofs.Floors.{floor_in-difference_self}
-use Rattle.timeline.specs.{Expansions.{Timing, SegmentTimeline}, declared.window.Window.Window, declared.fault.ListFault.ListFault}
-use Rattle.timeline.specs.{declared.fault.TimeFault.TimeFault, Listed.{answered_count, part_of_timing}, Names.list_refusal}
-use Rattle.followed.proofs.PrintedSections.{goes_on}
-use Rattle.live_judge.specs.{declared.track.LastKept.LastKept, Shown.last_of}
-use Rattle.live_judge.proofs.Contents.{content_there as runs_there}
+use Rattle.live_session.{specs.Making.end_in, specs.Written.IsDated, specs.declared.made.Made.Made, specs.declared.maker.Maker.Maker}
+use Rattle.live_session.{specs.declared.maker.Section.Section, specs.Made.{all_made, made_kept}, specs.New.{later_listed, new_faults_in}}
+use Rattle.live_session.{specs.New.{new_in, numbers_of, shown_by, track_at}, proofs.Refusing.some_as, proofs.Sections.times_are}
+use Rattle.exact_time.{specs.Time.Time, specs.Floor.floor_in, specs.Rounding.{rounding_behind, rounding_from, Rounding, differences}}
+use Rattle.exact_time.{specs.Tick.time_of, proofs.Floors.floor_in-difference_self}
+use Rattle.timeline.{specs.Expansions.{Timing, SegmentTimeline}, specs.declared.window.Window.Window}
+use Rattle.timeline.{specs.declared.fault.ListFault.ListFault, specs.declared.fault.TimeFault.TimeFault, specs.Listed.answered_count}
+use Rattle.timeline.{specs.Listed.part_of_timing, specs.Names.list_refusal}
+use Rattle.live_judge.{specs.declared.track.LastKept.LastKept, specs.Shown.last_of, proofs.Contents.content_there as runs_there}
 use Rattle.url_parts.specs.declared.address.Part.{Part}
-use Rattle.live_session.proofs.{Refusing.some_as, Sections.times_are}
 
 pub segments_told : (unit : ℕ) (last : Option Last) (made : List Kept) (new : List Segment)
     → segments_of (made ++ told_behind unit last new) ≡ segments_of made ++ new

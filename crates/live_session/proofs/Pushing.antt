@@ -1,15 +1,14 @@
 -- A track as it grows at its end and loses its front.
 use Rattle.std.proofs.Common.{◌≡◌, ℕ, zero, suc, ◌+◌, ◌-◌, ◌<◌, ◌≤◌, List, [], ◌∷◌, ◌++◌, length, drop, Option, None, Some, refl, sym, ◌∙◌}
-use Rattle.std.proofs.{Common.{ap, inl, inr, arith, length-append, length-drop, append_assoc}, lemmas.Bool.{cases_eq, eq-eqb, ne_eqb}}
-use Rattle.std.proofs.lemmas.List.{append-nil}
-use Rattle.std.specs.{Prelude.{option_map, ◌==◌, if◌then◌else◌, false}, Option.option_map_or}
-use Rattle.circular_buffer.specs.Buffer.{keep_last}
-use Rattle.circular_buffer.proofs.Places.{slice_get-drop, slice_get-last}
-use Rattle.exact_time.specs.{Time.Time, Tick.time_of}
+use Rattle.std.{proofs.Common.{ap, inl, inr, arith, length-append, length-drop, append_assoc}, proofs.lemmas.Bool.{cases_eq, eq-eqb}}
+use Rattle.std.{proofs.lemmas.Bool.ne_eqb, proofs.lemmas.List.append-nil, specs.Prelude.{option_map, ◌==◌, if◌then◌else◌, false}}
+use Rattle.std.specs.Option.{option_map_or}
+use Rattle.circular_buffer.{specs.Buffer.keep_last, proofs.Places.{slice_get-drop, slice_get-last}}
+use Rattle.exact_time.{specs.Time.Time, specs.Tick.time_of}
 use Rattle.hls_writer.specs.declared.items.MediaItem.{MediaItem}
 use Rattle.followed.specs.Durations.{Last, duration_behind, last_behind, last_with, told_behind}
-use Rattle.live_meaning.specs.{Segments.{Kept, Segment, place_behind}, States.Track}
-use Rattle.live_judge.specs.{declared.track.Fact.Fact, Shown.{kept_of, kepts_of, last_from, last_kept, track_of}}
+use Rattle.live_meaning.{specs.Segments.{Kept, Segment, place_behind}, specs.States.Track}
+use Rattle.live_judge.{specs.declared.track.Fact.Fact, specs.Shown.{kept_of, kepts_of, last_from, last_kept, track_of}}
 use Rattle.live_judge.proofs.Keeping.{length-kepts}
 use Rattle.live_session.specs.Kept.{begun_at, with_all, with_kept, without_front}
 

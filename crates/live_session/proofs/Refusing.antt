@@ -3,16 +3,15 @@ use Rattle.live_judge.specs.declared.coming.Coming.TheVariants as comes
 use Rattle.live_judge.specs.declared.fault.RefreshFault.TheVariants as fault
 use Rattle.presentation.specs.declared.fault.PresentationFault.TheVariants as presented
 use Rattle.std.proofs.Common.{◌≡◌, ℕ, ◌+◌, ◌≤◌, ℤ, List, [], ◌∷◌, ◌++◌, Option, Some, None, Ok, Err, refl, sym, ◌∙◌, ap, subst, arith}
-use Rattle.std.proofs.Common.{append_assoc, Result}
-use Rattle.std.specs.Prelude.{◌<◌, is_some, true, IfSome, IsSome, IsErrAnd, MatchResult}
-use Rattle.bridge_io.specs.{Firsts.first_of, Answer.Gives}
-use Rattle.presentation.specs.{declared.fault.PresentationFault.PresentationFault, Counting.refusal, Presented.Presented}
-use Rattle.live_meaning.specs.{Updates.{Update, mpd_of, now_of, Terms, Values}, Histories.{common_with, force_by}, States.State}
-use Rattle.live_meaning.specs.{States.{new_count, state_with}, Refusals.{Presentation, Refusal, appended_by, clock_told, ended_told}}
+use Rattle.std.{proofs.Common.{append_assoc, Result}, specs.Prelude.{◌<◌, is_some, true, IfSome, IsSome, IsErrAnd, MatchResult}}
+use Rattle.bridge_io.{specs.Firsts.first_of, specs.Answer.Gives}
+use Rattle.presentation.{specs.declared.fault.PresentationFault.PresentationFault, specs.Counting.refusal, specs.Presented.Presented}
+use Rattle.live_meaning.{specs.Updates.{Update, mpd_of, now_of, Terms, Values}, specs.Histories.{common_with, force_by}, specs.States.State}
+use Rattle.live_meaning.{specs.States.{new_count, state_with}, specs.Refusals.{Presentation, Refusal, appended_by, clock_told, ended_told}}
 use Rattle.live_meaning.specs.Refusals.{is_of_address, makes_segments, next_of, refusal_of, told_by, told_with, urls_told, begun_of}
-use Rattle.live_judge.specs.{declared.coming.Coming.Coming, declared.fault.RefreshFault.RefreshFault, Coming.{told_before, update_of}}
-use Rattle.live_judge.specs.Faults.{Tells, of_presentation, told}
-use Rattle.live_session.specs.{Changes.{IsRefused, IsLeft, IsTaken}, Sessions.CountsRefused, Begun.{IsBegunBy, IsUnbegun}}
+use Rattle.live_judge.{specs.declared.coming.Coming.Coming, specs.declared.fault.RefreshFault.RefreshFault, specs.Coming.told_before}
+use Rattle.live_judge.{specs.Coming.update_of, specs.Faults.{Tells, of_presentation, told}}
+use Rattle.live_session.{specs.Changes.{IsRefused, IsLeft, IsTaken}, specs.Sessions.CountsRefused, specs.Begun.{IsBegunBy, IsUnbegun}}
 use Rattle.live_session.specs.declared.session.Appended.{Appended}
 
 -- ---- what faults tell

@@ -1,22 +1,17 @@
 -- The new segments of a track, section by section.
 use Rattle.std.proofs.Common.{◌≡◌, ℕ, zero, suc, ◌+◌, ◌-◌, ◌<◌, ◌≤◌, ◌⊎◌, List, [], ◌∷◌, ◌++◌, filter, flat_map, Option, None, Some, All}
-use Rattle.std.proofs.{Common.{refl, sym, ◌∙◌, ap, inl, inr, arith, add-one}, lemmas.Bool.{cases_eq, cases_lt, eq-eqb, ne_eqb, lt-ltb}}
-use Rattle.std.proofs.lemmas.List.Elements.{All-head, All-tail, filter_agree}
-use Rattle.std.specs.{Prelude.{true, IfSome}, List.range_with_len, Option.option_map_or}
-use Rattle.exact_time.specs.{Time.before, Tick.time_of}
+use Rattle.std.{proofs.Common.{refl, sym, ◌∙◌, ap, inl, inr, arith, add-one}, proofs.lemmas.Bool.{cases_eq, cases_lt, eq-eqb, ne_eqb}}
+use Rattle.std.{proofs.lemmas.Bool.lt-ltb, proofs.lemmas.List.Elements.{All-head, All-tail, filter_agree}, specs.Prelude.{true, IfSome}}
+use Rattle.std.{specs.List.range_with_len, specs.Option.option_map_or}
+use Rattle.exact_time.{specs.Time.before, specs.Tick.time_of}
 use Rattle.timeline.specs.Expansions.{Timing}
-use Rattle.presentation.specs.{declared.parts.Content.Content, Presented.{Presented, content_at, listed_at}, Printing.{FollowsNear, GoesOn}}
-use Rattle.presentation.specs.Printing.{later_than}
-use Rattle.followed.specs.Durations.{Last, last_behind, last_with}
-use Rattle.followed.proofs.PrintedSections.{last_section}
-use Rattle.live_meaning.specs.{Segments.{Numbering, Segment, is_later}, States.Track}
-use Rattle.live_meaning.proofs.Tracks.{last_goes_on}
-use Rattle.presentation.proofs.Counts.{from_on-first, from_on-start}
-use Rattle.live_judge.specs.{declared.track.LastKept.LastKept, Shown.last_of}
-use Rattle.live_judge.proofs.{Contents.here_by_end, New.new_own}
-use Rattle.live_session.specs.{Making.{IsBelow, StandsBefore, behind_in, end_in}, New.{IsBegun, joins, later_listed, new_in, new_timings}}
-use Rattle.live_session.specs.New.{segments_in, track_at}
-use Rattle.live_session.proofs.Refusing.{some_as}
+use Rattle.presentation.{specs.declared.parts.Content.Content, specs.Presented.{Presented, content_at, listed_at}}
+use Rattle.presentation.{specs.Printing.{FollowsNear, GoesOn, later_than}, proofs.Counts.{from_on-first, from_on-start}}
+use Rattle.followed.{specs.Durations.{Last, last_behind, last_with}, proofs.PrintedSections.last_section}
+use Rattle.live_meaning.{specs.Segments.{Numbering, Segment, is_later}, specs.States.Track, proofs.Tracks.last_goes_on}
+use Rattle.live_judge.{specs.declared.track.LastKept.LastKept, specs.Shown.last_of, proofs.Contents.here_by_end, proofs.New.new_own}
+use Rattle.live_session.{specs.Making.{IsBelow, StandsBefore, behind_in, end_in}, specs.New.{IsBegun, joins, later_listed, new_in}}
+use Rattle.live_session.{specs.New.{new_timings, segments_in, track_at}, proofs.Refusing.some_as}
 
 pub filter_all : {X : Type 0} (xs : List X) → filter (λ x. true) xs ≡ xs
 filter_all [] = refl

@@ -1,26 +1,24 @@
 -- The new segments of a track, section by section, and those of all tracks.
 use Rattle.std.proofs.Common.{◌≡◌, ℕ, ◌+◌, ◌-◌, ◌^◌, ◌<◌, ◌≤◌, List, [], ◌∷◌, ◌++◌, map, length, drop, All, Option, sum, Some, None, refl}
-use Rattle.std.proofs.{Common.{sym, ◌∙◌, ap, inl, arith, append_assoc}, lemmas.List.{append-nil, drop_all, map-append}}
-use Rattle.std.proofs.{lemmas.List.Elements.{All-nil, All-push}, lemmas.List.Sums.sum_by-cons, lemmas.Option.slice_get-get_or}
-use Rattle.std.specs.{Prelude.{get_or, slice_get, IfSome}, List.range_with_len, Option.option_map_or}
+use Rattle.std.{proofs.Common.{sym, ◌∙◌, ap, inl, arith, append_assoc}, proofs.lemmas.List.{append-nil, drop_all, map-append}}
+use Rattle.std.{proofs.lemmas.List.Elements.{All-nil, All-push}, proofs.lemmas.List.Sums.sum_by-cons, proofs.lemmas.Option.slice_get-get_or}
+use Rattle.std.{specs.Prelude.{get_or, slice_get, IfSome}, specs.List.range_with_len, specs.Option.option_map_or}
 use Rattle.bridge_io.specs.Firsts.{first_of}
-use Rattle.presentation.specs.{declared.fault.PresentationFault.PresentationFault, Counting.refusal, Presented.{Presented, content_at}}
-use Rattle.presentation.specs.{Presented.listed_at, declared.parts.Content.Content}
-use Rattle.presentation.proofs.Counts.{from_on-first}
-use Rattle.live_meaning.specs.{Updates.unit_of, Segments.{Kept, Numbering, Segment, segments_of}, Histories.Common, States.Track}
-use Rattle.live_meaning.specs.{States.{new_count, new_of, new_told}, Refusals.urls_told}
-use Rattle.live_meaning.proofs.Tracks.{length-told}
-use Rattle.live_judge.specs.{declared.track.LastKept.LastKept, declared.track.LiveTrack.LiveTrack, Faults.of_presentation}
-use Rattle.live_judge.specs.{declared.fault.RefreshFault.TheVariants.Memory, Shown.{last_of, track_shown}}
-use Rattle.live_judge.proofs.{Firsts.rest_at, New.none_earlier}
+use Rattle.presentation.{specs.declared.fault.PresentationFault.PresentationFault, specs.Counting.refusal, specs.Presented.Presented}
+use Rattle.presentation.{specs.Presented.{content_at, listed_at}, specs.declared.parts.Content.Content, proofs.Counts.from_on-first}
+use Rattle.live_meaning.{specs.Updates.unit_of, specs.Segments.{Kept, Numbering, Segment, segments_of}, specs.Histories.Common}
+use Rattle.live_meaning.{specs.States.{Track, new_count, new_of, new_told}, specs.Refusals.urls_told, proofs.Tracks.length-told}
+use Rattle.live_judge.{specs.declared.track.LastKept.LastKept, specs.declared.track.LiveTrack.LiveTrack, specs.Faults.of_presentation}
+use Rattle.live_judge.{specs.declared.fault.RefreshFault.TheVariants.Memory, specs.Shown.{last_of, track_shown}, proofs.Firsts.rest_at}
+use Rattle.live_judge.proofs.New.{none_earlier}
 use Rattle.live_session.specs.New.{faults_by, segments_in, IsBegun, joins, new_all, new_among, new_faults_among, new_faults_in}
-use Rattle.live_session.specs.{New.{new_faults_of, new_in, numbers_of, shown_by, track_at}, declared.made.MadeTrack.MadeTrack}
-use Rattle.live_session.specs.{declared.maker.Maker.Maker, Made.all_made, Growth.{grown, tracks_grown}, Making.{AreMade, AreUnmade}}
-use Rattle.live_session.specs.Making.{IsMadeBehind, IsMakerFor, IsNotMade, IsSectionMakeable, all_kept, first_section, number_of}
-use Rattle.live_session.specs.Written.{IsDated}
-use Rattle.live_session.proofs.{Addresses.{all_by, first_address, first_mapped, urls_by, urls_of}, Pushing.grown as pushed_all}
-use Rattle.live_session.proofs.{Refusing.{counts_made, some_as, told_as}, Sections.{Stood, joins_next, skip, stands, stands_next}}
-use Rattle.live_session.proofs.Making.{IsOnWay, last_made, segments_told, way_begun, way_done, way_next, way_refused, way_segments}
+use Rattle.live_session.{specs.New.{new_faults_of, new_in, numbers_of, shown_by, track_at}, specs.declared.made.MadeTrack.MadeTrack}
+use Rattle.live_session.{specs.declared.maker.Maker.Maker, specs.Made.all_made, specs.Growth.{grown, tracks_grown}, specs.Making.AreMade}
+use Rattle.live_session.specs.Making.{AreUnmade, IsMadeBehind, IsMakerFor, IsNotMade, IsSectionMakeable, all_kept, first_section, number_of}
+use Rattle.live_session.{specs.Written.IsDated, proofs.Addresses.{all_by, first_address, first_mapped, urls_by, urls_of}}
+use Rattle.live_session.{proofs.Pushing.grown as pushed_all, proofs.Refusing.{counts_made, some_as, told_as}, proofs.Sections.Stood}
+use Rattle.live_session.{proofs.Sections.{joins_next, skip, stands, stands_next}, proofs.Making.{IsOnWay, last_made, segments_told}}
+use Rattle.live_session.proofs.Making.{way_begun, way_done, way_next, way_refused, way_segments}
 
 -- ---- from a section on
 

@@ -1,8 +1,7 @@
+use Rattle.live_session.proofs.begin.count_of.Goals as goal
 use Rattle.std.proofs.Common.{◌+◌, ℕ, List, ap, arith, flat_map, length, length-append}
 use Rattle.timeline.specs.Expansions.{Timing}
-use Rattle.presentation.specs.Presented.{listed_at}
-use Rattle.presentation.proofs.Counts.{from_on, from_on-first}
-use Rattle.live_session.proofs.begin.count_of.Goals as goal
+use Rattle.presentation.{specs.Presented.listed_at, proofs.Counts.{from_on, from_on-first}}
 
 pub loop-section-preserved : goal.loop-section-preserved
 loop-section-preserved c = let s = c.loop-section.section in let n = length c.args.opened.now.sections in

@@ -1,8 +1,7 @@
-use Rattle.std.proofs.Common.{◌≡◌, ◌≤◌, ◌+◌, ◌-◌, ◌*◌, ◌^◌, length, flat_map}
-use Rattle.presentation.specs.Presented.{listed_at}
-use Rattle.presentation.proofs.Counts.{from_on}
-use Rattle.live_session.proofs.Beginning.{many}
 use Rattle.live_session.proofs.begin.count_of.Given as goal
+use Rattle.std.proofs.Common.{◌≡◌, ◌≤◌, ◌+◌, ◌-◌, ◌*◌, ◌^◌, length, flat_map}
+use Rattle.presentation.{specs.Presented.listed_at, proofs.Counts.from_on}
+use Rattle.live_session.proofs.Beginning.{many}
 
 abbrev pub invariant-loop-section : goal.invariant-loop-section
 invariant-loop-section l = record {

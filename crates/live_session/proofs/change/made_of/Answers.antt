@@ -1,8 +1,7 @@
 use Rattle.live_session.proofs.change.made_of.Goals as goal
-use Rattle.std.proofs.{Common.{rules, ◌≡◌, ◌<◌, false, true, arith}, lemmas.Result.err_from_is_err_and}
+use Rattle.std.{proofs.Common.{rules, ◌≡◌, ◌<◌, false, true, arith}, proofs.lemmas.Result.err_from_is_err_and}
 use Rattle.live_judge.specs.Coming.{coming_of}
-use Rattle.live_session.specs.{Changes.{new_in_all}}
-use Rattle.live_session.proofs.NewTracks.{makeable, none_made}
+use Rattle.live_session.{specs.Changes.new_in_all, proofs.NewTracks.{makeable, none_made}}
 
 pub returns-then-not-has_new : goal.returns-then-not-has_new
 returns-then-not-has_new g c =

@@ -1,8 +1,6 @@
 use Rattle.live_session.proofs.growth.grow_all.Given as goal
-use Rattle.std.proofs.Common.{◌≡◌, ◌+◌, All, length, drop}
-use Rattle.std.specs.Vec.Iter.{into_iter_items}
-use Rattle.live_session.specs.Kept.{AreSideBySide}
-use Rattle.live_session.proofs.Growing.{AreChanged, IsGrown}
+use Rattle.std.{proofs.Common.{◌≡◌, ◌+◌, All, length, drop}, specs.Vec.Iter.into_iter_items}
+use Rattle.live_session.{specs.Kept.AreSideBySide, proofs.Growing.{AreChanged, IsGrown}}
 
 abbrev pub invariant-loop-made : goal.invariant-loop-made
 invariant-loop-made l = record {

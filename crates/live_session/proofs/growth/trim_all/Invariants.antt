@@ -1,8 +1,7 @@
 use Rattle.live_session.proofs.growth.trim_all.Given as goal
 use Rattle.std.proofs.Common.{◌≡◌, ℕ, All}
-use Rattle.live_judge.specs.{declared.track.LiveTrack.LiveTrack, Shown.track_shown}
-use Rattle.live_session.specs.{Growth.trimmed, Kept.AreSideBySide}
-use Rattle.live_session.proofs.Growing.{AreChanged}
+use Rattle.live_judge.{specs.declared.track.LiveTrack.LiveTrack, specs.Shown.track_shown}
+use Rattle.live_session.{specs.Growth.trimmed, specs.Kept.AreSideBySide, proofs.Growing.AreChanged}
 
 abbrev pub invariant-loop-track : goal.invariant-loop-track
 invariant-loop-track l = record {

@@ -1,8 +1,7 @@
 use Rattle.live_session.proofs.kept.push_all.Goals as goal
-use Rattle.std.proofs.Common.{◌≡◌, ◌+◌, ◌∷◌, ◌∙◌, ap, length, arith}
-use Rattle.std.specs.Vec.Iter.{into_iter_items}
+use Rattle.std.{proofs.Common.{◌≡◌, ◌+◌, ◌∷◌, ◌∙◌, ap, length, arith}, specs.Vec.Iter.into_iter_items}
 use Rattle.live_meaning.specs.States.{Track}
-use Rattle.live_session.specs.{Kept.with_all, Made.all_made}
+use Rattle.live_session.{specs.Kept.with_all, specs.Made.all_made}
 
 pub loop-next-preserved : goal.loop-next-preserved
 loop-next-preserved c = let l = c.loop-next in let rest = into_iter_items c.next.new.self in

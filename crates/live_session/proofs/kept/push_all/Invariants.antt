@@ -1,8 +1,7 @@
 use Rattle.live_session.proofs.kept.push_all.Given as goal
-use Rattle.std.proofs.Common.{◌≡◌, length}
-use Rattle.std.specs.Vec.Iter.{into_iter_items}
+use Rattle.std.{proofs.Common.{◌≡◌, length}, specs.Vec.Iter.into_iter_items}
 use Rattle.live_judge.specs.Shown.{track_shown}
-use Rattle.live_session.specs.{Kept.{AreSideBySide, HasRoom, with_all}, Made.all_made}
+use Rattle.live_session.{specs.Kept.{AreSideBySide, HasRoom, with_all}, specs.Made.all_made}
 
 abbrev pub invariant-loop-next : goal.invariant-loop-next
 invariant-loop-next l = record {

@@ -1,7 +1,6 @@
 use Rattle.live_session.proofs.longest.longest_in.Given as goal
-use Rattle.std.proofs.Common.{◌≡◌, ◌^◌, ◌-◌, max, map, length}
-use Rattle.std.specs.List.{range_with_len}
-use Rattle.presentation.specs.{Presented.looked_at, Verifying.{greatest, longest_of}}
+use Rattle.std.{proofs.Common.{◌≡◌, ◌^◌, ◌-◌, max, map, length}, specs.List.range_with_len}
+use Rattle.presentation.{specs.Presented.looked_at, specs.Verifying.{greatest, longest_of}}
 use Rattle.live_meaning.specs.Histories.{longest_in}
 
 abbrev pub invariant-loop-track : goal.invariant-loop-track

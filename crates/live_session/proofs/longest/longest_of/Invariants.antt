@@ -1,7 +1,6 @@
 use Rattle.live_session.proofs.longest.longest_of.Given as goal
-use Rattle.std.proofs.Common.{◌≡◌, ◌^◌, ◌-◌, max, map, length}
-use Rattle.std.specs.List.{range_with_len}
-use Rattle.presentation.specs.{Presented.looked_at, Verifying.{greatest, longest_at, longest_of}}
+use Rattle.std.{proofs.Common.{◌≡◌, ◌^◌, ◌-◌, max, map, length}, specs.List.range_with_len}
+use Rattle.presentation.{specs.Presented.looked_at, specs.Verifying.{greatest, longest_at, longest_of}}
 
 abbrev pub invariant-loop-section : goal.invariant-loop-section
 invariant-loop-section l = let p = looked_at l.fn.now l.fn.presentation in

@@ -1,8 +1,7 @@
 use Rattle.live_session.proofs.maker.Maker.make_all.Goals as goal
-use Rattle.std.proofs.{Common.{◌≡◌, ◌∙◌, Some, ap, arith, length, length-append, slice_get, sym}, lemmas.Option.slice_get-get_or}
+use Rattle.std.{proofs.Common.{◌≡◌, ◌∙◌, Some, ap, arith, length, length-append, slice_get, sym}, proofs.lemmas.Option.slice_get-get_or}
 use Rattle.std.proofs.lemmas.Result.{err_from_is_err_and}
-use Rattle.live_session.specs.declared.made.MadeTrack.{MadeTrack}
-use Rattle.live_session.proofs.TrackMaking.{track_next, track_refused, tracks_made, wanting}
+use Rattle.live_session.{specs.declared.made.MadeTrack.MadeTrack, proofs.TrackMaking.{track_next, track_refused, tracks_made, wanting}}
 
 pub make_track-requires-clause-kept : goal.make_track-requires-clause-kept
 make_track-requires-clause-kept g c =

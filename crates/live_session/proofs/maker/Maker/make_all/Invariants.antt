@@ -1,8 +1,7 @@
+use Rattle.live_session.proofs.maker.Maker.make_all.Given as goal
 use Rattle.std.proofs.Common.{◌≡◌, length}
 use Rattle.live_meaning.specs.Histories.{Common}
-use Rattle.live_session.specs.Making.{IsMakerFor}
-use Rattle.live_session.proofs.TrackMaking.{AllSoFar}
-use Rattle.live_session.proofs.maker.Maker.make_all.Given as goal
+use Rattle.live_session.{specs.Making.IsMakerFor, proofs.TrackMaking.AllSoFar}
 
 abbrev pub invariant-loop-track : goal.invariant-loop-track
 invariant-loop-track g l = record {

@@ -1,6 +1,5 @@
 use Rattle.live_session.proofs.maker.Maker.make_section.Given as goal
-use Rattle.live_session.specs.Made.{all_made}
-use Rattle.live_session.proofs.Making.{SoFar}
+use Rattle.live_session.{specs.Made.all_made, proofs.Making.SoFar}
 
 abbrev pub invariant-loop-k : goal.invariant-loop-k
 invariant-loop-k g l =

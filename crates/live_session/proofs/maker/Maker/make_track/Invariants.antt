@@ -1,7 +1,6 @@
 use Rattle.live_session.proofs.maker.Maker.make_track.Given as goal
 use Rattle.std.proofs.Common.{◌≤◌}
-use Rattle.live_session.specs.{Made.all_made, Making.first_section}
-use Rattle.live_session.proofs.TrackMaking.{TrackSoFar}
+use Rattle.live_session.{specs.Made.all_made, specs.Making.first_section, proofs.TrackMaking.TrackSoFar}
 
 abbrev pub invariant-loop-section : goal.invariant-loop-section
 invariant-loop-section g l = record {
