@@ -1,65 +1,201 @@
--- What is written of followed tracks is read again.
+-- What is written of followed tracks is read again: no target duration is long, and segments of accepted updates have addresses.
 use Rattle.hls_media.specs.Media as hls
 use Rattle.laws_of_playlists.specs.ReadMedia as read
-use Rattle.std.proofs.Common.{◌≡◌, ℕ, suc, ◌+◌, ◌-◌, ◌*◌, ◌/◌, ◌%◌, ◌^◌, ◌≤◌, ◌<◌, leb, List, [], ◌∷◌, ◌++◌, map, length, drop, get_or}
-use Rattle.std.proofs.Common.{Option, Some, None, Ok, IfSome, refl, sym, ◌∙◌, ap, subst, inl, inr, arith, length-append}
-use Rattle.std.proofs.{lemmas.Bool.cases_Bool, lemmas.List.get_or_append_left, lemmas.List.Sums.fold-append}
-use Rattle.std.proofs.lemmas.List.Elements.{All-append, All-cons, All-drop, All-head, All-map, All-nil, All-tail}
-use Rattle.std.proofs.lemmas.Option.{slice_get-map}
-use Rattle.std.specs.{Prelude.{All, option_map, slice_get, unwrap_or}, List.fold}
-use Rattle.bridge_io.specs.{Answer.and_then, Places.place_of}
-use Rattle.url_parts.specs.{declared.address.Part.Part, declared.range.Range.Range}
-use Rattle.hls_media.specs.Media.{lines_or_fault, media_in, media_of as read_media, media_values, values_or_fault}
-use Rattle.hls_media.specs.{declared.fault.MediaFault.MediaFault, declared.media.Media.Media}
-use Rattle.hls_writer.specs.Finished.{rounded}
-use Rattle.presentation.specs.{MeaningLaws.MadeAreMeant, Presented.is_finished}
+use Rattle.std.proofs.Common.{zero, suc, ◌≡◌, ℕ, true, ◌+◌, ◌*◌, ◌^◌, ◌≤◌, ◌<◌, List, [], ◌∷◌, ◌++◌, map, length, Option, Ok, IfSome, sym}
+use Rattle.std.proofs.Common.{subst, arith, ◌-◌, Bool, ℤ, filter, Some, None, refl, ◌∙◌, ap, inl, inr, drop, length-append}
+use Rattle.std.proofs.{lemmas.{Bool.{Decides.nat_tests, cases_Bool}, Grind.div_ceil_times}, Math.Nat.{mul-le-mul_left, one-le-pow}}
+use Rattle.std.proofs.lemmas.List.{Elements.{All-append, filter_passes, All-push, All-drop, All-map, All-nil}, get_or_at, length_push}
+use Rattle.std.{proofs.lemmas.{List.{get_or_append_left, Sums.fold-append}, Option.slice_get-map}, specs.Prelude.{All, codes}}
+use Rattle.std.specs.{Prelude.{option_and_then, unwrap_or, flat_map, option_map, slice_get}, List.{range_with_len, fold}}
+use Rattle.std.specs.Option.{option_map_or}
+use Rattle.iso_time.specs.Duration.{duration_of}
+use Rattle.mpd_text.specs.Trees.{Element}
+use Rattle.mpd_profile.specs.{Heads.{is_dynamic, value_named}, declared.listed.Addressing.TheVariants.Segments as OneByOne}
+use Rattle.mpd_profile.{specs.Refusals.{feature_refusals, refusals_of, root_refusals, value_refusals}, proofs.Sound.sound_root}
+use Rattle.mpd_levels.specs.Segments.{segments_of as told_segments_of}
+use Rattle.mpd_rules.specs.{Readings.duration_within, Rules.{all_refusals, dash_values, segments_refused, typed_mpd_of}}
+use Rattle.mpd_rules.proofs.Fitting.{mpd_fits}
+use Rattle.presentation.specs.{Counting.{count_faults, sections_of}, Presented.{Presented, listed_at}, Printing.durations_of}
+use Rattle.presentation.specs.Verifying.{greatest, longest_at, longest_of, part_fault, part_faults, url_faults}
+use Rattle.presentation.specs.{declared.parts.Content.Content, Laws.HasAddress, MeaningLaws.MadeAreMeant, Told.presented_of}
+use Rattle.presentation.proofs.{Ending.none_behind, Reached.{all_reached, none_first, none_later, none_within}, Addressed.all_addressed}
 use Rattle.presentation.proofs.Grids.{All-at}
-use Rattle.reload_law.specs.Laws.{IsLawful, RulesAreSentences}
-use Rattle.followed.specs.Durations.{durations, told}
-use Rattle.live_meaning.specs.{Updates.{Terms, Update, Values, mpd_of, unit_of}, Segments.{Kept, Segment, segments_of}, Histories.Past}
-use Rattle.live_meaning.specs.{Histories.{Whole, all_of, no_past, past_of, whole_of}, States.{State, Track, shown, state_of, track_of}}
-use Rattle.live_meaning.specs.{Refusals.{Refusal, update_refusal}, Playlists.{FollowedPlaylist, first_section, head_of, item_of, live_text}}
-use Rattle.live_meaning.specs.{Playlists.playlist_with, Laws.{AcceptedAreAccepted, AreTyped, DurationsFitTarget, IsAccepted, IsTyped}}
-use Rattle.live_meaning.specs.Laws.{NumbersStaySmall, ReloadsAreLawful, SectionsHaveOneMap, SectionsNeverFall, Shows, accepted_of, media_of}
-use Rattle.live_meaning.specs.Laws.{segment_of, with_accepted}
-use Rattle.live_meaning.proofs.{Grown.get_drop, Ids.get_behind, Histories.{mapped, past_is, sound}, Reloads.shown_track}
-use Rattle.live_meaning.proofs.Tracks.{kept_segments, told-segments, unmapped}
-use Rattle.laws_of_playlists.specs.Origins.{AreInPace, AreShortInPace, InitializationsAreLocated, IsLocated, IsSomeBytes, PartsAreLocated}
-use Rattle.laws_of_playlists.specs.{Origins.ReadingsAreOfBytes, ReadMedia.{AreInOrder, FollowedAreRead, GoOn, IsReadableItem}}
-use Rattle.laws_of_playlists.specs.ReadMedia.{IsReadablePart, IsReadableRange, IsShortNumber, ReadsAs}
-use Rattle.laws_of_reloads.specs.Laws.{AreRead, FollowedTextsAreRead, FollowedTextsReload, IsFollowed, IsReadIfAny, ReadTextsReload}
-use Rattle.laws_of_reloads.proofs.Located.{IsAddressed, accepted_addressed}
+use Rattle.live_meaning.specs.{Updates.{Values, Terms, Update, mpd_of, unit_of}, Histories.{longest_in, Common, Whole, begun_common}}
+use Rattle.live_meaning.specs.{Histories.{common_with, new_listed, numbering_of, whole_of, Past, all_of}, Removal.{half_more, target_of}}
+use Rattle.live_meaning.specs.{Segments.{Numbering, Segment, behind, is_later, listed_of, Kept, segments_of}, States.{Track, track_of}}
+use Rattle.live_meaning.specs.{States.{shown, state_of}, Refusals.{is_new_at, new_at, urls_in, update_refusal}, Laws.IsAccepted}
+use Rattle.live_meaning.specs.Laws.{AcceptedAreAccepted, AreTyped, DurationsFitTarget, IsTyped, NumbersStaySmall, ReloadsAreLawful}
+use Rattle.live_meaning.specs.Laws.{SectionsHaveOneMap, SectionsNeverFall, Shows, accepted_of, media_of, segment_of, with_accepted}
+use Rattle.live_meaning.specs.Playlists.{FollowedPlaylist, first_section, head_of, item_of, live_text, playlist_with}
+use Rattle.live_meaning.proofs.Histories.{EachBehind, forced, accepted_hold, Each, get_drop, kept_segments, told-segments, unmapped, sound}
+use Rattle.live_meaning.proofs.{Orders.{behind_have, listed_have, made_in}, Playlists.shown_playlist}
+use Rattle.laws_of_playlists.specs.Origins.{AreInPace, AreShortInPace, CameFromMpd, AreLocated, InitializationsAreLocated, IsFound}
+use Rattle.laws_of_playlists.specs.{Origins.{IsLocated, PartsAreLocated, ReadingsAreOfBytes}, ReadMedia.{AreInOrder, FollowedAreRead, GoOn}}
+use Rattle.laws_of_playlists.specs.ReadMedia.{IsReadableItem, IsReadablePart, IsReadableRange, IsShortNumber, ReadsAs}
+use Rattle.laws_of_playlists.proofs.OriginKept.{are_untold}
+use Rattle.url_parts.specs.Addresses.{IsAddress}
+use Rattle.timeline.specs.{Expansions.{SegmentTimeline, Timing}, Listed.part_of_timing}
+use Rattle.followed.specs.Durations.{Last, durations, told}
+use Rattle.laws_of_reloads.specs.Laws.{IsRead, IsReadIfAny, AreRead, FollowedTextsAreRead, FollowedTextsReload, IsFollowed, ReadTextsReload}
+use Rattle.bridge_io.specs.{Answer.and_then, Places.place_of}
+use Rattle.hls_media.specs.Media.{lines_or_fault, media_in, media_of as read_media, media_values, values_or_fault}
+use Rattle.hls_media.specs.declared.media.Media.{Media}
+use Rattle.hls_writer.specs.Finished.{rounded}
+use Rattle.reload_law.specs.Laws.{RulesAreSentences}
+
+abbrev pub IsShort : Option ℕ → Type 0
+IsShort o = IfSome o (λ n. n < 10 ^ 19)
+
+text_in_range : (o : Option (List ℕ)) → IsShort (option_and_then duration_within o)
+unfolding duration_of
+text_in_range o = grind (arith, nat_tests)
+
+pub longest_told : (tree : Element) (mpd : Values) → typed_mpd_of tree ≡ Ok mpd → IsShort mpd.facts.max_segment
+unfolding typed_mpd_of all_refusals dash_values refusals_of
+longest_told tree mpd is =
+    let told = are_untold OneByOne true segments_refused told_segments_of tree mpd is in
+    let none = none_behind (root_refusals tree ++ feature_refusals tree) (value_refusals OneByOne tree) told.profile in
+    let fits = mpd_fits OneByOne (is_dynamic tree.head) tree (sound_root OneByOne tree none) in
+    subst (λ (m : Values). IsShort m.facts.max_segment) (sym told.values)
+    (subst IsShort fits.max_segment (text_in_range (value_named (codes "maxSegmentDuration") tree.head)))
+
+half_more_short : (unit units bound : ℕ) → 0 < unit → units ≤ bound * unit → half_more unit units ≤ 2 * bound + 1
+half_more_short unit units bound some le =
+    let over = λ (more : 2 * bound + 1 < half_more unit units). mul-le-mul_left (2 * unit) more in
+    grind (arith, (div_ceil_times (3 * units) (2 * unit) (omega arith)).1, over)
+
+greatest_most : (bound : ℕ) (ns : List ℕ) → All (λ n. n ≤ bound) ns → greatest ns ≤ bound
+greatest_most bound [] all = omega arith
+greatest_most bound (n ∷ ns) all = omega (arith, all 0 n (omega arith), greatest_most bound ns (λ j d less. all (suc j) d (omega arith)))
+
+ranged : (f : ℕ → ℕ) (a n bound : ℕ) → ((k : ℕ) → k < a + n → f k ≤ bound) → greatest (map f (range_with_len a n)) ≤ bound
+ranged f a zero bound each = omega arith
+ranged f a (suc n) bound each = omega (arith, each a (omega arith), ranged f (a + 1) n bound (λ k less. each k (omega arith)))
+
+pub longest_short : AreInPace → AreShortInPace → (p : Presented) (unit : ℕ) → CameFromMpd p → count_faults p ≡ []
+    → longest_in unit p ≤ 2000000 * unit
+longest_short paced short p unit from none = ranged (longest_of p unit) 0 (length p.tracks) (2000000 * unit)
+    (λ t in_tracks. ranged (longest_at p unit t) 0 (length p.sections) (2000000 * unit) (λ s in_sections.
+    greatest_most (2000000 * unit) (durations_of unit (listed_at p s t)) (short (listed_at p s t) unit
+    (paced p s t from (all_reached p none t (omega arith) s (omega arith))))))
+
+pub target_short : (unit longest : ℕ) (max_segment : Option ℕ) → 0 < unit → longest ≤ 2000000 * unit → IsShort max_segment
+    → target_of unit longest max_segment ≤ 10 ^ 11
+target_short unit longest max_segment some le short =
+    let told : unwrap_or max_segment 0 ≤ 10 ^ 10 * 10 ^ 9 = grind (arith, short) in
+    let own = half_more_short unit longest 2000000 some le in
+    omega (arith, own, half_more_short (10 ^ 9) (unwrap_or max_segment 0) (10 ^ 10) (omega arith) told)
+
+-- ---- segments without a fault
+have_addresses : (timeline : SegmentTimeline) (s t k : ℕ) (xs : List Timing) → part_faults timeline s t k xs ≡ []
+    → All (HasAddress timeline) xs
+have_addresses timeline s t k [] none j d within = absurd (omega arith)
+have_addresses timeline s t k (x ∷ xs) none zero d within =
+    grind (arith, none_first (part_fault s t k (part_of_timing timeline x)) (part_faults timeline s t (k + 1) xs) none)
+have_addresses timeline s t k (x ∷ xs) none (suc j) d within =
+    have_addresses timeline s t (k + 1) xs (none_later _ _ none) j d (omega arith)
+
+left_have : {X : Type 0} (P : X → Type 0) (test : X → Bool) (xs : List X) → All P (filter test xs) → All (λ x. test x ≡ true → P x) xs
+left_have {X} P test [] all j d within is = absurd (omega arith)
+left_have {X} P test (x ∷ xs) all zero d within is = grind (arith, all 0 x)
+left_have {X} P test (x ∷ xs) all (suc j) d within is = elim (cases_Bool (test x)) [
+  | inl here ↦ let rest : All P (x ∷ filter test xs) = rw here at all in
+      left_have P test xs (λ i e less. rest (suc i) e (omega arith)) j d (omega arith) is
+  | inr other ↦ left_have P test xs (rw other at all) j d (omega arith) is
+]
+
+pub record IsContentAddressed (content : Content) : Type 0 where
+  pub initialization : IsLocated content.initialization
+  pub parts : AreLocated content.runs
+
+pub record IsAddressed (x : Segment) : Type 0 where
+  pub part : IsLocated x.value.part
+  pub map : IsLocated x.value.map
+
+behind_pass : (last : Option Last) (place : ℕ) (xs : List Segment)
+    → All (λ x. option_map_or (λ last. is_later last place x.value.place x.end) last true ≡ true) (behind last place xs)
+behind_pass None place xs = λ j d within. refl
+behind_pass (Some last) place xs = filter_passes (λ (x : Segment). is_later last place x.value.place x.end) xs
+
+module _ (meant : MadeAreMeant) where
+  made_addressed : (n : Numbering) (p : Presented) (s : ℕ) (content : Content) (x : Timing) → IsContentAddressed content
+      → HasAddress content.runs x → IsAddressed (made_in n p s content x)
+  made_addressed n p s content x is has =
+      record { part = subst IsLocated (meant content.runs x has.0 has.1) (is.parts x has.0 has.1); map = is.initialization }
+
+  first_addressed : (c : Common) (p : Presented) (t : ℕ) → All IsContentAddressed p.contents → url_faults p ≡ [] → t < length p.tracks
+      → All IsAddressed (listed_of (numbering_of c) p t)
+  first_addressed c p t contents none in_tracks = listed_have IsAddressed (numbering_of c) p t (λ s content less at.
+      let has = subst (λ (o : Option Content). IfSome o (λ content. All (HasAddress content.runs) (listed_at p s t))) at
+      (all_addressed p s t none less in_tracks) in
+      λ j d within. made_addressed (numbering_of c) p s content _ (All-at IsContentAddressed p.contents _ content contents at)
+      (has j d within))
+
+  new_addressed : (c : Common) (p : Presented) (t : ℕ) (track : Track) → All IsContentAddressed p.contents → flat_map (urls_in c p t track)
+      (sections_of p) ≡ [] → All IsAddressed (behind track.last track.place (listed_of (numbering_of c) p t))
+  new_addressed c p t track contents none =
+      let listed : List Segment = listed_of (numbering_of c) p t in
+      let is_new : Segment → Bool = λ y. option_map_or (λ last. is_later last track.place y.value.place y.end) track.last true in
+      let all : All (λ y. is_new y ≡ true → IsAddressed y) listed =
+      listed_have (λ y. is_new y ≡ true → IsAddressed y) (numbering_of c) p t (λ s content less at.
+      let new : List Timing = new_at c p track t s in
+      let many : ℕ = length (listed_at p s t) - length new in
+      let faults = ap (λ o. option_map_or (λ (content : Content). part_faults content.runs s t many new) o []) (sym at)
+      ∙ none_within (urls_in c p t track) (length p.sections) s none less in
+      let has = left_have (HasAddress content.runs) (is_new_at c p track s) (listed_at p s t)
+      (have_addresses content.runs s t many new faults) in
+      λ j d within new_is. made_addressed (numbering_of c) p s content _ (All-at IsContentAddressed p.contents _ content contents at)
+      (has j d within new_is)) in
+      λ j d within. behind_have (λ y. is_new y ≡ true → IsAddressed y) track.last track.place listed all j d within
+      (behind_pass track.last track.place listed j d within)
+
+pub record AreAddressed (c : Common) : Type 0 where
+  pub contents : All IsContentAddressed c.force.contents
+  pub target : c.target ≤ 10 ^ 11
+
+module _ (meant : MadeAreMeant) (initializations : InitializationsAreLocated) (parts : PartsAreLocated) (readings : ReadingsAreOfBytes)
+    (paced : AreInPace) (short : AreShortInPace) (terms : Terms) (url : IsAddress terms.url) where
+  abbrev came : (mpd : Values) (now : ℤ) (p : Presented) → IsRead mpd → presented_of mpd terms.url (Some now) ≡ Ok p → CameFromMpd p
+  came mpd now p read made = record { tree = read.tree; mpd = mpd; url = terms.url; now = Some now; typed = read.typed; presented = made }
+
+  contents_addressed : (mpd : Values) (now : ℤ) (p : Presented) → IsRead mpd → presented_of mpd terms.url (Some now) ≡ Ok p
+      → All IsContentAddressed p.contents
+  contents_addressed mpd now p read made =
+      let found : IsFound read.tree terms.url = record { tree = readings read.bytes read.tree read.are read.reading; url = url } in
+      let from = came mpd now p read made in
+      λ j d within. record { initialization = initializations p from found j d within; parts = parts p from found j d within }
+
+  pub accepted_addressed : (history : List Update) → IsAccepted terms history → EachBehind (λ front u. IsReadIfAny (mpd_of u)) history
+      → (w : Whole) → whole_of terms history ≡ Some w → AreAddressed w.common × Each (λ t past. All IsAddressed past.all) w.pasts
+  accepted_addressed = accepted_hold terms IsReadIfAny AreAddressed (λ c t past. All IsAddressed past.all) (λ mpd now p read first.
+      let c : Common = begun_common terms mpd now p in
+      let unit : ℕ = unit_of terms in
+      let some : 1 ≤ unit = one-le-pow terms.digits 10 (omega arith) in
+      let contents = contents_addressed mpd now p read first.made in
+      let longest = longest_short paced short p unit (came mpd now p read first.made) first.counts in
+      let target = target_short unit (longest_in unit p) mpd.facts.max_segment some longest (longest_told read.tree mpd read.typed) in
+      (record { contents = contents; target = target }, λ t less. first_addressed meant c p t contents first.urls less))
+      (λ w u p read its allowed is.
+      let c : Common = common_with w.common u p in
+      let contents = forced (λ q. All IsContentAddressed q.contents) w.common.terms w.common.force u p allowed.forced
+      (λ mpd now told made. contents_addressed mpd now p (subst IsReadIfAny told read)
+      (subst (λ (x : Terms). presented_of mpd x.url (Some now) ≡ Ok p) its made)) (λ now. is.contents) in (
+        record { contents = contents; target = is.target },
+        λ t past within own all. All-append IsAddressed past.all (new_listed c t past.all) all
+            (new_addressed meant c p t (track_of (unit_of c.terms) past) contents own.urls),
+      ))
 
 -- ---- items that are read as they were written
-
-range_readable : (o : Option Range) → IfSome o IsSomeBytes → IfSome o IsReadableRange
-range_readable None is = tt
-range_readable (Some r) is = record { some = is.some; count = omega (arith, is.bounded); first = omega (arith, is.bounded) }
-
-part_readable : (part : Part) → IsLocated part → IsReadablePart part
-part_readable part is = record { address = is.address; range = range_readable part.range is.range }
-
--- no more whole seconds than to the nearest one
-rounded_least : (unit d : ℕ) → d / unit ≤ rounded unit d
-rounded_least unit d = elim (cases_Bool (leb unit (2 * (d % unit)))) [ inl is ↦ rw is (omega arith) | inr other ↦ rw other (omega arith) ]
-
 kept_readable : (digits target first : ℕ) (all : List Segment) → target ≤ 10 ^ 11 → All IsAddressed all
     → All (λ d. rounded (10 ^ digits) d ≤ target) (durations (told (10 ^ digits) all))
     → All (IsReadableItem digits) (map item_of (drop first (told (10 ^ digits) all)))
 kept_readable digits target first all short addressed fits =
     let ts : List Kept = told (10 ^ digits) all in
-    let parts : All (λ (k : Kept). IsAddressed k.segment) ts =
-    unmapped IsAddressed (λ (k : Kept). k.segment) ts (subst (All IsAddressed) (sym (told-segments (10 ^ digits) None all)) addressed) in
-    let lengths : All (λ (k : Kept). rounded (10 ^ digits) k.duration ≤ target) ts =
-    unmapped (λ d. rounded (10 ^ digits) d ≤ target) (λ (k : Kept). k.duration) ts fits in
+    let parts = unmapped IsAddressed (λ (k : Kept). k.segment) ts (subst (All IsAddressed) (sym (told-segments (10 ^ digits) None all))
+    addressed) in
+    let lengths = unmapped (λ d. rounded (10 ^ digits) d ≤ target) (λ (k : Kept). k.duration) ts fits in
     All-map (IsReadableItem digits) item_of (drop first ts) (All-drop (λ k. IsReadableItem digits (item_of k)) first ts
-    (λ j d within. record {
-      part = part_readable _ (parts j d within).part;
-      map = part_readable _ (parts j d within).map;
-      short = omega (arith, lengths j d within, rounded_least (10 ^ digits) (get_or ts j d).duration, short);
-    }))
-
--- ---- segments in order
+    (λ j d within. grind (arith, nat_tests, parts j d within, lengths j d within, short)))
 
 abbrev Follows : Segment → Segment → Type 0
 Follows x y = (x.section ≤ y.section) × (x.section ≡ y.section → y.value.map ≡ x.value.map)
@@ -90,25 +226,14 @@ segments_are digits [] follow = refl
 segments_are digits (k ∷ ks) follow =
     counted digits k.segment.section (k ∷ ks) (λ i x at. (follow 0 i k.segment x (omega arith) refl at).0)
 
--- ---- playlists
-
-first_short : (accepted : ℕ) (ks : List Kept) → All (λ x. x.section < 1001 * accepted) (segments_of ks) → accepted ≤ 10_000_000
-    → IsShortNumber (first_section ks)
-first_short accepted [] early few = omega arith
-first_short accepted (k ∷ ks) early few =
-    omega (arith, few, All-head (λ (x : Segment). x.section < 1001 * accepted) k.segment (segments_of ks) early)
-
 typed_if_read : (o : Option Values) → IsReadIfAny o → IsTyped o
 typed_if_read None read = tt
 typed_if_read (Some mpd) read = (read.tree, read.typed)
 
-each_read : (history : List Update) → AreRead history → (front : List Update) (u : Update) (back : List Update)
-    → history ≡ front ++ u ∷ back
-    → IsReadIfAny (mpd_of u)
+each_read : (history : List Update) → AreRead history → (front : List Update) (u : Update) (back : List Update) → history
+    ≡ front ++ u ∷ back → IsReadIfAny (mpd_of u)
 each_read history read front u back same =
-    let here : slice_get (front ++ u ∷ back) (length front) ≡ Some u = ap (slice_get (front ++ u ∷ back)) (omega arith)
-    ∙ get_behind front (u ∷ back) 0 in
-    All-at (λ u. IsReadIfAny (mpd_of u)) (front ++ u ∷ back) (length front) u (subst AreRead same read) here
+    grind (arith, same, read (length front) u, get_or_at front u back u (length front), length-append front (u ∷ back))
 
 module _ (never_fall : SectionsNeverFall) (one_map : SectionsHaveOneMap) (fit : DurationsFitTarget) (small : NumbersStaySmall)
     (meant : MadeAreMeant) (initializations : InitializationsAreLocated) (parts : PartsAreLocated) (readings : ReadingsAreOfBytes)
@@ -125,106 +250,68 @@ module _ (never_fall : SectionsNeverFall) (one_map : SectionsHaveOneMap) (fit : 
       let its_terms : w.common.terms ≡ terms = (sound terms history w whole).its_terms in
       let digits : ℕ = w.common.terms.digits in
       let track : Track = track_of (10 ^ digits) past in
-      let own : past_of terms history t ≡ past =
-      past_is terms history t w whole ∙ ap (λ o. unwrap_or o no_past) at in
-      let all : all_of terms history t ≡ past.all = ap (λ (p : Past). p.all) own in
+      let all : all_of terms history t ≡ past.all = grind (arith, whole, at) in
+      let there : (k : ℕ) → slice_get (segments_of track.kept) k ≡ slice_get (all_of terms history t) (past.first + k) =
+      λ k. cc (all, kept_segments (10 ^ digits) past.first past.all, get_drop past.first past.all k) in
       let follow : AllFollow (segments_of track.kept) = λ i j x y le at_x at_y.
-      let there : (k : ℕ) → slice_get (segments_of track.kept) k ≡ slice_get (all_of terms history t) (past.first + k) = λ k.
-      ap (λ xs. slice_get xs k) (kept_segments (10 ^ digits) past.first past.all ∙ ap (λ (xs : List Segment). drop past.first xs) (sym all))
-      ∙ get_drop past.first (all_of terms history t) k in
       let x_at = sym (there i) ∙ at_x in
       let y_at = sym (there j) ∙ at_y in (
         never_fall terms history t (past.first + i) (past.first + j) x y accepted typed (omega arith) x_at y_at,
         λ same. sym (one_map terms history t (past.first + i) (past.first + j) x y accepted typed x_at y_at same).map,
       ) in
-      let addressed = accepted_addressed meant initializations parts readings paced short terms followed.url history accepted read w
-      whole in
-      let located : All IsAddressed past.all = addressed.1 t past at in
-      let fits : All (λ d. rounded (10 ^ digits) d ≤ w.common.target) (durations (told (10 ^ digits) past.all)) =
-      subst (λ (xs : List Segment). All (λ d. rounded (10 ^ digits) d ≤ w.common.target) (durations (told (10 ^ digits) xs))) all
-      (subst (λ (x : Terms). All (λ d. rounded (unit_of x) d ≤ w.common.target) (durations (told (unit_of x) (all_of terms history t))))
-      (sym its_terms) (fit terms history (shown w) t shows typed)) in
-      let there : slice_get (shown w).tracks t ≡ Some track = slice_get-map (track_of (10 ^ digits)) w.pasts t
-      ∙ ap (option_map (track_of (10 ^ digits))) at in
+      let addressed = accepted_addressed meant initializations parts readings paced short terms followed.url history accepted read w whole
+      in
+      let fits = rw (all, ← its_terms) at (fit terms history (shown w) t shows typed) in
+      let there : slice_get (shown w).tracks t ≡ Some track = cc (slice_get-map (track_of (10 ^ digits)) w.pasts t) in
       let numbers = small terms history (shown w) t track shows there in
       let few = followed.few in
-      let is = read_again (head_of w.common track) (map item_of track.kept) url (record {
-        target = omega (arith, addressed.0.target);
-        sequence = omega (arith, numbers.0, numbers.1.listed, few);
-        first_section = first_short w.common.accepted track.kept numbers.1.sections (omega (arith, numbers.0, few));
-      }) (record {
+      let is = read_again (head_of w.common track) (map item_of track.kept) url
+      (grind (arith, addressed.0.target, numbers, numbers.1.sections 0, few)) (record {
         few = subst (λ (x : Terms). x.digits ≤ 9) (sym its_terms) followed.digits;
-        each = kept_readable digits w.common.target past.first past.all addressed.0.target located fits;
+        each = kept_readable digits w.common.target past.first past.all addressed.0.target (addressed.1 t past at) fits;
         order = in_order track.kept follow;
-      }) in (
-        is.0,
-        (
-          is.1.0,
-          is.1.1 ∙ ap (λ xs. let m : Media = record {
-            target = w.common.target;
-            sequence = past.first;
-            ended = is_finished w.common.force;
-            segments = xs;
-          } in m) (segments_are digits track.kept follow),
-        ),
-      )
+      }) in
+      (is.0, (is.1.0, cc (is.1.1, segments_are digits track.kept follow)))
 
   pub followed_texts_are_read : FollowedTextsAreRead
   followed_texts_are_read terms history s t playlist url followed shows there =
-      let C : Type 0 = ReadsAs (live_text playlist) url (media_of playlist) in
-      mapped (playlist_with s.common) (slice_get s.tracks t) playlist C there (λ track at same.
-      let is = shown_track terms history s t track shows.leaves at in
-      let unit : ℕ = unit_of is.w.common.terms in
-      let own : playlist_with is.w.common (track_of unit is.past) ≡ playlist =
-      ap (λ (s : State). playlist_with s.common (track_of unit is.past)) is.state ∙ ap (playlist_with s.common) is.its_track ∙ same in
-      subst (λ (p : FollowedPlaylist). ReadsAs (live_text p) url (media_of p)) own
-      (past_is_read terms history is.w t is.past url followed shows.accepted is.whole is.at))
+      let (w, past, whole, at, same, made) = shown_playlist terms history s t playlist shows.leaves there in
+      subst (λ (p : FollowedPlaylist). ReadsAs (live_text p) url (media_of p)) made
+      (past_is_read terms history w t past url followed shows.accepted whole at)
 
 -- ---- reloads
-
 -- what holds of each of some updates holds of those that are accepted, which are no more
 abbrev accepted_behind : Terms → List Update → List Update → List Update
 accepted_behind terms history updates = fold (λ history u. with_accepted terms history u (update_refusal terms history u)) history updates
 
-module _ (P : Update → Type 0) (terms : Terms) where
-  one_accepted : (history : List Update) (u : Update) (refusal : Option Refusal) → All P history → P u
-      → All P (with_accepted terms history u refusal) × (length (with_accepted terms history u refusal) ≤ length history + 1)
-  one_accepted history u None all is =
-      (All-append P history (u ∷ []) all (All-cons P u [] is (All-nil P)), omega (arith, length-append history (u ∷ [])))
-  one_accepted history u (Some refusal) all is = (all, omega arith)
-
-  all_accepted : (updates history : List Update) → All P history → All P updates
-      → All P (accepted_behind terms history updates) × (length (accepted_behind terms history updates) ≤ length history + length updates)
-  all_accepted [] history all each = (all, omega arith)
-  all_accepted (u ∷ updates) history all each =
-      let one = one_accepted history u (update_refusal terms history u) all (All-head P u updates each) in
-      let rest = all_accepted updates (with_accepted terms history u (update_refusal terms history u)) one.0 (All-tail P u updates each) in
-      (rest.0, omega (arith, rest.1, one.1))
+all_accepted : (terms : Terms) (updates history : List Update) → AreRead history → AreRead updates
+    → AreRead (accepted_behind terms history updates) × (length (accepted_behind terms history updates) ≤ length history + length updates)
+all_accepted terms [] history all each = (all, omega arith)
+all_accepted terms (u ∷ updates) history all each =
+    let more : List Update = with_accepted terms history u (update_refusal terms history u) in
+    let pushed = All-push (λ u. IsReadIfAny (mpd_of u)) history u all (each 0 u (omega arith)) in
+    let one : AreRead more × (length more ≤ length history + 1) = grind (arith, pushed, length_push history u, all) in
+    let rest = all_accepted terms updates more one.0 (λ j d within. each (suc j) d (omega arith)) in
+    (rest.0, omega (arith, rest.1, one.1))
 
 accepted_followed : (terms : Terms) (updates : List Update) → IsFollowed terms updates → IsFollowed terms (accepted_of terms updates)
 accepted_followed terms updates is =
-    let kept = all_accepted (λ u. IsReadIfAny (mpd_of u)) terms updates [] (All-nil _) is.read in
+    let kept = all_accepted terms updates [] (All-nil _) is.read in
     record { url = is.url; digits = is.digits; read = kept.0; few = omega (arith, is.few, kept.1) }
 
 front_followed : (terms : Terms) (updates : List Update) (u : Update) → IsFollowed terms (updates ++ u ∷ []) → IsFollowed terms updates
-front_followed terms updates u is = record {
-  url = is.url;
-  digits = is.digits;
-  read = λ k d within. subst (λ v. IsReadIfAny (mpd_of v)) (get_or_append_left updates (u ∷ []) d k within)
-      (is.read k d (omega (arith, within, length-append updates (u ∷ []))));
-  few = omega (arith, is.few, length-append updates (u ∷ []));
-}
+front_followed terms updates u is =
+    let many = length-append updates (u ∷ []) in
+    let read : AreRead updates = λ k d within.
+    grind (arith, get_or_append_left updates (u ∷ []) d k within, is.read k d (omega (arith, within, many))) in
+    record { url = is.url; digits = is.digits; read = read; few = omega (arith, is.few, many) }
 
 -- what a reader gives of a text is what it is read as
-values_given : (fault : Option MediaFault) (media given : Media) → values_or_fault fault media ≡ Ok given → media ≡ given
-values_given None media given is = cc
-values_given (Some fault) media given is = absurd (cc)
-
 only_meaning : (text url : List ℕ) (media given : Media) → ReadsAs text url media → read_media text url ≡ Ok given → media ≡ given
 unfolding hls.media_of media_in
 only_meaning text url media given is found =
     let of_lines = ap (λ r. and_then (lines_or_fault r) (media_in (place_of text (length text)) url)) (sym is.1.0) ∙ found in
-    sym is.1.1 ∙ values_given _ (media_values url is.0) given of_lines
+    grind (arith, is.1.1, of_lines)
 
 module _ (texts : FollowedTextsAreRead) (reload : ReloadsAreLawful) (sentences : RulesAreSentences) (accepted : AcceptedAreAccepted) where
   pub followed_texts_reload : FollowedTextsReload
@@ -233,23 +320,21 @@ module _ (texts : FollowedTextsAreRead) (reload : ReloadsAreLawful) (sentences :
       let more : List Update = accepted_of terms (updates ++ u ∷ []) in
       let shows : Shows terms history is.before = record { accepted = accepted terms updates; leaves = is.leaves } in
       let shows_more : Shows terms more is.after = record { accepted = accepted terms (updates ++ u ∷ []); leaves = is.leaves_more } in
-      let grown : more ≡ history ++ u ∷ [] =
-      fold-append (λ history u. with_accepted terms history u (update_refusal terms history u)) [] updates (u ∷ [])
-      ∙ ap (with_accepted terms history u) is.accepted in
+      let grown : more ≡ history ++ u ∷ [] = fold-append (λ history u. with_accepted terms history u (update_refusal terms history u)) []
+      updates (u ∷ []) ∙ ap (with_accepted terms history u) is.accepted in
+      let front = accepted_followed terms updates (front_followed terms updates u is.followed) in
+      let shows_grown = subst (λ (us : List Update). Shows terms us is.after) grown shows_more in
       record {
         before = media_of old;
         after = media_of new;
-        old_is =
-            texts terms history is.before t old url (accepted_followed terms updates (front_followed terms updates u is.followed)) shows
-            is.old_is;
+        old_is = texts terms history is.before t old url front shows is.old_is;
         new_is = texts terms more is.after t new url (accepted_followed terms (updates ++ u ∷ []) is.followed) shows_more is.new_is;
-        lawful =
-            (sentences (media_of old) (media_of new)).0 (reload terms history u is.before is.after t old new shows
-            (subst (λ (us : List Update). Shows terms us is.after) grown shows_more) is.old_is is.new_is);
+        lawful = (sentences (media_of old) (media_of new)).0
+            (reload terms history u is.before is.after t old new shows shows_grown is.old_is is.new_is);
       }
 
   pub read_texts_reload : ReadTextsReload
   read_texts_reload terms updates u t old new url before after is old_read new_read =
       let own = followed_texts_reload terms updates u t old new url is in
-      subst (λ (m : Media). IsLawful m after) (only_meaning (live_text old) url own.before before own.old_is old_read)
-      (subst (λ (m : Media). IsLawful own.before m) (only_meaning (live_text new) url own.after after own.new_is new_read) own.lawful)
+      let old_same = only_meaning (live_text old) url own.before before own.old_is old_read in
+      rw (← old_same, ← only_meaning (live_text new) url own.after after own.new_is new_read) own.lawful

@@ -7,7 +7,7 @@ use Rattle.presentation.specs.{Counting.sections_of, Presented.{Presented, conte
 use Rattle.presentation.proofs.{Counts.{from_on, from_on-start}, Reached.none_within}
 use Rattle.live_meaning.specs.{Segments.id_at, Known.{Attributes, Known, attributes_of, ids_of, known_by}, Histories.Common, Refusals.Moved}
 use Rattle.live_meaning.specs.Refusals.{Refusal, differs_at, ids_in, moved_by, moved_told, told_if}
-use Rattle.live_meaning.proofs.{Allowed.told_none, Ids.{new_in, placed_at}, InForce.{id_there, known_grown}}
+use Rattle.live_meaning.proofs.{Histories.told_none, Accepted.{new_in, placed_at, id_there, known_grown}}
 use Rattle.live_judge.specs.Changed.{AreUnmoved, has_other, moved_at, moved_from, place_among}
 use Rattle.live_judge.proofs.Places.{known_before, new_stand}
 

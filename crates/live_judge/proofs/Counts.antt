@@ -8,7 +8,7 @@ use Rattle.presentation.specs.{Counting.sections_of, Presented.start_of}
 use Rattle.presentation.proofs.{Counts.{from_on, from_on-first, from_on-start}, Reached.none_within}
 use Rattle.live_meaning.specs.{Segments.{Segment, id_at, segment_with}, Known.ids_of, Histories.numbering_of, States.new_of}
 use Rattle.live_meaning.specs.Refusals.{ids_in}
-use Rattle.live_meaning.proofs.InForce.{id_there}
+use Rattle.live_meaning.proofs.Accepted.{id_there}
 use Rattle.live_judge.specs.{declared.track_next.TrackNext.TrackNext, Coming.{IsTrackNext, c_of, coming_of, p_of, t_of, IsQuietIn}}
 use Rattle.live_judge.specs.{New.{IsFirstNew, new_in, new_timings}, Shown.track_shown, declared.coming.Next.Next}
 use Rattle.live_judge.specs.declared.track.LiveTrack.{LiveTrack}

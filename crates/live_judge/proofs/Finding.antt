@@ -8,7 +8,7 @@ use Rattle.std.specs.{Prelude.{Bool, is_some, slice_get}, Option.option_map_or, 
 use Rattle.live_judge.specs.Known.{IsIndex, if_there}
 use Rattle.mpd_rules.specs.Laws.{are_once}
 use Rattle.live_meaning.specs.Segments.{place_of}
-use Rattle.live_meaning.proofs.{Grown.{get_drop, get_more}, Ids.placed_at}
+use Rattle.live_meaning.proofs.{Histories.{get_drop, get_more}, Accepted.placed_at}
 use Rattle.live_judge.proofs.Walks.{get_front}
 
 pub some_position : (p : List ℕ → Bool) (xs : List (List ℕ)) → is_some (position p xs) ≡ list_any p xs

@@ -10,8 +10,8 @@ use Rattle.live_meaning.specs.{Updates.{Terms, Values, unit_of}, Segments.{Segme
 use Rattle.live_meaning.specs.{Known.{ids_of, is_new}, Histories.{Common, begun_common, begun_past, begun_with, numbering_of}, States.State}
 use Rattle.live_meaning.specs.{States.{shown, track_of}, Refusals.{Refusal, begun_by as begun_state, begun_of, first_refusal_of, ids_in}}
 use Rattle.live_meaning.specs.Laws.{IsTyped}
-use Rattle.live_meaning.proofs.{Allowed.{IsFirst, first_allowed}, InForce.{IsInForce, first_in_force, known_grown}, Orders.listed_numbered}
-use Rattle.live_meaning.proofs.Tracks.{told-segments}
+use Rattle.live_meaning.proofs.{Histories.{IsFirst, first_allowed, told-segments}, Accepted.{IsInForce, first_in_force, known_grown}}
+use Rattle.live_meaning.proofs.Orders.{listed_numbered}
 use Rattle.live_judge.specs.{Changed.first_place, FirstStates.{FirstPeriodsStand, FirstStatesAreSound}, Known.StandsAt, Sound.IsSegmentOf}
 use Rattle.live_judge.specs.Sound.{IsSound, IsSoundTrack}
 use Rattle.live_judge.proofs.{Places.{first_within, stand_by}, Forced.{IsNew, mpd_new, listed, order}, Reaching.{IsReached, none_reached}}

@@ -13,9 +13,8 @@ use Rattle.live_meaning.specs.{Known.{goes_on, ids_of, is_new, known_by, periods
 use Rattle.live_meaning.specs.{Histories.{common_with, force_by, numbering_of}, States.State, Refusals.{Changed, are_alike, differs_at}}
 use Rattle.live_meaning.specs.Refusals.{ids_in, is_changed, lack_ids, moved_told, mpd_told, older_than, rewritten_told, starts_otherwise}
 use Rattle.live_meaning.specs.{Refusals.told_if, Laws.HasRisingPeriods}
-use Rattle.live_meaning.proofs.{Allowed.{IsAllowed, none_each, told_none}, Grown.get_more, Histories.mapped, Ids.place_is}
-use Rattle.live_meaning.proofs.{InForce.{IsInForce, IsKnownIn, later_in_force, id_there}, Times.period_timed, Orders.listed_have}
-use Rattle.live_meaning.proofs.Orders.{periods_are_listed_in_order}
+use Rattle.live_meaning.proofs.{Histories.{IsAllowed, none_each, told_none, get_more, mapped}, Accepted.{place_is, IsInForce, IsKnownIn}}
+use Rattle.live_meaning.proofs.{Accepted.{later_in_force, id_there}, Orders.{period_timed, listed_have, periods_are_listed_in_order}}
 use Rattle.live_judge.specs.{Changed.AreUnmoved, Known.StandsAt, Sound.{AreTimed, IsSound, StartsAt, IsSegmentOf}}
 use Rattle.live_judge.proofs.{Listing.starts_by, Places.{known_there, last_stands, place_there, same_stand, stands_there}}
 use Rattle.exact_time.specs.Time.{IsAtMost, Time, nanoseconds}
@@ -32,10 +31,10 @@ module _ (known : List Known) (p : Presented) (place : ℕ) (stands : StandsAt (
   -- one is known at its place
   known_at_place : (r : ℕ) → r < length p.sections → (k : Known) × (slice_get known (place + r) ≡ Some k)
   known_at_place r less =
-      mapped (λ (k : Known). k.id) (slice_get known (place + r)) (id_at p r) ((k : Known) × (slice_get known (place + r) ≡ Some k))
+      let (k, at, same) = mapped (λ (k : Known). k.id) (slice_get known (place + r)) (id_at p r)
       (sym (slice_get-map (λ (k : Known). k.id) known (place + r))
-      ∙ stands_there (ids_of known) (ids_in p) place r (id_at p r) stands (id_there p.sections r less))
-      (λ k at same. (k, at))
+      ∙ stands_there (ids_of known) (ids_in p) place r (id_at p r) stands (id_there p.sections r less)) in
+      (k, at)
 
   pub start_known : AreUnmoved known p place → (r : ℕ) → r < length p.sections
       → option_map (λ (k : Known). k.start) (slice_get known (place + r)) ≡ Some (start_of p r)

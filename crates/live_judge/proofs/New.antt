@@ -6,7 +6,7 @@ use Rattle.std.specs.{Prelude.{All, filter, flat_map}, List.range_with_len, Opti
 use Rattle.timeline.specs.Expansions.{Timing}
 use Rattle.presentation.specs.{declared.parts.Content.Content, Counting.sections_of, Presented.{Presented, content_at, listed_at, start_of}}
 use Rattle.followed.specs.Durations.{Last, durations, last_behind, last_with, told_behind}
-use Rattle.followed.proofs.{KeptPlaces.all_kept, PrintedSections.{goes_on, last_section, new_section}}
+use Rattle.followed.proofs.{KeptPlaces.all_kept, Sections.{goes_on, last_section, new_section}}
 use Rattle.live_meaning.specs.{Updates.unit_of, Segments.{Kept, Numbering, Segment, behind, id_at, is_later, listed_in_period, place_of}}
 use Rattle.live_meaning.specs.{Segments.segment_with, Histories.{Common, numbering_of}, States.{Track, new_durations, new_of}}
 use Rattle.live_judge.specs.New.{durations_in, new_in, new_timings}

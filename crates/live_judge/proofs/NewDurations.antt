@@ -12,7 +12,7 @@ use Rattle.presentation.proofs.GoingOn.{paced_there}
 use Rattle.followed.specs.Durations.{Last, durations, told_behind}
 use Rattle.live_meaning.specs.{Updates.{is_reset, unit_of}, Segments.{Numbering, is_later, segment_with}, Histories.numbering_of}
 use Rattle.live_meaning.specs.{States.new_of, Refusals.{Step, joint_told, step_behind}}
-use Rattle.live_meaning.proofs.Allowed.{told_none}
+use Rattle.live_meaning.proofs.Histories.{told_none}
 use Rattle.live_judge.specs.{declared.track.LastKept.LastKept, declared.track_next.TrackNext.TrackNext, Coming.{IsJoined, IsTrackNext}}
 use Rattle.live_judge.specs.{Coming.{c_of, coming_of, p_of, t_of, update_of}, New.{IsFirstNew, durations_in}, Shown.{common_shown, last_of}}
 use Rattle.live_judge.specs.{Shown.track_shown, Sound.IsSoundTrack}

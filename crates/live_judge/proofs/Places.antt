@@ -9,8 +9,8 @@ use Rattle.std.specs.{Prelude.slice_get, List.{list_all, list_any, position_or_l
 use Rattle.mpd_rules.specs.Laws.{are_once}
 use Rattle.presentation.specs.{declared.track.Section.Section, Presented.Presented}
 use Rattle.live_meaning.specs.{Segments.place_of, Known.{Known, goes_on, goes_on_from, ids_of, known_by, known_with}, Refusals.ids_in}
-use Rattle.live_meaning.proofs.{Grown.get_drop, Ids.{AreLast, last_again, last_with_new, new_in, place_is, placed_at}, InForce.known_grown}
-use Rattle.live_meaning.proofs.Kept.{few_known}
+use Rattle.live_meaning.proofs.{Histories.get_drop, Accepted.{AreLast, last_again, last_with_new, new_in, place_is, placed_at, known_grown}}
+use Rattle.live_meaning.proofs.Playlists.{few_known}
 use Rattle.live_judge.specs.{Known.StandsAt, Changed.{first_place, place_among}}
 use Rattle.live_judge.proofs.Walks.{get_min}
 

@@ -7,7 +7,7 @@ use Rattle.std.specs.Prelude.{All, IfSome}
 use Rattle.exact_time.specs.Time.{IsAtMost, IsTime, Time}
 use Rattle.exact_time.proofs.TimeOrder.{IsAtMost-from_before, IsAtMost-trans}
 use Rattle.followed.specs.{Durations.{Last, last_behind, last_with}, Order.{Behind, BehindLast, InOrder, IsTimed}}
-use Rattle.followed.proofs.PrintedSections.{last_section}
+use Rattle.followed.proofs.Sections.{last_section}
 use Rattle.live_meaning.specs.{Segments.{Segment, behind, is_later, place_behind, segments_of}, Histories.Common, States.Track}
 use Rattle.live_meaning.proofs.Orders.{IsNumbered, behind_have, behind_in_order}
 use Rattle.live_judge.specs.Sound.{AreOrdered, AreUpTo, DoesFollow, IsSegmentOf, IsSoundTrack, IsUpTo}

@@ -17,7 +17,7 @@ use Rattle.live_meaning.specs.{Histories.{least_length, numbering_of}, Refusals.
 use Rattle.live_meaning.specs.States.{new_told, removed_from}
 use Rattle.followed.proofs.KeptPlaces.{is_last_place}
 use Rattle.presentation.proofs.Grids.{All-at}
-use Rattle.live_meaning.proofs.{Orders.behind_have, Tracks.{length-told, told-segments}, Kept.listed_available}
+use Rattle.live_meaning.proofs.{Orders.behind_have, Histories.{length-told, told-segments}, Playlists.listed_available}
 
 -- of the places in the front the last one is found by what the end lacks
 pub last_in_front : (enough : ℕ) (ns ms : List ℕ) (place : ℕ) → place ≤ length ns

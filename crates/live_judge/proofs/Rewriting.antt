@@ -15,7 +15,7 @@ use Rattle.presentation.proofs.{Grids.All-at, Pace.expansion_has}
 use Rattle.live_meaning.specs.{Segments.{Segment, id_at, place_of, times_of}, Known.{Known, ids_of}, Refusals.{Rewritten, expansion_at}}
 use Rattle.live_meaning.specs.{Refusals.{ids_in, latest_in, latest_of, rewritten_by, rewritten_in}, Histories.availability_start_of}
 use Rattle.live_meaning.specs.Updates.{mpd_of}
-use Rattle.live_meaning.proofs.{Ids.new_in, InForce.{id_there, known_grown}, Times.{IsSoundIn, presented_sound}}
+use Rattle.live_meaning.proofs.{Accepted.{new_in, id_there, known_grown}, Orders.{IsSoundIn, presented_sound}}
 use Rattle.live_judge.specs.{declared.block.Block.Block, declared.rewritten.Pair.Pair, declared.track_next.TrackNext.TrackNext}
 use Rattle.live_judge.specs.{Blocks.{IsBlock, in_block, segments_in}, Changed.AreUnmoved, Coming.{IsTrackNext, p_of, t_of, Comes}}
 use Rattle.live_judge.specs.{Coming.update_of, Removal.kept_in, Rewriting.{pair_of, EndAtTimes}, Shown.common_shown, Sound.IsSegmentOf}

@@ -13,8 +13,8 @@ use Rattle.live_meaning.specs.{Histories.{availability_start_of, common_with, fo
 use Rattle.live_meaning.specs.States.{kept_and_new, new_of, new_told, removed_from, state_with, track_after, tracks_after}
 use Rattle.live_meaning.specs.Refusals.{ClockBack, Refusal, clock_told, ended_told, next_of, next_with, refusal_of, told_by, Window}
 use Rattle.live_meaning.specs.{Refusals.{count_kept, counts_kept, ids_in, over_in_all, over_in_track, told_if}, Removal.is_available}
-use Rattle.live_meaning.proofs.{Allowed.{IsAllowed, allowed, none_each, told_none}, Grown.get_more, Histories.mapped, Orders.behind_have}
-use Rattle.live_meaning.proofs.{Orders.listed_numbered, Tracks.told-segments, Kept.{few_known, resets_most}}
+use Rattle.live_meaning.proofs.{Histories.{IsAllowed, allowed, none_each, told_none, get_more, told-segments, mapped}, Orders.behind_have}
+use Rattle.live_meaning.proofs.{Orders.listed_numbered, Playlists.{few_known, resets_most}}
 use Rattle.live_judge.specs.{Sound.{IsSegmentOf, IsSound, IsSoundTrack}, SoundGoesOn.{SoundStatesGoOn, IsKept, NumbersFit, KeptGoOn}}
 use Rattle.live_judge.specs.{SoundGoesOn.{NumbersGoOn, PeriodsStandOn}, Changed.IsPlaceBy, Known.StandsAt}
 use Rattle.live_judge.proofs.{Forced.{IsNew, forced, listed, order}, Reaching.{IsReached, lasts_of, reached_behind, reached_left}}
@@ -76,9 +76,9 @@ module _ (s : State) (u : Update) (p : Presented) (is : IsSound s) (new : IsNew 
 
   stays : (x : Segment) → IsSegmentOf s.common x → IsSegmentOf c x
   stays x own = record {
-    starts = mapped (λ (k : Known). k.start) (slice_get s.common.known x.value.place) x.value.period_start
-        (option_map (λ (k : Known). k.start) (slice_get c.known x.value.place) ≡ Some x.value.period_start) own.starts
-        (λ k at same. ap (option_map (λ (k : Known). k.start)) (get_more s.common.known _ x.value.place k at) ∙ ap Some same);
+    starts =
+        let (k, at, same) = mapped (λ (k : Known). k.start) (slice_get s.common.known x.value.place) x.value.period_start own.starts in
+        ap (option_map (λ (k : Known). k.start)) (get_more s.common.known _ x.value.place k at) ∙ ap Some same;
     section = omega (arith, own.section, resets_rise (is_reset u) s.common.resets);
     listed = own.listed;
     ended = λ followed. later_ended (now_of u) s.common.instant

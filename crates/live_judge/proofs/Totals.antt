@@ -6,7 +6,7 @@ use Rattle.exact_time.specs.Tick.{time_of}
 use Rattle.presentation.proofs.{Counts.{from_on, from_on-start}, Grids.found}
 use Rattle.followed.specs.Durations.{Last}
 use Rattle.live_meaning.specs.{Updates.unit_of, Segments.id_at, Known.ids_of, Refusals.{ids_in, LongSegment, Refusal}, States.new_durations}
-use Rattle.live_meaning.proofs.InForce.{id_there}
+use Rattle.live_meaning.proofs.Accepted.{id_there}
 use Rattle.live_judge.specs.{declared.times.NewRun.NewRun, declared.track_next.TrackNext.TrackNext, Coming.{IsTrackNext, c_of, coming_of}}
 use Rattle.live_judge.specs.{Coming.{p_of, t_of}, New.durations_in, Removal.kept_in, Seconds.capped, Shown.last_from, Times.IsRun}
 use Rattle.live_judge.specs.{Times.{IsNextRun, left_of}, declared.times.NewTimes.NewTimes, Long.{is_long, longs_told}}

@@ -8,7 +8,7 @@ use Rattle.followed.{specs.Durations.durations, proofs.KeptPlaces.next_is_first}
 use Rattle.live_meaning.{specs.Removal.is_available, specs.Segments.Kept, specs.States.{Track, State, kept_and_new, new_count, new_of}}
 use Rattle.live_meaning.{specs.States.{new_told, removed_from, state_with, track_after, tracks_after}, specs.Updates.{Update, mpd_of}}
 use Rattle.live_meaning.{specs.Updates.unit_of, specs.Known.{Known, ids_of}, specs.Histories.{Common, common_with}, specs.Refusals.ids_in}
-use Rattle.live_meaning.{specs.Refusals.next_of, specs.Laws.{HistoriesGoOn, NumbersStaySmall, Shows}, proofs.Tracks.length-told}
+use Rattle.live_meaning.{specs.Refusals.next_of, specs.Laws.{HistoriesGoOn, NumbersStaySmall, Shows}, proofs.Histories.length-told}
 use Rattle.live_judge.{specs.declared.standing.Standing.Standing, specs.declared.track.LiveTrack.LiveTrack, specs.Shown.in_force}
 use Rattle.live_judge.{specs.Shown.{track_shown, common_shown, kepts_of, state_shown, track_of}, specs.declared.coming.Coming.Coming}
 use Rattle.live_judge.{specs.declared.fault.RefreshFault.RefreshFault, specs.declared.fault.RefreshFault.TheVariants.Memory}

@@ -26,8 +26,8 @@ use Rattle.live_meaning.{specs.Histories.{numbering_of, availability_start_of}, 
 use Rattle.live_meaning.specs.Refusals.{begun_of, counts_listed, first_appended_by, first_refusal_of, first_told_by, over_in_all}
 use Rattle.live_meaning.{specs.Refusals.{over_in_track, told_if, urls_in, urls_told, window_told, NotDynamic, ids_in}, specs.Known.Known}
 use Rattle.live_meaning.{specs.Known.{ids_of, known_at, known_with, periods_of}, specs.Playlists.{item_of, playlist_with}}
-use Rattle.live_meaning.{specs.Laws.{HistoriesBegin, IsTyped, NeverEmpty, NumbersStaySmall, Shows}, proofs.Allowed.{negated, none_mapped}}
-use Rattle.live_meaning.{proofs.Allowed.told_none, proofs.InForce.id_there, proofs.Kept.few_known}
+use Rattle.live_meaning.{specs.Laws.{HistoriesBegin, IsTyped, NeverEmpty, NumbersStaySmall, Shows}, proofs.Histories.{negated, none_mapped}}
+use Rattle.live_meaning.{proofs.Histories.told_none, proofs.Accepted.id_there, proofs.Playlists.few_known}
 use Rattle.live_judge.{specs.declared.fault.RefreshFault.RefreshFault, specs.Faults.{Tells, of_presentation, told}}
 use Rattle.live_judge.{specs.declared.standing.Standing.Standing, specs.Known.StandsAt, specs.declared.track.LiveTrack.LiveTrack}
 use Rattle.live_judge.{specs.FirstStates.FirstStatesAreSound, specs.Shown.{common_shown, in_force, state_shown, track_shown}}

@@ -10,8 +10,9 @@ use Rattle.presentation.{specs.declared.parts.Content.Content, specs.Kept.{print
 use Rattle.presentation.{specs.Printing.{begin_of, IsCounted, PrintedRest, with_durations}, specs.MeaningLaws.MadeAreMeant}
 use Rattle.presentation.{specs.Presented.{Presented, content_at, listed_at, listed_in, start_of, window_of}, specs.Verifying.fault_at}
 use Rattle.presentation.specs.Verifying.{part_faults, times_of}
-use Rattle.followed.{specs.Durations.{Last, duration_behind, last_behind, last_with, told_behind}, proofs.PrintedSections.goes_on}
-use Rattle.live_meaning.{specs.Segments.{Kept, Segment, segments_of, Numbering, segment_with}, proofs.Tracks.{last_goes_on, told-segments}}
+use Rattle.followed.{specs.Durations.{Last, duration_behind, last_behind, last_with, told_behind}, proofs.Sections.goes_on}
+use Rattle.live_meaning.specs.Segments.{Kept, Segment, segments_of, Numbering, segment_with}
+use Rattle.live_meaning.proofs.Histories.{last_goes_on, told-segments}
 use Rattle.live_session.specs.Making.{IsMadeBehind, IsNotMade, StandsBefore, behind_in, IsKeptNext, IsRefused, IsSection, IsSectionMakeable}
 use Rattle.live_session.{specs.Making.end_in, specs.Written.IsDated, specs.declared.made.Made.Made, specs.declared.maker.Maker.Maker}
 use Rattle.live_session.{specs.declared.maker.Section.Section, specs.Made.{all_made, made_kept}, specs.New.{later_listed, new_faults_in}}

@@ -10,7 +10,7 @@ use Rattle.presentation.specs.Presented.{Presented}
 use Rattle.live_meaning.specs.{Segments.{id_at, Segment, behind, is_later, place_of}, Updates.{mpd_of, is_reset}, Known.{Known, ids_of}}
 use Rattle.live_meaning.specs.{Known.{is_new, known_at, known_with, periods_of}, Refusals.{ids_in, Step, extent_of, joint_told}}
 use Rattle.live_meaning.specs.{Refusals.step_behind, States.{new_count, new_of, Track}, Histories.{numbering_of, Common}}
-use Rattle.live_meaning.proofs.{InForce.id_there, Allowed.told_none, Orders.{IsNumbered, behind_have, listed_numbered}}
+use Rattle.live_meaning.proofs.{Accepted.id_there, Histories.told_none, Orders.{IsNumbered, behind_have, listed_numbered}}
 use Rattle.live_judge.specs.{declared.coming.Next.Next, declared.coming.Coming.Coming, declared.standing.Standing.Standing, Coming.Comes}
 use Rattle.live_judge.specs.{Coming.{IsNext, p_of, update_of, c_of, coming_of, t_of, IsJoined}, Known.StandsAt}
 use Rattle.live_judge.specs.{declared.track.LiveTrack.LiveTrack, declared.track_next.TrackNext.TrackNext, Shown.{track_shown, common_shown}}

@@ -6,7 +6,7 @@ use Rattle.bridge_io.specs.Firsts.{first_of}
 use Rattle.presentation.{specs.Presented.{Presented, is_finished, looked_at}, proofs.Ending.none_behind, proofs.Reached.none_first}
 use Rattle.live_meaning.{specs.Updates.{Update, is_reset, mpd_of, now_of}, specs.Known.{ids_of, known_at}, specs.Histories.published_by}
 use Rattle.live_meaning.{specs.States.State, specs.Refusals.{Ended, appended_by, clock_told, ended_told, ids_in, makes_segments, urls_told}}
-use Rattle.live_meaning.proofs.Allowed.{told_none}
+use Rattle.live_meaning.proofs.Histories.{told_none}
 use Rattle.live_judge.{specs.declared.coming.Coming.Coming, specs.declared.coming.Next.Next, specs.declared.fault.RefreshFault.RefreshFault}
 use Rattle.live_judge.{specs.declared.standing.Standing.Standing, specs.declared.track.LiveTrack.LiveTrack, specs.Known.StandsAt}
 use Rattle.live_judge.{specs.Known.known_shown, specs.Coming.{IsJoined, IsNext, coming_of, p_of, timed_told, told_before, update_of}}

@@ -7,8 +7,8 @@ use Rattle.exact_time.{specs.Time.before, specs.Tick.time_of}
 use Rattle.timeline.specs.Expansions.{Timing}
 use Rattle.presentation.{specs.declared.parts.Content.Content, specs.Presented.{Presented, content_at, listed_at}}
 use Rattle.presentation.{specs.Printing.{FollowsNear, GoesOn, later_than}, proofs.Counts.{from_on-first, from_on-start}}
-use Rattle.followed.{specs.Durations.{Last, last_behind, last_with}, proofs.PrintedSections.last_section}
-use Rattle.live_meaning.{specs.Segments.{Numbering, Segment, is_later}, specs.States.Track, proofs.Tracks.last_goes_on}
+use Rattle.followed.{specs.Durations.{Last, last_behind, last_with}, proofs.Sections.last_section}
+use Rattle.live_meaning.{specs.Segments.{Numbering, Segment, is_later}, specs.States.Track, proofs.Histories.last_goes_on}
 use Rattle.live_judge.{specs.declared.track.LastKept.LastKept, specs.Shown.last_of, proofs.Contents.here_by_end, proofs.New.new_own}
 use Rattle.live_session.{specs.Making.{IsBelow, StandsBefore, behind_in, end_in}, specs.New.{IsBegun, joins, later_listed, new_in}}
 use Rattle.live_session.{specs.New.{new_timings, segments_in, track_at}, proofs.Refusing.some_as}

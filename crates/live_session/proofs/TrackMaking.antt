@@ -7,7 +7,7 @@ use Rattle.bridge_io.specs.Firsts.{first_of}
 use Rattle.presentation.{specs.declared.fault.PresentationFault.PresentationFault, specs.Counting.refusal, specs.Presented.Presented}
 use Rattle.presentation.{specs.Presented.{content_at, listed_at}, specs.declared.parts.Content.Content, proofs.Counts.from_on-first}
 use Rattle.live_meaning.{specs.Updates.unit_of, specs.Segments.{Kept, Numbering, Segment, segments_of}, specs.Histories.Common}
-use Rattle.live_meaning.{specs.States.{Track, new_count, new_of, new_told}, specs.Refusals.urls_told, proofs.Tracks.length-told}
+use Rattle.live_meaning.{specs.States.{Track, new_count, new_of, new_told}, specs.Refusals.urls_told, proofs.Histories.length-told}
 use Rattle.live_judge.{specs.declared.track.LastKept.LastKept, specs.declared.track.LiveTrack.LiveTrack, specs.Faults.of_presentation}
 use Rattle.live_judge.{specs.declared.fault.RefreshFault.TheVariants.Memory, specs.Shown.{last_of, track_shown}, proofs.Firsts.rest_at}
 use Rattle.live_judge.proofs.New.{none_earlier}

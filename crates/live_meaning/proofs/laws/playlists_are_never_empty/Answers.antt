@@ -1,4 +1,4 @@
-use Rattle.live_meaning.proofs.Kept.{never_empty, numbers_stay_small}
+use Rattle.live_meaning.proofs.Playlists.{never_empty, numbers_stay_small}
 use Rattle.live_meaning.proofs.laws.playlists_are_never_empty.Goals as goal
 
 pub returns : goal.returns

@@ -1,8 +1,8 @@
 -- Worked runs: one track, whose segments go on to an open end from the start of its one Period on.
-use Rattle.std.specs.Prelude.{◌≡◌, refl, ℕ, ◌*◌, ◌^◌, ℤ, pos, neg_ℤ, List, [], ◌∷◌, ◌++◌, map, true, false, Option, Some, None}
+use Rattle.std.specs.Prelude.{◌≡◌, ℕ, ◌*◌, ◌^◌, ℤ, pos, neg_ℤ, List, [], ◌∷◌, ◌++◌, map, true, false, Option, Some, None}
 use Rattle.bridge_io.specs.declared.media.Kind.TheVariants.{Video}
-use Rattle.exact_time.specs.{Floor.{floor_in, greatest_of}, Time.Time}
-use Rattle.timeline.specs.{Ratios.steps_within, declared.names.Names.TheVariants.Addresses, Expansions.{Closed, Endless, Extent, Member}}
+use Rattle.exact_time.specs.{Time.Time}
+use Rattle.timeline.specs.{declared.names.Names.TheVariants.Addresses, Expansions.{Closed, Endless, Extent, Member}}
 use Rattle.timeline.specs.Expansions.{Timing, repeated}
 use Rattle.url_parts.specs.declared.address.Part.{Part}
 use Rattle.presentation.specs.{declared.parts.Content.Content, declared.track.Section.Section, declared.track.Track.Track as Described}
@@ -14,34 +14,34 @@ use Rattle.live_meaning.specs.Refusals.{moved_told, older_than, refusal_behind, 
 use Rattle.followed.specs.Places.{last_place}
 use Rattle.hls_writer.specs.Finished.{rounded}
 
-abbrev second : ℕ → ℤ
+abbrev pub second : ℕ → ℤ
 second n = pos (n * 10 ^ 9)
 
-abbrev at : ℕ → Time
+abbrev pub at : ℕ → Time
 at n = record { ticks = pos n; scale = 1 }
 
-abbrev timing : (start end number : ℕ) → Timing
+abbrev pub timing : (start end number : ℕ) → Timing
 timing start end number = record { start = at start; end = at end; number = number }
 
-abbrev part : Part
+abbrev pub part : Part
 part = record { address = []; range = None }
 
-abbrev lasting : ℕ → Extent
+abbrev pub lasting : ℕ → Extent
 lasting n = record { start = at 0; end = at n }
 
-abbrev content : List Member → Content
+abbrev pub content : List Member → Content
 content members = record {
   initialization = part;
   runs = record { members = members; ticks = 1; origin = 0; offset = 0; first_number = 1; names = Addresses [] };
 }
 
-abbrev video : Described
+abbrev pub video : Described
 video = record { kind = Video; set = 0; language = None; codecs = None; bandwidth = 1000; size = None; frame_rate = None }
 
-abbrev period : (start : ℕ) → Section
+abbrev pub period : (start : ℕ) → Section
 period start = record { id = 112 ∷ []; start = start; length = None }
 
-abbrev presented : (start : ℕ) → List Member → Option Following → Presented
+abbrev pub presented : (start : ℕ) → List Member → Option Following → Presented
 presented start members following = record {
   tracks = video ∷ [];
   sections = period start ∷ [];
@@ -52,18 +52,18 @@ presented start members following = record {
 }
 
 -- with segments as long as the first one and a depth, at an instant
-abbrev live_by : Extent → (depth now : ℕ) → Presented
+abbrev pub live_by : Extent → (depth now : ℕ) → Presented
 live_by x depth now =
     presented 0 (Endless x ∷ []) (Some (record { instant = second now; availability_start = pos 0; depth = Some (depth * 10 ^ 9) }))
 
-abbrev live : (lasts depth now : ℕ) → Presented
+abbrev pub live : (lasts depth now : ℕ) → Presented
 live lasts depth now = live_by (lasting lasts) depth now
 
 -- thirteen segments of 2 s that never change
-abbrev finished : Presented
+abbrev pub finished : Presented
 finished = presented 0 (map Closed (repeated 13 (lasting 2))) None
 
-abbrev mpd : Values
+abbrev pub mpd : Values
 mpd = record {
   facts = record { live = true; availability_start = Some (pos 0); publish_time = None; depth = None; max_segment = None };
   left_out = 0;
@@ -71,36 +71,37 @@ mpd = record {
 }
 
 -- the first MPD, and each update with what it leaves in force
-abbrev first_by : (digits : ℕ) → Presented → (now : ℕ) → State
+abbrev pub first_by : (digits : ℕ) → Presented → (now : ℕ) → State
 first_by digits p now = shown (begun_with (begun_common (record { url = []; digits = digits }) mpd (second now) p))
 
-abbrev first : (depth now : ℕ) → State
+abbrev pub first : (depth now : ℕ) → State
 first depth now = first_by 6 (live 2 depth now) now
 
-abbrev tick : (depth now : ℕ) → State → State
+abbrev pub tick : (depth now : ℕ) → State → State
 tick depth now s = state_with s (Tick (second now)) (live 2 depth now)
 
-abbrev reset : (depth now : ℕ) → State → State
+abbrev pub reset : (depth now : ℕ) → State → State
 reset depth now s = state_with s (Reset mpd (second now)) (live 2 depth now)
 
 -- of each track the first kept segment's place, and the sections and numbers of the kept ones
-abbrev kept : State → List (ℕ × List (ℕ × ℕ))
+abbrev pub kept : State → List (ℕ × List (ℕ × ℕ))
 kept s = map (λ track. (track.first, map (λ k. (k.segment.section, k.segment.value.number)) track.kept)) s.tracks
 
 -- when the kept ones begin
-abbrev dates : State → List (List ℤ)
+abbrev pub dates : State → List (List ℤ)
 dates s = map (λ track. map (λ k. k.segment.value.date) track.kept) s.tracks
 
 -- segments of one section with these numbers
-abbrev of : (section : ℕ) → List ℕ → List (ℕ × ℕ)
+abbrev pub of : (section : ℕ) → List ℕ → List (ℕ × ℕ)
 of section numbers = map (λ n. (section, n)) numbers
 
-abbrev old : State
+abbrev pub old : State
 old = first 12 20
 
 -- a target of three seconds, of which nine are the last five of eight; known ids from a place on, and new ones behind them; a time that is
 -- rounded down; a track that would keep too many; 4.5 s above a target of 4 s, and a microsecond less that isn't
-small :
+abbrev pub SmallValues : Type 0
+SmallValues =
     (target_of 1000000 2000000 None ≡ 3)
     × (last_place 9000000 (2000000 ∷ 2000000 ∷ 2000000 ∷ 2000000 ∷ 2000000 ∷ 2000000 ∷ 2000000 ∷ 2000000 ∷ []) ≡ 3)
     × (goes_on ((1 ∷ []) ∷ (2 ∷ []) ∷ []) ((2 ∷ []) ∷ (3 ∷ []) ∷ []) ≡ true)
@@ -111,71 +112,64 @@ small :
     × (window_told (20001 ∷ []) ≡ Window 0 20001 ∷ [])
     × (rounded 1000000 4500000 ≡ 5)
     × (rounded 1000000 4499999 ≡ 4)
-small = (refl, refl, refl, refl, refl, refl, refl, refl, refl, refl)
 
 -- neither an instant nor a reset may come first; an update that is refused for what it changes makes no segment
-not_first : (terms : Terms) (now : ℤ) → (refusal_behind terms None (Tick now) ≡ Some NotOpen)
+abbrev pub NotFirst : Type 0
+NotFirst = (terms : Terms) (now : ℤ) → (refusal_behind terms None (Tick now) ≡ Some NotOpen)
     × (refusal_behind terms None (Reset mpd now) ≡ Some NotOpen)
-not_first terms now = (refl, refl)
 
 -- 12 s of depth, at 20 s and 24 s
-slides :
+abbrev pub Slides : Type 0
+Slides =
     (old.common.target ≡ 3)
     × (kept old ≡ (0, of 0 (5 ∷ 6 ∷ 7 ∷ 8 ∷ 9 ∷ 10 ∷ [])) ∷ [])
     × (kept (tick 12 24 old) ≡ (2, of 0 (7 ∷ 8 ∷ 9 ∷ 10 ∷ 11 ∷ 12 ∷ [])) ∷ [])
     × (dates (tick 12 24 old) ≡ map second (12 ∷ 14 ∷ 16 ∷ 18 ∷ 20 ∷ 22 ∷ []) ∷ [])
-unfolding repeated steps_within floor_in greatest_of state_with
-slides = (refl, refl, refl, refl)
 
 -- 4 s of depth, at 20 s, 24 s and 28 s: three target durations stay
-stays :
+abbrev pub Stays : Type 0
+Stays =
     (kept (tick 4 24 (first 4 20)) ≡ (0, of 0 (9 ∷ 10 ∷ 11 ∷ 12 ∷ [])) ∷ [])
     × (kept (tick 4 28 (tick 4 24 (first 4 20))) ≡ (1, of 0 (10 ∷ 11 ∷ 12 ∷ 13 ∷ 14 ∷ [])) ∷ [])
-unfolding repeated steps_within floor_in greatest_of state_with
-stays = (refl, refl)
 
 -- Segments of five thirds of a second, in tenths. The third one is first at 22 s, and is printed as it was when two stood before it.
-abbrev thirds : Extent
+abbrev pub thirds : Extent
 thirds = record { start = record { ticks = pos 0; scale = 3 }; end = record { ticks = pos 5; scale = 3 } }
 
-abbrev printed : State → List (List ℕ)
+abbrev pub printed : State → List (List ℕ)
 printed s = map (λ track. map (λ k. k.duration) track.kept) s.tracks
 
-thirds_go_on :
+abbrev pub ThirdsGoOn : Type 0
+ThirdsGoOn =
     let begun = first_by 1 (live_by thirds 12 20) 20 in
     (printed begun ≡ (16 ∷ 17 ∷ 17 ∷ 16 ∷ 17 ∷ 17 ∷ 16 ∷ 17 ∷ []) ∷ [])
     × (printed (state_with begun (Tick (second 22)) (live_by thirds 12 22)) ≡ (17 ∷ 16 ∷ 17 ∷ 17 ∷ 16 ∷ 17 ∷ 17 ∷ []) ∷ [])
-unfolding repeated steps_within floor_in greatest_of state_with
-thirds_go_on = (refl, refl)
 
 -- a change to segments of 3 s, of which the one from 15 s to 18 s stands against the kept one from 18 s to 20 s; segments of 5 s
 -- above a target of 3 s; an MPD a minute later, whose segments begin at 48 s
-refused :
+abbrev pub Refused : Type 0
+Refused =
     (refusal_of old (Tick (second 19)) ≡ Some (ClockBack (second 20) (second 19)))
     × (rewritten_told old.common (live 3 12 24) 0 old.tracks ≡ Rewritten 0 (Some (timing 18 20 10)) (timing 15 18 6) ∷ [])
     × (long_told (common_with old.common (Refresh mpd (second 25)) (live 5 12 25)) 0 old.tracks ≡ LongSegment 3 5000000 ∷ [])
     × (older_than (Some (second 5)) (Some (second 4)) ≡ Older (second 5) (second 4) ∷ [])
     × (moved_told old.common (presented 1 (Endless (lasting 2) ∷ []) None) ≡ Moved 0 ∷ [])
     × (steps_told (common_with old.common (Refresh mpd (second 60)) (live 2 12 60)) 0 old.tracks ≡ Step 0 (at 20) (at 48) ∷ [])
-unfolding refusal_of repeated steps_within floor_in greatest_of
-refused = (refl, refl, refl, refl, refl, refl)
 
 -- a static MPD at 28 s ends it
-abbrev last : State
+abbrev pub last : State
 last = state_with (tick 12 24 old) (Refresh mpd (second 28)) finished
 
-ends :
+abbrev pub Ends : Type 0
+Ends =
     (kept last ≡ (2, of 0 (7 ∷ 8 ∷ 9 ∷ 10 ∷ 11 ∷ 12 ∷ 13 ∷ [])) ∷ [])
     × (refusal_of last (Tick (second 30)) ≡ Some Ended)
-unfolding refusal_of repeated steps_within floor_in greatest_of state_with
-ends = (refl, refl)
 
 -- Resets a minute later and at 30 s begin a section. One at 60 s counts once, so that an MPD at 62 s goes on in its section.
-begins_anew :
+abbrev pub BeginsAnew : Type 0
+BeginsAnew =
     (kept (reset 12 60 old) ≡ (6, of 1 (25 ∷ 26 ∷ 27 ∷ 28 ∷ 29 ∷ 30 ∷ [])) ∷ [])
     × (dates (reset 12 60 old) ≡ map second (48 ∷ 50 ∷ 52 ∷ 54 ∷ 56 ∷ 58 ∷ []) ∷ [])
     × (kept (reset 12 30 old) ≡ (5, (0, 10) ∷ of 1 (11 ∷ 12 ∷ 13 ∷ 14 ∷ 15 ∷ [])) ∷ [])
     × (kept (state_with (reset 4 60 (first 4 20)) (Refresh mpd (second 62)) (live 2 4 62))
     ≡ (0, of 0 (9 ∷ 10 ∷ []) ++ of 1 (29 ∷ 30 ∷ 31 ∷ [])) ∷ [])
-unfolding repeated steps_within floor_in greatest_of state_with
-begins_anew = (refl, refl, refl, refl)
