@@ -5,6 +5,7 @@ pub mod Firsts
 pub mod Joined
 pub mod Loops
 pub mod NameSets
+pub mod Numerals
 pub mod Readings
 pub mod Renditions
 pub mod TextSets

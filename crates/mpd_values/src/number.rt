@@ -47,14 +47,18 @@ fn read_positive(digits: &str) -> Option<i64>
 pub(crate) fn read_numeral(text: &str) -> Option<u64>
     ensures { result ≡ spec.kept_if (spec.is_between 0 (2 ^ 64)) (spec.numeral_of text.now) }
 {
-    if !is_all_digits(text) {
+    let digits = text.as_bytes();
+    if digits.is_empty() {
         return None;
     }
-    text.parse::<u64>().ok()
-}
-
-fn is_all_digits(text: &str) -> bool
-    ensures { result ≡ list_all is_ascii_digit text.now }
-{
-    text.as_bytes().iter().all(|byte| byte.is_ascii_digit())
+    let mut number = 0_u64;
+    for digit in digits {
+        if !digit.is_ascii_digit() {
+            return None;
+        }
+        number = number
+            .checked_mul(10)?
+            .checked_add(u64::from(digit - b'0'))?;
+    }
+    Some(number)
 }

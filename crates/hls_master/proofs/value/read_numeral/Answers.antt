@@ -1,5 +1,5 @@
 use Rattle.std.proofs.Common.{◌∙◌, sym}
-use Rattle.mpd_values.proofs.Numerals.{parsed_is}
+use Rattle.hls_master.proofs.Numerals.{parsed_is}
 use Rattle.hls_master.proofs.value.read_numeral.Goals as goal
 
 pub returns : goal.returns
