@@ -4,3 +4,4 @@ pub mod Sound
 pub mod Standing
 pub mod Telling
 pub mod Untold
+pub mod Walks

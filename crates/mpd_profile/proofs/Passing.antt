@@ -18,7 +18,7 @@ abbrev pub Tells : Result (Unit {0}) RuleFault → List RuleFault → Type 0
 Tells result faults = Gives (λ u. u) refusal result (first_fault faults)
 
 -- nothing before, something before
-first_behind : (xs ys : List RuleFault) → first_fault xs ≡ Ok tt → first_fault (xs ++ ys) ≡ first_fault ys
+pub first_behind : (xs ys : List RuleFault) → first_fault xs ≡ Ok tt → first_fault (xs ++ ys) ≡ first_fault ys
 first_behind [] ys none = refl
 first_behind (x ∷ xs) ys none = absurd (cc)
 

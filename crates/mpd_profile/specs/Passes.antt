@@ -5,7 +5,7 @@ use Rattle.std.specs.{Prelude.{List, [], ◌∷◌, ◌++◌, flat_map, if◌the
 use Rattle.mpd_text.specs.{Nodes.element_of, Trees.{Head, Forest, Element}}
 use Rattle.mpd_profile.specs.{declared.fault.RuleFault.RuleFault, declared.listed.Addressing.Addressing}
 use Rattle.mpd_profile.specs.{declared.listed.Addressing.TheVariants.Segments, declared.visit.Pass.Pass}
-use Rattle.mpd_profile.specs.{declared.visit.Pass.TheVariants.{Features, Values}, Elements.child_of, Features.features_at}
+use Rattle.mpd_profile.specs.{declared.visit.Pass.TheVariants.{Both, Features, Values}, Elements.child_of, Features.features_at}
 use Rattle.mpd_profile.specs.{LeftOut.is_left_out, Refusals.values_at, Visits.{Parent, Visit, inside, parent_in, visit_in, visits_in}}
 use Rattle.mpd_profile.specs.Visits.{visits_of}
 
@@ -29,10 +29,12 @@ visit_shown visit before = record {
 abbrev pub addressing_of : Pass → Addressing
 addressing_of Features = Segments
 addressing_of (Values addressing) = addressing
+addressing_of Both = Segments
 
 unfoldable pub told_by : Pass → Visit → List RuleFault
 told_by Features visit = features_at visit
 told_by (Values addressing) visit = values_at addressing visit
+told_by Both visit = features_at visit ++ values_at Segments visit
 
 -- in the elements that stand in a parent, behind others
 unfoldable pub refused_inside : Pass → Parent → List Head → Forest → List RuleFault

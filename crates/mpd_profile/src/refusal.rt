@@ -1,10 +1,11 @@
 // The passes.
-ghost use Rattle.std.specs.Prelude.{◌≡◌, List, [], OnOk, flat_map};
+ghost use Rattle.std.specs.Prelude.{◌≡◌, List, [], Ok, OnOk, true};
 ghost use Rattle.bridge_io.specs.Answer.{Gives};
 ghost use Rattle.bridge_io.specs.Firsts.{first_fault};
 ghost use Rattle.mpd_text.specs.Nodes.{element_of, root_of};
 ghost use Rattle.mpd_text.specs.Trees.{Head};
 ghost use Rattle.mpd_profile.specs.declared.listed.Listed.TheVariants.{Mpd};
+ghost use Rattle.mpd_profile.specs.declared.visit.Pass.TheVariants.{Features, Values};
 ghost use Rattle.mpd_profile.specs.Behind.{IsBehind};
 ghost use Rattle.mpd_profile.specs.Heads.{is_dynamic};
 ghost use Rattle.mpd_profile.specs.Passes as passes;
@@ -36,8 +37,22 @@ pub fn check(alloc: Global, tree: &Tree, addressing: Addressing) -> Result<(), R
 {
     let root = tree.root();
     check_root(root)?;
+    if is_untold(alloc, root, addressing) {
+        return Ok(());
+    }
     check_all(alloc, root, Pass::Features)?;
     check_all(alloc, root, Pass::Values(addressing))
+}
+
+/// Whether neither pass refuses anything, as one walk over an MPD of plain segments shows. Where it doesn't, each pass tells.
+fn is_untold(alloc: Global, root: Node<'_>, addressing: Addressing) -> bool
+    ensures { result ≡ true → (first_fault (passes.refused_in Features (element_of root.entry)) ≡ Ok tt)
+        × (first_fault (passes.refused_in (Values addressing) (element_of root.entry)) ≡ Ok tt) }
+{
+    match addressing {
+        Addressing::Segments => check_all(alloc, root, Pass::Both).is_ok(),
+        Addressing::Index => false,
+    }
 }
 
 #[tactic(auto, unfolding(crate::specs::Refusals::root_refusals))]

@@ -24,6 +24,8 @@ use mpd_text::{Attr, Node};
 pub(crate) enum Pass {
     Features,
     Values(Addressing),
+    /// Both at each element, of an MPD of plain segments.
+    Both,
 }
 
 /// An element where it stands: in a parent behind others; the root stands in none.
@@ -41,7 +43,7 @@ impl Pass {
         ensures { result ≡ addressing_of self }
     {
         match self {
-            Pass::Features => Addressing::Segments,
+            Pass::Features | Pass::Both => Addressing::Segments,
             Pass::Values(addressing) => addressing,
         }
     }
@@ -57,9 +59,14 @@ impl<'a, 'b> Visit<'a, 'b> {
         match pass {
             Pass::Features => self.check_features(),
             Pass::Values(addressing) => self.check_values(addressing),
+            Pass::Both => {
+                self.check_features()?;
+                self.check_values(Addressing::Segments)
+            }
         }
     }
 
+    #[inline(always)]
     fn check_features(&self) -> Result<(), RuleFault>
         ensures { (before : List Head) → IsBehind self.now.siblings.now self.now.dynamic before
             → result ≡ first_fault (features.features_at (visit_shown self.now before)) }
@@ -120,6 +127,7 @@ impl<'a, 'b> Visit<'a, 'b> {
         }
     }
 
+    #[inline(always)]
     fn check_values(&self, addressing: Addressing) -> Result<(), RuleFault>
         ensures { (before : List Head) → IsBehind self.now.siblings.now self.now.dynamic before
             → result ≡ first_fault (refusals.values_at addressing (visit_shown self.now before)) }

@@ -45,6 +45,15 @@ module _ (addressing : Addressing) (root : Element) where
   sound_if (Ok u) none = sound_checked addressing root none
   sound_if (Err fault) told = tt
 
+pub returns-then-is_untold-clause-refused : goal.returns-then-is_untold-clause-refused
+returns-then-is_untold-clause-refused c =
+    let untold = rw c.root-root.ensures at c.if-is_untold.ensures refl in
+    values_tell c.args.addressing (root_of c.args.tree.now) (Ok tt) (rw c.root-root.ensures at c.in_ok-check_root.ensures) untold.0 untold.1
+
+pub returns-then-is_untold-clause-sound : goal.returns-then-is_untold-clause-sound
+returns-then-is_untold-clause-sound c =
+    sound_if c.args.addressing (root_of c.args.tree.now) (Ok tt) (returns-then-is_untold-clause-refused c)
+
 pub returns-in_err-check_root-clause-refused : goal.returns-in_err-check_root-clause-refused
 returns-in_err-check_root-clause-refused c =
     let p = err_from_is_err_and c.from_residual.result c.from_residual.ensures.1 in
