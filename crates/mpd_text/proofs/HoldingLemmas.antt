@@ -20,7 +20,7 @@ pub All-at : {X : Type 0} (P : X → Type 0) (xs : List X) (k : ℕ) (x : X) →
 All-at P xs k x all is = subst P (get_or_from_slice_get xs k x x is) (all k x (slice_get_within xs k x is))
 
 -- where nothing has changed
-pub elements_stay : (P : ElementRow → Type 0) (old new : Growing) → HasStayed old new → All P old.elements.items → All P new.elements.items
+pub elements_stay : (P : ElementRow → Type 0) (old new : Growing) → HasStayed old new → All P old.elements → All P new.elements
 elements_stay P old new same all = subst (All P) (sym same.elements) all
 
 pub attributes_stay : (P : AttributeRow → Type 0) (old new : Growing) → HasStayed old new → All P old.attributes.items
@@ -40,10 +40,10 @@ nothing_kept source kept utf8 = record {
 }
 
 pub elements_begun : (source kept : List ℕ) (name : KeptSpan) (data_start : ℕ) (old new : Growing) → IsUtf8 kept
-    → IsNameKept source kept name → HasBegun name data_start old new → All (IsElementKept source kept) old.elements.items
-    → All (IsElementKept source kept) new.elements.items
+    → IsNameKept source kept name → HasBegun name data_start old new → All (IsElementKept source kept) old.elements
+    → All (IsElementKept source kept) new.elements
 elements_begun source kept name data_start old new utf8 named begun all =
-    subst (All (IsElementKept source kept)) (sym begun.elements) (All-push (IsElementKept source kept) old.elements.items _ all
+    subst (All (IsElementKept source kept)) (sym begun.elements) (All-push (IsElementKept source kept) old.elements _ all
     (record { name = named; text = nothing_kept source kept utf8 }))
 
 pub names_begun : (source kept : List ℕ) (name : KeptSpan) (data_start : ℕ) (old new : Growing) → IsNameKept source kept name
@@ -80,10 +80,10 @@ order_begun loose name data_start old new at_end begun have ordered =
 
 -- an attribute is added
 pub elements_added : (source kept : List ℕ) (name value : KeptSpan) (old new : Growing) → HasAdded name value old new
-    → All (IsElementKept source kept) old.elements.items → All (IsElementKept source kept) new.elements.items
+    → All (IsElementKept source kept) old.elements → All (IsElementKept source kept) new.elements
 elements_added source kept name value old new added all =
-    let row = All-at (IsElementKept source kept) old.elements.items _ added.row all added.row_is in
-    subst (All (IsElementKept source kept)) (sym added.elements) (All-set (IsElementKept source kept) old.elements.items _ _
+    let row = All-at (IsElementKept source kept) old.elements _ added.row all added.row_is in
+    subst (All (IsElementKept source kept)) (sym added.elements) (All-set (IsElementKept source kept) old.elements _ _
     (record { name = row.name; text = row.text }) all)
 
 pub attributes_added : (source kept : List ℕ) (name value : KeptSpan) (old new : Growing) → IsNameKept source kept name
@@ -95,10 +95,10 @@ attributes_added source kept name value old new named valued added all =
 
 -- the innermost open element ends
 pub elements_ended : (source kept : List ℕ) (text : KeptSpan) (old new : Growing) → IsKept source kept text → HasEnded text old new
-    → All (IsElementKept source kept) old.elements.items → All (IsElementKept source kept) new.elements.items
+    → All (IsElementKept source kept) old.elements → All (IsElementKept source kept) new.elements
 elements_ended source kept text old new texted ended all =
-    let row = All-at (IsElementKept source kept) old.elements.items _ ended.row all ended.row_is in
-    subst (All (IsElementKept source kept)) (sym ended.elements) (All-set (IsElementKept source kept) old.elements.items _ _
+    let row = All-at (IsElementKept source kept) old.elements _ ended.row all ended.row_is in
+    subst (All (IsElementKept source kept)) (sym ended.elements) (All-set (IsElementKept source kept) old.elements _ _
     (record { name = row.name; text = texted }) all)
 
 pub names_ended : (count : ℕ) (text : KeptSpan) (old new : Growing) → HasEnded text old new → All (IsNameWithin count) old.open.items

@@ -6,6 +6,7 @@ pub mod KeptLemmas
 pub mod LineLemmas
 pub mod NodeLemmas
 pub mod OpeningLemmas
+pub mod PackedLemmas
 pub mod HoldingLemmas
 pub mod RowLemmas
 pub mod ReaderLemmas

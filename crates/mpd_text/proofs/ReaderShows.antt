@@ -25,7 +25,7 @@ pub placed_in : (r : Reader) → IsPlaced (view_of r)
 placed_in r = record {
   elements = r.elements_kept;
   attributes = r.attributes_kept;
-  within = subst (λ n. All (HasAttributesWithin n) r.growing.elements.items) r.growing.attributes.ok.0 r.growing.attributes_within;
+  within = subst (λ n. All (HasAttributesWithin n) r.growing.elements) r.growing.attributes.ok.0 r.growing.attributes_within;
 }
 
 -- more is kept, and nothing else changes
@@ -37,7 +37,7 @@ kept_shows old new os text more growing loose shown =
     let kept : new.text.now ++ string_bytes new.read ≡ (old.text.now ++ string_bytes old.read) ++ more.more =
     ap (λ t. t ++ string_bytes new.read) text ∙ kept_grown old.text.now (string_bytes old.read) (string_bytes new.read) more in
     shown_kept v (view_of new) more.more os (ordered_in old) (placed_in old)
-    (view_is (view_of new) (record v { kept = v.kept ++ more.more }) text kept loose (ap (λ g. g.elements.items) growing)
+    (view_is (view_of new) (record v { kept = v.kept ++ more.more }) text kept loose (ap (λ g. g.elements) growing)
     (ap (λ g. g.attributes.items) growing) (ap (λ g. g.open.items) growing)) shown
 
 -- character data is added
@@ -48,7 +48,7 @@ data_shows old new text o os same read growing loose shown =
     let v = view_of old in
     subst (λ w. OpenShown w (with_text o text ∷ os))
     (sym (view_is (view_of new) (data_view v text) same (ap (λ t. t ++ string_bytes new.read) same
-    ∙ ap (λ t. old.text.now ++ t) read) loose (ap (λ g. g.elements.items) growing) (ap (λ g. g.attributes.items) growing)
+    ∙ ap (λ t. old.text.now ++ t) read) loose (ap (λ g. g.elements) growing) (ap (λ g. g.attributes.items) growing)
     (ap (λ g. g.open.items) growing)))
     (data_shown v text o os (ordered_in old) (placed_in old) shown)
 
@@ -64,24 +64,24 @@ end_shows old mid new text o os shown same growing loose more moved new_same new
     let v = view_of old in
     let e = shown.are_shown.entry in
     let s = shown.are_shown.shown in
-    let elements : mid.growing.elements.items ≡ old.growing.elements.items = ap (λ g. g.elements.items) growing in
+    let elements : mid.growing.elements ≡ old.growing.elements = ap (λ g. g.elements) growing in
     let entries : mid.growing.open.items ≡ old.growing.open.items = ap (λ g. g.open.items) growing in
     let count : mid.growing.open.len ≡ length old.growing.open.items = mid.growing.open.ok.0 ∙ ap length entries in
-    let rows : mid.growing.elements.len ≡ length old.growing.elements.items = mid.growing.elements.ok.0 ∙ ap length elements in
+    let rows : length mid.growing.elements ≡ length old.growing.elements = ap length elements in
     let deep : length old.growing.open.items - 1 ≡ length os = omega (arith, shown.as_many) in
     let entry_is : slice_get old.growing.open.items (length os) ≡ Some ended.entry = ap (λ l. slice_get l (length os)) (sym entries)
     ∙ ap (slice_get mid.growing.open.items) (sym deep ∙ ap (λ n. n - 1) (sym count)) ∙ ended.entry_is in
     let same_entry : ended.entry ≡ e = same_Some ended.entry e (sym entry_is ∙ shown.are_shown.entry_is) in
-    let row_is : slice_get old.growing.elements.items e.row ≡ Some ended.row = ap (λ l. slice_get l e.row) (sym elements)
-    ∙ ap (λ x. slice_get mid.growing.elements.items x.row) (sym same_entry) ∙ ended.row_is in
+    let row_is : slice_get old.growing.elements e.row ≡ Some ended.row = ap (λ l. slice_get l e.row) (sym elements)
+    ∙ ap (λ x. slice_get mid.growing.elements x.row) (sym same_entry) ∙ ended.row_is in
     let same_row : ended.row ≡ s.row = same_Some ended.row s.row (sym row_is ∙ s.row_is) in
-    let new_rows : new.growing.elements.items ≡ set old.growing.elements.items e.row
-    (ended_row s.row text (length old.growing.elements.items)) =
+    let new_rows : new.growing.elements ≡ set old.growing.elements e.row
+    (ended_row s.row text (length old.growing.elements)) =
     ended.elements
-    ∙ ap (λ l. set l ended.entry.row (ended_row ended.row text mid.growing.elements.len)) elements
-    ∙ ap (λ x. set old.growing.elements.items x.row (ended_row ended.row text mid.growing.elements.len)) same_entry
-    ∙ ap (λ r. set old.growing.elements.items e.row (ended_row r text mid.growing.elements.len)) same_row
-    ∙ ap (λ n. set old.growing.elements.items e.row (ended_row s.row text n)) rows in
+    ∙ ap (λ l. set l ended.entry.row (ended_row ended.row text (length mid.growing.elements))) elements
+    ∙ ap (λ x. set old.growing.elements x.row (ended_row ended.row text (length mid.growing.elements))) same_entry
+    ∙ ap (λ r. set old.growing.elements e.row (ended_row r text (length mid.growing.elements))) same_row
+    ∙ ap (λ n. set old.growing.elements e.row (ended_row s.row text n)) rows in
     let new_entries : new.growing.open.items ≡ take (length old.growing.open.items - 1) old.growing.open.items =
     ended.entries ∙ ap (take (mid.growing.open.len - 1)) entries ∙ ap (λ n. take (n - 1) old.growing.open.items) count in
     let kept_is : old.text.now ++ string_bytes mid.read ≡ v.kept ++ more.more =
@@ -129,10 +129,10 @@ pub tag_kept : (old new : Reader) (t : Tag) (os : List Opened) → new.text.now 
 tag_kept old new t os text more growing loose shown = record {
   opened = kept_shows old new (opened_by t ∷ os) text more growing loose shown.opened;
   row = shown.row;
-  last = subst (λ g. slice_get g.elements.items (length g.elements.items - 1) ≡ Some shown.row) (sym growing) shown.last;
+  last = subst (λ g. slice_get g.elements (length g.elements - 1) ≡ Some shown.row) (sym growing) shown.last;
   to_end = subst (λ g. shown.row.attributes_end ≡ length g.attributes.items) (sym growing) shown.to_end;
   innermost = subst (λ g. (entry : OpenElement) → slice_get g.open.items (length os) ≡ Some entry
-      → suc entry.row ≡ length g.elements.items) (sym growing) shown.innermost;
+      → suc entry.row ≡ length g.elements) (sym growing) shown.innermost;
 }
 
 -- an attribute is added
@@ -145,19 +145,16 @@ pub attribute_shows : (old new : Reader) (name value : KeptSpan) (t : Tag) (name
 attribute_shows old new name value t named os text read loose added name_is place_is shown =
     let v = view_of old in
     let attribute : AttributeRow = record { name = name; value = value } in
-    let count : old.growing.elements.len ≡ length old.growing.elements.items = old.growing.elements.ok.0 in
     let attributes : old.growing.attributes.len ≡ length old.growing.attributes.items = old.growing.attributes.ok.0 in
-    let row_is : slice_get v.rows (length v.rows - 1) ≡ Some added.row = ap (λ n. slice_get v.rows (n - 1)) (sym count) ∙ added.row_is in
     let within = All-at (HasAttributesWithin old.growing.attributes.len) v.rows
-    (old.growing.elements.len - 1) added.row old.growing.attributes_within added.row_is in
-    let rows : new.growing.elements.items ≡ set v.rows (length v.rows - 1) (with_attributes_end added.row (length v.attributes + 1)) =
-    added.elements ∙ ap (λ n. set v.rows (n - 1) (with_attributes_end added.row (old.growing.attributes.len + 1))) count
-    ∙ ap (λ n. set v.rows (length v.rows - 1) (with_attributes_end added.row (n + 1))) attributes in
+    (length old.growing.elements - 1) added.row old.growing.attributes_within added.row_is in
+    let rows : new.growing.elements ≡ set v.rows (length v.rows - 1) (with_attributes_end added.row (length v.attributes + 1)) =
+    added.elements ∙ ap (λ n. set v.rows (length v.rows - 1) (with_attributes_end added.row (n + 1))) attributes in
     let is : view_of new ≡ added_view v added.row attribute = view_is (view_of new) (added_view v added.row attribute) text
     (ap (λ x. x ++ string_bytes new.read) text ∙ ap (λ x. old.text.now ++ x) read) loose rows added.attributes added.entries in
     subst (λ w. TagShown w (with_attribute t named (bytes_of v.kept value)) os) (sym is)
     (tag_added v added.row attribute t named (bytes_of v.kept value) os (ordered_in old)
-    (placed_in old) shown row_is within.ordered name_is place_is refl)
+    (placed_in old) shown added.row_is within.ordered name_is place_is refl)
 
 -- an element begins
 pub begin_shows : (old new : Reader) (name : KeptSpan) (os : List Opened) → new.text.now ≡ old.text.now
@@ -170,12 +167,10 @@ pub begin_shows : (old new : Reader) (name : KeptSpan) (os : List Opened) → ne
     }) os
 begin_shows old new name os text read loose begun shown =
     let v = view_of old in
-    let rows : new.growing.elements.items ≡ (begun_view v name).rows =
-    begun.elements ∙ ap (λ n. v.rows ++ new_row name n old.growing.attributes.len ∷ []) old.growing.elements.ok.0
-    ∙ ap (λ n. v.rows ++ new_row name (length v.rows) n ∷ []) old.growing.attributes.ok.0 in
+    let rows : new.growing.elements ≡ (begun_view v name).rows =
+    begun.elements ∙ ap (λ n. v.rows ++ new_row name (length v.rows) n ∷ []) old.growing.attributes.ok.0 in
     let entries : new.growing.open.items ≡ (begun_view v name).entries =
-    begun.entries ∙ ap (λ n. v.entries ++ record { row = n; name = name; data_start = old.loose.bytes.len } ∷ []) old.growing.elements.ok.0
-    ∙ ap (λ n. v.entries ++ record { row = length v.rows; name = name; data_start = n } ∷ []) old.loose.bytes.ok.0 in
+    begun.entries ∙ ap (λ n. v.entries ++ record { row = length v.rows; name = name; data_start = n } ∷ []) old.loose.bytes.ok.0 in
     let is : view_of new ≡ begun_view v name = view_is (view_of new) (begun_view v name) text (ap (λ x. x ++ string_bytes new.read) text
     ∙ ap (λ x. old.text.now ++ x) read) loose rows begun.attributes entries in
     subst (λ w. TagShown w (record { name = bytes_of v.kept name; place = place_of v.source (name.start - 1); attributes = [] }) os)
@@ -218,7 +213,7 @@ at_row None row P is p = cc
 -- whether a name stands among those before
 pub repeated_read : (r : Reader) (t : Tag) (os : List Opened) (named : Named) (value name : List ℕ) (repeated : Bool)
     (many next : ManyNames) → TagShown (view_of r) t os
-    → IfSome (slice_get r.growing.elements.items (r.growing.elements.len - 1))
+    → IfSome (slice_get r.growing.elements (length r.growing.elements - 1))
     (λ row. IsPrepared many (names_in r.text.now (drop row.attributes r.growing.attributes.items)) →
     (repeated ≡ is_among name (names_in r.text.now (drop row.attributes r.growing.attributes.items)))
     × (repeated ≡ false → IsPrepared next (names_in r.text.now (drop row.attributes r.growing.attributes.items) ++ name ∷ [])))
@@ -226,13 +221,11 @@ pub repeated_read : (r : Reader) (t : Tag) (os : List Opened) (named : Named) (v
     → (repeated ≡ is_among named.name (names_of t.attributes))
     × (repeated ≡ false → IsPrepared next (names_of (with_attribute t named value).attributes))
 repeated_read r t os named value name repeated many next shown read prepared name_is =
-    let last : slice_get r.growing.elements.items (r.growing.elements.len - 1) ≡ Some shown.row =
-    ap (λ n. slice_get r.growing.elements.items (n - 1)) r.growing.elements.ok.0 ∙ shown.last in
     let names = names_shown r t os shown in
     let P : ElementRow → Type 0 = λ row. IsPrepared many (names_in r.text.now (drop row.attributes r.growing.attributes.items)) →
     (repeated ≡ is_among name (names_in r.text.now (drop row.attributes r.growing.attributes.items)))
     × (repeated ≡ false → IsPrepared next (names_in r.text.now (drop row.attributes r.growing.attributes.items) ++ name ∷ [])) in
-    let found = at_row _ shown.row P last read (subst (IsPrepared many) (sym names) prepared) in (
+    let found = at_row _ shown.row P shown.last read (subst (IsPrepared many) (sym names) prepared) in (
       found.0 ∙ ap (is_among name) names ∙ ap (λ n. is_among n (names_of t.attributes)) name_is,
       λ no. subst (IsPrepared next) (ap (λ ns. ns ++ name ∷ []) names ∙ ap (λ n. names_of t.attributes ++ n ∷ []) name_is
           ∙ sym (map-append (λ a. a.name) t.attributes (record { name = named.name; value = value; place = named.place } ∷ [])))

@@ -1,5 +1,5 @@
 -- How the reader goes on up to the root's end.
-use Rattle.std.proofs.Common.{◌≡◌, ℕ, ◌<◌, true, false, List, [], ◌∷◌, Option, Some, None, MatchOption, arith, vec_len}
+use Rattle.std.proofs.Common.{◌≡◌, ℕ, ◌<◌, true, false, List, [], ◌∷◌, Option, Some, None, MatchOption, arith, length, vec_len}
 use Rattle.std.specs.Option.{is_some}
 use Rattle.mpd_text.specs.{declared.reader.Reader.Reader, Trees.Element, Rows.AreRooted, Steps.{Outside, inside, behind, Opened}}
 use Rattle.mpd_text.specs.{Steps.at_content, Positions.IsAt, Reading.{IsRead, view_of}, Showing.{OpenShown, RootShown, Shows}}
@@ -27,7 +27,7 @@ pub still_open : (bytes : List ℕ) (end : ℕ) (r : Reader) → IsRead bytes en
 still_open bytes end r read some = open_in bytes end r read.out read.is_at read.shows some
 
 closed_in : (bytes : List ℕ) (end : ℕ) (r : Reader) (out : Outside) → IsAt bytes end (at_content out false) → Shows (view_of r) out
-    → vec_len r.growing.open ≡ 0 → AreRooted r.growing.elements.items →
+    → vec_len r.growing.open ≡ 0 → AreRooted r.growing.elements →
     (root : Element) × IsAt bytes end (at_content (behind root) false) × RootShown (view_of r) root
 closed_in bytes end r (inside []) is shown none rooted = absurd (omega (arith, shown.are_shown, rooted.some))
 closed_in bytes end r (inside (o ∷ os)) is shown none rooted = absurd (omega (arith, shown.as_many, none))
@@ -35,10 +35,10 @@ closed_in bytes end r (behind root) is shown none rooted = (root, is, shown)
 
 -- where none is open, it stands behind the root
 pub root_read : (bytes : List ℕ) (end : ℕ) (r : Reader) → IsRead bytes end r → vec_len r.growing.open ≡ 0
-    → AreRooted r.growing.elements.items →
+    → AreRooted r.growing.elements →
     (root : Element) × IsAt bytes end (at_content (behind root) false) × RootShown (view_of r) root
 root_read bytes end r read none rooted = closed_in bytes end r read.out read.is_at read.shows none rooted
 
 -- before the root nothing is read
-pub nothing_shown : (r : Reader) → vec_len r.growing.elements ≡ 0 → vec_len r.growing.open ≡ 0 → OpenShown (view_of r) []
+pub nothing_shown : (r : Reader) → length r.growing.elements ≡ 0 → vec_len r.growing.open ≡ 0 → OpenShown (view_of r) []
 nothing_shown r no_rows none_open = record { as_many = omega (arith, none_open); are_shown = omega (arith, no_rows) }

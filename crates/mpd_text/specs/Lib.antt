@@ -13,6 +13,7 @@ pub mod Meaning
 pub mod Names
 pub mod Nodes
 pub mod Opening
+pub mod Packed
 pub mod Pairs
 pub mod Positions
 pub mod Reading

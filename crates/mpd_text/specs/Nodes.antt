@@ -7,11 +7,11 @@ use Rattle.mpd_text.specs.{Trees.{Attribute, Head, Element}, Views.{attribute_of
 
 -- the root that rows show of a text, with all that is in it
 abbrev pub root_in : List ℕ → Rows → Element
-root_in source rows = root_shown source (string_bytes rows.read) rows.elements.items rows.attributes.items
+root_in source rows = root_shown source (string_bytes rows.read) rows.elements rows.attributes.items
 
 -- the root of a tree, with all that is in it
 abbrev pub root_of : Tree → Element
-root_of tree = root_shown (string_bytes tree.source) (string_bytes tree.read) tree.elements.items tree.attributes.items
+root_of tree = root_shown (string_bytes tree.source) (string_bytes tree.read) tree.elements tree.attributes.items
 
 -- the element that a node stands for
 abbrev pub element_of : Node → Element
@@ -33,4 +33,4 @@ attributes_left walk = map (attribute_in walk.tree.now) walk.rest.now
 
 -- the elements that a walk has before it
 abbrev pub elements_left : NodeWalk → List Element
-elements_left walk = side_by_side (forest_of (head_in walk.tree.now) walk.tree.now.elements.items 0 walk.at walk.end)
+elements_left walk = side_by_side (forest_of (head_in walk.tree.now) walk.tree.now.elements 0 walk.at walk.end)

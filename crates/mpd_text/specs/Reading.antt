@@ -9,7 +9,7 @@ view_of r = record {
   source = r.text.now;
   kept = r.text.now ++ string_bytes r.read;
   loose = string_bytes r.loose;
-  rows = r.growing.elements.items;
+  rows = r.growing.elements;
   attributes = r.growing.attributes.items;
   entries = r.growing.open.items;
 }
@@ -22,7 +22,7 @@ pub record IsRead (bytes : List ℕ) (end : ℕ) (r : Reader) : Type 0 where
 
 -- no element is open only where the root has ended
 abbrev pub IsWholeIfClosed : Reader → Type 0
-IsWholeIfClosed r = vec_len r.growing.open ≡ 0 → AreRooted r.growing.elements.items
+IsWholeIfClosed r = vec_len r.growing.open ≡ 0 → AreRooted r.growing.elements
 
 -- character data has been read up to a `<` or the end
 pub record IsDataShown (bytes : List ℕ) (at : ℕ) (os : List Opened) (r : Reader) : Type 0 where

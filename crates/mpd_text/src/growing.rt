@@ -1,11 +1,12 @@
 // The rows of a tree while its text is read.
 ghost use Rattle.std.specs.Prelude.{◌≡◌, ◌≤◌, ◌<◌, ◌-◌, ◌==◌, [], All, length, MatchOption, OnErr, IfErr, Some, drop, slice_get, vec_len};
-ghost use Rattle.std.specs.Prelude.{IfOk, IfSome, OnOk};
+ghost use Rattle.std.specs.Prelude.{IfSome, OnOk};
 ghost use Rattle.mpd_text.specs.Opening.{AreBegun, AreRising, BeginWithRoot};
 ghost use Rattle.mpd_text.specs.Rows.{AreFollowed, AreNested, AreRooted, HasAttributesWithin};
 ghost use Rattle.mpd_text.specs.declared.fault.TextFault.TheVariants.{Memory};
 
 use crate::TextFault;
+use crate::element_table::{ElementTable, count};
 use crate::tree::{AttributeRow, ElementRow, KeptSpan};
 use std::alloc::Global;
 
@@ -24,39 +25,28 @@ pub(crate) struct OpenElement {
 /// Rows that grow in document order.
 #[derive(Drop)]
 pub(crate) struct Growing {
-    elements: Vec<ElementRow>,
+    elements: ElementTable,
     attributes: Vec<AttributeRow>,
     open: Vec<OpenElement>,
-    ghost attributes_within: { All (HasAttributesWithin (vec_len attributes)) elements.items },
-    ghost followed: { AreFollowed elements.items },
-    ghost nested: { AreNested elements.items },
-    ghost begun: { AreBegun elements.items open.items },
+    ghost attributes_within: { All (HasAttributesWithin (vec_len attributes)) elements },
+    ghost followed: { AreFollowed elements },
+    ghost nested: { AreNested elements },
+    ghost begun: { AreBegun elements open.items },
     ghost rising: { AreRising open.items },
     ghost rooted: { BeginWithRoot open.items },
     ghost shallow: { length open.items ≤ 32 },
-}
-
-/// A number of rows. There is none from 2 ^ 32 on.
-fn count(rows: usize) -> Result<u32, TextFault>
-    ensures ok { IfOk result (λ count. count ≡ rows) }
-    ensures fault { IfErr result (λ fault. fault ≡ Memory) }
-{
-    match u32::try_from(rows) {
-        Ok(count) => Ok(count),
-        Err(_) => Err(TextFault::Memory),
-    }
 }
 
 impl Growing {
     ghost use Rattle.mpd_text.specs.Growth.{HasAdded, HasBegun, HasEnded, HasStayed};
 
     pub(crate) fn new(alloc: Global) -> Growing
-        ensures elements { result.elements.items ≡ [] }
+        ensures elements { result.elements ≡ [] }
         ensures attributes { result.attributes.items ≡ [] }
         ensures entries { result.open.items ≡ [] }
     {
         Growing {
-            elements: Vec::new(alloc),
+            elements: ElementTable::new(alloc),
             attributes: Vec::new(alloc),
             open: Vec::new(alloc),
         }
@@ -78,7 +68,7 @@ impl Growing {
 
     /// Begins an element, whose attributes are to come, and whose character data will begin there.
     pub(crate) fn begin(&mut self, name: KeptSpan, data_start: usize) -> Result<(), TextFault>
-        requires fresh { vec_len self.old.open ≡ 0 → vec_len self.old.elements ≡ 0 }
+        requires fresh { vec_len self.old.open ≡ 0 → length self.old.elements ≡ 0 }
         requires room { vec_len self.old.open < 32 }
         ensures ok { OnOk result (HasBegun name data_start self.old self.new) }
         ensures stays { OnErr result (HasStayed self.old self.new) }
@@ -105,27 +95,31 @@ impl Growing {
 
     /// The attributes so far of the element that began last.
     pub(crate) fn own_attributes(&self) -> &[AttributeRow]
-        requires { 0 < vec_len self.now.elements }
-        ensures { IfSome (slice_get self.now.elements.items (vec_len self.now.elements - 1))
+        requires { 0 < length self.now.elements }
+        ensures { IfSome (slice_get self.now.elements (length self.now.elements - 1))
             (λ row. result.now ≡ drop row.attributes self.now.attributes.items) }
     {
-        match self.elements.last() {
-            None => &[],
-            Some(row) => &self.attributes[row.attributes as usize..],
-        }
+        let row = self.elements.get(self.elements.len() - 1);
+        &self.attributes[row.attributes as usize..]
     }
 
     /// Adds an attribute to the element that began last.
     pub(crate) fn add_attribute(&mut self, name: KeptSpan, value: KeptSpan) -> Result<(), TextFault>
-        requires { 0 < vec_len self.old.elements }
+        requires { 0 < length self.old.elements }
         ensures ok { OnOk result (HasAdded name value self.old self.new) }
         ensures stays { OnErr result (HasStayed self.old self.new) }
         ensures fault { IfErr result (λ fault. fault ≡ Memory) }
     {
         let end = count(self.attributes.len() + 1)?;
-        self.attributes.push(AttributeRow { name, value })?;
+        self.attributes.reserve(1)?;
         let last = self.elements.len() - 1;
-        self.elements[last].attributes_end = end;
+        let row = self.elements.get(last);
+        let longer = ElementRow {
+            attributes_end: end,
+            ..row
+        };
+        self.elements.set(last, longer)?;
+        self.attributes.push(AttributeRow { name, value })?;
         Ok(())
     }
 
@@ -133,21 +127,22 @@ impl Growing {
     pub(crate) fn end(&mut self, text: KeptSpan) -> Result<(), TextFault>
         requires { 0 < vec_len self.old.open }
         ensures ok { OnOk result (HasEnded text self.old self.new) }
-        ensures whole { OnOk result (vec_len self.new.open ≡ 0 → AreRooted self.new.elements.items) }
+        ensures whole { OnOk result (vec_len self.new.open ≡ 0 → AreRooted self.new.elements) }
         ensures stays { OnErr result (HasStayed self.old self.new) }
         ensures fault { IfErr result (λ fault. fault ≡ Memory) }
     {
         let next = count(self.elements.len())?;
-        let Some(element) = self.open.pop() else {
+        let Some(element) = self.innermost() else {
             return Ok(());
         };
-        let row = &mut self.elements[element.row];
-        row.text = text;
-        row.next = next;
+        let row = self.elements.get(element.row);
+        self.elements
+            .set(element.row, ElementRow { text, next, ..row })?;
+        self.open.pop();
         Ok(())
     }
 
-    pub(crate) fn finish(self) -> (Vec<ElementRow>, Vec<AttributeRow>)
+    pub(crate) fn finish(self) -> (ElementTable, Vec<AttributeRow>)
         ensures elements { result.0 ≡ self.elements }
         ensures attributes { result.1 ≡ self.attributes }
     {

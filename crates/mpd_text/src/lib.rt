@@ -5,6 +5,7 @@ mod attr;
 mod class;
 mod clean;
 mod decode;
+mod element_table;
 mod escape;
 mod fault;
 mod growing;

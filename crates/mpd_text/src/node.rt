@@ -1,5 +1,5 @@
 // Elements of a tree, and the walks over what is in them.
-ghost use Rattle.std.specs.Prelude.{◌≡◌, ◌<◌, ◌≤◌, ◌++◌, All, Some, map, option_map, slice_get, vec_len};
+ghost use Rattle.std.specs.Prelude.{◌≡◌, ◌<◌, ◌≤◌, ◌++◌, All, Some, length, map, option_map, slice_get};
 ghost use Rattle.std.specs.String.{string_bytes};
 ghost use Rattle.mpd_text.specs.Rows.{IsAttributeKept};
 
@@ -13,7 +13,7 @@ pub struct Node<'a> {
     tree: &'a Tree,
     // Its place in document order, the root being 0.
     index: usize,
-    ghost within: { index < vec_len tree.now.elements },
+    ghost within: { index < length tree.now.elements },
 }
 
 /// The attributes of an element, in document order.
@@ -31,7 +31,7 @@ pub struct NodeWalk<'a> {
     tree: &'a Tree,
     at: usize,
     end: usize,
-    ghost within: { end ≤ vec_len tree.now.elements },
+    ghost within: { end ≤ length tree.now.elements },
 }
 
 impl<'a> Node<'a> {
@@ -40,7 +40,7 @@ impl<'a> Node<'a> {
     ghost use Rattle.mpd_text.specs.Views.{attribute_named, attribute_shown, side_by_side};
 
     pub(crate) fn at(tree: &'a Tree, index: usize) -> Node<'a>
-        requires { index < vec_len tree.now.elements }
+        requires { index < length tree.now.elements }
         ensures tree { result.tree.now ≡ tree.now }
         ensures index { result.index ≡ index }
     {
@@ -68,10 +68,10 @@ impl<'a> Node<'a> {
         self.tree.text_of(self.row().text)
     }
 
-    fn row(&self) -> &'a ElementRow
-        ensures { slice_get self.now.tree.now.elements.items self.now.index ≡ Some result.now }
+    fn row(&self) -> ElementRow
+        ensures { slice_get self.now.tree.now.elements self.now.index ≡ Some result }
     {
-        &self.tree.elements[self.index]
+        self.tree.elements.get(self.index)
     }
 
     fn attribute_rows(&self) -> &'a [AttributeRow]
@@ -109,10 +109,11 @@ impl<'a> Node<'a> {
     pub fn children(&self) -> NodeWalk<'a>
         ensures { elements_left result ≡ side_by_side (element_of self.now).children }
     {
+        let end = self.row().next as usize;
         NodeWalk {
             tree: self.tree,
             at: self.index + 1,
-            end: self.row().next as usize,
+            end,
         }
     }
 }

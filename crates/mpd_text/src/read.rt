@@ -71,7 +71,7 @@ impl Tree {
 fn read_text(alloc: Global, text: &str) -> Result<Rows, TextFault>
     requires { IsClean text.now }
     ensures reading { Gives (root_in text.now) refusal result (reading_of text.now) }
-    ensures elements_kept { IfOk result (λ rows. All (IsElementKept text.now (text.now ++ string_bytes rows.read)) rows.elements.items) }
+    ensures elements_kept { IfOk result (λ rows. All (IsElementKept text.now (text.now ++ string_bytes rows.read)) rows.elements) }
     ensures attributes_kept { IfOk result (λ rows. All (IsAttributeKept text.now (text.now ++ string_bytes rows.read))
         rows.attributes.items) }
 {

@@ -64,7 +64,7 @@ pub(crate) struct Reader<'a> {
     // The character data so far of each open element, the innermost last.
     loose: String,
     ghost utf8: { ∥ IsUtf8 text.now ∥₁ },
-    ghost elements_kept: { All (IsElementKept text.now (text.now ++ string_bytes read)) growing.elements.items },
+    ghost elements_kept: { All (IsElementKept text.now (text.now ++ string_bytes read)) growing.elements },
     ghost attributes_kept: { All (IsAttributeKept text.now (text.now ++ string_bytes read)) growing.attributes.items },
     ghost names_within: { All (IsNameWithin (length text.now)) growing.open.items },
     ghost have_data: { HaveData (string_bytes loose) growing.open.items },
@@ -100,7 +100,7 @@ impl<'a> Reader<'a> {
 
     pub(crate) fn new(alloc: Global, text: &'a str) -> Reader<'a>
         ensures text { result.text.now ≡ text.now }
-        ensures elements { result.growing.elements.items ≡ [] }
+        ensures elements { result.growing.elements ≡ [] }
         ensures entries { result.growing.open.items ≡ [] }
         ensures loose { string_bytes result.loose ≡ [] }
     {
@@ -117,11 +117,11 @@ impl<'a> Reader<'a> {
     /// Reads the root, which is to begin there, and answers where it ends.
     pub(crate) fn read_root(&mut self, from: usize) -> Result<usize, TextFault>
         requires within { from ≤ length self.old.text.now }
-        requires elements { vec_len self.old.growing.elements ≡ 0 }
+        requires elements { length self.old.growing.elements ≡ 0 }
         requires entries { vec_len self.old.growing.open ≡ 0 }
         ensures text { self.new.text.now ≡ self.old.text.now }
         ensures bound { IfOk result (λ end. end ≤ length self.old.text.now) }
-        ensures whole { OnOk result (AreRooted self.new.growing.elements.items) }
+        ensures whole { OnOk result (AreRooted self.new.growing.elements) }
         ensures read { IsReady self.old.text.now from (inside []) → IsPastMisc self.old.text.now from →
             MatchResult result
             (λ end. (root : Element) × IsAt self.old.text.now end (at_content (behind root) false) × RootShown (view_of self.new) root)
@@ -150,7 +150,7 @@ impl<'a> Reader<'a> {
         requires whole { IsWholeIfClosed self.old }
         ensures text { self.new.text.now ≡ self.old.text.now }
         ensures bound { IfOk result (λ end. end ≤ length self.old.text.now) }
-        ensures whole { OnOk result (AreRooted self.new.growing.elements.items) }
+        ensures whole { OnOk result (AreRooted self.new.growing.elements) }
         ensures read { IsRead self.old.text.now from self.old →
             MatchResult result
             (λ end. (root : Element) × IsAt self.old.text.now end (at_content (behind root) false) × RootShown (view_of self.new) root)
@@ -210,7 +210,7 @@ impl<'a> Reader<'a> {
         requires within { from + 1 < length self.old.text.now }
         requires ascii { slice_index self.old.text.now from < 128 }
         requires starts { starts_name (slice_index self.old.text.now (from + 1)) ≡ true }
-        requires fresh { vec_len self.old.growing.open ≡ 0 → vec_len self.old.growing.elements ≡ 0 }
+        requires fresh { vec_len self.old.growing.open ≡ 0 → length self.old.growing.elements ≡ 0 }
         ensures text { self.new.text.now ≡ self.old.text.now }
         ensures bound { IfOk result (λ end. (from < end) × IsBehindAscii self.old.text.now end) }
         ensures whole { OnOk result (IsWholeIfClosed self.new) }
@@ -242,7 +242,7 @@ impl<'a> Reader<'a> {
     /// Begins the element whose name stands there.
     fn begin_element(&mut self, start: usize, end: usize) -> Result<(), TextFault>
         requires name { (span : KeptSpan) → span.start ≡ start → span.end ≡ end → IsNameKept self.old.text.now self.old.text.now span }
-        requires fresh { vec_len self.old.growing.open ≡ 0 → vec_len self.old.growing.elements ≡ 0 }
+        requires fresh { vec_len self.old.growing.open ≡ 0 → length self.old.growing.elements ≡ 0 }
         requires room { vec_len self.old.growing.open < 32 }
         ensures text { self.new.text.now ≡ self.old.text.now }
         ensures kept { string_bytes self.new.read ≡ string_bytes self.old.read }
@@ -259,9 +259,9 @@ impl<'a> Reader<'a> {
     /// Reads attributes up to the `>` or `/` of their tag, and answers where that stands.
     fn read_attributes(&mut self, from: usize) -> Result<usize, TextFault>
         requires within { from ≤ length self.old.text.now }
-        requires elements { 0 < vec_len self.old.growing.elements }
+        requires elements { 0 < length self.old.growing.elements }
         ensures text { self.new.text.now ≡ self.old.text.now }
-        ensures elements { vec_len self.new.growing.elements ≡ vec_len self.old.growing.elements }
+        ensures elements { length self.new.growing.elements ≡ length self.old.growing.elements }
         ensures opened { vec_len self.new.growing.open ≡ vec_len self.old.growing.open }
         ensures bound { IfOk result (λ close. (from ≤ close) × ((slice_get self.old.text.now close ≡ Some 62)
             ⊎ (slice_get self.old.text.now close ≡ Some 47))) }
@@ -292,9 +292,9 @@ impl<'a> Reader<'a> {
         requires within { from < length self.old.text.now }
         requires start { IsBehindAscii self.old.text.now from }
         requires starts { starts_name (slice_index self.old.text.now from) ≡ true }
-        requires elements { 0 < vec_len self.old.growing.elements }
+        requires elements { 0 < length self.old.growing.elements }
         ensures text { self.new.text.now ≡ self.old.text.now }
-        ensures elements { vec_len self.new.growing.elements ≡ vec_len self.old.growing.elements }
+        ensures elements { length self.new.growing.elements ≡ length self.old.growing.elements }
         ensures opened { vec_len self.new.growing.open ≡ vec_len self.old.growing.open }
         ensures bound { IfOk result (λ end. (from < end) × (end ≤ length self.old.text.now)) }
         ensures read { (os : List Opened) (t : Tag) → IsAt self.old.text.now from (at_tag os t true) → TagShown (view_of self.old) t os
@@ -346,13 +346,13 @@ impl<'a> Reader<'a> {
     fn add_attribute(&mut self, start: usize, end: usize, value: KeptSpan) -> Result<(), TextFault>
         requires name { (span : KeptSpan) → span.start ≡ start → span.end ≡ end → IsNameKept self.old.text.now self.old.text.now span }
         requires value { IsKept self.old.text.now (self.old.text.now ++ string_bytes self.old.read) value }
-        requires elements { 0 < vec_len self.old.growing.elements }
+        requires elements { 0 < length self.old.growing.elements }
         ensures text { self.new.text.now ≡ self.old.text.now }
         ensures kept { string_bytes self.new.read ≡ string_bytes self.old.read }
         ensures loose { string_bytes self.new.loose ≡ string_bytes self.old.loose }
         ensures added { OnOk result ((name : KeptSpan) × (name.start ≡ start) × (name.end ≡ end)
             × HasAdded name value self.old.growing self.new.growing) }
-        ensures elements { vec_len self.new.growing.elements ≡ vec_len self.old.growing.elements }
+        ensures elements { length self.new.growing.elements ≡ length self.old.growing.elements }
         ensures opened { vec_len self.new.growing.open ≡ vec_len self.old.growing.open }
         ensures fault { IfErr result (λ fault. fault ≡ Memory) }
     {
@@ -362,8 +362,8 @@ impl<'a> Reader<'a> {
 
     /// Whether an attribute before in the same tag has that name.
     fn is_repeated(&self, name: &'a [u8], many: &mut ManyNames<'a>) -> Result<bool, TextFault>
-        requires { 0 < vec_len self.now.growing.elements }
-        ensures read { IfSome (slice_get self.now.growing.elements.items (vec_len self.now.growing.elements - 1)) (λ row.
+        requires { 0 < length self.now.growing.elements }
+        ensures read { IfSome (slice_get self.now.growing.elements (length self.now.growing.elements - 1)) (λ row.
             IsPrepared many.old (names_in self.now.text.now (drop row.attributes self.now.growing.attributes.items)) →
             IfOk result (λ repeated.
             (repeated ≡ is_among name.now (names_in self.now.text.now (drop row.attributes self.now.growing.attributes.items))) ×
@@ -491,10 +491,10 @@ impl<'a> Reader<'a> {
     }
 
     pub(crate) fn finish(self) -> Rows
-        requires { AreRooted self.growing.elements.items }
+        requires { AreRooted self.growing.elements }
         ensures shown { (root : Element) → RootShown (view_of self.entry) root → root_in self.entry.text.now result ≡ root }
         ensures elements_kept { let source = self.entry.text.now in
-            All (IsElementKept source (source ++ string_bytes result.read)) result.elements.items }
+            All (IsElementKept source (source ++ string_bytes result.read)) result.elements }
         ensures attributes_kept { let source = self.entry.text.now in
             All (IsAttributeKept source (source ++ string_bytes result.read)) result.attributes.items }
     {

@@ -14,6 +14,7 @@ ghost use Rattle.mpd_text.specs.Rows.{
 
 use crate::TextFault;
 use crate::attr::Attr;
+use crate::element_table::ElementTable;
 use crate::lines::LineCounts;
 use crate::node::Node;
 use bridge_io::Place;
@@ -22,8 +23,8 @@ use bridge_io::Place;
 /// there.
 #[derive(Clone, Copy, Debug)]
 pub(crate) struct KeptSpan {
-    start: u32,
-    end: u32,
+    pub(crate) start: u32,
+    pub(crate) end: u32,
 }
 
 impl KeptSpan {
@@ -78,12 +79,12 @@ pub(crate) struct AttributeRow {
 pub(crate) struct Rows {
     // What is read otherwise than it stands in the source: texts of elements, and values with references.
     pub(crate) read: String,
-    pub(crate) elements: Vec<ElementRow>,
+    pub(crate) elements: ElementTable,
     pub(crate) attributes: Vec<AttributeRow>,
-    ghost attributes_within: { All (HasAttributesWithin (vec_len attributes)) elements.items },
-    ghost followed: { AreFollowed elements.items },
-    ghost nested: { AreNested elements.items },
-    ghost rooted: { AreRooted elements.items },
+    ghost attributes_within: { All (HasAttributesWithin (vec_len attributes)) elements },
+    ghost followed: { AreFollowed elements },
+    ghost nested: { AreNested elements },
+    ghost rooted: { AreRooted elements },
 }
 
 /// The elements of a text, from the root on.
@@ -93,15 +94,15 @@ pub struct Tree {
     // As the rows have it.
     pub(crate) read: String,
     pub(crate) lines: LineCounts,
-    pub(crate) elements: Vec<ElementRow>,
+    pub(crate) elements: ElementTable,
     pub(crate) attributes: Vec<AttributeRow>,
     ghost counted: { AreCounted (string_bytes source) (length (string_bytes source) / block_size) lines.before.items },
-    ghost elements_kept: { All (IsElementKept (string_bytes source) (string_bytes source ++ string_bytes read)) elements.items },
+    ghost elements_kept: { All (IsElementKept (string_bytes source) (string_bytes source ++ string_bytes read)) elements },
     ghost attributes_kept: { All (IsAttributeKept (string_bytes source) (string_bytes source ++ string_bytes read)) attributes.items },
-    ghost attributes_within: { All (HasAttributesWithin (vec_len attributes)) elements.items },
-    ghost followed: { AreFollowed elements.items },
-    ghost nested: { AreNested elements.items },
-    ghost rooted: { AreRooted elements.items },
+    ghost attributes_within: { All (HasAttributesWithin (vec_len attributes)) elements },
+    ghost followed: { AreFollowed elements },
+    ghost nested: { AreNested elements },
+    ghost rooted: { AreRooted elements },
 }
 
 impl Tree {

@@ -7,5 +7,5 @@ use Rattle.mpd_text.proofs.node.Node.attribute_rows.Goals as goal
 pub returns-clause-shown : goal.returns-clause-shown
 returns-clause-shown c =
     ap (λ rows. map (attribute_in c.args.self.now.tree.now)
-    (slice_range rows c.row-row.result.now.attributes c.row-row.result.now.attributes_end)) c.deref.ensures.value
-    ∙ sym (ap (λ e. e.head.attributes) (node_shows c.args.self.now c.row-row.result.now c.row-row.ensures))
+    (slice_range rows c.row-row.result.attributes c.row-row.result.attributes_end)) c.deref.ensures.value
+    ∙ sym (ap (λ e. e.head.attributes) (node_shows c.args.self.now c.row-row.result c.row-row.ensures))

@@ -8,4 +8,4 @@ pub returns : goal.returns
 returns c =
     c.place_of.ensures
     ∙ ap (λ k. place_of (string_bytes c.args.self.now.tree.now.source) (k - 1)) c.start.ensures
-    ∙ sym (ap (λ e. e.head.place) (node_shows c.args.self.now c.row.result.now c.row.ensures))
+    ∙ sym (ap (λ e. e.head.place) (node_shows c.args.self.now c.row.result c.row.ensures))

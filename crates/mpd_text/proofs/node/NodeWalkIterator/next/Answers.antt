@@ -8,10 +8,10 @@ returns-then-self-clause-steps c =
     (none, none)
 
 pub returns-clause-steps : goal.returns-clause-steps
-returns-clause-steps c = one_left c.args.self.now.tree.now c.args.self.now.at c.args.self.now.end c.row.result.now
+returns-clause-steps c = one_left c.args.self.now.tree.now c.args.self.now.at c.args.self.now.end c.row.result
     (omega arith) c.row.ensures
 
 pub returns-clause-goes : goal.returns-clause-goes
 returns-clause-goes c =
-    let steps = one_left c.args.self.now.tree.now c.args.self.now.at c.args.self.now.end c.row.result.now (omega arith) c.row.ensures in
+    let steps = one_left c.args.self.now.tree.now c.args.self.now.at c.args.self.now.end c.row.result (omega arith) c.row.ensures in
     record { on = λ _. (tt, tt, omega (arith, ap length steps)); keeps = tt; rests = λ _. tt }

@@ -1,5 +1,5 @@
 use Rattle.mpd_text.proofs.reader.Reader.is_repeated.Goals as goal
-use Rattle.std.proofs.Common.{◌≡◌, ◌-◌, ◌++◌, ◌∷◌, [], List, ℕ, subst, false, vec_len, IfOk}
+use Rattle.std.proofs.Common.{◌≡◌, ◌-◌, ◌++◌, ◌∷◌, [], List, ℕ, subst, false, length, IfOk}
 use Rattle.std.specs.List.{slice_get}
 use Rattle.bridge_io.specs.Texts.{is_among}
 use Rattle.mpd_text.specs.{ManyNames.IsPrepared, Names.names_in, declared.tree.AttributeRow.AttributeRow}
@@ -11,7 +11,7 @@ returns-clause-read c =
     → IfOk c.repeats.result (λ repeated.
     (repeated ≡ is_among c.args.name.now (names_in bytes rows))
     × (repeated ≡ false → IsPrepared c.repeats.new.self (names_in bytes rows ++ c.args.name.now ∷ []))) in
-    of_row (slice_get c.args.self.now.growing.elements.items (vec_len c.args.self.now.growing.elements - 1))
+    of_row (slice_get c.args.self.now.growing.elements (length c.args.self.now.growing.elements - 1))
     c.own_attributes-before.result.now c.args.self.now.growing.attributes.items
     (P c.args.self.now.text.now) c.own_attributes-before.ensures
     (subst (λ bytes. P bytes c.own_attributes-before.result.now) c.as_bytes-bytes.ensures.value c.repeats.ensures.read)

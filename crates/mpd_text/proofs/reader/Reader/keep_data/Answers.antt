@@ -42,7 +42,7 @@ invariant_of-self-2-clause-elements_kept c =
     let more = moved (string_bytes r.read) (string_bytes c.push_str.new.self) c.as_str.result.now c.range_from.result.now
     (string_bytes r.loose) c.args.from (IsUtf8-string_bytes r.loose) cut c.in_ok-push_str.ensures.bytes c.range_from.ensures.value
     c.as_str.ensures.value in
-    elements_grown r.text.now (string_bytes r.read) (string_bytes c.push_str.new.self) r.growing.elements.items more r.elements_kept
+    elements_grown r.text.now (string_bytes r.read) (string_bytes c.push_str.new.self) r.growing.elements more r.elements_kept
 
 pub invariant_of-self-2-clause-attributes_kept : goal.invariant_of-self-2-clause-attributes_kept
 invariant_of-self-2-clause-attributes_kept c =

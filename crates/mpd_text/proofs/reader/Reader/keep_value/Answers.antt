@@ -9,7 +9,7 @@ use Rattle.mpd_text.proofs.KeptLemmas.{boundary_kept, range_left}
 pub invariant_of-self-clause-elements_kept : goal.invariant_of-self-clause-elements_kept
 invariant_of-self-clause-elements_kept c =
     let r = c.args.self.now in
-    elements_grown r.text.now (string_bytes r.read) (string_bytes c.read_value.new.read) r.growing.elements.items
+    elements_grown r.text.now (string_bytes r.read) (string_bytes c.read_value.new.read) r.growing.elements
     c.read_value.ensures.appends r.elements_kept
 
 pub invariant_of-self-clause-attributes_kept : goal.invariant_of-self-clause-attributes_kept

@@ -8,7 +8,7 @@ use Rattle.mpd_text.proofs.AttributePositions.{IsTagSoFar}
 abbrev pub invariant-attributes : goal.invariant-attributes
 invariant-attributes l = record {
   text : l.self.text.now ≡ l.fn.self.text.now;
-  elements : vec_len l.self.growing.elements ≡ vec_len l.fn.self.growing.elements;
+  elements : length l.self.growing.elements ≡ length l.fn.self.growing.elements;
   opened : vec_len l.self.growing.open ≡ vec_len l.fn.self.growing.open;
   behind : l.fn.from ≤ l.at;
   within : l.at ≤ length l.fn.self.text.now;
