@@ -1,5 +1,6 @@
 -- The last decimal digits of a number.
-use Rattle.std.proofs.{Common.{◌≡◌, ℕ, zero, suc, ◌+◌, ◌-◌, length, take, drop, refl, ap, arith}, lemmas.List.take_all}
+use Rattle.std.proofs.Common.{◌≡◌, ℕ, zero, suc, ◌+◌, ◌-◌, List, ◌++◌, length, length-append, take, drop, refl, ap, arith}
+use Rattle.std.proofs.lemmas.List.{drop-append-le, take_all}
 use Rattle.iso_time.specs.Digits.{padded_digits}
 
 length-padded_digits : (width n : ℕ) → length (padded_digits width n) ≡ width
@@ -19,3 +20,12 @@ last_digits width before n nine =
     let all : 9 ≡ before + width = omega arith in
     rw (drop-padded_digits before width 9 n all) (take_all (9 - before) (padded_digits width n)
     (omega (arith, length-padded_digits width n)))
+
+-- and what stands behind them
+pub last_ended : (width before n : ℕ) (end : List ℕ) → before + width ≡ 9
+    → take (9 + length end - before) (drop before (padded_digits 9 n ++ end)) ≡ padded_digits width n ++ end
+last_ended width before n end nine =
+    let all : 9 ≡ before + width = omega arith in let nine_long = length-padded_digits 9 n in
+    let behind = drop-append-le before (padded_digits 9 n) end (omega (arith, nine_long)) in
+    rw (behind, drop-padded_digits before width 9 n all) (take_all (9 + length end - before) (padded_digits width n ++ end)
+    (omega (arith, length-padded_digits width n, length-append (padded_digits width n) end)))

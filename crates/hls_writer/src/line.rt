@@ -1,5 +1,5 @@
 // Lines of playlists.
-ghost use Rattle.std.specs.Prelude.{◌≡◌, ◌+◌, ◌/◌, ◌%◌, ◌<◌, ◌++◌, ◌∷◌, [], All, decimal};
+ghost use Rattle.std.specs.Prelude.{◌≡◌, ◌+◌, ◌/◌, ◌%◌, ◌<◌, ◌++◌, ◌∷◌, [], All, codes, decimal};
 ghost use Rattle.iso_time.specs.Digits.{padded_digits};
 ghost use Rattle.bridge_io.specs.Adding.{Adds};
 ghost use Rattle.hls_writer.specs.Lines.{line_text, lines_text, initialization, duration, uri};
@@ -126,14 +126,13 @@ pub fn push_duration<F: Store>(sheet: &mut Sheet<F>, digits: Digits, units: u64)
         Piece::Number(units / u64::from(digits.unit())),
         Piece::Text(b"."),
         Piece::Text(&decimals[before..]),
-        Piece::Text(b",\n"),
     ])
 }
 
-/// The last nine decimal digits of a number, with zeros in front.
+/// The last nine decimal digits of a number, with zeros in front, and the end of their line.
 #[tactic(auto, unfolding(iso_time::specs::Digits::padded_digits))]
-fn nine_decimals(number: u64) -> [u8; 9]
-    ensures { result ≡ padded_digits 9 number }
+fn nine_decimals(number: u64) -> [u8; 11]
+    ensures { result ≡ padded_digits 9 number ++ codes ",\n" }
 {
     [
         decimal_at(number, 100_000_000),
@@ -145,6 +144,8 @@ fn nine_decimals(number: u64) -> [u8; 9]
         decimal_at(number, 100),
         decimal_at(number, 10),
         decimal_at(number, 1),
+        b',',
+        b'\n',
     ]
 }
 
