@@ -1,9 +1,11 @@
 -- What `check` promises, from what its parts say.
+use Rattle.bridge_jobs.specs.declared.jobs.Job.TheVariants as jobs
 use Rattle.bridge_courses.specs.declared.status.Verdict.TheVariants as verdict
 use Rattle.std.proofs.Common.{◌≡◌, ◌^◌, ℕ, List, IsTrue, Option, None, Some, IfSome, option_map, Result, Ok, Err, refl, sym, ◌∙◌, ap, subst}
 use Rattle.std.specs.Prelude.{◌↔◌}
 use Rattle.bridge_io.proofs.AndThen.{steps_of}
 use Rattle.bridge_io.specs.{Names.is_name, Outside.Files}
+use Rattle.bridge_jobs.specs.declared.jobs.CheckJob.{CheckJob}
 use Rattle.laws_of_mpds.specs.{PresentedFiles.PresentedMeanTheirFiles, Written.ReadHaveRates}
 use Rattle.meaning.specs.{Differences.first_difference, Meanings.Meaning, Same.Agrees, declared.difference.Difference.Difference}
 use Rattle.presentation.proofs.Filling.{ok_under}
@@ -14,7 +16,6 @@ use Rattle.bridge_report.specs.declared.refusal.Refusal.TheVariants.{NotStatic}
 use Rattle.bridge_playlists.specs.{Places.store_place_of, Playlists.presented_at, declared.place.StorePlace.StorePlace}
 use Rattle.bridge_core.specs.Check.{check_at, check_outcome, compared, differ_line, judged, places_of, both_with, verdict_of}
 use Rattle.bridge_core.specs.{Courses.{course_of, course_of_job, outcome_of_job}, Promises.{AreMeant, DifferIsApart, DoneIsAgreed}}
-use Rattle.bridge_core.specs.{Promises.check_asked, declared.check.Check.Check}
 use Rattle.bridge_steps.specs.{Endings.placed, Manifests.{checked_presentation, mpd_at, mpd_in}}
 use Rattle.meaning.proofs.AlikeLemmas.{first_alike}
 use Rattle.bridge_core.proofs.{Asked.{IsBounded, bounded}, Lies.{content_read, in_folder_is, lies_of}, MpdPromises.presentation_read}
@@ -37,7 +38,7 @@ by_told (Ok what) course goes is_open =
 by_told (Err named) course goes is_open = absurd (is_open (ap (λ (c : Course). c.end.verdict) goes))
 
 -- where both lie
-placed_by : (job : Check) (places : StorePlace × StorePlace) (mpd master : Option StorePlace) → store_place_of job.base job.mpd ≡ mpd
+placed_by : (job : CheckJob) (places : StorePlace × StorePlace) (mpd master : Option StorePlace) → store_place_of job.base job.mpd ≡ mpd
     → store_place_of job.base job.master ≡ master
     → places_of job ≡ Some places → (store_place_of job.base job.mpd ≡ Some places.0) × (store_place_of job.base job.master ≡ Some places.1)
 unfolding places_of
@@ -48,7 +49,7 @@ placed_by job places (Some mpd) (Some master) at there is =
     (at ∙ ap (λ (p : StorePlace × StorePlace). Some p.0) same, there ∙ ap (λ (p : StorePlace × StorePlace). Some p.1) same)
 
 -- both are read, and this is told of them
-record IsCompared (job : Check) (files : Files) (course : Course) : Type 0 where
+record IsCompared (job : CheckJob) (files : Files) (course : Course) : Type 0 where
   source : StorePlace
   source_at : store_place_of job.base job.mpd ≡ Some source
   master : StorePlace
@@ -60,7 +61,7 @@ record IsCompared (job : Check) (files : Files) (course : Course) : Type 0 where
   verdict : course.end.verdict ≡ (compared (10 ^ job.digits) mpd playlists).0
   line : course.end.lines ≡ (compared (10 ^ job.digits) mpd playlists).1
 
-by_places : (job : Check) (files : Files) (course : Course) (places : Option (StorePlace × StorePlace)) → places_of job ≡ places
+by_places : (job : CheckJob) (files : Files) (course : Course) (places : Option (StorePlace × StorePlace)) → places_of job ≡ places
     → option_map course_by (placed (check_at job (Some files)) places) ≡ Some course → IsOpen course → IsCompared job files course
 unfolding judged
 by_places job files course None at goes is_open =
@@ -104,14 +105,14 @@ differ_some p (Some d) is = record { first = d; is = refl; told = refl }
 
 -- ---- the promises
 
-record IsMeant (job : Check) (files : Files) (p q : Presented) : Type 0 where
+record IsMeant (job : CheckJob) (files : Files) (p q : Presented) : Type 0 where
   playlists : Meaning
   meant : AreMeant job files (meaning_of p) playlists
   alike : (unit : ℕ) (a : Meaning) → first_difference unit a playlists ≡ first_difference unit a (meaning_of q)
 
 module _ (keeps : VerdictKeepsSteps) (texts : TextsAreMeant) (rates : ReadHaveRates) (meant : PresentedMeanTheirFiles)
     (tells : (unit : ℕ) (a b : Meaning) → Agrees unit a b ↔ (first_difference unit a b ≡ None)) where
-  text_meant : (job : Check) (url bytes : List ℕ) (p : Presented)
+  text_meant : (job : CheckJob) (url bytes : List ℕ) (p : Presented)
       → checked_presentation (Some NotStatic) (10 ^ job.digits) url None bytes ≡ Ok p
       → dash_meaning bytes url None ≡ Some (meaning_of p)
   text_meant job url bytes p is =
@@ -120,7 +121,7 @@ module _ (keeps : VerdictKeepsSteps) (texts : TextsAreMeant) (rates : ReadHaveRa
       (subst (λ u. presented_of read.came.mpd u None ≡ Ok p) read.at (subst (λ now. presented_of read.came.mpd read.came.url now ≡ Ok p)
       read.instant read.came.presented))
 
-  are_meant : (job : Check) (files : Files) (course : Course) → IsTrue (is_name job.master) → (by : IsCompared job files course)
+  are_meant : (job : CheckJob) (files : Files) (course : Course) → IsTrue (is_name job.master) → (by : IsCompared job files course)
       → IsMeant job files by.mpd by.playlists
   unfolding mpd_at
   are_meant job files course named by =
@@ -148,8 +149,8 @@ module _ (keeps : VerdictKeepsSteps) (texts : TextsAreMeant) (rates : ReadHaveRa
         alike = λ unit a. first_alike unit a meaning.0 (meaning_of by.playlists) meaning.1.1;
       }
 
-  ended : (job : Check) (course : Course) (v : Verdict) (files : Files)
-      → option_map course_by (outcome_of_job (Some (check_asked job)) (Some files)) ≡ Some course → v ≡ course.end.verdict
+  ended : (job : CheckJob) (course : Course) (v : Verdict) (files : Files)
+      → option_map course_by (outcome_of_job (Some (jobs.Check job)) (Some files)) ≡ Some course → v ≡ course.end.verdict
       → (v ≡ verdict.Refused → ⊥) → IsCompared job files course
   unfolding check_outcome
   ended job course v files goes ends is_open = by_places job files course (places_of job) refl goes (λ refused. is_open (ends ∙ refused))
@@ -157,7 +158,7 @@ module _ (keeps : VerdictKeepsSteps) (texts : TextsAreMeant) (rates : ReadHaveRa
   pub done_agrees : DoneIsAgreed
   unfolding course_of
   done_agrees words job input course before after files asks was goes run =
-      let asked : IfSome (Some (check_asked job)) IsBounded = subst (λ asked. IfSome asked IsBounded) asks (bounded words) in
+      let asked : IfSome (Some (jobs.Check job)) IsBounded = subst (λ asked. IfSome asked IsBounded) asks (bounded words) in
       let ends = (keeps course verdict.Done before after run).0 in
       let by = ended job course verdict.Done files (subst (λ asked. course_of_job asked (Some files) input ≡ Some course)
       asks goes) ends (λ is. absurd (cc)) in
@@ -173,7 +174,7 @@ module _ (keeps : VerdictKeepsSteps) (texts : TextsAreMeant) (rates : ReadHaveRa
   pub differ_is_apart : DifferIsApart
   unfolding course_of
   differ_is_apart words job input course before after files asks was goes run =
-      let asked : IfSome (Some (check_asked job)) IsBounded = subst (λ asked. IfSome asked IsBounded) asks (bounded words) in
+      let asked : IfSome (Some (jobs.Check job)) IsBounded = subst (λ asked. IfSome asked IsBounded) asks (bounded words) in
       let ends = (keeps course verdict.Differ before after run).0 in
       let by = ended job course verdict.Differ files (subst (λ asked. course_of_job asked (Some files) input ≡ Some course) asks goes) ends
       (λ is. absurd (cc)) in

@@ -1,9 +1,11 @@
 -- What is written means what an MPD and the indexes of its media files mean.
+use Rattle.bridge_jobs.specs.declared.jobs.Job.TheVariants as jobs
 use Rattle.bridge_courses.specs.declared.status.Status.TheVariants as status
 use Rattle.std.proofs.Common.{◌≡◌, ℕ, ◌^◌, List, [], ◌∷◌, ◌++◌, length, Some, option_map, IfSome, sym, ◌∙◌, ap, subst, append_assoc}
 use Rattle.std.proofs.lemmas.List.{append-nil}
 use Rattle.bridge_io.specs.{InOrder.put_all, Outside.Files}
 use Rattle.bridge_jobs.specs.Laws.{FoldersHoldTheirFiles}
+use Rattle.bridge_jobs.specs.declared.jobs.IndexJob.{IndexJob}
 use Rattle.bridge_courses.specs.{Courses.{Course, World, files_of}, Laws.{DoneIsWhole, VerdictKeepsSteps}, Executions.IsExecution}
 use Rattle.hls_meaning.specs.Meanings.{hls_meaning}
 use Rattle.hls_writer.specs.Verified.{IsVerified}
@@ -14,16 +16,16 @@ use Rattle.laws_of_playlists.specs.SameFiles.{master_name}
 use Rattle.presentation.specs.Meanings.{meaning_of}
 use Rattle.bridge_playlists.specs.Places.{store_place_of}
 use Rattle.bridge_steps.specs.{Done.done_line, Playlists.playlists}
-use Rattle.bridge_reach.specs.{declared.index.HlsIndex.HlsIndex, Index.{index_outcome, outcome_of, presented}}
+use Rattle.bridge_reach.specs.{Index.{index_outcome, outcome_of, presented}}
 use Rattle.bridge_reach.proofs.Came.{came_from, is_indexed}
-use Rattle.bridge_core.specs.{Courses.{course_of, course_of_job}, IndexPromises.{IndexMeansTheSame, WrittenMeansTheIndexes, index_asked}}
+use Rattle.bridge_core.specs.{Courses.{course_of, course_of_job}, IndexPromises.{IndexMeansTheSame, WrittenMeansTheIndexes}}
 use Rattle.bridge_core.proofs.{Asked.{IsBounded, bounded}, DoneAt.{IsDoneAt, done_at}, FileNames.are_written, Lies.{content_read, lies_of}}
 use Rattle.bridge_core.proofs.Promises.{base_folder, holds, spelled_bytes}
 
 module _ (done : DoneIsWhole) (keeps : VerdictKeepsSteps) (names : FoldersHoldTheirFiles) (hold : FoldersHoldFiles)
     (meant : IndexedTextsAreMeant) (same : WrittenMeansTheIndex)
     (reads : ReadingsAreOfBytes) (own : OwnTextsAreAddresses) (fewer : IndexedAreFew) where
-  promised : (job : HlsIndex) (course : Course) (before after : World) (first last : Files) → IsBounded (index_asked job)
+  promised : (job : IndexJob) (course : Course) (before after : World) (first last : Files) → IsBounded (jobs.HlsIndex job)
       → before.files ≡ Some first → after.files ≡ Some last
       → IsDoneAt (outcome_of job) (presented job) (store_place_of job.base job.mpd) first course
       → IsExecution course status.Done before after
@@ -66,7 +68,7 @@ module _ (done : DoneIsWhole) (keeps : VerdictKeepsSteps) (names : FoldersHoldTh
   pub written_means : WrittenMeansTheIndexes
   unfolding course_of index_outcome
   written_means words job input course before after first last asks was is goes run =
-      let asked : IfSome (Some (index_asked job)) IsBounded = subst (λ asked. IfSome asked IsBounded) asks (bounded words) in
+      let asked : IfSome (Some (jobs.HlsIndex job)) IsBounded = subst (λ asked. IfSome asked IsBounded) asks (bounded words) in
       let by = done_at (playlists job.out job.digits) done_line (presented job) keeps before after
       (store_place_of job.base job.mpd) first course
       (subst (λ asked. course_of_job asked (Some first) input ≡ Some course) asks goes) run in

@@ -1,4 +1,5 @@
 -- What `dash` promises, from what its parts say.
+use Rattle.bridge_jobs.specs.declared.jobs.Job.TheVariants as jobs
 use Rattle.bridge_report.specs.declared.refusal.Refusal.TheVariants as refusal
 use Rattle.bridge_courses.specs.declared.status.Status.TheVariants as status
 use Rattle.std.proofs.Common.{◌≡◌, ◌<◌, ℕ, List, [], ◌∷◌, ◌++◌, map, All, IsTrue, Option, None, Some, IfSome, option_map, Ok, inl, inr}
@@ -14,6 +15,7 @@ use Rattle.hls_master.specs.{declared.track.MasterTrack.MasterTrack, Masters.mas
 use Rattle.hls_master.specs.Tracks.{TrackValue}
 use Rattle.hls_presentation.specs.Presenting.{hls_presented_of}
 use Rattle.hls_meaning.specs.Meanings.{file_at}
+use Rattle.bridge_jobs.specs.declared.jobs.MasterJob.{MasterJob}
 use Rattle.laws_of_mpds.specs.{PresentedFiles.{ArePlaylists, IsMaster, IsPlaylist, PresentedMeanTheirFiles}, Written.HaveAddresses}
 use Rattle.laws_of_mpds.specs.Written.{ReadHaveAddresses, ReadHaveRates, ReadMeanTheSame, TracksAreOfBytes}
 use Rattle.meaning.specs.Same.{IsSameTime}
@@ -31,7 +33,7 @@ use Rattle.bridge_courses.specs.Executions.{IsExecution}
 use Rattle.dash_writer.specs.Manifest.{manifest_text}
 use Rattle.bridge_steps.specs.Done.{done_line}
 use Rattle.bridge_core.specs.{Courses.{course_of, course_of_job, outcome_of_job}, Dash.{dash_outcome, files_of, outcome_of}}
-use Rattle.bridge_core.specs.{Promises.{MpdMeansTheSame, WrittenMpdMeansThePlaylists, mpd_asked}, declared.dash.Dash.Dash}
+use Rattle.bridge_core.specs.{Promises.{MpdMeansTheSame, WrittenMpdMeansThePlaylists}}
 use Rattle.laws_of_playlists.specs.Origins.{OwnTextsAreAddresses}
 use Rattle.bridge_core.proofs.{Asked.{IsBounded, bounded as bounded_words}, FileNames.put_there, DoneAt.{IsDoneAt, done_at}}
 use Rattle.bridge_core.proofs.Lies.{content_read, in_folder_is, lies_of}
@@ -206,7 +208,7 @@ all_of_bytes (track ∷ tracks) all =
 module _ (done : DoneIsWhole) (keeps : VerdictKeepsSteps) (own : OwnTextsAreAddresses) (rates : ReadHaveRates) (lie : TracksAreOfBytes)
     (meant : PresentedMeanTheirFiles)
     (bounded : ReadIsBounded) (addresses : ReadHaveAddresses) (same : ReadMeanTheSame) where
-  promised : (job : Dash) (course : Course) (before after : World) (first last : Files) → IsTrue (is_name job.master)
+  promised : (job : MasterJob) (course : Course) (before after : World) (first last : Files) → IsTrue (is_name job.master)
       → before.files ≡ Some first → after.files ≡ Some last
       → IsDoneAt (outcome_of job) presented_at (store_place_of job.base job.master) first course
       → IsExecution course status.Done before after
@@ -241,7 +243,7 @@ module _ (done : DoneIsWhole) (keeps : VerdictKeepsSteps) (own : OwnTextsAreAddr
   pub written_mpd_means : WrittenMpdMeansThePlaylists
   unfolding course_of dash_outcome
   written_mpd_means words job input course before after first last asks was is goes run =
-      let asked : IfSome (Some (mpd_asked job)) IsBounded = subst (λ asked. IfSome asked IsBounded) asks (bounded_words words) in
+      let asked : IfSome (Some (jobs.Dash job)) IsBounded = subst (λ asked. IfSome asked IsBounded) asks (bounded_words words) in
       let by = done_at (files_of job) done_line presented_at keeps before after (store_place_of job.base job.master) first course
       (subst (λ asked. course_of_job asked (Some first) input ≡ Some course) asks goes) run in
       promised job course before after first last asked was is by run

@@ -1,4 +1,5 @@
 -- What is written means what the MPD means.
+use Rattle.bridge_jobs.specs.declared.jobs.Job.TheVariants as jobs
 use Rattle.bridge_courses.specs.declared.status.Status.TheVariants as status
 use Rattle.std.proofs.Common.{◌≡◌, ◌⊎◌, ℕ, ℤ, ◌+◌, ◌-◌, ◌^◌, ◌<◌, ◌≤◌, not, Bool, true, false, IsTrue, List, [], ◌∷◌, ◌++◌, length, map}
 use Rattle.std.proofs.Common.{take, if◌then◌else◌, Option, None, Some, option_map, Result, Ok, Err, IfSome, refl, sym, ◌∙◌, ap, subst}
@@ -10,6 +11,7 @@ use Rattle.bridge_io.proofs.AndThen.{steps_of}
 use Rattle.bridge_io.specs.{InOrder.put_all, Names.is_name, Outside.Files}
 use Rattle.bridge_jobs.specs.{Jobs.is_folder, Laws.FoldersHoldTheirFiles}
 use Rattle.bridge_courses.specs.{Courses.{Course, World, files_of as course_files}, Laws.{DoneIsWhole, VerdictKeepsSteps}}
+use Rattle.bridge_jobs.specs.declared.jobs.HlsJob.{HlsJob}
 use Rattle.bridge_courses.specs.Executions.{IsExecution}
 use Rattle.mpd_text.proofs.NameLemmas.{not_true}
 use Rattle.mpd_text.specs.{Meaning.reading_of, Trees.Element, declared.fault.TextFault.TextFault}
@@ -29,7 +31,7 @@ use Rattle.laws_of_reloads.proofs.FirstFiles.{begun_is}
 use Rattle.bridge_report.specs.{Bases.{ends_in_slash, is_folder as is_base}, Reading.{content_of, of_file}}
 use Rattle.bridge_core.specs.{Courses.{course_of, course_of_job}, Hls.{Live, Static, Translation, files_of, hls_outcome, line_of}}
 use Rattle.bridge_core.specs.Hls.{live_translation, outcome_of, static_translation, terms_at, translation_at, translation_by}
-use Rattle.bridge_core.specs.{Hls.translation_of, Promises.{job_asked, MeansTheSame, WrittenMeansTheMpd}, declared.hls.Hls.Hls}
+use Rattle.bridge_core.specs.{Hls.translation_of, Promises.{MeansTheSame, WrittenMeansTheMpd}}
 use Rattle.bridge_playlists.specs.{declared.place.StorePlace.StorePlace, Places.store_place_of}
 use Rattle.bridge_steps.specs.{LiveMpds.{live_files, told_of}, Manifests.{ready_of, values_of}, Playlists.playlists}
 use Rattle.bridge_core.proofs.{Asked.{IsBounded, bounded}, FileNames.{are_written, first_written}, DoneAt.{IsDoneAt, done_at}, Lies.Lies}
@@ -39,13 +41,13 @@ use Rattle.bridge_steps.proofs.Static.{IsSpelled, IsStatic, spelled_of, static_r
 -- ---- what is written
 
 -- of a static MPD
-record IsStaticAt (job : Hls) (url bytes : List ℕ) (value : Translation) : Type 0 where
+record IsStaticAt (job : HlsJob) (url bytes : List ℕ) (value : Translation) : Type 0 where
   p : Presented
   read : IsStatic (10 ^ job.digits) bytes url job.instant p
   is : value ≡ Static job.digits p
 
 -- of a live one
-record IsLiveAt (job : Hls) (url bytes : List ℕ) (value : Translation) : Type 0 where
+record IsLiveAt (job : HlsJob) (url bytes : List ℕ) (value : Translation) : Type 0 where
   now : ℤ
   instant : job.instant ≡ Some now
   mpd : Values
@@ -54,7 +56,7 @@ record IsLiveAt (job : Hls) (url bytes : List ℕ) (value : Translation) : Type 
   begun : begun_of (terms_at job url) mpd now ≡ Ok state
   is : value ≡ Live state
 
-static_at : (job : Hls) (url bytes : List ℕ) (mpd : Values) (value : Translation) → values_of bytes ≡ Ok mpd → mpd.facts.live ≡ false
+static_at : (job : HlsJob) (url bytes : List ℕ) (mpd : Values) (value : Translation) → values_of bytes ≡ Ok mpd → mpd.facts.live ≡ false
     → static_translation job url mpd ≡ Ok value → IsStaticAt job url bytes value
 unfolding static_translation
 static_at job url bytes mpd value read static is =
@@ -65,7 +67,7 @@ static_at job url bytes mpd value read static is =
       is = (let same : Static job.digits ready.value ≡ value = (let told = ready.then in cc) in sym same);
     }
 
-live_at : (job : Hls) (url bytes : List ℕ) (mpd : Values) (now : Option ℤ) (value : Translation) → values_of bytes ≡ Ok mpd
+live_at : (job : HlsJob) (url bytes : List ℕ) (mpd : Values) (now : Option ℤ) (value : Translation) → values_of bytes ≡ Ok mpd
     → job.instant ≡ now
     → live_translation job url now mpd ≡ Ok value → IsLiveAt job url bytes value
 unfolding live_translation
@@ -82,14 +84,14 @@ live_at job url bytes mpd (Some now) value read at is =
       is = (let same : Live told.value ≡ value = (let rest = told.then in cc) in sym same);
     }
 
-by_kind : (job : Hls) (url bytes : List ℕ) (mpd : Values) (live : Bool) (value : Translation) → values_of bytes ≡ Ok mpd
+by_kind : (job : HlsJob) (url bytes : List ℕ) (mpd : Values) (live : Bool) (value : Translation) → values_of bytes ≡ Ok mpd
     → mpd.facts.live ≡ live
     → (if live then live_translation job url job.instant mpd else static_translation job url mpd) ≡ Ok value
     → IsStaticAt job url bytes value ⊎ IsLiveAt job url bytes value
 by_kind job url bytes mpd true value read kind is = inr (live_at job url bytes mpd job.instant value read refl is)
 by_kind job url bytes mpd false value read kind is = inl (static_at job url bytes mpd value read kind is)
 
-kind_of : (job : Hls) (url bytes : List ℕ) (value : Translation) → translation_of job url bytes ≡ Ok value
+kind_of : (job : HlsJob) (url bytes : List ℕ) (value : Translation) → translation_of job url bytes ≡ Ok value
     → IsStaticAt job url bytes value ⊎ IsLiveAt job url bytes value
 unfolding translation_of
 kind_of job url bytes value is =
@@ -140,7 +142,7 @@ holds names hold out tracks room few = let files = names out room in
 -- ---- what the files mean
 
 -- a text means what a presentation means, and so do the files, rounded down
-record Means (job : Hls) (url bytes : List ℕ) (last : Files) : Type 0 where
+record Means (job : HlsJob) (url bytes : List ℕ) (last : Files) : Type 0 where
   p : Presented
   text : dash_meaning bytes url job.instant ≡ Some (meaning_of p)
   files : MeanTheSame last job.base (job.base ++ ((job.out ++ 47 ∷ []) ++ master_name)) p job.digits
@@ -157,7 +159,7 @@ first_tracks c =
 module _ (names : FoldersHoldTheirFiles) (hold : FoldersHoldFiles) (meant : TextsAreMeant) (same : WrittenMeansTheSame)
     (first_same : FirstFilesMeanTheSame)
     (reads : ReadingsAreOfBytes) (own : OwnTextsAreAddresses) (fewer : HaveFewTracks) where
-  module _ (job : Hls) (place : StorePlace) (first : Files) (asked : IsBounded (job_asked job)) (lies : Lies job.base job.mpd place) where
+  module _ (job : HlsJob) (place : StorePlace) (first : Files) (asked : IsBounded (jobs.Hls job)) (lies : Lies job.base job.mpd place) where
     abbrev prefix : List ℕ
     prefix = job.out ++ 47 ∷ []
 
@@ -229,7 +231,7 @@ module _ (names : FoldersHoldTheirFiles) (hold : FoldersHoldFiles) (meant : Text
   -- ---- the promise
 
   module _ (done : DoneIsWhole) (keeps : VerdictKeepsSteps) where
-    promised : (job : Hls) (course : Course) (before after : World) (first last : Files) → IsBounded (job_asked job)
+    promised : (job : HlsJob) (course : Course) (before after : World) (first last : Files) → IsBounded (jobs.Hls job)
         → before.files ≡ Some first → after.files ≡ Some last
         → IsDoneAt (outcome_of job) (translation_at job) (store_place_of job.base job.mpd) first course
         → IsExecution course status.Done before after
@@ -264,7 +266,7 @@ module _ (names : FoldersHoldTheirFiles) (hold : FoldersHoldFiles) (meant : Text
     pub written_means : WrittenMeansTheMpd
     unfolding course_of hls_outcome
     written_means words job input course before after first last asks was is goes run =
-        let asked : IfSome (Some (job_asked job)) IsBounded = subst (λ asked. IfSome asked IsBounded) asks (bounded words) in
+        let asked : IfSome (Some (jobs.Hls job)) IsBounded = subst (λ asked. IfSome asked IsBounded) asks (bounded words) in
         let by = done_at (files_of job.out) line_of (translation_at job) keeps before after (store_place_of job.base job.mpd) first course
         (subst (λ asked. course_of_job asked (Some first) input ≡ Some course) asks goes) run in
         promised job course before after first last asked was is by run

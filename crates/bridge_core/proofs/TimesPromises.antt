@@ -4,6 +4,7 @@ use Rattle.bridge_courses.specs.declared.status.Verdict.TheVariants as verdict
 use Rattle.std.proofs.Common.{◌≡◌, ℕ, Bool, true, false, List, Option, None, Some, option_map, Result, Ok, Err, refl, sym, ◌∙◌, ap, subst}
 use Rattle.std.proofs.lemmas.List.{append-nil}
 use Rattle.bridge_io.specs.{InOrder.put_all, Outside.Files}
+use Rattle.bridge_jobs.specs.declared.jobs.{AgreeJob.AgreeJob, MasterJob.MasterJob}
 use Rattle.bridge_courses.specs.{Courses.{Course, World, files_of}, Laws.{DoneIsWhole, VerdictKeepsSteps}, Executions.IsExecution}
 use Rattle.bridge_courses.specs.{Executions.status_by, declared.status.Verdict.Verdict}
 use Rattle.bridge_report.specs.{Outcomes.{Ends, Outcome, Writes, base_refused, course_by, outcome_told}, Reading.Named}
@@ -11,8 +12,7 @@ use Rattle.bridge_playlists.specs.{declared.place.StorePlace.StorePlace, Places.
 use Rattle.bridge_steps.specs.Endings.{placed}
 use Rattle.bridge_reach.specs.{Agree.{agree_at, agree_outcome, judged}, DashTimes.{Timed, dash_times_at, dash_times_outcome}}
 use Rattle.bridge_reach.specs.{DashTimes.{files_of as timed_files, line_of, outcome_of, timed_at}, Promises.{AllAgree, DifferIsApart}}
-use Rattle.bridge_reach.specs.{Promises.{DoneAgrees, IsFirstApart, IsRead, IsWrittenTimed, WrittenAreFileTimes}, declared.agree.Agree.Agree}
-use Rattle.bridge_reach.specs.declared.dash_times.DashTimes.{DashTimes}
+use Rattle.bridge_reach.specs.{Promises.{DoneAgrees, IsFirstApart, IsRead, IsWrittenTimed, WrittenAreFileTimes}}
 use Rattle.bridge_core.specs.{Courses.{course_of, course_of_job}, TimesPromises.{DifferHasAnother, DoneHasTheFilesTimes, HasTheFilesTimes}}
 use Rattle.bridge_core.specs.TimesPromises.{WrittenHasTheFilesTimes}
 use Rattle.bridge_core.proofs.DoneAt.{IsDoneAt, done_at}
@@ -20,12 +20,12 @@ use Rattle.bridge_core.proofs.DoneAt.{IsDoneAt, done_at}
 -- ---- `dash-times`
 
 module _ (done : DoneIsWhole) (keeps : VerdictKeepsSteps) (timed : WrittenAreFileTimes) where
-  outcome_there : (job : DashTimes) (first : Files) (place : Option StorePlace) (found : StorePlace) (value : Timed) → place ≡ Some found
+  outcome_there : (job : MasterJob) (first : Files) (place : Option StorePlace) (found : StorePlace) (value : Timed) → place ≡ Some found
       → timed_at found first ≡ Ok value → placed (dash_times_at job (Some first)) place ≡ Some (outcome_of job (Ok value))
   outcome_there job first place found value at is =
       ap (λ p. placed (dash_times_at job (Some first)) p) at ∙ ap (λ r. Some (outcome_of job r)) is
 
-  left_by : (job : DashTimes) (course : Course) (before after : World) (first last : Files) → before.files ≡ Some first
+  left_by : (job : MasterJob) (course : Course) (before after : World) (first last : Files) → before.files ≡ Some first
       → after.files ≡ Some last → IsDoneAt (outcome_of job) timed_at (store_place_of job.base job.master) first course
       → IsExecution course status.Done before after → HasTheFilesTimes job first last
   unfolding dash_times_outcome
@@ -84,7 +84,7 @@ told_at (Some place) files course goes =
     let same : course_by (outcome_told (judged place files)) ≡ course = cc in told_so (judged place files) course same
 
 module _ (keeps : VerdictKeepsSteps) where
-  told_of : (job : Agree) (v : Verdict) (course : Course) (before after : World) (files : Files)
+  told_of : (job : AgreeJob) (v : Verdict) (course : Course) (before after : World) (files : Files)
       → option_map course_by (agree_outcome job (Some files)) ≡ Some course → IsExecution course (status_by v) before after
       → IsToldAs (agree_outcome job (Some files)) v course.end.lines
   unfolding agree_outcome

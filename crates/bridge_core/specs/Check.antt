@@ -7,11 +7,11 @@ use Rattle.std.specs.Option.{option_and_then}
 use Rattle.bridge_io.specs.{Answer.and_then, Outside.Files}
 use Rattle.meaning.specs.{Differences.first_difference, declared.difference.Aspect.Aspect, declared.difference.Difference.Difference}
 use Rattle.presentation.specs.{Counting.count_of_all, Meanings.meaning_of, Presented.Presented}
+use Rattle.bridge_jobs.specs.declared.jobs.CheckJob.{CheckJob}
 use Rattle.bridge_courses.specs.declared.status.Verdict.{Verdict}
 use Rattle.bridge_report.specs.{Outcomes.{Outcome, outcome_told}, Reading.Named}
 use Rattle.bridge_playlists.specs.{declared.place.StorePlace.StorePlace, Places.store_place_of, Playlists.presented_at}
 use Rattle.bridge_steps.specs.{Endings.placed, Manifests.mpd_at}
-use Rattle.bridge_core.specs.declared.check.Check.{Check}
 
 -- ---- the report
 
@@ -51,20 +51,20 @@ verdict_of mpd (Some d) = (verdict.Differ, differ_line d)
 abbrev pub both_with : (mpd master : StorePlace) → StorePlace × StorePlace
 both_with mpd master = (mpd, master)
 
-unfoldable pub places_of : Check → Option (StorePlace × StorePlace)
+unfoldable pub places_of : CheckJob → Option (StorePlace × StorePlace)
 places_of job = option_and_then (λ mpd. option_map (both_with mpd) (store_place_of job.base job.master)) (store_place_of job.base job.mpd)
 
 abbrev pub compared : (unit : ℕ) → (mpd playlists : Presented) → Verdict × List ℕ
 compared unit mpd playlists = verdict_of mpd (first_difference unit (meaning_of mpd) (meaning_of playlists))
 
 -- the MPD first, of which a live one is refused behind its rules, and then the playlists
-unfoldable pub judged : Check → (mpd master : StorePlace) → Files → Result (Verdict × List ℕ) Named
+unfoldable pub judged : CheckJob → (mpd master : StorePlace) → Files → Result (Verdict × List ℕ) Named
 judged job mpd master files =
     and_then (mpd_at (Some refusal.NotStatic) (10 ^ job.digits) None mpd files) (λ p.
     and_then (presented_at master files) (λ playlists. Ok (compared (10 ^ job.digits) p playlists)))
 
-abbrev pub check_at : Check → Option Files → StorePlace × StorePlace → Option Outcome
+abbrev pub check_at : CheckJob → Option Files → StorePlace × StorePlace → Option Outcome
 check_at job files places = option_map (λ files. outcome_told (judged job places.0 places.1 files)) files
 
-unfoldable pub check_outcome : Check → Option Files → Option Outcome
+unfoldable pub check_outcome : CheckJob → Option Files → Option Outcome
 check_outcome job files = placed (check_at job files) (places_of job)

@@ -1,17 +1,17 @@
 -- The run of a followed MPD.
 use Rattle.std.specs.Prelude.{ℕ, List, Option, None, option_map}
+use Rattle.bridge_jobs.specs.declared.jobs.FollowJob.{FollowJob}
 use Rattle.bridge_courses.specs.Courses.{Course}
 use Rattle.bridge_playlists.specs.{declared.place.StorePlace.StorePlace, Places.store_place_of}
 use Rattle.live_meaning.specs.Updates.{Terms}
 use Rattle.bridge_steps.specs.{Follow.{course_placed, follow_course}, LiveMpds.{followed_mpd, frame_stream}}
-use Rattle.bridge_core.specs.declared.follow.Follow.{Follow}
 
-abbrev pub terms_at : Follow → StorePlace → Terms
+abbrev pub terms_at : FollowJob → StorePlace → Terms
 terms_at job place = record { url = place.url; digits = job.digits }
 
 -- the MPD is read under this place's name, and its frames from the input
-abbrev pub follow_at : Follow → (input : Option (List ℕ)) → StorePlace → Option Course
+abbrev pub follow_at : FollowJob → (input : Option (List ℕ)) → StorePlace → Option Course
 follow_at job input place = option_map (follow_course (followed_mpd (terms_at job place) job.out) frame_stream None) input
 
-unfoldable pub followed_course : Follow → (input : Option (List ℕ)) → Option Course
+unfoldable pub followed_course : FollowJob → (input : Option (List ℕ)) → Option Course
 followed_course job input = course_placed (follow_at job input) (store_place_of job.base job.name)

@@ -5,11 +5,12 @@ use Rattle.std.specs.Prelude.{ℕ, ℤ, ◌^◌, List, if◌then◌else◌, Opti
 use Rattle.bridge_io.specs.{Answer.and_then, Outside.Files}
 use Rattle.presentation.specs.{Presented.Presented, Told.told_as, declared.fault.PresentationFault.TheVariants.NeedsNow}
 use Rattle.live_meaning.specs.{Refusals.begun_of, States.State, Updates.{Terms, Values}}
+use Rattle.bridge_jobs.specs.declared.jobs.HlsJob.{HlsJob}
 use Rattle.bridge_report.specs.{declared.refusal.Refusal.Refusal, Outcomes.Outcome, Reading.{Named, content_of, of_file}}
 use Rattle.bridge_playlists.specs.{declared.place.StorePlace.StorePlace, Places.store_place_of}
 use Rattle.bridge_steps.specs.{Done.done_line, Endings.{outcome_written, placed}, LiveMpds.{live_files, told_of}, Manifests.ready_of}
 use Rattle.bridge_steps.specs.{Manifests.values_of, Playlists.playlists}
-use Rattle.bridge_core.specs.{declared.hls.Hls.Hls, declared.hls.Translation.Translation as Held}
+use Rattle.bridge_core.specs.{declared.hls.Translation.Translation as Held}
 
 -- What is written: of a static MPD its presentation, with so many decimals; of a live one what it leaves as a first frame.
 pub data Translation : Type 0 where
@@ -22,24 +23,24 @@ translated (held.Live session) = Live session
 
 -- ---- what is written of an MPD, or its first refusal
 
-abbrev pub terms_at : Hls → (url : List ℕ) → Terms
+abbrev pub terms_at : HlsJob → (url : List ℕ) → Terms
 terms_at job url = record { url = url; digits = job.digits }
 
-unfoldable pub static_translation : Hls → (url : List ℕ) → Values → Result Translation Refusal
+unfoldable pub static_translation : HlsJob → (url : List ℕ) → Values → Result Translation Refusal
 static_translation job url mpd = and_then (ready_of (10 ^ job.digits) url job.instant mpd) (λ p. Ok (Static job.digits p))
 
-unfoldable pub live_translation : Hls → (url : List ℕ) → (now : Option ℤ) → Values → Result Translation Refusal
+unfoldable pub live_translation : HlsJob → (url : List ℕ) → (now : Option ℤ) → Values → Result Translation Refusal
 live_translation job url None mpd = Err (refusal.Presentation NeedsNow)
 live_translation job url (Some now) mpd = and_then (told_as told_of (begun_of (terms_at job url) mpd now)) (λ s. Ok (Live s))
 
-abbrev pub translation_by : Hls → (url : List ℕ) → Values → Result Translation Refusal
+abbrev pub translation_by : HlsJob → (url : List ℕ) → Values → Result Translation Refusal
 translation_by job url mpd = if mpd.facts.live then live_translation job url job.instant mpd else static_translation job url mpd
 
-unfoldable pub translation_of : Hls → (url bytes : List ℕ) → Result Translation Refusal
+unfoldable pub translation_of : HlsJob → (url bytes : List ℕ) → Result Translation Refusal
 translation_of job url bytes = and_then (values_of bytes) (translation_by job url)
 
 -- the MPD is the file at this place
-unfoldable pub translation_at : Hls → StorePlace → Files → Result Translation Named
+unfoldable pub translation_at : HlsJob → StorePlace → Files → Result Translation Named
 translation_at job place files =
     and_then (content_of place.file files) (λ bytes. of_file place.file (translation_of job place.url bytes))
 
@@ -57,12 +58,12 @@ presented_in (Live s) = s.common.opened
 abbrev pub line_of : Translation → List ℕ
 line_of translation = done_line (presented_in translation)
 
-abbrev pub outcome_of : Hls → Result Translation Named → Outcome
+abbrev pub outcome_of : HlsJob → Result Translation Named → Outcome
 outcome_of job read = outcome_written (files_of job.out) line_of read
 
 -- the MPD is at this place
-abbrev pub hls_at : Hls → Option Files → StorePlace → Option Outcome
+abbrev pub hls_at : HlsJob → Option Files → StorePlace → Option Outcome
 hls_at job files place = option_map (λ files. outcome_of job (translation_at job place files)) files
 
-unfoldable pub hls_outcome : Hls → Option Files → Option Outcome
+unfoldable pub hls_outcome : HlsJob → Option Files → Option Outcome
 hls_outcome job files = placed (hls_at job files) (store_place_of job.base job.mpd)

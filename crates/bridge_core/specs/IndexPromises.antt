@@ -3,22 +3,22 @@ use Rattle.bridge_jobs.specs.declared.jobs.Job.TheVariants as jobs
 use Rattle.bridge_courses.specs.declared.status.Status.TheVariants as status
 use Rattle.std.specs.Prelude.{◌≡◌, ℕ, ◌^◌, List, ◌++◌, codes, Option, Some}
 use Rattle.bridge_io.specs.Outside.{Files}
-use Rattle.bridge_jobs.specs.{Jobs.job_of, Laws.in_folder, declared.jobs.Job.Job}
+use Rattle.bridge_jobs.specs.{Jobs.job_of, Laws.in_folder}
+use Rattle.bridge_jobs.specs.declared.jobs.IndexJob.{IndexJob}
 use Rattle.bridge_courses.specs.{Courses.{Course, World}, Executions.IsExecution}
 use Rattle.hls_meaning.specs.Meanings.{hls_meaning}
 use Rattle.index_parts.specs.Meanings.{indexed_meaning}
 use Rattle.meaning.specs.{Meanings.Meaning, Same.SameFloor}
 use Rattle.bridge_report.specs.Bases.{file_url}
-use Rattle.bridge_reach.specs.declared.index.HlsIndex.{HlsIndex}
 use Rattle.bridge_core.specs.Courses.{course_of}
 
 -- where the master lies
-abbrev pub master_url : HlsIndex → List ℕ
+abbrev pub master_url : IndexJob → List ℕ
 master_url job = job.base ++ in_folder job.out (codes "master.m3u8")
 
 -- A job's MPD means something at its URL with the indexes of its media files (ISO/IEC 23009-1, 5.3.9.2), the master and its
 -- playlists mean something (RFC 8216, 4.3), and that is the same but that each time is rounded down.
-pub record IndexMeansTheSame (job : HlsIndex) (before after : Files) : Type 0 where
+pub record IndexMeansTheSame (job : IndexJob) (before after : Files) : Type 0 where
   pub bytes : List ℕ
   pub url : List ℕ
   pub there : before job.mpd ≡ Some bytes
@@ -30,15 +30,12 @@ pub record IndexMeansTheSame (job : HlsIndex) (before after : Files) : Type 0 wh
   pub same : SameFloor (10 ^ job.digits) indexes playlists
 
 -- the words ask for the playlists of an MPD and the indexes of its files
-abbrev pub index_asked : HlsIndex → Job
-index_asked job = jobs.HlsIndex job.mpd job.base job.out job.digits
-
-abbrev pub AsksForIndex : (words : List (List ℕ)) → HlsIndex → Type 0
-AsksForIndex words job = job_of words ≡ Some (index_asked job)
+abbrev pub AsksForIndex : (words : List (List ℕ)) → IndexJob → Type 0
+AsksForIndex words job = job_of words ≡ Some (jobs.HlsIndex job)
 
 -- Where such a run is done, what it wrote means what the MPD and the indexes mean.
 abbrev pub WrittenMeansTheIndexes : Type 0
-WrittenMeansTheIndexes = (words : List (List ℕ)) (job : HlsIndex) (input : Option (List ℕ)) (course : Course) (before after : World)
+WrittenMeansTheIndexes = (words : List (List ℕ)) (job : IndexJob) (input : Option (List ℕ)) (course : Course) (before after : World)
     (first last : Files)
     → AsksForIndex words job → before.files ≡ Some first → after.files ≡ Some last
     → course_of words (Some first) input ≡ Some course → IsExecution course status.Done before after → IndexMeansTheSame job first last

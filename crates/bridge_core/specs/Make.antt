@@ -5,11 +5,12 @@ use Rattle.std.specs.Prelude.{Err}
 use Rattle.bridge_jobs.specs.Laws.{in_folder}
 use Rattle.hls_writer.specs.Lines.{seconds_bytes}
 use Rattle.presentation.specs.{Presented.{Presented, listed_at}, Verifying.length_of}
+use Rattle.bridge_jobs.specs.declared.jobs.MakeJob.{MakeJob}
 use Rattle.bridge_report.specs.{Outcomes.{Outcome, Ends, Writes}, Reading.Named, Refusals.refusal_line}
 use Rattle.bridge_report.specs.declared.refusal.Refusal.TheVariants.{NotStatic}
 use Rattle.bridge_playlists.specs.{declared.place.StorePlace.StorePlace, Places.store_place_of}
 use Rattle.bridge_steps.specs.{Endings.placed, Manifests.mpd_in, Playlists.playlists}
-use Rattle.bridge_core.specs.{Source.source_text, declared.make.Make.Make}
+use Rattle.bridge_core.specs.Source.{source_text}
 
 -- ---- the report
 
@@ -36,25 +37,25 @@ abbrev pub source_file : (out : List ℕ) (seed : ℕ) → List ℕ × List ℕ
 source_file out seed = (in_folder out source_name, source_text seed)
 
 -- the MPD first, and then its playlists
-abbrev pub made_files : Make → Presented → List (List ℕ × List ℕ)
+abbrev pub made_files : MakeJob → Presented → List (List ℕ × List ℕ)
 made_files job p = source_file job.out job.seed ∷ playlists job.out job.digits p
 
 -- ---- how the command ends
 
-abbrev pub outcome_of : Make → Result Presented Named → Outcome
+abbrev pub outcome_of : MakeJob → Result Presented Named → Outcome
 outcome_of job (Ok p) = Writes (made_files job p) (made_line job.digits p) false
 outcome_of job (Err named) = Ends verdict.Refused (refusal_line named.0 named.1) false false
 
 -- the presentation of the MPD as if it were at this place
-abbrev pub made_presentation : Make → StorePlace → Result Presented Named
+abbrev pub made_presentation : MakeJob → StorePlace → Result Presented Named
 made_presentation job place = mpd_in (Some NotStatic) (10 ^ job.digits) None place (source_text job.seed)
 
 abbrev pub source_place : Option StorePlace
 source_place = store_place_of (codes "https://make.example/") source_name
 
-abbrev pub make_at : Make → StorePlace → Option Outcome
+abbrev pub make_at : MakeJob → StorePlace → Option Outcome
 make_at job place = Some (outcome_of job (made_presentation job place))
 
 -- No file is read.
-unfoldable pub make_outcome : Make → Option Outcome
+unfoldable pub make_outcome : MakeJob → Option Outcome
 make_outcome job = placed (make_at job) source_place

@@ -3,24 +3,25 @@ use Rattle.bridge_jobs.specs.declared.jobs.Job.TheVariants as jobs
 use Rattle.bridge_courses.specs.declared.status.Status.TheVariants as status
 use Rattle.std.specs.Prelude.{◌≡◌, ℕ, ℤ, ◌^◌, List, ◌++◌, codes, Option, Some, None}
 use Rattle.bridge_io.specs.Outside.{Files}
-use Rattle.bridge_jobs.specs.{Jobs.job_of, Laws.in_folder, declared.jobs.Job.Job}
+use Rattle.bridge_jobs.specs.{Jobs.job_of, Laws.in_folder}
+use Rattle.bridge_jobs.specs.declared.jobs.{CheckJob.CheckJob, HlsJob.HlsJob, MasterJob.MasterJob}
 use Rattle.bridge_courses.specs.{Courses.{Course, World}, Executions.IsExecution}
 use Rattle.hls_meaning.specs.Meanings.{hls_meaning}
 use Rattle.meaning.specs.{Meanings.Meaning, Differences.first_difference, Same.{Agrees, SameExact, SameFloor}}
 use Rattle.meaning.specs.declared.difference.Difference.{Difference}
 use Rattle.presentation.specs.Meanings.{dash_meaning}
 use Rattle.bridge_playlists.specs.{declared.place.StorePlace.StorePlace, Places.store_place_of}
-use Rattle.bridge_core.specs.{Check.differ_line, declared.check.Check.Check, declared.dash.Dash.Dash, declared.hls.Hls.Hls}
+use Rattle.bridge_core.specs.Check.{differ_line}
 use Rattle.bridge_core.specs.Courses.{course_of}
 use Rattle.bridge_report.specs.Bases.{file_url}
 
 -- where the master lies
-abbrev pub master_url : Hls → List ℕ
+abbrev pub master_url : HlsJob → List ℕ
 master_url job = job.base ++ in_folder job.out (codes "master.m3u8")
 
 -- A job's MPD means something at its URL (ISO/IEC 23009-1, 5.3), the master and its playlists mean something
 -- (RFC 8216, 4.3), and that is the same but that each time is rounded down.
-pub record MeansTheSame (job : Hls) (before after : Files) : Type 0 where
+pub record MeansTheSame (job : HlsJob) (before after : Files) : Type 0 where
   pub bytes : List ℕ
   pub url : List ℕ
   pub there : before job.mpd ≡ Some bytes
@@ -32,15 +33,12 @@ pub record MeansTheSame (job : Hls) (before after : Files) : Type 0 where
   pub same : SameFloor (10 ^ job.digits) mpd playlists
 
 -- the words ask for the playlists of an MPD
-abbrev pub job_asked : Hls → Job
-job_asked job = jobs.Hls job.mpd job.base job.instant job.out job.digits
-
-abbrev pub AsksFor : (words : List (List ℕ)) → Hls → Type 0
-AsksFor words job = job_of words ≡ Some (job_asked job)
+abbrev pub AsksFor : (words : List (List ℕ)) → HlsJob → Type 0
+AsksFor words job = job_of words ≡ Some (jobs.Hls job)
 
 -- Where such a run is done, what it wrote means what the MPD means.
 abbrev pub WrittenMeansTheMpd : Type 0
-WrittenMeansTheMpd = (words : List (List ℕ)) (job : Hls) (input : Option (List ℕ)) (course : Course) (before after : World)
+WrittenMeansTheMpd = (words : List (List ℕ)) (job : HlsJob) (input : Option (List ℕ)) (course : Course) (before after : World)
     (first last : Files)
     → AsksFor words job → before.files ≡ Some first → after.files ≡ Some last
     → course_of words (Some first) input ≡ Some course → IsExecution course status.Done before after → MeansTheSame job first last
@@ -49,7 +47,7 @@ WrittenMeansTheMpd = (words : List (List ℕ)) (job : Hls) (input : Option (List
 
 -- A job's master and its playlists mean something (RFC 8216, 4.3), the MPD that is written means something at any URL and
 -- instant (ISO/IEC 23009-1, 5.3), and that is the same.
-pub record MpdMeansTheSame (job : Dash) (before after : Files) : Type 0 where
+pub record MpdMeansTheSame (job : MasterJob) (before after : Files) : Type 0 where
   pub place : StorePlace
   pub at : store_place_of job.base job.master ≡ Some place
   pub playlists : Meaning
@@ -61,15 +59,12 @@ pub record MpdMeansTheSame (job : Dash) (before after : Files) : Type 0 where
   pub same : SameExact playlists mpd
 
 -- the words ask for the MPD of playlists
-abbrev pub mpd_asked : Dash → Job
-mpd_asked job = jobs.Dash job.master job.base job.out
-
-abbrev pub AsksForMpd : (words : List (List ℕ)) → Dash → Type 0
-AsksForMpd words job = job_of words ≡ Some (mpd_asked job)
+abbrev pub AsksForMpd : (words : List (List ℕ)) → MasterJob → Type 0
+AsksForMpd words job = job_of words ≡ Some (jobs.Dash job)
 
 -- Where such a run is done, the MPD that it wrote means what the playlists mean.
 abbrev pub WrittenMpdMeansThePlaylists : Type 0
-WrittenMpdMeansThePlaylists = (words : List (List ℕ)) (job : Dash) (input : Option (List ℕ)) (course : Course) (before after : World)
+WrittenMpdMeansThePlaylists = (words : List (List ℕ)) (job : MasterJob) (input : Option (List ℕ)) (course : Course) (before after : World)
     (first last : Files)
     → AsksForMpd words job → before.files ≡ Some first → after.files ≡ Some last
     → course_of words (Some first) input ≡ Some course → IsExecution course status.Done before after → MpdMeansTheSame job first last
@@ -77,7 +72,7 @@ WrittenMpdMeansThePlaylists = (words : List (List ℕ)) (job : Dash) (input : Op
 -- ---- `check`
 
 -- A job's MPD means something at its URL (ISO/IEC 23009-1, 5.3), and its master and playlists mean something (RFC 8216, 4.3).
-pub record AreMeant (job : Check) (files : Files) (mpd playlists : Meaning) : Type 0 where
+pub record AreMeant (job : CheckJob) (files : Files) (mpd playlists : Meaning) : Type 0 where
   pub source : StorePlace
   pub source_at : store_place_of job.base job.mpd ≡ Some source
   pub bytes : List ℕ
@@ -88,14 +83,14 @@ pub record AreMeant (job : Check) (files : Files) (mpd playlists : Meaning) : Ty
   pub told : hls_meaning files master.folder master.url ≡ Some playlists
 
 -- and these agree
-pub record AreAgreed (job : Check) (files : Files) : Type 0 where
+pub record AreAgreed (job : CheckJob) (files : Files) : Type 0 where
   pub mpd : Meaning
   pub playlists : Meaning
   pub meant : AreMeant job files mpd playlists
   pub agree : Agrees (10 ^ job.digits) mpd playlists
 
 -- or they don't, and the line is that of their first difference
-pub record AreApart (job : Check) (files : Files) (line : List ℕ) : Type 0 where
+pub record AreApart (job : CheckJob) (files : Files) (line : List ℕ) : Type 0 where
   pub mpd : Meaning
   pub playlists : Meaning
   pub meant : AreMeant job files mpd playlists
@@ -105,16 +100,13 @@ pub record AreApart (job : Check) (files : Files) (line : List ℕ) : Type 0 whe
   pub told : line ≡ differ_line first
 
 -- the words ask whether an MPD and playlists agree
-abbrev pub check_asked : Check → Job
-check_asked job = jobs.Check job.mpd job.master job.base job.digits
-
-abbrev pub AsksToCheck : (words : List (List ℕ)) → Check → Type 0
-AsksToCheck words job = job_of words ≡ Some (check_asked job)
+abbrev pub AsksToCheck : (words : List (List ℕ)) → CheckJob → Type 0
+AsksToCheck words job = job_of words ≡ Some (jobs.Check job)
 
 -- Where such a run is done, the MPD and the playlists agree.
 abbrev pub DoneIsAgreed : Type 0
 DoneIsAgreed =
-    (words : List (List ℕ)) (job : Check) (input : Option (List ℕ)) (course : Course) (before after : World) (files : Files)
+    (words : List (List ℕ)) (job : CheckJob) (input : Option (List ℕ)) (course : Course) (before after : World) (files : Files)
     → AsksToCheck words job
     → before.files ≡ Some files
     → course_of words (Some files) input ≡ Some course → IsExecution course status.Done before after → AreAgreed job files
@@ -122,7 +114,7 @@ DoneIsAgreed =
 -- Where it ends as Differ, they don't, and its line, of which the report may have a front, tells where they differ first.
 abbrev pub DifferIsApart : Type 0
 DifferIsApart =
-    (words : List (List ℕ)) (job : Check) (input : Option (List ℕ)) (course : Course) (before after : World) (files : Files)
+    (words : List (List ℕ)) (job : CheckJob) (input : Option (List ℕ)) (course : Course) (before after : World) (files : Files)
     → AsksToCheck words job
     → before.files ≡ Some files
     → course_of words (Some files) input ≡ Some course → IsExecution course status.Differ before after → AreApart job files course.end.lines

@@ -1,54 +1,36 @@
 // Whether an MPD and a master with its playlists agree.
 ghost use Rattle.std.specs.Prelude.{◌≡◌, ◌≢◌, ◌^◌, Ok, IfOk, true};
-ghost use Rattle.std.specs.Option.{ForSome};
-ghost use Rattle.bridge_io.specs.Answer.{Gives};
-ghost use Rattle.bridge_io.specs.Fault.{HasCause};
 ghost use Rattle.bridge_courses.specs.declared.status.Status.TheVariants as status;
 ghost use Rattle.bridge_courses.specs.Executions.{status_by};
 ghost use Rattle.presentation.specs.Counting.{counted, count_of_all};
 ghost use Rattle.presentation.specs.Origins.{CameFromPlaylists};
 ghost use Rattle.presentation.specs.Presented.{is_finished};
-ghost use Rattle.bridge_report.specs.declared.reading.Halt.TheVariants.{ReadFault};
-ghost use Rattle.bridge_report.specs.Reading.{halted};
+ghost use Rattle.bridge_report.specs.Reading.{ReadsAs};
 ghost use Rattle.bridge_steps.specs.Endings.{IsPlaced, JobEndsAs, NeverWrites, around};
 ghost use Rattle.bridge_core.specs.Check as spec;
 
 use bridge_courses::{Ending, Verdict};
-use bridge_io::{Ledger, Name, NoMemory, Steps, Store, Text};
+use bridge_io::{Ledger, NoMemory, Steps, Store, Text};
+use bridge_jobs::CheckJob;
 use bridge_playlists::{StorePlace, presented_at};
 use bridge_report::{Halt, Refusal};
 use bridge_steps::{Ready, count_of, mpd_at, place_in, told};
 use comparison::compare;
-use exact_time::Digits;
 use meaning::{Aspect, Difference};
 use presentation::Presentation;
 use std::alloc::Global;
-
-/// An MPD and a master that are to be compared.
-#[derive(Debug, Drop)]
-pub struct Check {
-    /// The MPD's file.
-    pub mpd: Name,
-    /// The master's file.
-    pub master: Name,
-    /// The URL of the store's root.
-    pub base: Text,
-    /// The decimals that the playlists' times may be rounded down to.
-    pub digits: Digits,
-}
 
 /// Tells whether the playlists of a job's master mean what its MPD means, or where they differ first, unless one of the files is
 /// refused. Nothing is written.
 #[tactic(auto, unfolding(crate::specs::Check::check_outcome))]
 pub fn run<F: Store, L: Ledger>(
     alloc: Global,
-    job: &Check,
+    job: &CheckJob,
     store: &mut F,
     steps: &mut Steps<L>,
 ) -> Ending
     ensures ends { JobEndsAs (spec.check_outcome job.now (F.files store.old)) result
-        (around (F.files store.old) (F.read_faults store.old) (F.write_faults store.old) steps.old)
-        (around (F.files store.new) (F.read_faults store.new) (F.write_faults store.new) steps.new) }
+        (around F.Store store.old steps.old) (around F.Store store.new steps.new) }
     ensures never_writes { NeverWrites result (F.write_faults store.old) (F.write_faults store.new) }
 {
     match places_of(alloc, job) {
@@ -59,7 +41,7 @@ pub fn run<F: Store, L: Ledger>(
 
 /// Where the MPD and the master of a job lie.
 #[tactic(auto, unfolding(crate::specs::Check::places_of))]
-fn places_of(alloc: Global, job: &Check) -> Result<(StorePlace, StorePlace), Ending>
+fn places_of(alloc: Global, job: &CheckJob) -> Result<(StorePlace, StorePlace), Ending>
     ensures { IsPlaced (spec.places_of job.now) result }
 {
     let mpd = place_in(alloc, &job.base, &job.mpd)?;
@@ -71,18 +53,14 @@ fn places_of(alloc: Global, job: &Check) -> Result<(StorePlace, StorePlace), End
 #[tactic(auto, unfolding(crate::specs::Check::judged))]
 fn judged<F: Store, L: Ledger>(
     alloc: Global,
-    job: &Check,
+    job: &CheckJob,
     mpd: &StorePlace,
     master: &StorePlace,
     store: &mut F,
     steps: &mut Steps<L>,
 ) -> Result<(Verdict, Text), Halt>
-    ensures told { ForSome (F.files store.old) (λ files. Gives (λ told. told) halted result
-        (spec.judged job.now mpd.now master.now files)) }
+    ensures reads { ReadsAs F.Store store.old store.new (λ told. told) (spec.judged job.now mpd.now master.now) result }
     ensures verdict { IfOk result (λ told. status_by told.0 ≢ status.Words) }
-    ensures cause { HasCause ReadFault (F.read_faults store.old) (F.read_faults store.new) result }
-    ensures files { F.files store.new ≡ F.files store.old }
-    ensures writes { F.write_faults store.new ≡ F.write_faults store.old }
 {
     let live = Some(Refusal::NotStatic);
     let ready = mpd_at(alloc, mpd, None, live, job.digits, store, steps)?;

@@ -6,7 +6,8 @@ ghost use Rattle.bridge_steps.specs.Endings.{JobEndsAs, around};
 ghost use Rattle.bridge_core.specs.Dash as spec;
 
 use bridge_courses::Ending;
-use bridge_io::{Ledger, Name, Steps, Store, Text};
+use bridge_io::{Ledger, Steps, Store};
+use bridge_jobs::MasterJob;
 use bridge_playlists::presented_at;
 use bridge_report::halted;
 use bridge_steps::{mpd_and_line, place_in, written};
@@ -14,28 +15,16 @@ use dash_writer::write_mpd;
 use presentation::Presentation;
 use std::alloc::Global;
 
-/// A master whose MPD is to be written.
-#[derive(Debug, Drop)]
-pub struct Dash {
-    /// The master's file.
-    pub master: Name,
-    /// The URL of the store's root.
-    pub base: Text,
-    /// The folder of the MPD.
-    pub out: Name,
-}
-
 /// Writes the MPD of a job's master and its playlists, unless one of them is refused.
 #[tactic(auto, unfolding(crate::specs::Dash::dash_outcome))]
 pub fn run<F: Store, L: Ledger>(
     alloc: Global,
-    job: &Dash,
+    job: &MasterJob,
     store: &mut F,
     steps: &mut Steps<L>,
 ) -> Ending
     ensures { JobEndsAs (spec.dash_outcome job.now (F.files store.old)) result
-        (around (F.files store.old) (F.read_faults store.old) (F.write_faults store.old) steps.old)
-        (around (F.files store.new) (F.read_faults store.new) (F.write_faults store.new) steps.new) }
+        (around F.Store store.old steps.old) (around F.Store store.new steps.new) }
 {
     match place_in(alloc, &job.base, &job.master) {
         Ok(place) => match presented_at(alloc, &place, store) {
@@ -49,7 +38,7 @@ pub fn run<F: Store, L: Ledger>(
 /// Writes the MPD of a presentation.
 fn write<F: Store, L: Ledger>(
     alloc: Global,
-    job: &Dash,
+    job: &MasterJob,
     presentation: &Presentation,
     store: &mut F,
     steps: &mut Steps<L>,
@@ -57,8 +46,7 @@ fn write<F: Store, L: Ledger>(
     requires came { CameFromPlaylists presentation.now }
     requires counted { counted presentation.now ≡ Ok (count_of_all presentation.now) }
     ensures { JobEndsAs (Some (spec.outcome_of job.now (Ok presentation.now))) result
-        (around (F.files store.old) (F.read_faults store.old) (F.write_faults store.old) steps.old)
-        (around (F.files store.new) (F.read_faults store.new) (F.write_faults store.new) steps.new) }
+        (around F.Store store.old steps.old) (around F.Store store.new steps.new) }
 {
     let Ok((name, line)) = mpd_and_line(alloc, &job.out, presentation) else {
         return Ending::Memory;

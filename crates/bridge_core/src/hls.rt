@@ -1,6 +1,5 @@
 // From an MPD to playlists.
 ghost use Rattle.std.specs.Prelude.{◌≡◌, Ok, Some, IfOk, IfSome, OnOk, OnErr};
-ghost use Rattle.std.specs.Option.{ForSome};
 ghost use Rattle.bridge_io.specs.Answer.{Gives};
 ghost use Rattle.bridge_io.specs.Fault.{HasCause};
 ghost use Rattle.bridge_io.specs.InOrder.{put_all, AreBegun};
@@ -9,43 +8,26 @@ ghost use Rattle.bridge_io.specs.declared.out_fault.OutFault.TheVariants.{WriteF
 ghost use Rattle.iso_time.specs.Instant.{IsReadable};
 ghost use Rattle.mpd_rules.specs.Views.{segments_mpd};
 ghost use Rattle.live_meaning.specs.Laws.{IsTyped};
-ghost use Rattle.bridge_report.specs.Reading.{halted};
+ghost use Rattle.bridge_report.specs.Reading.{ReadsAs, halted};
 ghost use Rattle.bridge_report.specs.Refusals.{refused_in};
-ghost use Rattle.bridge_report.specs.declared.reading.Halt.TheVariants.{ReadFault};
 ghost use Rattle.bridge_steps.specs.Endings.{JobEndsAs, around};
 ghost use Rattle.bridge_core.specs.Hls as spec;
 
 use bridge_courses::Ending;
 use bridge_io::{Bytes, Ledger, Name, NoMemory, Steps, Store, Text};
+use bridge_jobs::HlsJob;
 use bridge_playlists::StorePlace;
 use bridge_report::{Halt, Refusal, Stop, content_of, halted};
 use bridge_steps::{
     Ready, begin_session, done_line, place_in, ready_of, values_of, write_live_files,
     write_playlists, written,
 };
-use exact_time::Digits;
 use hls_writer::OutFault;
-use iso_time::Instant;
 use live_session::Session;
 use mpd_rules::Mpd;
 use presentation::PresentationFault;
 use std::alloc::Global;
 use url_parts::Base;
-
-/// An MPD whose playlists are to be written.
-#[derive(Debug, Drop)]
-pub struct Hls {
-    /// The MPD's file.
-    pub mpd: Name,
-    /// The URL of the store's root.
-    pub base: Text,
-    /// The instant of a live MPD.
-    pub instant: Option<Instant>,
-    /// The folder of the playlists.
-    pub out: Name,
-    /// The decimals of printed durations.
-    pub digits: Digits,
-}
 
 /// What is written of an MPD.
 #[derive(Drop)]
@@ -61,14 +43,13 @@ pub enum Translation {
 #[tactic(auto, unfolding(crate::specs::Hls::hls_outcome))]
 pub fn run<F: Store, L: Ledger>(
     alloc: Global,
-    job: &Hls,
+    job: &HlsJob,
     store: &mut F,
     steps: &mut Steps<L>,
 ) -> Ending
     requires { IfSome job.now.instant IsReadable }
     ensures { JobEndsAs (spec.hls_outcome job.now (F.files store.old)) result
-        (around (F.files store.old) (F.read_faults store.old) (F.write_faults store.old) steps.old)
-        (around (F.files store.new) (F.read_faults store.new) (F.write_faults store.new) steps.new) }
+        (around F.Store store.old steps.old) (around F.Store store.new steps.new) }
 {
     match place_in(alloc, &job.base, &job.mpd) {
         Ok(place) => match translation_at(alloc, job, &place, store, steps) {
@@ -84,17 +65,13 @@ pub fn run<F: Store, L: Ledger>(
 #[tactic(auto, unfolding(crate::specs::Hls::translation_at))]
 fn translation_at<F: Store, L: Ledger>(
     alloc: Global,
-    job: &Hls,
+    job: &HlsJob,
     place: &StorePlace,
     store: &mut F,
     steps: &mut Steps<L>,
 ) -> Result<Translation, Halt>
     requires { IfSome job.now.instant IsReadable }
-    ensures translation { ForSome (F.files store.old) (λ files. Gives spec.translated halted result
-        (spec.translation_at job.now place.now files)) }
-    ensures cause { HasCause ReadFault (F.read_faults store.old) (F.read_faults store.new) result }
-    ensures files { F.files store.new ≡ F.files store.old }
-    ensures writes { F.write_faults store.new ≡ F.write_faults store.old }
+    ensures { ReadsAs F.Store store.old store.new spec.translated (spec.translation_at job.now place.now) result }
 {
     let bytes = content_of(alloc, store, &place.file)?;
     match translation_of(alloc, job, &place.url, bytes, steps) {
@@ -108,7 +85,7 @@ fn translation_at<F: Store, L: Ledger>(
 #[tactic(auto, unfolding(crate::specs::Hls::translation_of, crate::specs::Hls::static_translation))]
 fn translation_of<L: Ledger>(
     alloc: Global,
-    job: &Hls,
+    job: &HlsJob,
     url: &Base,
     bytes: Bytes,
     steps: &mut Steps<L>,
@@ -128,7 +105,7 @@ fn translation_of<L: Ledger>(
 #[tactic(auto, unfolding(crate::specs::Hls::live_translation))]
 fn live_translation<L: Ledger>(
     alloc: Global,
-    job: &Hls,
+    job: &HlsJob,
     url: &Base,
     mpd: &Mpd,
     steps: &mut Steps<L>,
@@ -147,14 +124,13 @@ fn live_translation<L: Ledger>(
 /// Writes the playlists of an MPD.
 fn write<F: Store, L: Ledger>(
     alloc: Global,
-    job: &Hls,
+    job: &HlsJob,
     translation: &Translation,
     store: &mut F,
     steps: &mut Steps<L>,
 ) -> Ending
     ensures { JobEndsAs (Some (spec.outcome_of job.now (Ok (spec.translated translation.now)))) result
-        (around (F.files store.old) (F.read_faults store.old) (F.write_faults store.old) steps.old)
-        (around (F.files store.new) (F.read_faults store.new) (F.write_faults store.new) steps.new) }
+        (around F.Store store.old steps.old) (around F.Store store.new steps.new) }
 {
     let Ok(line) = line_of(alloc, translation) else {
         return Ending::Memory;

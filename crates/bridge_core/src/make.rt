@@ -13,6 +13,7 @@ ghost use Rattle.bridge_core.specs.Source.{source_text};
 use crate::source::source_text;
 use bridge_courses::Ending;
 use bridge_io::{Bytes, FileWriter, Ledger, Name, NoMemory, Steps, Store, Text};
+use bridge_jobs::MakeJob;
 use bridge_playlists::StorePlace;
 use bridge_report::{Refusal, halted};
 use bridge_steps::{Ready, file_in, mpd_in, place_in, push_seconds, write_playlists, written};
@@ -27,28 +28,16 @@ const BASE: &str = "https://make.example/";
 /// The MPD's file.
 const SOURCE: &str = "source.mpd";
 
-/// An MPD that is to be made, with its playlists.
-#[derive(Debug, Drop)]
-pub struct Make {
-    /// What the MPD is made from.
-    pub seed: u32,
-    /// The folder of the MPD and of the playlists.
-    pub out: Name,
-    /// The decimals of printed durations.
-    pub digits: Digits,
-}
-
 /// Writes the MPD that is made from a job's seed, and then its playlists. Nothing is read.
 #[tactic(auto, unfolding(crate::specs::Make::make_outcome))]
 pub fn run<F: Store, L: Ledger>(
     alloc: Global,
-    job: &Make,
+    job: &MakeJob,
     store: &mut F,
     steps: &mut Steps<L>,
 ) -> Ending
     ensures ends { JobEndsAs (spec.make_outcome job.now) result
-        (around (F.files store.old) (F.read_faults store.old) (F.write_faults store.old) steps.old)
-        (around (F.files store.new) (F.read_faults store.new) (F.write_faults store.new) steps.new) }
+        (around F.Store store.old steps.old) (around F.Store store.new steps.new) }
     ensures never_reads { NeverReads result (F.read_faults store.old) (F.read_faults store.new) }
 {
     let Ok(text) = source_text(alloc, job.seed) else {
@@ -88,7 +77,7 @@ fn source_place(alloc: Global) -> Result<StorePlace, Ending>
 /// Writes the MPD and the playlists of its presentation.
 fn write<F: Store, L: Ledger>(
     alloc: Global,
-    job: &Make,
+    job: &MakeJob,
     text: &Text,
     ready: &Ready,
     store: &mut F,
@@ -97,8 +86,7 @@ fn write<F: Store, L: Ledger>(
     requires text { text.now ≡ source_text job.now.seed }
     requires digits { ready.now.digits ≡ job.now.digits }
     ensures ends { JobEndsAs (Some (spec.outcome_of job.now (Ok ready.now.presentation))) result
-        (around (F.files store.old) (F.read_faults store.old) (F.write_faults store.old) steps.old)
-        (around (F.files store.new) (F.read_faults store.new) (F.write_faults store.new) steps.new) }
+        (around F.Store store.old steps.old) (around F.Store store.new steps.new) }
     ensures never_reads { NeverReads result (F.read_faults store.old) (F.read_faults store.new) }
 {
     let Ok(line) = made_line(alloc, ready) else {
@@ -110,7 +98,7 @@ fn write<F: Store, L: Ledger>(
 /// Writes the MPD, and then the playlists.
 fn write_files<F: Store, L: Ledger>(
     alloc: Global,
-    job: &Make,
+    job: &MakeJob,
     text: &Text,
     ready: &Ready,
     store: &mut F,

@@ -9,23 +9,16 @@ ghost use Rattle.bridge_courses.specs.Laws.{IsCalm};
 ghost use Rattle.bridge_courses.specs.Steps.{Work};
 ghost use Rattle.bridge_steps.specs.Endings.{JobEndsAs, around};
 ghost use Rattle.bridge_steps.specs.Follow.{Grows, world_of};
-ghost use Rattle.bridge_core.specs.Courses.{Follows, IsBlamed, ReadRose, ReadsInputAlone, WritesNoPlaylists, WritesNothing};
+ghost use Rattle.bridge_core.specs.Courses.{Follows, IsBlamed, ReadRose, ReadsInputAlone};
 ghost use Rattle.bridge_core.specs.Courses.{course_of, course_of_job, outcome_of_job};
 ghost use Rattle.bridge_core.specs.Reports.{TellsItsEnd};
 
-use crate::check::{self, Check};
-use crate::dash::{self, Dash};
-use crate::follow::{self, Follow};
-use crate::hls::{self, Hls};
-use crate::make::{self, Make};
-use crate::show::{self, Show};
+use crate::{check, dash, follow, hls, make, show};
 use bridge_courses::{Ending, Status, tell};
 use bridge_io::{Ledger, NoMemory, Sink, Source, Steps, Store, Text};
 use bridge_jobs::{Job, job};
-use bridge_playlists::{Reload, run_reload};
-use bridge_reach::{
-    Agree, DashTimes, FollowHls, HlsIndex, run_agree, run_dash_times, run_follow_hls, run_hls_index,
-};
+use bridge_playlists::run_reload;
+use bridge_reach::{run_agree, run_dash_times, run_follow_hls, run_hls_index};
 use std::alloc::Global;
 
 /// Runs the command that the words are, without the program's own name: it reads and writes the files of the store,
@@ -53,20 +46,15 @@ pub fn bridge<I: Source, F: Store, P: Sink, L: Ledger>(
     steps: &mut Steps<L>,
 ) -> Status
     // The run does what the words, the store's files and the input say, unless a fault or want of memory ends it.
-    ensures run { ForSome (course_of words.now (F.files store.old) (I.remaining input.old)) (λ course.
-        let before = world_of (F.files store.old) (P.written report.old) (I.faults input.old) (F.read_faults store.old)
-        (F.write_faults store.old) (P.faults report.old) steps.old in
-        let after = world_of (F.files store.new) (P.written report.new) (I.faults input.new) (F.read_faults store.new)
-        (F.write_faults store.new) (P.faults report.new) steps.new in
-        IsExecution course result before after) }
+    ensures run { ForSome (course_of words.now (F.files store.old) (I.remaining input.old)) (λ course. IsExecution course result
+        (world_of I.Source F.Store P.Sink input.old store.old report.old steps.old)
+        (world_of I.Source F.Store P.Sink input.new store.new report.new steps.new)) }
 
     // Where no count of faults rose, it ends as its course, or for want of memory.
-    ensures complete { ForSome (course_of words.now (F.files store.old) (I.remaining input.old)) (λ course.
-        let before = world_of (F.files store.old) (P.written report.old) (I.faults input.old) (F.read_faults store.old)
-        (F.write_faults store.old) (P.faults report.old) steps.old in
-        let after = world_of (F.files store.new) (P.written report.new) (I.faults input.new) (F.read_faults store.new)
-        (F.write_faults store.new) (P.faults report.new) steps.new in
-        IsCalm before after → (result ≡ status_by course.end.verdict) ⊎ (result ≡ status.Memory)) }
+    ensures complete { ForSome (course_of words.now (F.files store.old) (I.remaining input.old)) (λ course. IsCalm
+        (world_of I.Source F.Store P.Sink input.old store.old report.old steps.old)
+        (world_of I.Source F.Store P.Sink input.new store.new report.new steps.new)
+        → (result ≡ status_by course.end.verdict) ⊎ (result ≡ status.Memory)) }
 
     // Words are told only of words that are no job, whatever the store tells.
     ensures words { result ≡ status.Words → job_of words.now ≡ None }
@@ -99,15 +87,11 @@ fn work<I: Source, F: Store, P: Sink, L: Ledger>(
     steps: &mut Steps<L>,
 ) -> Ending
     ensures work { ForSome (course_of words.now (F.files store.old) (I.remaining input.old)) (λ course. Work course result
-        (world_of (F.files store.old) (P.written report.old) (I.faults input.old) (F.read_faults store.old) (F.write_faults store.old)
-        (P.faults report.old) steps.old)
-        (world_of (F.files store.new) (P.written report.new) (I.faults input.new) (F.read_faults store.new) (F.write_faults store.new)
-        (P.faults report.new) steps.new)) }
+        (world_of I.Source F.Store P.Sink input.old store.old report.old steps.old)
+        (world_of I.Source F.Store P.Sink input.new store.new report.new steps.new)) }
     ensures blamed { IsBlamed (job_of words.now) result
-        (world_of (F.files store.old) (P.written report.old) (I.faults input.old) (F.read_faults store.old) (F.write_faults store.old)
-        (P.faults report.old) steps.old)
-        (world_of (F.files store.new) (P.written report.new) (I.faults input.new) (F.read_faults store.new) (F.write_faults store.new)
-        (P.faults report.new) steps.new) }
+        (world_of I.Source F.Store P.Sink input.old store.old report.old steps.old)
+        (world_of I.Source F.Store P.Sink input.new store.new report.new steps.new) }
     ensures told { Grows (P.written report.old) (P.written report.new) }
     ensures input { (Follows (job_of words.now) → ⊥) → input.new ≡ input.old }
     ensures reads { ReadsInputAlone (job_of words.now) → F.read_faults store.new ≡ F.read_faults store.old }
@@ -129,161 +113,44 @@ fn run_job<I: Source, F: Store, P: Sink, L: Ledger>(
 ) -> Ending
     requires { HasReadableNow job }
     ensures work { ForSome (course_of_job (Some job) (F.files store.old) (I.remaining input.old)) (λ course. Work course result
-        (world_of (F.files store.old) (P.written report.old) (I.faults input.old) (F.read_faults store.old) (F.write_faults store.old)
-        (P.faults report.old) steps.old)
-        (world_of (F.files store.new) (P.written report.new) (I.faults input.new) (F.read_faults store.new) (F.write_faults store.new)
-        (P.faults report.new) steps.new)) }
+        (world_of I.Source F.Store P.Sink input.old store.old report.old steps.old)
+        (world_of I.Source F.Store P.Sink input.new store.new report.new steps.new)) }
     ensures blamed { IsBlamed (Some job) result
-        (world_of (F.files store.old) (P.written report.old) (I.faults input.old) (F.read_faults store.old) (F.write_faults store.old)
-        (P.faults report.old) steps.old)
-        (world_of (F.files store.new) (P.written report.new) (I.faults input.new) (F.read_faults store.new) (F.write_faults store.new)
-        (P.faults report.new) steps.new) }
+        (world_of I.Source F.Store P.Sink input.old store.old report.old steps.old)
+        (world_of I.Source F.Store P.Sink input.new store.new report.new steps.new) }
     ensures told { Grows (P.written report.old) (P.written report.new) }
     ensures input { (Follows (Some job) → ⊥) → input.new ≡ input.old }
     ensures reads { ReadsInputAlone (Some job) → F.read_faults store.new ≡ F.read_faults store.old }
 {
     match job {
-        Job::Follow {
-            name,
-            base,
-            out,
-            digits,
-        } => {
-            let job = Follow {
-                name,
-                base,
-                out,
-                digits,
-            };
-            follow::run(alloc, job, input, store, report, steps)
-        }
-        Job::FollowHls { master, base, out } => {
-            let job = FollowHls { master, base, out };
-            run_follow_hls(alloc, job, input, store, report, steps)
-        }
-        other => run_command(alloc, other, store, steps),
+        Job::Follow(job) => follow::run(alloc, job, input, store, report, steps),
+        Job::FollowHls(job) => run_follow_hls(alloc, job, input, store, report, steps),
+        other => run_command(alloc, &other, store, steps),
     }
 }
 
 /// Runs a command that reads all before it writes, and leaves the input and the report.
 fn run_command<F: Store, L: Ledger>(
     alloc: Global,
-    job: Job,
+    job: &Job,
     store: &mut F,
     steps: &mut Steps<L>,
 ) -> Ending
-    requires readable { HasReadableNow job }
-    requires other { Follows (Some job) → ⊥ }
-    ensures { JobEndsAs (outcome_of_job (Some job) (F.files store.old)) result
-        (around (F.files store.old) (F.read_faults store.old) (F.write_faults store.old) steps.old)
-        (around (F.files store.new) (F.read_faults store.new) (F.write_faults store.new) steps.new) }
+    requires readable { HasReadableNow job.now }
+    requires other { Follows (Some job.now) → ⊥ }
+    ensures { JobEndsAs (outcome_of_job (Some job.now) (F.files store.old)) result
+        (around F.Store store.old steps.old) (around F.Store store.new steps.new) }
 {
     match job {
-        Job::Hls {
-            mpd,
-            base,
-            now,
-            out,
-            digits,
-        } => {
-            let job = Hls {
-                mpd,
-                base,
-                instant: now,
-                out,
-                digits,
-            };
-            hls::run(alloc, &job, store, steps)
-        }
-        Job::HlsIndex {
-            mpd,
-            base,
-            out,
-            digits,
-        } => {
-            let job = HlsIndex {
-                mpd,
-                base,
-                out,
-                digits,
-            };
-            run_hls_index(alloc, &job, store, steps)
-        }
-        Job::Make { seed, out, digits } => {
-            make::run(alloc, &Make { seed, out, digits }, store, steps)
-        }
-        other => run_mpd_command(alloc, other, store, steps),
-    }
-}
-
-/// The same of one that writes no playlists.
-fn run_mpd_command<F: Store, L: Ledger>(
-    alloc: Global,
-    job: Job,
-    store: &mut F,
-    steps: &mut Steps<L>,
-) -> Ending
-    requires readable { HasReadableNow job }
-    requires mpd { WritesNoPlaylists job }
-    ensures { JobEndsAs (outcome_of_job (Some job) (F.files store.old)) result
-        (around (F.files store.old) (F.read_faults store.old) (F.write_faults store.old) steps.old)
-        (around (F.files store.new) (F.read_faults store.new) (F.write_faults store.new) steps.new) }
-{
-    match job {
-        Job::Dash { master, base, out } => {
-            dash::run(alloc, &Dash { master, base, out }, store, steps)
-        }
-        Job::DashTimes { master, base, out } => {
-            run_dash_times(alloc, &DashTimes { master, base, out }, store, steps)
-        }
-        other => run_judgement(alloc, other, store, steps),
-    }
-}
-
-/// The same of one that writes nothing.
-fn run_judgement<F: Store, L: Ledger>(
-    alloc: Global,
-    job: Job,
-    store: &mut F,
-    steps: &mut Steps<L>,
-) -> Ending
-    requires readable { HasReadableNow job }
-    requires judges { WritesNothing job }
-    ensures { JobEndsAs (outcome_of_job (Some job) (F.files store.old)) result
-        (around (F.files store.old) (F.read_faults store.old) (F.write_faults store.old) steps.old)
-        (around (F.files store.new) (F.read_faults store.new) (F.write_faults store.new) steps.new) }
-{
-    match job {
-        Job::Show {
-            file,
-            base,
-            now,
-            digits,
-        } => {
-            let job = Show {
-                file,
-                base,
-                instant: now,
-                digits,
-            };
-            show::run(alloc, &job, store, steps)
-        }
-        Job::Check {
-            mpd,
-            master,
-            base,
-            digits,
-        } => {
-            let job = Check {
-                mpd,
-                master,
-                base,
-                digits,
-            };
-            check::run(alloc, &job, store, steps)
-        }
-        Job::Agree { mpd, base } => run_agree(alloc, &Agree { mpd, base }, store, steps),
-        Job::Reload { old, new, base } => run_reload(alloc, &Reload { old, new, base }, store),
-        _ => unreachable!(),
+        Job::Hls(job) => hls::run(alloc, job, store, steps),
+        Job::HlsIndex(job) => run_hls_index(alloc, job, store, steps),
+        Job::Make(job) => make::run(alloc, job, store, steps),
+        Job::Dash(job) => dash::run(alloc, job, store, steps),
+        Job::DashTimes(job) => run_dash_times(alloc, job, store, steps),
+        Job::Show(job) => show::run(alloc, job, store, steps),
+        Job::Check(job) => check::run(alloc, job, store, steps),
+        Job::Agree(job) => run_agree(alloc, job, store, steps),
+        Job::Reload(job) => run_reload(alloc, job, store),
+        Job::Follow(_) | Job::FollowHls(_) => unreachable!(),
     }
 }

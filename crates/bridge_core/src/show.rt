@@ -1,52 +1,34 @@
 // What is told of the tracks and sections of an MPD or of a master.
 ghost use Rattle.std.specs.Prelude.{◌≡◌, ◌≢◌, Ok, IfOk};
-ghost use Rattle.std.specs.Option.{ForSome};
-ghost use Rattle.bridge_io.specs.Answer.{Gives};
-ghost use Rattle.bridge_io.specs.Fault.{HasCause};
 ghost use Rattle.bridge_courses.specs.declared.status.Status.TheVariants as status;
 ghost use Rattle.bridge_courses.specs.Executions.{status_by};
 ghost use Rattle.presentation.specs.Counting.{counted, count_of_all};
-ghost use Rattle.bridge_report.specs.declared.reading.Halt.TheVariants.{ReadFault};
-ghost use Rattle.bridge_report.specs.Reading.{halted};
+ghost use Rattle.bridge_report.specs.Reading.{ReadsAs};
 ghost use Rattle.bridge_steps.specs.Endings.{JobEndsAs, NeverWrites, around};
 ghost use Rattle.bridge_steps.specs.Listing.{shown};
 ghost use Rattle.bridge_core.specs.Show as spec;
 
 use bridge_courses::{Ending, Verdict};
-use bridge_io::{Ledger, Name, NoMemory, Steps, Store, Text};
+use bridge_io::{Ledger, NoMemory, Steps, Store, Text};
+use bridge_jobs::ShowJob;
 use bridge_playlists::{StorePlace, presented_in};
 use bridge_report::{Halt, content_of};
 use bridge_steps::{mpd_in, place_in, push_shown, told};
 use exact_time::Digits;
-use iso_time::Instant;
 use presentation::Presentation;
 use std::alloc::Global;
-
-/// A manifest whose tracks and sections are to be told.
-#[derive(Debug, Drop)]
-pub struct Show {
-    /// The file of an MPD or of a master.
-    pub file: Name,
-    /// The URL of the store's root.
-    pub base: Text,
-    /// The instant of a live MPD.
-    pub instant: Option<Instant>,
-    /// The decimals of lengths.
-    pub digits: Digits,
-}
 
 /// Tells the tracks and sections of a job's manifest, unless it is refused: how many segments each track has in each section, and
 /// how long they last. Nothing is written.
 #[tactic(auto, unfolding(crate::specs::Show::show_outcome))]
 pub fn run<F: Store, L: Ledger>(
     alloc: Global,
-    job: &Show,
+    job: &ShowJob,
     store: &mut F,
     steps: &mut Steps<L>,
 ) -> Ending
     ensures ends { JobEndsAs (spec.show_outcome job.now (F.files store.old)) result
-        (around (F.files store.old) (F.read_faults store.old) (F.write_faults store.old) steps.old)
-        (around (F.files store.new) (F.read_faults store.new) (F.write_faults store.new) steps.new) }
+        (around F.Store store.old steps.old) (around F.Store store.new steps.new) }
     ensures never_writes { NeverWrites result (F.write_faults store.old) (F.write_faults store.new) }
 {
     match place_in(alloc, &job.base, &job.file) {
@@ -59,16 +41,13 @@ pub fn run<F: Store, L: Ledger>(
 #[tactic(auto, unfolding(crate::specs::Show::shown_at))]
 fn shown_at<F: Store, L: Ledger>(
     alloc: Global,
-    job: &Show,
+    job: &ShowJob,
     place: &StorePlace,
     store: &mut F,
     steps: &mut Steps<L>,
 ) -> Result<(Verdict, Text), Halt>
-    ensures told { ForSome (F.files store.old) (λ files. Gives (λ told. told) halted result (spec.shown_at job.now place.now files)) }
+    ensures reads { ReadsAs F.Store store.old store.new (λ told. told) (spec.shown_at job.now place.now) result }
     ensures verdict { IfOk result (λ told. status_by told.0 ≢ status.Words) }
-    ensures cause { HasCause ReadFault (F.read_faults store.old) (F.read_faults store.new) result }
-    ensures files { F.files store.new ≡ F.files store.old }
-    ensures writes { F.write_faults store.new ≡ F.write_faults store.old }
 {
     let bytes = content_of(alloc, store, &place.file)?;
     if is_mpd(bytes.as_slice()) {

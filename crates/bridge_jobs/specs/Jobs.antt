@@ -7,6 +7,8 @@ use Rattle.clap.specs.Words.{Row, Text, first_of}
 use Rattle.iso_time.specs.Instant.{instant_of, IsReadable}
 use Rattle.bridge_io.specs.Names.{is_name}
 use Rattle.bridge_jobs.specs.{declared.verb.Verb.Verb, declared.jobs.Job.Job, Numbers.decimal_of, Verbs.{verb_of, values_of}}
+use Rattle.bridge_jobs.specs.declared.jobs.{AgreeJob.AgreeJob, CheckJob.CheckJob, FollowJob.FollowJob, HlsJob.HlsJob, IndexJob.IndexJob}
+use Rattle.bridge_jobs.specs.declared.jobs.{MakeJob.MakeJob, MasterJob.MasterJob, ReloadJob.ReloadJob, ShowJob.ShowJob}
 
 infixl 10 ◌>>=◌
 abbrev pub ◌>>=◌ : {A B : Type 0} → Option A → (A → Option B) → Option B
@@ -69,100 +71,86 @@ seed_of rows = first_of (codes "seed") rows >>= seed_in
 
 -- ---- jobs
 
-unfoldable pub hls_of : List Row → Option Job
+unfoldable pub hls_of : List Row → Option HlsJob
 hls_of rows = do
   mpd ← file_of (codes "mpd") rows
   base ← base_of rows
-  now ← now_of rows
+  instant ← now_of rows
   out ← out_of rows
   digits ← digits_of rows
-  Some (job.Hls mpd base now out digits)
+  Some (record { mpd = mpd; base = base; instant = instant; out = out; digits = digits })
 
-unfoldable pub dash_of : List Row → Option Job
-dash_of rows = do
+unfoldable pub master_of : List Row → Option MasterJob
+master_of rows = do
   master ← file_of (codes "master") rows
   base ← base_of rows
   out ← out_of rows
-  Some (job.Dash master base out)
+  Some (record { master = master; base = base; out = out })
 
-unfoldable pub follow_of : List Row → Option Job
+unfoldable pub follow_of : List Row → Option FollowJob
 follow_of rows = do
   name ← file_of (codes "name") rows
   base ← base_of rows
   out ← out_of rows
   digits ← digits_of rows
-  Some (job.Follow name base out digits)
+  Some (record { name = name; base = base; out = out; digits = digits })
 
-unfoldable pub show_of : List Row → Option Job
+unfoldable pub show_of : List Row → Option ShowJob
 show_of rows = do
   file ← file_of (codes "file") rows
   base ← base_of rows
-  now ← now_of rows
+  instant ← now_of rows
   digits ← digits_of rows
-  Some (job.Show file base now digits)
+  Some (record { file = file; base = base; instant = instant; digits = digits })
 
-unfoldable pub check_of : List Row → Option Job
+unfoldable pub check_of : List Row → Option CheckJob
 check_of rows = do
   mpd ← file_of (codes "mpd") rows
   master ← file_of (codes "master") rows
   base ← base_of rows
   digits ← digits_of rows
-  Some (job.Check mpd master base digits)
+  Some (record { mpd = mpd; master = master; base = base; digits = digits })
 
-unfoldable pub reload_of : List Row → Option Job
+unfoldable pub reload_of : List Row → Option ReloadJob
 reload_of rows = do
   old ← file_of (codes "old") rows
   new ← file_of (codes "new") rows
   base ← base_of rows
-  Some (job.Reload old new base)
+  Some (record { old = old; new = new; base = base })
 
-unfoldable pub make_of : List Row → Option Job
+unfoldable pub make_of : List Row → Option MakeJob
 make_of rows = do
   seed ← seed_of rows
   out ← out_of rows
   digits ← digits_of rows
-  Some (job.Make seed out digits)
+  Some (record { seed = seed; out = out; digits = digits })
 
-unfoldable pub hls_index_of : List Row → Option Job
-hls_index_of rows = do
+unfoldable pub index_of : List Row → Option IndexJob
+index_of rows = do
   mpd ← file_of (codes "mpd") rows
   base ← base_of rows
   out ← out_of rows
   digits ← digits_of rows
-  Some (job.HlsIndex mpd base out digits)
+  Some (record { mpd = mpd; base = base; out = out; digits = digits })
 
-unfoldable pub dash_times_of : List Row → Option Job
-dash_times_of rows = do
-  master ← file_of (codes "master") rows
-  base ← base_of rows
-  out ← out_of rows
-  Some (job.DashTimes master base out)
-
-unfoldable pub agree_of : List Row → Option Job
+unfoldable pub agree_of : List Row → Option AgreeJob
 agree_of rows = do
   mpd ← file_of (codes "mpd") rows
   base ← base_of rows
-  Some (job.Agree mpd base)
-
-unfoldable pub follow_hls_of : List Row → Option Job
-follow_hls_of rows = do
-  master ← file_of (codes "master") rows
-  base ← base_of rows
-  out ← out_of rows
-  Some (job.FollowHls master base out)
+  Some (record { mpd = mpd; base = base })
 
 abbrev pub job_by : Verb → List Row → Option Job
-job_by verb.Hls rows = hls_of rows
-job_by verb.Dash rows = dash_of rows
-job_by verb.Follow rows = follow_of rows
-job_by verb.Show rows = show_of rows
-job_by verb.Check rows = check_of rows
-job_by verb.Reload rows = reload_of rows
-job_by verb.Make rows = make_of rows
-job_by verb.HlsIndex rows = hls_index_of rows
-job_by verb.DashTimes rows = dash_times_of rows
-job_by verb.Agree rows = agree_of rows
-job_by verb.FollowHls rows = follow_hls_of rows
+job_by verb.Hls rows = option_map job.Hls (hls_of rows)
+job_by verb.Dash rows = option_map job.Dash (master_of rows)
+job_by verb.Follow rows = option_map job.Follow (follow_of rows)
+job_by verb.Show rows = option_map job.Show (show_of rows)
+job_by verb.Check rows = option_map job.Check (check_of rows)
+job_by verb.Reload rows = option_map job.Reload (reload_of rows)
+job_by verb.Make rows = option_map job.Make (make_of rows)
+job_by verb.HlsIndex rows = option_map job.HlsIndex (index_of rows)
+job_by verb.DashTimes rows = option_map job.DashTimes (master_of rows)
+job_by verb.Agree rows = option_map job.Agree (agree_of rows)
+job_by verb.FollowHls rows = option_map job.FollowHls (master_of rows)
 
 -- the command of the first word
 abbrev pub first_verb : List Text → Option Verb
@@ -178,17 +166,14 @@ job_of words = do
 
 -- the folder of the files that a job writes
 abbrev pub folder_of : Job → Option Text
-folder_of (job.Hls mpd base now out digits) = Some out
-folder_of (job.Dash master base out) = Some out
-folder_of (job.Follow name base out digits) = Some out
-folder_of (job.Show file base now digits) = None
-folder_of (job.Check mpd master base digits) = None
-folder_of (job.Reload old new base) = None
-folder_of (job.Make seed out digits) = Some out
-folder_of (job.HlsIndex mpd base out digits) = Some out
-folder_of (job.DashTimes master base out) = Some out
-folder_of (job.Agree mpd base) = None
-folder_of (job.FollowHls master base out) = Some out
+folder_of (job.Hls j) = Some j.out
+folder_of (job.Dash j) = Some j.out
+folder_of (job.Follow j) = Some j.out
+folder_of (job.Make j) = Some j.out
+folder_of (job.HlsIndex j) = Some j.out
+folder_of (job.DashTimes j) = Some j.out
+folder_of (job.FollowHls j) = Some j.out
+folder_of other = None
 
 -- and it leaves room for their names
 abbrev pub HasFolder : Job → Type 0
@@ -196,8 +181,8 @@ HasFolder job = IfSome (folder_of job) (λ folder. IsTrue (is_folder folder))
 
 -- the instant at which a job reads a live MPD
 abbrev pub now_of_job : Job → Option ℤ
-now_of_job (job.Hls mpd base now out digits) = now
-now_of_job (job.Show file base now digits) = now
+now_of_job (job.Hls j) = j.instant
+now_of_job (job.Show j) = j.instant
 now_of_job other = None
 
 -- and it is one that can be read and written

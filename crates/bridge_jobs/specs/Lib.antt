@@ -1,6 +1,7 @@
 pub mod FrameFaults
 pub mod CommandLines
 pub mod Frames
+pub mod Given
 pub mod Headers
 pub mod Inputs
 pub mod Jobs

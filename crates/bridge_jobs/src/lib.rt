@@ -3,6 +3,7 @@
 
 mod decimal;
 mod frame;
+mod given;
 mod header;
 mod input;
 mod jobs;
@@ -14,6 +15,8 @@ mod verb;
 mod words;
 
 pub use frame::{Frame, FrameFault, FramePos, read_frame};
-pub use jobs::Job;
+pub use jobs::{
+    AgreeJob, CheckJob, FollowJob, HlsJob, IndexJob, Job, MakeJob, MasterJob, ReloadJob, ShowJob,
+};
 pub use round::{BodyList, Round, read_round};
 pub use words::job;

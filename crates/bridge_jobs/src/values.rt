@@ -1,12 +1,14 @@
 // The values that words give a command's parameters.
 ghost use Rattle.std.specs.Prelude.{◌≡◌, ℕ, List, map, option_map, IfOk, IfSome, IsTrue};
+ghost use Rattle.bridge_jobs.specs.Given.{IsGiven};
 ghost use Rattle.bridge_jobs.specs.Jobs.{base_of, digits_in, digits_of, file_of, folder_in, is_folder, name_in, now_of, out_of, seed_of};
 ghost use Rattle.bridge_jobs.specs.Verbs.{values_of};
 ghost use Rattle.iso_time.specs.Instant.{IsReadable};
 
 use crate::decimal::decimal;
+use crate::given::WordsFault;
 use crate::verb::Verb;
-use bridge_io::{Name, NameFault, NoMemory, Text};
+use bridge_io::{Name, Text};
 use clap::ArgMatches;
 use clap::error::ErrorKind;
 use exact_time::Digits;
@@ -37,18 +39,14 @@ impl<'a> Values<'a> {
 
     /// What the words, of which the first is the command's, give its parameters, where it takes them.
     #[tactic(auto, unfolding(crate::specs::Verbs::values_of))]
-    pub fn of(
-        alloc: Global,
-        verb: Verb,
-        words: &'a [&'a str],
-    ) -> Result<Option<Values<'a>>, NoMemory>
-        ensures { IfOk result (λ values. values ≡ values_of verb (map (λ word. word.now) words.entry.now)) }
+    pub fn of(alloc: Global, verb: Verb, words: &'a [&'a str]) -> Result<Values<'a>, WordsFault>
+        ensures { IsGiven (values_of verb (map (λ word. word.now) words.entry.now)) result }
     {
         match verb.syntax(alloc)?.try_get_matches_from(words) {
-            Ok(matches) => Ok(Some(Values { matches })),
+            Ok(matches) => Ok(Values { matches }),
             Err(error) => match error.kind() {
-                ErrorKind::OutOfMemory => Err(NoMemory),
-                _ => Ok(None),
+                ErrorKind::OutOfMemory => Err(WordsFault::Memory),
+                _ => Err(WordsFault::NoJob),
             },
         }
     }
@@ -61,85 +59,75 @@ impl<'a> Values<'a> {
 
     /// The name of a file.
     #[tactic(auto, unfolding(crate::specs::Jobs::file_of))]
-    pub fn file(&self, alloc: Global, id: &str) -> Result<Option<Name>, NoMemory>
-        ensures { IfOk result (λ name. name ≡ file_of id.now self.now) }
+    pub fn file(&self, alloc: Global, id: &str) -> Result<Name, WordsFault>
+        ensures { IsGiven (file_of id.now self.now) result }
     {
-        match self.text(id) {
-            Some(text) => name(alloc, text),
-            None => Ok(None),
-        }
+        let text = self.text(id).ok_or(WordsFault::NoJob)?;
+        Ok(Name::read(alloc, text)?)
     }
 
     /// The URL of the store's folder, as it is written.
     #[tactic(auto, unfolding(crate::specs::Jobs::base_of))]
-    pub fn base(&self, alloc: Global) -> Result<Option<Text>, NoMemory>
-        ensures { IfOk result (λ text. text ≡ base_of self.now) }
+    pub fn base(&self, alloc: Global) -> Result<Text, WordsFault>
+        ensures { IsGiven (base_of self.now) result }
     {
-        match self.text("base") {
-            Some(text) => Ok(Some(Text::copy_of(alloc, text)?)),
-            None => Ok(None),
-        }
+        let text = self.text("base").ok_or(WordsFault::NoJob)?;
+        Ok(Text::copy_of(alloc, text)?)
     }
 
     /// The instant of the job, where it is written.
     #[tactic(auto, unfolding(crate::specs::Jobs::now_of))]
-    pub fn now(&self) -> Option<Option<Instant>>
-        ensures now { result ≡ now_of self.now }
-        ensures readable { IfSome result (λ now. IfSome now IsReadable) }
+    pub fn now(&self) -> Result<Option<Instant>, WordsFault>
+        ensures now { IsGiven (now_of self.now) result }
+        ensures readable { IfOk result (λ now. IfSome now IsReadable) }
     {
         match self.text("now") {
-            Some(text) => Some(Some(read_instant(text).ok()?)),
-            None => Some(None),
+            Some(text) => match read_instant(text) {
+                Ok(now) => Ok(Some(now)),
+                Err(_) => Err(WordsFault::NoJob),
+            },
+            None => Ok(None),
         }
     }
 
     /// The folder of the files that are written: `out`, unless another is written.
     #[tactic(auto, unfolding(crate::specs::Jobs::out_of))]
-    pub fn out(&self, alloc: Global) -> Result<Option<Name>, NoMemory>
-        ensures name { IfOk result (λ name. name ≡ out_of self.now) }
-        ensures folder { IfOk result (λ name. IfSome name (λ folder. IsTrue (is_folder folder))) }
+    pub fn out(&self, alloc: Global) -> Result<Name, WordsFault>
+        ensures name { IsGiven (out_of self.now) result }
+        ensures folder { IfOk result (λ folder. IsTrue (is_folder folder)) }
     {
         folder(alloc, self.text("out").unwrap_or("out"))
     }
 
     /// The decimals of printed durations: 6, unless one character of `3` to `9` is written.
     #[tactic(auto, unfolding(crate::specs::Jobs::digits_of))]
-    pub fn digits(&self) -> Option<Digits>
-        ensures { result ≡ digits_of self.now }
+    pub fn digits(&self) -> Result<Digits, WordsFault>
+        ensures { IsGiven (digits_of self.now) result }
     {
         match self.text("digits") {
-            Some(text) => digits(text),
-            None => Some(Digits::default()),
+            Some(text) => digits(text).ok_or(WordsFault::NoJob),
+            None => Ok(Digits::default()),
         }
     }
 
     /// The seed of a made MPD: 1 to 10 digits, with a number below 2^32.
     #[tactic(auto, unfolding(crate::specs::Jobs::seed_of))]
-    pub fn seed(&self) -> Option<u32>
-        ensures { result ≡ seed_of self.now }
+    pub fn seed(&self) -> Result<u32, WordsFault>
+        ensures { IsGiven (seed_of self.now) result }
     {
-        decimal(self.text("seed")?.as_bytes(), 10)
+        let text = self.text("seed").ok_or(WordsFault::NoJob)?;
+        decimal(text.as_bytes(), 10).ok_or(WordsFault::NoJob)
     }
 }
 
-fn name(alloc: Global, text: &str) -> Result<Option<Name>, NoMemory>
-    ensures { IfOk result (λ name. name ≡ name_in text.now) }
-{
-    match Name::read(alloc, text) {
-        Ok(name) => Ok(Some(name)),
-        Err(NameFault::Shape) => Ok(None),
-        Err(NameFault::Memory) => Err(NoMemory),
-    }
-}
-
-fn folder(alloc: Global, text: &str) -> Result<Option<Name>, NoMemory>
-    ensures name { IfOk result (λ name. name ≡ folder_in text.now) }
-    ensures folder { IfOk result (λ name. IfSome name (λ folder. IsTrue (is_folder folder))) }
+fn folder(alloc: Global, text: &str) -> Result<Name, WordsFault>
+    ensures name { IsGiven (folder_in text.now) result }
+    ensures folder { IfOk result (λ folder. IsTrue (is_folder folder)) }
 {
     if text.len() > MAX_FOLDER {
-        return Ok(None);
+        return Err(WordsFault::NoJob);
     }
-    name(alloc, text)
+    Ok(Name::read(alloc, text)?)
 }
 
 fn digits(text: &str) -> Option<Digits>

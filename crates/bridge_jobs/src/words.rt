@@ -1,9 +1,14 @@
 // The job that words are.
-ghost use Rattle.std.specs.Prelude.{◌≡◌, IfOk, IfSome, map};
-ghost use Rattle.bridge_jobs.specs.Jobs.{HasFolder, HasReadableNow, first_verb, job_by, job_of, hls_of, dash_of, follow_of, show_of};
-ghost use Rattle.bridge_jobs.specs.Jobs.{check_of, reload_of, make_of, hls_index_of, dash_times_of, agree_of, follow_hls_of};
+ghost use Rattle.std.specs.Prelude.{◌≡◌, IfOk, IfSome, IsTrue, map};
+ghost use Rattle.bridge_jobs.specs.Given.{IsGiven, IsJob};
+ghost use Rattle.bridge_jobs.specs.Jobs.{HasFolder, HasReadableNow, agree_of, check_of, first_verb, follow_of, hls_of, index_of, is_folder};
+ghost use Rattle.bridge_jobs.specs.Jobs.{job_by, job_of, make_of, master_of, reload_of, show_of};
+ghost use Rattle.iso_time.specs.Instant.{IsReadable};
 
-use crate::Job;
+use crate::given::WordsFault;
+use crate::jobs::{
+    AgreeJob, CheckJob, FollowJob, HlsJob, IndexJob, Job, MakeJob, MasterJob, ReloadJob, ShowJob,
+};
 use crate::values::Values;
 use crate::verb::Verb;
 use bridge_io::{NoMemory, Text};
@@ -16,7 +21,11 @@ pub fn job(alloc: Global, words: &[Text]) -> Result<Option<Job>, NoMemory>
     ensures readable { IfOk result (λ job. IfSome job HasReadableNow) }
 {
     let words = texts(alloc, words)?;
-    job_in(alloc, words.as_slice())
+    match job_in(alloc, words.as_slice()) {
+        Ok(job) => Ok(Some(job)),
+        Err(WordsFault::NoJob) => Ok(None),
+        Err(WordsFault::Memory) => Err(NoMemory),
+    }
 }
 
 fn texts<'a>(alloc: Global, words: &'a [Text]) -> Result<Vec<&'a str>, AllocError>
@@ -30,285 +39,150 @@ fn texts<'a>(alloc: Global, words: &'a [Text]) -> Result<Vec<&'a str>, AllocErro
 }
 
 #[tactic(auto, unfolding(crate::specs::Jobs::job_of))]
-fn job_in(alloc: Global, words: &[&str]) -> Result<Option<Job>, NoMemory>
-    ensures job { IfOk result (λ job. job ≡ job_of (map (λ word. word.now) words.now)) }
-    ensures folder { IfOk result (λ job. IfSome job HasFolder) }
-    ensures readable { IfOk result (λ job. IfSome job HasReadableNow) }
+fn job_in(alloc: Global, words: &[&str]) -> Result<Job, WordsFault>
+    ensures { IsJob (job_of (map (λ word. word.now) words.now)) result }
 {
-    let Some(verb) = first_verb(words) else {
-        return Ok(None);
-    };
-    let Some(values) = Values::of(alloc, verb, words)? else {
-        return Ok(None);
-    };
+    let verb = first_verb(words)?;
+    let values = Values::of(alloc, verb, words)?;
     job_by(alloc, verb, &values)
 }
 
 /// The command of the first word.
-fn first_verb(words: &[&str]) -> Option<Verb>
-    ensures { result ≡ first_verb (map (λ word. word.now) words.now) }
+fn first_verb(words: &[&str]) -> Result<Verb, WordsFault>
+    ensures { IsGiven (first_verb (map (λ word. word.now) words.now)) result }
 {
     match words {
-        [first, ..] => Verb::of(first),
-        [] => None,
+        [first, ..] => Verb::of(first).ok_or(WordsFault::NoJob),
+        [] => Err(WordsFault::NoJob),
     }
 }
 
-fn job_by(alloc: Global, verb: Verb, values: &Values) -> Result<Option<Job>, NoMemory>
-    ensures job { IfOk result (λ job. job ≡ job_by verb values.now) }
-    ensures folder { IfOk result (λ job. IfSome job HasFolder) }
-    ensures readable { IfOk result (λ job. IfSome job HasReadableNow) }
+fn job_by(alloc: Global, verb: Verb, values: &Values) -> Result<Job, WordsFault>
+    ensures { IsJob (job_by verb values.now) result }
 {
-    match verb {
-        Verb::Hls => hls(alloc, values),
-        Verb::Dash => dash(alloc, values),
-        Verb::Follow => follow(alloc, values),
-        Verb::Show => show(alloc, values),
-        Verb::Check => check(alloc, values),
-        Verb::Reload => reload(alloc, values),
-        Verb::Make => make(alloc, values),
-        Verb::HlsIndex => hls_index(alloc, values),
-        Verb::DashTimes => dash_times(alloc, values),
-        Verb::Agree => agree(alloc, values),
-        Verb::FollowHls => follow_hls(alloc, values),
-    }
+    let job = match verb {
+        Verb::Hls => Job::Hls(hls(alloc, values)?),
+        Verb::Dash => Job::Dash(master(alloc, values)?),
+        Verb::Follow => Job::Follow(follow(alloc, values)?),
+        Verb::Show => Job::Show(show(alloc, values)?),
+        Verb::Check => Job::Check(check(alloc, values)?),
+        Verb::Reload => Job::Reload(reload(alloc, values)?),
+        Verb::Make => Job::Make(make(alloc, values)?),
+        Verb::HlsIndex => Job::HlsIndex(index(alloc, values)?),
+        Verb::DashTimes => Job::DashTimes(master(alloc, values)?),
+        Verb::Agree => Job::Agree(agree(alloc, values)?),
+        Verb::FollowHls => Job::FollowHls(master(alloc, values)?),
+    };
+    Ok(job)
 }
 
 #[tactic(auto, unfolding(crate::specs::Jobs::hls_of))]
-fn hls(alloc: Global, values: &Values) -> Result<Option<Job>, NoMemory>
-    ensures job { IfOk result (λ job. job ≡ hls_of values.now) }
-    ensures folder { IfOk result (λ job. IfSome job HasFolder) }
-    ensures readable { IfOk result (λ job. IfSome job HasReadableNow) }
+fn hls(alloc: Global, values: &Values) -> Result<HlsJob, WordsFault>
+    ensures job { IsGiven (hls_of values.now) result }
+    ensures folder { IfOk result (λ job. IsTrue (is_folder job.out)) }
+    ensures readable { IfOk result (λ job. IfSome job.instant IsReadable) }
 {
-    let Some(mpd) = values.file(alloc, "mpd")? else {
-        return Ok(None);
-    };
-    let Some(base) = values.base(alloc)? else {
-        return Ok(None);
-    };
-    let Some(now) = values.now() else {
-        return Ok(None);
-    };
-    let Some(out) = values.out(alloc)? else {
-        return Ok(None);
-    };
-    let Some(digits) = values.digits() else {
-        return Ok(None);
-    };
-    Ok(Some(Job::Hls {
-        mpd,
-        base,
-        now,
-        out,
-        digits,
-    }))
+    Ok(HlsJob {
+        mpd: values.file(alloc, "mpd")?,
+        base: values.base(alloc)?,
+        instant: values.now()?,
+        out: values.out(alloc)?,
+        digits: values.digits()?,
+    })
 }
 
-#[tactic(auto, unfolding(crate::specs::Jobs::dash_of))]
-fn dash(alloc: Global, values: &Values) -> Result<Option<Job>, NoMemory>
-    ensures job { IfOk result (λ job. job ≡ dash_of values.now) }
-    ensures folder { IfOk result (λ job. IfSome job HasFolder) }
-    ensures readable { IfOk result (λ job. IfSome job HasReadableNow) }
+#[tactic(auto, unfolding(crate::specs::Jobs::master_of))]
+fn master(alloc: Global, values: &Values) -> Result<MasterJob, WordsFault>
+    ensures job { IsGiven (master_of values.now) result }
+    ensures folder { IfOk result (λ job. IsTrue (is_folder job.out)) }
 {
-    let Some(master) = values.file(alloc, "master")? else {
-        return Ok(None);
-    };
-    let Some(base) = values.base(alloc)? else {
-        return Ok(None);
-    };
-    let Some(out) = values.out(alloc)? else {
-        return Ok(None);
-    };
-    Ok(Some(Job::Dash { master, base, out }))
+    Ok(MasterJob {
+        master: values.file(alloc, "master")?,
+        base: values.base(alloc)?,
+        out: values.out(alloc)?,
+    })
 }
 
 #[tactic(auto, unfolding(crate::specs::Jobs::follow_of))]
-fn follow(alloc: Global, values: &Values) -> Result<Option<Job>, NoMemory>
-    ensures job { IfOk result (λ job. job ≡ follow_of values.now) }
-    ensures folder { IfOk result (λ job. IfSome job HasFolder) }
-    ensures readable { IfOk result (λ job. IfSome job HasReadableNow) }
+fn follow(alloc: Global, values: &Values) -> Result<FollowJob, WordsFault>
+    ensures job { IsGiven (follow_of values.now) result }
+    ensures folder { IfOk result (λ job. IsTrue (is_folder job.out)) }
 {
-    let Some(name) = values.file(alloc, "name")? else {
-        return Ok(None);
-    };
-    let Some(base) = values.base(alloc)? else {
-        return Ok(None);
-    };
-    let Some(out) = values.out(alloc)? else {
-        return Ok(None);
-    };
-    let Some(digits) = values.digits() else {
-        return Ok(None);
-    };
-    Ok(Some(Job::Follow {
-        name,
-        base,
-        out,
-        digits,
-    }))
+    Ok(FollowJob {
+        name: values.file(alloc, "name")?,
+        base: values.base(alloc)?,
+        out: values.out(alloc)?,
+        digits: values.digits()?,
+    })
 }
 
 #[tactic(auto, unfolding(crate::specs::Jobs::show_of))]
-fn show(alloc: Global, values: &Values) -> Result<Option<Job>, NoMemory>
-    ensures job { IfOk result (λ job. job ≡ show_of values.now) }
-    ensures folder { IfOk result (λ job. IfSome job HasFolder) }
-    ensures readable { IfOk result (λ job. IfSome job HasReadableNow) }
+fn show(alloc: Global, values: &Values) -> Result<ShowJob, WordsFault>
+    ensures job { IsGiven (show_of values.now) result }
+    ensures readable { IfOk result (λ job. IfSome job.instant IsReadable) }
 {
-    let Some(file) = values.file(alloc, "file")? else {
-        return Ok(None);
-    };
-    let Some(base) = values.base(alloc)? else {
-        return Ok(None);
-    };
-    let Some(now) = values.now() else {
-        return Ok(None);
-    };
-    let Some(digits) = values.digits() else {
-        return Ok(None);
-    };
-    Ok(Some(Job::Show {
-        file,
-        base,
-        now,
-        digits,
-    }))
+    Ok(ShowJob {
+        file: values.file(alloc, "file")?,
+        base: values.base(alloc)?,
+        instant: values.now()?,
+        digits: values.digits()?,
+    })
 }
 
 #[tactic(auto, unfolding(crate::specs::Jobs::check_of))]
-fn check(alloc: Global, values: &Values) -> Result<Option<Job>, NoMemory>
-    ensures job { IfOk result (λ job. job ≡ check_of values.now) }
-    ensures folder { IfOk result (λ job. IfSome job HasFolder) }
-    ensures readable { IfOk result (λ job. IfSome job HasReadableNow) }
+fn check(alloc: Global, values: &Values) -> Result<CheckJob, WordsFault>
+    ensures job { IsGiven (check_of values.now) result }
 {
-    let Some(mpd) = values.file(alloc, "mpd")? else {
-        return Ok(None);
-    };
-    let Some(master) = values.file(alloc, "master")? else {
-        return Ok(None);
-    };
-    let Some(base) = values.base(alloc)? else {
-        return Ok(None);
-    };
-    let Some(digits) = values.digits() else {
-        return Ok(None);
-    };
-    Ok(Some(Job::Check {
-        mpd,
-        master,
-        base,
-        digits,
-    }))
+    Ok(CheckJob {
+        mpd: values.file(alloc, "mpd")?,
+        master: values.file(alloc, "master")?,
+        base: values.base(alloc)?,
+        digits: values.digits()?,
+    })
 }
 
 #[tactic(auto, unfolding(crate::specs::Jobs::reload_of))]
-fn reload(alloc: Global, values: &Values) -> Result<Option<Job>, NoMemory>
-    ensures job { IfOk result (λ job. job ≡ reload_of values.now) }
-    ensures folder { IfOk result (λ job. IfSome job HasFolder) }
-    ensures readable { IfOk result (λ job. IfSome job HasReadableNow) }
+fn reload(alloc: Global, values: &Values) -> Result<ReloadJob, WordsFault>
+    ensures job { IsGiven (reload_of values.now) result }
 {
-    let Some(old) = values.file(alloc, "old")? else {
-        return Ok(None);
-    };
-    let Some(new) = values.file(alloc, "new")? else {
-        return Ok(None);
-    };
-    let Some(base) = values.base(alloc)? else {
-        return Ok(None);
-    };
-    Ok(Some(Job::Reload { old, new, base }))
+    Ok(ReloadJob {
+        old: values.file(alloc, "old")?,
+        new: values.file(alloc, "new")?,
+        base: values.base(alloc)?,
+    })
 }
 
 #[tactic(auto, unfolding(crate::specs::Jobs::make_of))]
-fn make(alloc: Global, values: &Values) -> Result<Option<Job>, NoMemory>
-    ensures job { IfOk result (λ job. job ≡ make_of values.now) }
-    ensures folder { IfOk result (λ job. IfSome job HasFolder) }
-    ensures readable { IfOk result (λ job. IfSome job HasReadableNow) }
+fn make(alloc: Global, values: &Values) -> Result<MakeJob, WordsFault>
+    ensures job { IsGiven (make_of values.now) result }
+    ensures folder { IfOk result (λ job. IsTrue (is_folder job.out)) }
 {
-    let Some(seed) = values.seed() else {
-        return Ok(None);
-    };
-    let Some(out) = values.out(alloc)? else {
-        return Ok(None);
-    };
-    let Some(digits) = values.digits() else {
-        return Ok(None);
-    };
-    Ok(Some(Job::Make { seed, out, digits }))
+    Ok(MakeJob {
+        seed: values.seed()?,
+        out: values.out(alloc)?,
+        digits: values.digits()?,
+    })
 }
 
-#[tactic(auto, unfolding(crate::specs::Jobs::hls_index_of))]
-fn hls_index(alloc: Global, values: &Values) -> Result<Option<Job>, NoMemory>
-    ensures job { IfOk result (λ job. job ≡ hls_index_of values.now) }
-    ensures folder { IfOk result (λ job. IfSome job HasFolder) }
-    ensures readable { IfOk result (λ job. IfSome job HasReadableNow) }
+#[tactic(auto, unfolding(crate::specs::Jobs::index_of))]
+fn index(alloc: Global, values: &Values) -> Result<IndexJob, WordsFault>
+    ensures job { IsGiven (index_of values.now) result }
+    ensures folder { IfOk result (λ job. IsTrue (is_folder job.out)) }
 {
-    let Some(mpd) = values.file(alloc, "mpd")? else {
-        return Ok(None);
-    };
-    let Some(base) = values.base(alloc)? else {
-        return Ok(None);
-    };
-    let Some(out) = values.out(alloc)? else {
-        return Ok(None);
-    };
-    let Some(digits) = values.digits() else {
-        return Ok(None);
-    };
-    Ok(Some(Job::HlsIndex {
-        mpd,
-        base,
-        out,
-        digits,
-    }))
-}
-
-#[tactic(auto, unfolding(crate::specs::Jobs::dash_times_of))]
-fn dash_times(alloc: Global, values: &Values) -> Result<Option<Job>, NoMemory>
-    ensures job { IfOk result (λ job. job ≡ dash_times_of values.now) }
-    ensures folder { IfOk result (λ job. IfSome job HasFolder) }
-    ensures readable { IfOk result (λ job. IfSome job HasReadableNow) }
-{
-    let Some(master) = values.file(alloc, "master")? else {
-        return Ok(None);
-    };
-    let Some(base) = values.base(alloc)? else {
-        return Ok(None);
-    };
-    let Some(out) = values.out(alloc)? else {
-        return Ok(None);
-    };
-    Ok(Some(Job::DashTimes { master, base, out }))
+    Ok(IndexJob {
+        mpd: values.file(alloc, "mpd")?,
+        base: values.base(alloc)?,
+        out: values.out(alloc)?,
+        digits: values.digits()?,
+    })
 }
 
 #[tactic(auto, unfolding(crate::specs::Jobs::agree_of))]
-fn agree(alloc: Global, values: &Values) -> Result<Option<Job>, NoMemory>
-    ensures job { IfOk result (λ job. job ≡ agree_of values.now) }
-    ensures folder { IfOk result (λ job. IfSome job HasFolder) }
-    ensures readable { IfOk result (λ job. IfSome job HasReadableNow) }
+fn agree(alloc: Global, values: &Values) -> Result<AgreeJob, WordsFault>
+    ensures job { IsGiven (agree_of values.now) result }
 {
-    let Some(mpd) = values.file(alloc, "mpd")? else {
-        return Ok(None);
-    };
-    let Some(base) = values.base(alloc)? else {
-        return Ok(None);
-    };
-    Ok(Some(Job::Agree { mpd, base }))
-}
-
-#[tactic(auto, unfolding(crate::specs::Jobs::follow_hls_of))]
-fn follow_hls(alloc: Global, values: &Values) -> Result<Option<Job>, NoMemory>
-    ensures job { IfOk result (λ job. job ≡ follow_hls_of values.now) }
-    ensures folder { IfOk result (λ job. IfSome job HasFolder) }
-    ensures readable { IfOk result (λ job. IfSome job HasReadableNow) }
-{
-    let Some(master) = values.file(alloc, "master")? else {
-        return Ok(None);
-    };
-    let Some(base) = values.base(alloc)? else {
-        return Ok(None);
-    };
-    let Some(out) = values.out(alloc)? else {
-        return Ok(None);
-    };
-    Ok(Some(Job::FollowHls { master, base, out }))
+    Ok(AgreeJob {
+        mpd: values.file(alloc, "mpd")?,
+        base: values.base(alloc)?,
+    })
 }

@@ -4,11 +4,12 @@ use Rattle.reload_law.specs.declared.unlawful.Unlawful.TheVariants as rule
 use Rattle.std.specs.Prelude.{ℕ, ◌-◌, max, min, List, ◌++◌, codes, decimal, length, Option, Some, None, option_map, Result, Ok, Err}
 use Rattle.std.specs.Option.{option_and_then}
 use Rattle.bridge_io.specs.{Answer.and_then, Outside.Files}
+use Rattle.bridge_jobs.specs.declared.jobs.ReloadJob.{ReloadJob}
 use Rattle.bridge_courses.specs.declared.status.Verdict.{Verdict}
 use Rattle.hls_media.specs.declared.media.Media.{Media}
 use Rattle.reload_law.specs.{Rules.{end_of, lawful}, declared.unlawful.Unlawful.Unlawful}
 use Rattle.bridge_report.specs.{Bases.file_url, Outcomes.{Outcome, base_refused, outcome_told}, Reading.{Named, media_at}}
-use Rattle.bridge_playlists.specs.{declared.reload.Reload.Reload, declared.reload.Urls.Urls}
+use Rattle.bridge_playlists.specs.{declared.reload.Urls.Urls}
 
 -- ---- the report
 
@@ -44,7 +45,7 @@ abbrev pub judgement : Media → Media → Verdict × List ℕ
 judgement old new = told_by old new (lawful old new)
 
 -- the old playlist is read whole before the new one
-unfoldable pub judged : Reload → Urls → Files → Result (Verdict × List ℕ) Named
+unfoldable pub judged : ReloadJob → Urls → Files → Result (Verdict × List ℕ) Named
 judged job urls files =
     and_then (media_at job.old urls.old files) (λ old.
     and_then (media_at job.new urls.new files) (λ new. Ok (judgement old new)))
@@ -52,16 +53,16 @@ judged job urls files =
 abbrev pub urls_with : (old new : List ℕ) → Urls
 urls_with old new = record { old = old; new = new }
 
-unfoldable pub urls_of : Reload → Option Urls
+unfoldable pub urls_of : ReloadJob → Option Urls
 urls_of job = option_and_then (λ old. option_map (urls_with old) (file_url job.base job.new)) (file_url job.base job.old)
 
 -- the playlists are at these URLs
-abbrev pub outcome_at : Reload → Urls → Files → Outcome
+abbrev pub outcome_at : ReloadJob → Urls → Files → Outcome
 outcome_at job urls files = outcome_told (judged job urls files)
 
-abbrev pub reload_under : Reload → Option Urls → Option Files → Option Outcome
+abbrev pub reload_under : ReloadJob → Option Urls → Option Files → Option Outcome
 reload_under job None files = Some base_refused
 reload_under job (Some urls) files = option_map (outcome_at job urls) files
 
-unfoldable pub reload_outcome : Reload → Option Files → Option Outcome
+unfoldable pub reload_outcome : ReloadJob → Option Files → Option Outcome
 reload_outcome job files = reload_under job (urls_of job) files

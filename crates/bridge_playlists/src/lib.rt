@@ -10,4 +10,4 @@ mod reload;
 pub use medias::{Medias, base_at};
 pub use place::{StorePlace, store_place_of};
 pub use presented::{master_at, presented_at, presented_in};
-pub use reload::{Reload, run_reload};
+pub use reload::run_reload;

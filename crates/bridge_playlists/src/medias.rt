@@ -1,11 +1,8 @@
 // The media playlists of a master's tracks.
 ghost use Rattle.std.specs.Prelude.{◌≡◌, IfOk};
-ghost use Rattle.std.specs.Option.{ForSome};
 ghost use Rattle.bridge_io.specs.Answer.{Gives};
-ghost use Rattle.bridge_io.specs.Fault.{HasCause};
-ghost use Rattle.bridge_report.specs.declared.reading.Halt.TheVariants.{ReadFault};
 ghost use Rattle.hls_media.specs.Laws.{IsBounded};
-ghost use Rattle.bridge_report.specs.Reading.{halted, IsNoReadFault};
+ghost use Rattle.bridge_report.specs.Reading.{IsNoReadFault, ReadsAs, halted};
 ghost use Rattle.bridge_playlists.specs.Playlists as spec;
 
 use crate::StorePlace;
@@ -36,12 +33,9 @@ pub(crate) fn medias_of<F: Store>(
     tracks: &[MasterTrack],
     store: &mut F,
 ) -> Result<Medias, Halt>
-    ensures medias { ForSome (F.files store.old) (λ files. Gives (λ medias. medias) halted result
-        (spec.medias_of place.now files spec.none_read tracks.now)) }
+    ensures reads { ReadsAs F.Store store.old store.new (λ medias. medias)
+        (λ files. spec.medias_of place.now files spec.none_read tracks.now) result }
     ensures counted { IfOk result spec.AreCounted }
-    ensures cause { HasCause ReadFault (F.read_faults store.old) (F.read_faults store.new) result }
-    ensures files { F.files store.new ≡ F.files store.old }
-    ensures writes { F.write_faults store.new ≡ F.write_faults store.old }
 {
     let mut medias = Medias {
         files: MediaFiles::new(alloc),
@@ -63,12 +57,9 @@ fn medias_with<F: Store>(
     store: &mut F,
 ) -> Result<Medias, Halt>
     requires counted { spec.AreCounted medias }
-    ensures medias { ForSome (F.files store.old) (λ files. Gives (λ medias. medias) halted result
-        (spec.medias_with place.now files medias track.now)) }
+    ensures reads { ReadsAs F.Store store.old store.new (λ medias. medias)
+        (λ files. spec.medias_with place.now files medias track.now) result }
     ensures counted { IfOk result spec.AreCounted }
-    ensures cause { HasCause ReadFault (F.read_faults store.old) (F.read_faults store.new) result }
-    ensures files { F.files store.new ≡ F.files store.old }
-    ensures writes { F.write_faults store.new ≡ F.write_faults store.old }
 {
     let media = media_under(alloc, place, &track.address, store)?;
     added(alloc, place, medias, media)
@@ -102,12 +93,8 @@ fn media_under<F: Store>(
     address: &Address,
     store: &mut F,
 ) -> Result<Media, Halt>
-    ensures media { ForSome (F.files store.old) (λ files. Gives (λ media. media) halted result
-        (spec.media_under place.now files address.now)) }
+    ensures reads { ReadsAs F.Store store.old store.new (λ media. media) (λ files. spec.media_under place.now files address.now) result }
     ensures bounded { IfOk result IsBounded }
-    ensures cause { HasCause ReadFault (F.read_faults store.old) (F.read_faults store.new) result }
-    ensures files { F.files store.new ≡ F.files store.old }
-    ensures writes { F.write_faults store.new ≡ F.write_faults store.old }
 {
     match local_name(alloc, &place.folder, address)? {
         Some(file) => media_at(alloc, store, &file, &base_at(alloc, address)?),

@@ -1,13 +1,10 @@
 // The presentation of a master's playlists.
 ghost use Rattle.std.specs.Prelude.{◌≡◌, All, IfOk, Ok};
-ghost use Rattle.std.specs.Option.{ForSome};
 ghost use Rattle.bridge_io.specs.Answer.{Gives};
-ghost use Rattle.bridge_io.specs.Fault.{HasCause};
 ghost use Rattle.hls_presentation.specs.Origins.{IsSilentTrack};
 ghost use Rattle.presentation.specs.Counting.{counted, count_of_all};
 ghost use Rattle.presentation.specs.Origins.{CameFromPlaylists};
-ghost use Rattle.bridge_report.specs.declared.reading.Halt.TheVariants.{ReadFault};
-ghost use Rattle.bridge_report.specs.Reading.{halted, IsNoReadFault};
+ghost use Rattle.bridge_report.specs.Reading.{IsNoReadFault, ReadsAs, halted};
 ghost use Rattle.bridge_playlists.specs.Playlists as spec;
 
 use crate::StorePlace;
@@ -28,13 +25,9 @@ pub fn presented_at<F: Store>(
     place: &StorePlace,
     store: &mut F,
 ) -> Result<Presentation, Halt>
-    ensures presented { ForSome (F.files store.old) (λ files. Gives (λ presentation. presentation) halted result
-        (spec.presented_at place.now files)) }
+    ensures reads { ReadsAs F.Store store.old store.new (λ presentation. presentation) (spec.presented_at place.now) result }
     ensures came { IfOk result CameFromPlaylists }
     ensures counted { IfOk result (λ p. counted p ≡ Ok (count_of_all p)) }
-    ensures cause { HasCause ReadFault (F.read_faults store.old) (F.read_faults store.new) result }
-    ensures files { F.files store.new ≡ F.files store.old }
-    ensures writes { F.write_faults store.new ≡ F.write_faults store.old }
 {
     let bytes = content_of(alloc, store, &place.file)?;
     presented_in(alloc, place, bytes.as_slice(), store)
@@ -47,13 +40,10 @@ pub fn presented_in<F: Store>(
     bytes: &[u8],
     store: &mut F,
 ) -> Result<Presentation, Halt>
-    ensures presented { ForSome (F.files store.old) (λ files. Gives (λ presentation. presentation) halted result
-        (spec.presented_in place.now files bytes.now)) }
+    ensures reads { ReadsAs F.Store store.old store.new (λ presentation. presentation)
+        (λ files. spec.presented_in place.now files bytes.now) result }
     ensures came { IfOk result CameFromPlaylists }
     ensures counted { IfOk result (λ p. counted p ≡ Ok (count_of_all p)) }
-    ensures cause { HasCause ReadFault (F.read_faults store.old) (F.read_faults store.new) result }
-    ensures files { F.files store.new ≡ F.files store.old }
-    ensures writes { F.write_faults store.new ≡ F.write_faults store.old }
 {
     let master = master_in(alloc, place, bytes)?;
     presented_with(alloc, place, &master, store)
@@ -63,10 +53,7 @@ pub fn presented_in<F: Store>(
 /// rose.
 #[tactic(auto, unfolding(crate::specs::Playlists::master_at))]
 pub fn master_at<F: Store>(alloc: Global, place: &StorePlace, store: &mut F) -> Result<Master, Halt>
-    ensures master { ForSome (F.files store.old) (λ files. Gives (λ master. master) halted result (spec.master_at place.now files)) }
-    ensures cause { HasCause ReadFault (F.read_faults store.old) (F.read_faults store.new) result }
-    ensures files { F.files store.new ≡ F.files store.old }
-    ensures writes { F.write_faults store.new ≡ F.write_faults store.old }
+    ensures { ReadsAs F.Store store.old store.new (λ master. master) (spec.master_at place.now) result }
 {
     let bytes = content_of(alloc, store, &place.file)?;
     master_in(alloc, place, bytes.as_slice())
@@ -96,13 +83,10 @@ fn presented_with<F: Store>(
     store: &mut F,
 ) -> Result<Presentation, Halt>
     requires { All IsSilentTrack master.now }
-    ensures presented { ForSome (F.files store.old) (λ files. Gives (λ presentation. presentation) halted result
-        (spec.presented_with place.now files master.now)) }
+    ensures reads { ReadsAs F.Store store.old store.new (λ presentation. presentation)
+        (λ files. spec.presented_with place.now files master.now) result }
     ensures came { IfOk result CameFromPlaylists }
     ensures counted { IfOk result (λ p. counted p ≡ Ok (count_of_all p)) }
-    ensures cause { HasCause ReadFault (F.read_faults store.old) (F.read_faults store.new) result }
-    ensures files { F.files store.new ≡ F.files store.old }
-    ensures writes { F.write_faults store.new ≡ F.write_faults store.old }
 {
     let medias = medias_of(alloc, place, master.tracks().as_slice(), store)?;
     presented_by(alloc, place, master, &medias)

@@ -1,35 +1,23 @@
 // Whether a media playlist may take the place of an older one.
 ghost use Rattle.std.specs.Prelude.{◌≡◌, ◌≢◌, ◌≤◌, IfOk};
 ghost use Rattle.std.specs.Option.{ForSome};
-ghost use Rattle.bridge_io.specs.Answer.{Gives};
-ghost use Rattle.bridge_io.specs.Fault.{HasCause, Rose};
+ghost use Rattle.bridge_io.specs.Fault.{Rose};
 ghost use Rattle.bridge_courses.specs.declared.status.Status.TheVariants as status;
 ghost use Rattle.bridge_courses.specs.Executions.{status_by, status_of};
 ghost use Rattle.hls_media.specs.Laws.{IsBounded};
 ghost use Rattle.reload_law.specs.Rules.{end_of};
-ghost use Rattle.bridge_report.specs.declared.reading.Halt.TheVariants.{ReadFault};
 ghost use Rattle.bridge_report.specs.Outcomes.{IsEnding};
-ghost use Rattle.bridge_report.specs.Reading as reading;
+ghost use Rattle.bridge_report.specs.Reading.{ReadsAs};
 ghost use Rattle.bridge_playlists.specs.Reload as spec;
 
 use bridge_courses::{Ending, Verdict};
-use bridge_io::{Name, NoMemory, Store, Text};
+use bridge_io::{NoMemory, Store, Text};
+use bridge_jobs::ReloadJob;
 use bridge_report::{Halt, Refusal, file_url, halted, media_at, refused};
 use hls_media::Media;
 use reload_law::{Unlawful, lawful};
 use std::alloc::Global;
 use url_parts::Base;
-
-/// A media playlist that is to take the place of an older one (RFC 8216, 6.2.1).
-#[derive(Debug, Drop)]
-pub struct Reload {
-    /// The file of the playlist before.
-    pub old: Name,
-    /// The file of the playlist after it.
-    pub new: Name,
-    /// The URL of the store's root.
-    pub base: Text,
-}
 
 /// The URLs of the two playlists.
 #[derive(Debug, Drop)]
@@ -41,7 +29,7 @@ struct Urls {
 /// Tells whether the new playlist lawfully takes the old one's place, or the first rule that it breaks, unless one of them is
 /// refused. Nothing is written.
 #[tactic(auto, unfolding(crate::specs::Reload::reload_outcome))]
-pub fn run_reload<F: Store>(alloc: Global, job: &Reload, store: &mut F) -> Ending
+pub fn run_reload<F: Store>(alloc: Global, job: &ReloadJob, store: &mut F) -> Ending
     ensures ending { ForSome (spec.reload_outcome job.now (F.files store.old))
         (λ outcome. IsEnding outcome result (F.files store.old) (F.files store.new)) }
     ensures read_fault { status_of result ≡ status.ReadFault → Rose (F.read_faults store.old) (F.read_faults store.new) }
@@ -58,7 +46,7 @@ pub fn run_reload<F: Store>(alloc: Global, job: &Reload, store: &mut F) -> Endin
 }
 
 #[tactic(auto, unfolding(crate::specs::Reload::urls_of))]
-fn urls_of(alloc: Global, job: &Reload) -> Result<Option<Urls>, NoMemory>
+fn urls_of(alloc: Global, job: &ReloadJob) -> Result<Option<Urls>, NoMemory>
     ensures { IfOk result (λ urls. urls ≡ spec.urls_of job.now) }
 {
     let Some(old) = file_url(alloc, job.base.as_str(), &job.old)? else {
@@ -71,7 +59,7 @@ fn urls_of(alloc: Global, job: &Reload) -> Result<Option<Urls>, NoMemory>
 }
 
 /// Tells of the playlists at these URLs.
-fn reload_at<F: Store>(alloc: Global, job: &Reload, urls: &Urls, store: &mut F) -> Ending
+fn reload_at<F: Store>(alloc: Global, job: &ReloadJob, urls: &Urls, store: &mut F) -> Ending
     ensures ending { ForSome (F.files store.old) (λ files. IsEnding (spec.outcome_at job.now urls.now files) result (F.files store.old)
         (F.files store.new)) }
     ensures read_fault { status_of result ≡ status.ReadFault → Rose (F.read_faults store.old) (F.read_faults store.new) }
@@ -90,15 +78,12 @@ fn reload_at<F: Store>(alloc: Global, job: &Reload, urls: &Urls, store: &mut F) 
 #[tactic(auto, unfolding(crate::specs::Reload::judged))]
 fn judged<F: Store>(
     alloc: Global,
-    job: &Reload,
+    job: &ReloadJob,
     urls: &Urls,
     store: &mut F,
 ) -> Result<(Verdict, Text), Halt>
-    ensures told { ForSome (F.files store.old) (λ files. Gives (λ told. told) reading.halted result (spec.judged job.now urls.now files)) }
+    ensures reads { ReadsAs F.Store store.old store.new (λ told. told) (spec.judged job.now urls.now) result }
     ensures verdict { IfOk result (λ told. status_by told.0 ≢ status.Words) }
-    ensures cause { HasCause ReadFault (F.read_faults store.old) (F.read_faults store.new) result }
-    ensures files { F.files store.new ≡ F.files store.old }
-    ensures writes { F.write_faults store.new ≡ F.write_faults store.old }
 {
     let old = media_at(alloc, store, &job.old, &urls.old)?;
     let new = media_at(alloc, store, &job.new, &urls.new)?;

@@ -7,17 +7,18 @@ use Rattle.fragment_times.specs.{declared.fault.SegmentSpot.SegmentSpot, declare
 use Rattle.fragment_times.specs.Times.{times_of}
 use Rattle.presentation.specs.Presented.{Presented}
 use Rattle.presentation.proofs.Filling.{ok_under}
+use Rattle.bridge_jobs.specs.declared.jobs.AgreeJob.{AgreeJob}
 use Rattle.bridge_playlists.specs.{declared.place.StorePlace.StorePlace, Places.store_place_of}
 use Rattle.bridge_report.specs.{Outcomes.{Ends, outcome_told}, Reading.Named}
 use Rattle.bridge_courses.specs.declared.status.Verdict.{Verdict}
 use Rattle.bridge_steps.specs.Endings.{placed}
-use Rattle.bridge_reach.specs.{declared.agree.Agree.Agree, Agree.{agree_at, agree_outcome, apart_text, judged, mpd_read, verdict_of}}
+use Rattle.bridge_reach.specs.{Agree.{agree_at, agree_outcome, apart_text, judged, mpd_read, verdict_of}}
 use Rattle.bridge_reach.specs.{FileTimes.times_at, Promises.{DifferIsApart, DoneAgrees}}
 use Rattle.bridge_reach.proofs.Apart.{all_agree, is_first}
 
 -- ---- what was read where a verdict is told of it
 
-record IsJudged (job : Agree) (files : Files) (end : Verdict) (line : List ℕ) : Type 0 where
+record IsJudged (job : AgreeJob) (files : Files) (end : Verdict) (line : List ℕ) : Type 0 where
   place : StorePlace
   at : store_place_of job.base job.mpd ≡ Some place
   p : Presented
@@ -44,7 +45,7 @@ judged_at None files end line reads counts is_verdict is = absurd (is_verdict (l
 judged_at (Some found) files end line reads counts is_verdict is =
     (found, refl, told_by (judged found files) end line reads counts is_verdict is)
 
-is_judged : (job : Agree) (files : Files) (end : Verdict) (line : List ℕ) (reads counts : Bool) → IsVerdict end
+is_judged : (job : AgreeJob) (files : Files) (end : Verdict) (line : List ℕ) (reads counts : Bool) → IsVerdict end
     → agree_outcome job (Some files) ≡ Some (Ends end line reads counts) → IsJudged job files end line
 unfolding agree_outcome judged
 is_judged job files end line reads counts is_verdict is =

@@ -40,13 +40,13 @@ reads_at_first out input (Err named) = λ course is.
 module _ (out : List ℕ) (files : Option Files) (input : Option (List ℕ)) (place : StorePlace) (told : Ending) where
   -- the master is read, and then its rounds
   pub read_worked : (tracks : List MasterTrack) (before mid after : World) → ForSome files (λ all. master_at place all ≡ Ok tracks)
-      → IsIdle before mid → NeverFalls before mid → ForSome input (λ bytes. Work (course_with out tracks bytes) told mid after)
+      → IsIdle before mid → NeverFalls before mid
+      → ForSome (option_map (course_with out tracks) input) (λ course. Work course told mid after)
       → ForSome (rounds_at out files input place) (λ course. Work course told before after)
   read_worked tracks before mid after found idle falls work =
       over_files files (λ all. rounds_of out input (master_at place all)) (λ course. Work course told before after) (λ all is.
       subst (λ read. ForSome (rounds_of out input read) (λ course. Work course told before after)) (sym (found all is))
-      (over (course_with out tracks) input (λ course. Work course told before after) (λ bytes there.
-      work_later (course_with out tracks bytes) told before mid after idle falls (work bytes there))))
+      (λ course there. work_later course told before mid after idle falls (work course there)))
 
   module _ (before after : World) (idle : IsIdle before after) (falls : NeverFalls before after) where
     -- a master that is refused

@@ -5,11 +5,12 @@ use Rattle.std.specs.Prelude.{ℕ, ◌^◌, List, ◌++◌, length, codes, decim
 use Rattle.bridge_io.specs.{Answer.and_then, Outside.Files}
 use Rattle.fragment_times.specs.{declared.fault.SegmentSpot.SegmentSpot, Agreeing.first_apart}
 use Rattle.presentation.specs.{Counting.count_of_all, Presented.Presented}
+use Rattle.bridge_jobs.specs.declared.jobs.AgreeJob.{AgreeJob}
 use Rattle.bridge_courses.specs.declared.status.Verdict.{Verdict}
 use Rattle.bridge_report.specs.{Outcomes.{Outcome, outcome_told}, Reading.Named}
 use Rattle.bridge_playlists.specs.{declared.place.StorePlace.StorePlace, Places.store_place_of}
 use Rattle.bridge_steps.specs.{Endings.placed, Manifests.mpd_at}
-use Rattle.bridge_reach.specs.{declared.agree.Agree.Agree, FileTimes.times_at}
+use Rattle.bridge_reach.specs.FileTimes.{times_at}
 
 -- ---- the report
 
@@ -44,5 +45,5 @@ judged place files =
 abbrev pub agree_at : Option Files → StorePlace → Option Outcome
 agree_at files place = option_map (λ files. outcome_told (judged place files)) files
 
-unfoldable pub agree_outcome : Agree → Option Files → Option Outcome
+unfoldable pub agree_outcome : AgreeJob → Option Files → Option Outcome
 agree_outcome job files = placed (agree_at files) (store_place_of job.base job.mpd)

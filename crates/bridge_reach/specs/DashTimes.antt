@@ -5,10 +5,11 @@ use Rattle.bridge_jobs.specs.Laws.{in_folder}
 use Rattle.dash_writer.specs.{declared.timed.TickRun.TickRun, Timed.timed_text}
 use Rattle.fragment_times.specs.declared.times.SegmentTimes.{SegmentTimes}
 use Rattle.presentation.specs.Presented.{Presented}
+use Rattle.bridge_jobs.specs.declared.jobs.MasterJob.{MasterJob}
 use Rattle.bridge_report.specs.{Outcomes.Outcome, Reading.Named}
 use Rattle.bridge_playlists.specs.{declared.place.StorePlace.StorePlace, Places.store_place_of, Playlists.presented_at}
 use Rattle.bridge_steps.specs.{Done.done_line, Endings.{outcome_written, placed}}
-use Rattle.bridge_reach.specs.{declared.dash_times.DashTimes.DashTimes, FileTimes.{durations_at, times_at}}
+use Rattle.bridge_reach.specs.{FileTimes.{durations_at, times_at}}
 
 -- ---- media times
 
@@ -44,18 +45,18 @@ timed_at place files = and_then (presented_at place files) (with_runs place file
 abbrev pub mpd_file : (out : List ℕ) → Timed → List ℕ × List ℕ
 mpd_file out timed = (in_folder out (codes "manifest.mpd"), timed_text timed.0 timed.1)
 
-abbrev pub files_of : DashTimes → Timed → List (List ℕ × List ℕ)
+abbrev pub files_of : MasterJob → Timed → List (List ℕ × List ℕ)
 files_of job timed = mpd_file job.out timed ∷ []
 
 abbrev pub line_of : Timed → List ℕ
 line_of timed = done_line timed.0
 
-abbrev pub outcome_of : DashTimes → Result Timed Named → Outcome
+abbrev pub outcome_of : MasterJob → Result Timed Named → Outcome
 outcome_of job read = outcome_written (files_of job) line_of read
 
 -- the master is at this place
-abbrev pub dash_times_at : DashTimes → Option Files → StorePlace → Option Outcome
+abbrev pub dash_times_at : MasterJob → Option Files → StorePlace → Option Outcome
 dash_times_at job files place = option_map (λ files. outcome_of job (timed_at place files)) files
 
-unfoldable pub dash_times_outcome : DashTimes → Option Files → Option Outcome
+unfoldable pub dash_times_outcome : MasterJob → Option Files → Option Outcome
 dash_times_outcome job files = placed (dash_times_at job files) (store_place_of job.base job.master)

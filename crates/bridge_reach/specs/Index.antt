@@ -9,10 +9,10 @@ use Rattle.mpd_levels.specs.declared.indexed.IndexRow.{IndexRow}
 use Rattle.mpd_rules.specs.{Rules.indexed_mpd_of, Typed.TypedMpd}
 use Rattle.mpd_text.specs.Meaning.{reading_of}
 use Rattle.presentation.specs.{declared.fault.PresentationFault.TheVariants.Memory, Presented.Presented, Told.told_as}
+use Rattle.bridge_jobs.specs.declared.jobs.IndexJob.{IndexJob}
 use Rattle.bridge_playlists.specs.{declared.place.StorePlace.StorePlace, Places.store_place_of}
 use Rattle.bridge_report.specs.{declared.refusal.Refusal.Refusal, Outcomes.Outcome, Reading.{Named, content_of, of_file}}
 use Rattle.bridge_steps.specs.{Done.done_line, Endings.{outcome_written, placed}, Manifests.checked, Playlists.playlists}
-use Rattle.bridge_reach.specs.declared.index.HlsIndex.{HlsIndex}
 
 -- ---- the values of the MPD
 
@@ -53,15 +53,15 @@ ready_at unit place files = and_then (content_of place.file files) (ready_in uni
 
 -- ---- the command
 
-abbrev pub presented : HlsIndex → StorePlace → Files → Result Presented Named
+abbrev pub presented : IndexJob → StorePlace → Files → Result Presented Named
 presented job place files = ready_at (10 ^ job.digits) place files
 
-abbrev pub outcome_of : HlsIndex → Result Presented Named → Outcome
+abbrev pub outcome_of : IndexJob → Result Presented Named → Outcome
 outcome_of job read = outcome_written (playlists job.out job.digits) done_line read
 
 -- the MPD is at this place
-abbrev pub index_at : HlsIndex → Option Files → StorePlace → Option Outcome
+abbrev pub index_at : IndexJob → Option Files → StorePlace → Option Outcome
 index_at job files place = option_map (λ files. outcome_of job (presented job place files)) files
 
-unfoldable pub index_outcome : HlsIndex → Option Files → Option Outcome
+unfoldable pub index_outcome : IndexJob → Option Files → Option Outcome
 index_outcome job files = placed (index_at job files) (store_place_of job.base job.mpd)

@@ -8,9 +8,10 @@ use Rattle.dash_writer.specs.declared.timed.TickRun.{TickRun}
 use Rattle.fragment_times.specs.{declared.fault.SegmentSpot.SegmentSpot, Agreeing.is_same, Parts.{scale_at, start_at}, Times.all_starts}
 use Rattle.fragment_times.specs.Times.{parts_of}
 use Rattle.presentation.specs.{declared.parts.Content.Content, Meanings.part_meant, Presented.{Presented, content_at, listed_at}}
+use Rattle.bridge_jobs.specs.declared.jobs.{AgreeJob.AgreeJob, MasterJob.MasterJob}
 use Rattle.bridge_playlists.specs.{declared.place.StorePlace.StorePlace, Places.store_place_of, Playlists.presented_at}
 use Rattle.bridge_report.specs.Outcomes.{Ends, Writes}
-use Rattle.bridge_reach.specs.{declared.agree.Agree.Agree, declared.dash_times.DashTimes.DashTimes, Agree.{agree_outcome, apart_text}}
+use Rattle.bridge_reach.specs.{Agree.{agree_outcome, apart_text}}
 use Rattle.bridge_reach.specs.{Agree.mpd_read, DashTimes.{dash_times_outcome, files_of}}
 
 -- ---- `dash-times`
@@ -32,7 +33,7 @@ IsTimed folder files p runs s t = ForSome (content_at p s t) (λ content. (run :
     × AreFileTimes folder files content.initialization (parts_of content.runs (listed_at p s t)) run)
 
 -- the MPD that is written has the times that the files of its segments state
-pub record IsWrittenTimed (job : DashTimes) (files : Files) (written : List (List ℕ × List ℕ)) : Type 0 where
+pub record IsWrittenTimed (job : MasterJob) (files : Files) (written : List (List ℕ × List ℕ)) : Type 0 where
   pub place : StorePlace
   pub at : store_place_of job.base job.master ≡ Some place
   pub presentation : Presented
@@ -43,7 +44,7 @@ pub record IsWrittenTimed (job : DashTimes) (files : Files) (written : List (Lis
       → IsTimed place.folder files presentation runs s t
 
 abbrev pub WrittenAreFileTimes : Type 0
-WrittenAreFileTimes = (job : DashTimes) (files : Files) (written : List (List ℕ × List ℕ)) (line : List ℕ) (reads : Bool)
+WrittenAreFileTimes = (job : MasterJob) (files : Files) (written : List (List ℕ × List ℕ)) (line : List ℕ) (reads : Bool)
     → dash_times_outcome job (Some files) ≡ Some (Writes written line reads) → IsWrittenTimed job files written
 
 -- ---- `agree`
@@ -66,7 +67,7 @@ abbrev pub IsBefore : (s t k : ℕ) → SegmentSpot → Type 0
 IsBefore s t k spot = (s < spot.section) ⊎ ((s ≡ spot.section) × ((t < spot.track) ⊎ ((t ≡ spot.track) × (k < spot.segment))))
 
 -- the MPD of a job, and the listed segments of which something is so
-pub record IsRead (job : Agree) (files : Files) (Of : (folder : List ℕ) → Presented → Type 0) : Type 0 where
+pub record IsRead (job : AgreeJob) (files : Files) (Of : (folder : List ℕ) → Presented → Type 0) : Type 0 where
   pub place : StorePlace
   pub at : store_place_of job.base job.mpd ≡ Some place
   pub presentation : Presented
@@ -89,9 +90,9 @@ pub record IsFirstApart (files : Files) (line : List ℕ) (folder : List ℕ) (p
       → IsCompared true folder files p s t k
 
 abbrev pub DoneAgrees : Type 0
-DoneAgrees = (job : Agree) (files : Files) (line : List ℕ) (reads counts : Bool)
+DoneAgrees = (job : AgreeJob) (files : Files) (line : List ℕ) (reads counts : Bool)
     → agree_outcome job (Some files) ≡ Some (Ends verdict.Done line reads counts) → IsRead job files (AllAgree files)
 
 abbrev pub DifferIsApart : Type 0
-DifferIsApart = (job : Agree) (files : Files) (line : List ℕ) (reads counts : Bool)
+DifferIsApart = (job : AgreeJob) (files : Files) (line : List ℕ) (reads counts : Bool)
     → agree_outcome job (Some files) ≡ Some (Ends verdict.Differ line reads counts) → IsRead job files (IsFirstApart files line)

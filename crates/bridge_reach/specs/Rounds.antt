@@ -13,12 +13,13 @@ use Rattle.hls_follow.specs.Rounds.{appended_by, next_of}
 use Rattle.dash_writer.specs.Live.{live_text}
 use Rattle.presentation.specs.Told.{told_as}
 use Rattle.bridge_jobs.specs.{Laws.in_folder, Rounds.rounds_from, declared.frame.FramePos.FramePos, declared.round.Round.Round}
+use Rattle.bridge_jobs.specs.declared.jobs.MasterJob.{MasterJob}
 use Rattle.bridge_courses.specs.{Courses.{Course, World}, Steps.IsCaused, declared.ending.Ending.Ending}
 use Rattle.bridge_report.specs.{Following.Followed, Outcomes.{Ends, base_refused, course_by}, Reading.Named, Refusals.refusal_line}
 use Rattle.bridge_report.specs.{Refusals.refusal_text, declared.refusal.Refusal.Refusal}
 use Rattle.bridge_playlists.specs.{Places.store_place_of, Playlists.master_at, declared.place.StorePlace.StorePlace}
 use Rattle.bridge_steps.specs.{Follow.{course_placed, follow_course}, Streams.Stream}
-use Rattle.bridge_reach.specs.{declared.follow_hls.FollowHls.FollowHls, declared.rounds.LiveHls.LiveHls}
+use Rattle.bridge_reach.specs.{declared.rounds.LiveHls.LiveHls}
 use Rattle.bridge_reach.specs.declared.rounds.LiveRounds.{LiveRounds}
 
 -- ---- the playlists of a round
@@ -110,7 +111,7 @@ rounds_of out input (Err named) = Some (course_by (Ends verdict.Refused (refusal
 abbrev pub rounds_at : (out : List ℕ) → Option Files → (input : Option (List ℕ)) → StorePlace → Option Course
 rounds_at out files input place = option_and_then (λ files. rounds_of out input (master_at place files)) files
 
-unfoldable pub rounds_course : FollowHls → Option Files → (input : Option (List ℕ)) → Option Course
+unfoldable pub rounds_course : MasterJob → Option Files → (input : Option (List ℕ)) → Option Course
 rounds_course job files input = course_placed (rounds_at job.out files input) (store_place_of job.base job.master)
 
 -- ---- causes

@@ -1,19 +1,16 @@
 // `agree`: whether the times of an MPD are those that its media files state.
 ghost use Rattle.std.specs.Prelude.{◌≡◌, ◌≢◌, Ok, IfOk};
-ghost use Rattle.std.specs.Option.{ForSome};
-ghost use Rattle.bridge_io.specs.Answer.{Gives};
-ghost use Rattle.bridge_io.specs.Fault.{HasCause};
 ghost use Rattle.bridge_courses.specs.declared.status.Status.TheVariants as status;
 ghost use Rattle.bridge_courses.specs.Executions.{status_by};
 ghost use Rattle.presentation.specs.Counting.{counted, count_of_all};
-ghost use Rattle.bridge_report.specs.declared.reading.Halt.TheVariants.{ReadFault};
-ghost use Rattle.bridge_report.specs.Reading.{halted};
+ghost use Rattle.bridge_report.specs.Reading.{ReadsAs};
 ghost use Rattle.bridge_steps.specs.Endings.{JobEndsAs, NeverWrites, around};
 ghost use Rattle.bridge_reach.specs.Agree as spec;
 
 use crate::file_times::times_at;
 use bridge_courses::{Ending, Verdict};
-use bridge_io::{Ledger, Name, NoMemory, Steps, Store, Text};
+use bridge_io::{Ledger, NoMemory, Steps, Store, Text};
+use bridge_jobs::AgreeJob;
 use bridge_playlists::StorePlace;
 use bridge_report::{Halt, Refusal};
 use bridge_steps::{count_of, mpd_at, place_in, told};
@@ -22,27 +19,17 @@ use fragment_times::{SegmentSpot, first_apart};
 use presentation::Presentation;
 use std::alloc::Global;
 
-/// An MPD whose times are to be compared with those that its media files state.
-#[derive(Debug, Drop)]
-pub struct Agree {
-    /// The MPD's file.
-    pub mpd: Name,
-    /// The URL of the store's root.
-    pub base: Text,
-}
-
 /// Tells whether each listed segment of a job's MPD has the decode time that its media file states (ISO/IEC 14496-12, 8.8.12),
 /// or the first one that has another, unless a file is refused. Nothing is written.
 #[tactic(auto, unfolding(crate::specs::Agree::agree_outcome))]
 pub fn run_agree<F: Store, L: Ledger>(
     alloc: Global,
-    job: &Agree,
+    job: &AgreeJob,
     store: &mut F,
     steps: &mut Steps<L>,
 ) -> Ending
     ensures ends { JobEndsAs (spec.agree_outcome job.now (F.files store.old)) result
-        (around (F.files store.old) (F.read_faults store.old) (F.write_faults store.old) steps.old)
-        (around (F.files store.new) (F.read_faults store.new) (F.write_faults store.new) steps.new) }
+        (around F.Store store.old steps.old) (around F.Store store.new steps.new) }
     ensures never_writes { NeverWrites result (F.write_faults store.old) (F.write_faults store.new) }
 {
     match place_in(alloc, &job.base, &job.mpd) {
@@ -59,11 +46,8 @@ fn judged<F: Store, L: Ledger>(
     store: &mut F,
     steps: &mut Steps<L>,
 ) -> Result<(Verdict, Text), Halt>
-    ensures told { ForSome (F.files store.old) (λ files. Gives (λ told. told) halted result (spec.judged place.now files)) }
+    ensures reads { ReadsAs F.Store store.old store.new (λ told. told) (spec.judged place.now) result }
     ensures verdict { IfOk result (λ told. status_by told.0 ≢ status.Words) }
-    ensures cause { HasCause ReadFault (F.read_faults store.old) (F.read_faults store.new) result }
-    ensures files { F.files store.new ≡ F.files store.old }
-    ensures writes { F.write_faults store.new ≡ F.write_faults store.old }
 {
     let live = Some(Refusal::NotStatic);
     let ready = mpd_at(alloc, place, None, live, Digits::default(), store, steps)?;

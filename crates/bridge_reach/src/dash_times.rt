@@ -1,19 +1,16 @@
 // `dash-times`: from playlists to an MPD with the times that the media files state.
 ghost use Rattle.std.specs.Prelude.{◌≡◌, codes, get_or, length, Ok, Some, IfOk};
-ghost use Rattle.std.specs.Option.{ForSome};
-ghost use Rattle.bridge_io.specs.Answer.{Gives};
-ghost use Rattle.bridge_io.specs.Fault.{HasCause};
 ghost use Rattle.dash_writer.specs.Timed.{CanBeTimed};
 ghost use Rattle.presentation.specs.Counting.{counted, count_of_all};
 ghost use Rattle.presentation.specs.Origins.{CameFromPlaylists};
-ghost use Rattle.bridge_report.specs.declared.reading.Halt.TheVariants.{ReadFault};
-ghost use Rattle.bridge_report.specs.Reading.{halted};
+ghost use Rattle.bridge_report.specs.Reading.{ReadsAs, halted};
 ghost use Rattle.bridge_steps.specs.Endings.{JobEndsAs, around};
 ghost use Rattle.bridge_reach.specs.DashTimes as spec;
 
 use crate::file_times::{durations_at, times_at};
 use bridge_courses::Ending;
-use bridge_io::{Ledger, Name, NoMemory, Steps, Store, Text};
+use bridge_io::{Ledger, NoMemory, Steps, Store};
+use bridge_jobs::MasterJob;
 use bridge_playlists::{StorePlace, presented_at};
 use bridge_report::{Halt, halted};
 use bridge_steps::{mpd_and_line, place_in, written};
@@ -21,17 +18,6 @@ use dash_writer::{TickList, TickRun, TickSeq, write_mpd_timed};
 use fragment_times::SegmentTimes;
 use presentation::{Presentation, segments_can_be_listed};
 use std::alloc::Global;
-
-/// A master whose MPD is to be written with the times that the media files state.
-#[derive(Debug, Drop)]
-pub struct DashTimes {
-    /// The master's file.
-    pub master: Name,
-    /// The URL of the store's root.
-    pub base: Text,
-    /// The folder of the MPD.
-    pub out: Name,
-}
 
 /// A presentation that came from playlists, with the media times of its segments.
 #[derive(Debug, Drop)]
@@ -45,13 +31,12 @@ struct Timed {
 #[tactic(auto, unfolding(crate::specs::DashTimes::dash_times_outcome))]
 pub fn run_dash_times<F: Store, L: Ledger>(
     alloc: Global,
-    job: &DashTimes,
+    job: &MasterJob,
     store: &mut F,
     steps: &mut Steps<L>,
 ) -> Ending
     ensures { JobEndsAs (spec.dash_times_outcome job.now (F.files store.old)) result
-        (around (F.files store.old) (F.read_faults store.old) (F.write_faults store.old) steps.old)
-        (around (F.files store.new) (F.read_faults store.new) (F.write_faults store.new) steps.new) }
+        (around F.Store store.old steps.old) (around F.Store store.new steps.new) }
 {
     match place_in(alloc, &job.base, &job.master) {
         Ok(place) => match timed_at(alloc, &place, store, steps) {
@@ -65,7 +50,7 @@ pub fn run_dash_times<F: Store, L: Ledger>(
 /// Writes the MPD of a presentation with the media times of its segments.
 fn write<F: Store, L: Ledger>(
     alloc: Global,
-    job: &DashTimes,
+    job: &MasterJob,
     timed: &Timed,
     store: &mut F,
     steps: &mut Steps<L>,
@@ -73,8 +58,7 @@ fn write<F: Store, L: Ledger>(
     requires can { CanBeTimed timed.now.presentation timed.now.runs }
     requires counted { counted timed.now.presentation ≡ Ok (count_of_all timed.now.presentation) }
     ensures { JobEndsAs (Some (spec.outcome_of job.now (Ok (timed.now.presentation, timed.now.runs)))) result
-        (around (F.files store.old) (F.read_faults store.old) (F.write_faults store.old) steps.old)
-        (around (F.files store.new) (F.read_faults store.new) (F.write_faults store.new) steps.new) }
+        (around F.Store store.old steps.old) (around F.Store store.new steps.new) }
 {
     let presentation = &timed.presentation;
     let Ok((name, line)) = mpd_and_line(alloc, &job.out, presentation) else {
@@ -93,13 +77,9 @@ fn timed_at<F: Store, L: Ledger>(
     store: &mut F,
     steps: &mut Steps<L>,
 ) -> Result<Timed, Halt>
-    ensures timed { ForSome (F.files store.old) (λ files.
-        Gives (λ timed. (timed.presentation, timed.runs)) halted result (spec.timed_at place.now files)) }
+    ensures reads { ReadsAs F.Store store.old store.new (λ timed. (timed.presentation, timed.runs)) (spec.timed_at place.now) result }
     ensures can { IfOk result (λ timed. CanBeTimed timed.presentation timed.runs) }
     ensures counted { IfOk result (λ timed. counted timed.presentation ≡ Ok (count_of_all timed.presentation)) }
-    ensures cause { HasCause ReadFault (F.read_faults store.old) (F.read_faults store.new) result }
-    ensures files { F.files store.new ≡ F.files store.old }
-    ensures writes { F.write_faults store.new ≡ F.write_faults store.old }
 {
     let presentation = presented_at(alloc, place, store)?;
     let runs = runs_at(alloc, place, &presentation, store, steps)?;
@@ -116,12 +96,8 @@ fn runs_at<F: Store, L: Ledger>(
     steps: &mut Steps<L>,
 ) -> Result<TickList, Halt>
     requires { CameFromPlaylists presentation.now }
-    ensures runs { ForSome (F.files store.old) (λ files. Gives (λ runs. runs) halted result
-        (spec.runs_at place.now files presentation.now)) }
+    ensures reads { ReadsAs F.Store store.old store.new (λ runs. runs) (λ files. spec.runs_at place.now files presentation.now) result }
     ensures can { IfOk result (CanBeTimed presentation.now) }
-    ensures cause { HasCause ReadFault (F.read_faults store.old) (F.read_faults store.new) result }
-    ensures files { F.files store.new ≡ F.files store.old }
-    ensures writes { F.write_faults store.new ≡ F.write_faults store.old }
 {
     segments_can_be_listed();
     let times = times_at(alloc, place, presentation, store, steps)?;

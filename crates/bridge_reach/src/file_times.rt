@@ -1,14 +1,12 @@
 // The times that the media files of a presentation state, and which file is refused for them.
 ghost use Rattle.std.specs.Prelude.{◌≡◌, ◌≢◌, All, IfOk, IfSome, Some, length};
-ghost use Rattle.std.specs.Option.{ForSome};
 ghost use Rattle.bridge_io.specs.Answer.{Gives};
-ghost use Rattle.bridge_io.specs.Fault.{HasCause};
 ghost use Rattle.fragment_times.specs.declared.fault.TimesFault.TheVariants.{Fault, Segment};
 ghost use Rattle.fragment_times.specs.Refusals.{refusal};
 ghost use Rattle.fragment_times.specs.Times.{FillPlaces, IsScaled};
 ghost use Rattle.presentation.specs.Listable.{AreListable};
 ghost use Rattle.bridge_report.specs.declared.reading.Halt.TheVariants.{ReadFault};
-ghost use Rattle.bridge_report.specs.Reading.{IsNoReadFault, halted};
+ghost use Rattle.bridge_report.specs.Reading.{IsNoReadFault, ReadsAs, halted};
 ghost use Rattle.bridge_reach.specs.FileTimes as spec;
 
 use crate::segment_file::file_at;
@@ -31,13 +29,10 @@ pub(crate) fn times_at<F: Store, L: Ledger>(
     steps: &mut Steps<L>,
 ) -> Result<TimesList, Halt>
     requires { AreListable presentation.now }
-    ensures times { ForSome (F.files store.old) (λ files.
-        Gives (λ times. times) halted result (spec.times_at manifest.now files presentation.now)) }
+    ensures reads { ReadsAs F.Store store.old store.new (λ times. times)
+        (λ files. spec.times_at manifest.now files presentation.now) result }
     ensures filled { IfOk result (λ times. FillPlaces presentation.now (length times)) }
     ensures scaled { IfOk result (λ times. All IsScaled times) }
-    ensures cause { HasCause ReadFault (F.read_faults store.old) (F.read_faults store.new) result }
-    ensures files { F.files store.new ≡ F.files store.old }
-    ensures writes { F.write_faults store.new ≡ F.write_faults store.old }
 {
     match fragment_times(alloc, presentation, &manifest.folder, store, steps) {
         Ok(times) => Ok(times),

@@ -1,14 +1,13 @@
 // `follow-hls`: from rounds of live playlists to an MPD.
-ghost use Rattle.std.specs.Prelude.{◌≡◌, IfOk};
-ghost use Rattle.std.specs.Option.{ForSome};
-ghost use Rattle.bridge_courses.specs.Executions.{NeverFalls};
-ghost use Rattle.bridge_courses.specs.Steps.{Work, IsCaused};
-ghost use Rattle.bridge_steps.specs.Follow.{Grows, follow_course, world_of};
+ghost use Rattle.std.specs.Prelude.{◌≡◌, IfOk, option_map};
+ghost use Rattle.bridge_courses.specs.Steps.{IsCaused};
+ghost use Rattle.bridge_steps.specs.Follow.{RunsAs, world_of};
 ghost use Rattle.bridge_reach.specs.Rounds as spec;
 
 use crate::rounds::{BaseList, LiveHls, LiveRounds};
 use bridge_courses::Ending;
-use bridge_io::{Ledger, Name, NoMemory, Sink, Source, Steps, Store, Text};
+use bridge_io::{Ledger, Name, NoMemory, Sink, Source, Steps, Store};
+use bridge_jobs::MasterJob;
 use bridge_playlists::{StorePlace, base_at, master_at};
 use bridge_report::halted;
 use bridge_steps::{file_in, follow, place_in};
@@ -16,45 +15,24 @@ use hls_follow::Follow;
 use hls_master::{Master, MasterTrack};
 use std::alloc::Global;
 
-/// A master whose live playlists are to be followed.
-#[derive(Debug, Drop)]
-pub struct FollowHls {
-    /// The master's file.
-    pub master: Name,
-    /// The URL of the store's root.
-    pub base: Text,
-    /// The folder of the MPD.
-    pub out: Name,
-}
-
 /// Works off the rounds of the input over the tracks of the job's master, which is read once and first: the MPD of each accepted
 /// one is written as `live.mpd`, and each round has a line. [`Ending::ReadFault`] comes only where the store's count of failed
 /// reads rose, or the input's.
 #[tactic(auto, unfolding(crate::specs::Rounds::rounds_course))]
 pub fn run_follow_hls<I: Source, F: Store, P: Sink, L: Ledger>(
     alloc: Global,
-    job: FollowHls,
+    job: MasterJob,
     input: &mut I,
     store: &mut F,
     report: &mut P,
     steps: &mut Steps<L>,
 ) -> Ending
-    ensures work { ForSome (spec.rounds_course job (F.files store.old) (I.remaining input.old)) (λ course. Work course result
-        (world_of (F.files store.old) (P.written report.old) (I.faults input.old) (F.read_faults store.old) (F.write_faults store.old)
-        (P.faults report.old) steps.old)
-        (world_of (F.files store.new) (P.written report.new) (I.faults input.new) (F.read_faults store.new) (F.write_faults store.new)
-        (P.faults report.new) steps.new)) }
+    ensures runs { RunsAs (spec.rounds_course job (F.files store.old) (I.remaining input.old)) result
+        (world_of I.Source F.Store P.Sink input.old store.old report.old steps.old)
+        (world_of I.Source F.Store P.Sink input.new store.new report.new steps.new) }
     ensures caused { spec.IsCausedByEither result
-        (world_of (F.files store.old) (P.written report.old) (I.faults input.old) (F.read_faults store.old) (F.write_faults store.old)
-        (P.faults report.old) steps.old)
-        (world_of (F.files store.new) (P.written report.new) (I.faults input.new) (F.read_faults store.new) (F.write_faults store.new)
-        (P.faults report.new) steps.new) }
-    ensures never_falls { NeverFalls
-        (world_of (F.files store.old) (P.written report.old) (I.faults input.old) (F.read_faults store.old) (F.write_faults store.old)
-        (P.faults report.old) steps.old)
-        (world_of (F.files store.new) (P.written report.new) (I.faults input.new) (F.read_faults store.new) (F.write_faults store.new)
-        (P.faults report.new) steps.new) }
-    ensures told { Grows (P.written report.old) (P.written report.new) }
+        (world_of I.Source F.Store P.Sink input.old store.old report.old steps.old)
+        (world_of I.Source F.Store P.Sink input.new store.new report.new steps.new) }
 {
     match place_in(alloc, &job.base, &job.master) {
         Ok(place) => follow_at(alloc, &place, &job.out, input, store, report, steps),
@@ -72,22 +50,12 @@ fn follow_at<I: Source, F: Store, P: Sink, L: Ledger>(
     report: &mut P,
     steps: &mut Steps<L>,
 ) -> Ending
-    ensures work { ForSome (spec.rounds_at out.now (F.files store.old) (I.remaining input.old) place.now) (λ course. Work course result
-        (world_of (F.files store.old) (P.written report.old) (I.faults input.old) (F.read_faults store.old) (F.write_faults store.old)
-        (P.faults report.old) steps.old)
-        (world_of (F.files store.new) (P.written report.new) (I.faults input.new) (F.read_faults store.new) (F.write_faults store.new)
-        (P.faults report.new) steps.new)) }
+    ensures runs { RunsAs (spec.rounds_at out.now (F.files store.old) (I.remaining input.old) place.now) result
+        (world_of I.Source F.Store P.Sink input.old store.old report.old steps.old)
+        (world_of I.Source F.Store P.Sink input.new store.new report.new steps.new) }
     ensures caused { spec.IsCausedByEither result
-        (world_of (F.files store.old) (P.written report.old) (I.faults input.old) (F.read_faults store.old) (F.write_faults store.old)
-        (P.faults report.old) steps.old)
-        (world_of (F.files store.new) (P.written report.new) (I.faults input.new) (F.read_faults store.new) (F.write_faults store.new)
-        (P.faults report.new) steps.new) }
-    ensures never_falls { NeverFalls
-        (world_of (F.files store.old) (P.written report.old) (I.faults input.old) (F.read_faults store.old) (F.write_faults store.old)
-        (P.faults report.old) steps.old)
-        (world_of (F.files store.new) (P.written report.new) (I.faults input.new) (F.read_faults store.new) (F.write_faults store.new)
-        (P.faults report.new) steps.new) }
-    ensures told { Grows (P.written report.old) (P.written report.new) }
+        (world_of I.Source F.Store P.Sink input.old store.old report.old steps.old)
+        (world_of I.Source F.Store P.Sink input.new store.new report.new steps.new) }
 {
     match master_at(alloc, place, store) {
         Ok(master) => follow_master(alloc, master, out, input, store, report, steps),
@@ -105,22 +73,12 @@ fn follow_master<I: Source, F: Store, P: Sink, L: Ledger>(
     report: &mut P,
     steps: &mut Steps<L>,
 ) -> Ending
-    ensures work { ForSome (I.remaining input.old) (λ bytes. Work (spec.course_with out.now master bytes) result
-        (world_of (F.files store.old) (P.written report.old) (I.faults input.old) (F.read_faults store.old) (F.write_faults store.old)
-        (P.faults report.old) steps.old)
-        (world_of (F.files store.new) (P.written report.new) (I.faults input.new) (F.read_faults store.new) (F.write_faults store.new)
-        (P.faults report.new) steps.new)) }
+    ensures runs { RunsAs (option_map (spec.course_with out.now master) (I.remaining input.old)) result
+        (world_of I.Source F.Store P.Sink input.old store.old report.old steps.old)
+        (world_of I.Source F.Store P.Sink input.new store.new report.new steps.new) }
     ensures caused { IsCaused result
-        (world_of (F.files store.old) (P.written report.old) (I.faults input.old) (F.read_faults store.old) (F.write_faults store.old)
-        (P.faults report.old) steps.old)
-        (world_of (F.files store.new) (P.written report.new) (I.faults input.new) (F.read_faults store.new) (F.write_faults store.new)
-        (P.faults report.new) steps.new) }
-    ensures never_falls { NeverFalls
-        (world_of (F.files store.old) (P.written report.old) (I.faults input.old) (F.read_faults store.old) (F.write_faults store.old)
-        (P.faults report.old) steps.old)
-        (world_of (F.files store.new) (P.written report.new) (I.faults input.new) (F.read_faults store.new) (F.write_faults store.new)
-        (P.faults report.new) steps.new) }
-    ensures told { Grows (P.written report.old) (P.written report.new) }
+        (world_of I.Source F.Store P.Sink input.old store.old report.old steps.old)
+        (world_of I.Source F.Store P.Sink input.new store.new report.new steps.new) }
 {
     match begin(alloc, master, out) {
         Ok(begun) => {

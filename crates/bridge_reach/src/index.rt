@@ -1,19 +1,18 @@
 // `hls-index`: from an MPD and the indexes of its media files to playlists.
 ghost use Rattle.std.specs.Prelude.{◌≡◌, ◌^◌, Ok, IfOk, IfSome, Some};
-ghost use Rattle.std.specs.Option.{ForSome};
 ghost use Rattle.bridge_io.specs.Answer.{Gives};
-ghost use Rattle.bridge_io.specs.Fault.{HasCause};
 ghost use Rattle.index_parts.specs.declared.fault.IndexFault.TheVariants.{Fault};
 ghost use Rattle.index_parts.specs.Refusals.{refusal};
 ghost use Rattle.mpd_rules.specs.Views.{index_mpd};
 ghost use Rattle.bridge_report.specs.declared.reading.Halt.TheVariants.{ReadFault};
-ghost use Rattle.bridge_report.specs.Reading.{IsNoReadFault, halted};
+ghost use Rattle.bridge_report.specs.Reading.{IsNoReadFault, ReadsAs, halted};
 ghost use Rattle.bridge_report.specs.Refusals.{refused_in};
 ghost use Rattle.bridge_steps.specs.Endings.{JobEndsAs, around};
 ghost use Rattle.bridge_reach.specs.Index as spec;
 
 use bridge_courses::Ending;
-use bridge_io::{Bytes, Ledger, Name, Steps, Store, Text};
+use bridge_io::{Bytes, Ledger, Name, Steps, Store};
+use bridge_jobs::IndexJob;
 use bridge_playlists::StorePlace;
 use bridge_report::{Halt, IndexRefusal, Refusal, Stop, content_of, halted};
 use bridge_steps::{Ready, checked, done_line, place_in, tree_of, write_playlists, written};
@@ -23,30 +22,16 @@ use mpd_rules::{IndexedMpd, rules_indexed};
 use presentation::Presentation;
 use std::alloc::Global;
 
-/// An MPD whose media files have an index inside, and whose playlists are to be written.
-#[derive(Debug, Drop)]
-pub struct HlsIndex {
-    /// The MPD's file.
-    pub mpd: Name,
-    /// The URL of the store's root.
-    pub base: Text,
-    /// The folder of the playlists.
-    pub out: Name,
-    /// The decimals of printed durations.
-    pub digits: Digits,
-}
-
 /// Writes the playlists of a job's MPD and its media files, unless one of them is refused.
 #[tactic(auto, unfolding(crate::specs::Index::index_outcome))]
 pub fn run_hls_index<F: Store, L: Ledger>(
     alloc: Global,
-    job: &HlsIndex,
+    job: &IndexJob,
     store: &mut F,
     steps: &mut Steps<L>,
 ) -> Ending
     ensures { JobEndsAs (spec.index_outcome job.now (F.files store.old)) result
-        (around (F.files store.old) (F.read_faults store.old) (F.write_faults store.old) steps.old)
-        (around (F.files store.new) (F.read_faults store.new) (F.write_faults store.new) steps.new) }
+        (around F.Store store.old steps.old) (around F.Store store.new steps.new) }
 {
     match place_in(alloc, &job.base, &job.mpd) {
         Ok(place) => match indexed_at(alloc, &place, job.digits, store, steps) {
@@ -60,15 +45,14 @@ pub fn run_hls_index<F: Store, L: Ledger>(
 /// Writes the playlists of a presentation.
 fn write<F: Store, L: Ledger>(
     alloc: Global,
-    job: &HlsIndex,
+    job: &IndexJob,
     ready: &Ready,
     store: &mut F,
     steps: &mut Steps<L>,
 ) -> Ending
     requires { ready.now.digits ≡ job.now.digits }
     ensures { JobEndsAs (Some (spec.outcome_of job.now (Ok ready.now.presentation))) result
-        (around (F.files store.old) (F.read_faults store.old) (F.write_faults store.old) steps.old)
-        (around (F.files store.new) (F.read_faults store.new) (F.write_faults store.new) steps.new) }
+        (around F.Store store.old steps.old) (around F.Store store.new steps.new) }
 {
     let Ok(line) = done_line(alloc, &ready.presentation) else {
         return Ending::Memory;
@@ -87,12 +71,8 @@ fn indexed_at<F: Store, L: Ledger>(
     store: &mut F,
     steps: &mut Steps<L>,
 ) -> Result<Ready, Halt>
-    ensures mpd { ForSome (F.files store.old) (λ files.
-        Gives (λ ready. ready.presentation) halted result (spec.ready_at (10 ^ digits) place.now files)) }
+    ensures reads { ReadsAs F.Store store.old store.new (λ ready. ready.presentation) (spec.ready_at (10 ^ digits) place.now) result }
     ensures digits { IfOk result (λ ready. ready.digits ≡ digits) }
-    ensures cause { HasCause ReadFault (F.read_faults store.old) (F.read_faults store.new) result }
-    ensures files { F.files store.new ≡ F.files store.old }
-    ensures writes { F.write_faults store.new ≡ F.write_faults store.old }
 {
     let bytes = content_of(alloc, store, &place.file)?;
     indexed_in(alloc, place, bytes, digits, store, steps)
@@ -108,12 +88,9 @@ fn indexed_in<F: Store, L: Ledger>(
     store: &mut F,
     steps: &mut Steps<L>,
 ) -> Result<Ready, Halt>
-    ensures mpd { ForSome (F.files store.old) (λ files.
-        Gives (λ ready. ready.presentation) halted result (spec.ready_in (10 ^ digits) place.now files bytes)) }
+    ensures reads { ReadsAs F.Store store.old store.new (λ ready. ready.presentation)
+        (λ files. spec.ready_in (10 ^ digits) place.now files bytes) result }
     ensures digits { IfOk result (λ ready. ready.digits ≡ digits) }
-    ensures cause { HasCause ReadFault (F.read_faults store.old) (F.read_faults store.new) result }
-    ensures files { F.files store.new ≡ F.files store.old }
-    ensures writes { F.write_faults store.new ≡ F.write_faults store.old }
 {
     let mpd = values_in(alloc, place, bytes)?;
     let presentation = presented(alloc, place, &mpd, store)?;
@@ -169,11 +146,8 @@ fn presented<F: Store>(
     mpd: &IndexedMpd,
     store: &mut F,
 ) -> Result<Presentation, Halt>
-    ensures presented { ForSome (F.files store.old) (λ files.
-        Gives (λ presentation. presentation) halted result (spec.presented_by place.now files (index_mpd mpd.now))) }
-    ensures cause { HasCause ReadFault (F.read_faults store.old) (F.read_faults store.new) result }
-    ensures files { F.files store.new ≡ F.files store.old }
-    ensures writes { F.write_faults store.new ≡ F.write_faults store.old }
+    ensures { ReadsAs F.Store store.old store.new (λ presentation. presentation)
+        (λ files. spec.presented_by place.now files (index_mpd mpd.now)) result }
 {
     match index_parts(alloc, mpd, &place.url, &place.folder, store) {
         Ok(presentation) => Ok(presentation),

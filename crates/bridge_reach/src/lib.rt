@@ -12,9 +12,9 @@ mod round_laws;
 mod rounds;
 mod segment_file;
 
-pub use agree::{Agree, run_agree};
-pub use dash_times::{DashTimes, run_dash_times};
-pub use follow_hls::{FollowHls, run_follow_hls};
-pub use index::{HlsIndex, run_hls_index};
+pub use agree::run_agree;
+pub use dash_times::run_dash_times;
+pub use follow_hls::run_follow_hls;
+pub use index::run_hls_index;
 pub use laws::{what_agrees_has_the_files_times, what_is_written_has_the_files_times};
 pub use round_laws::the_mpd_is_of_the_accepted_rounds;

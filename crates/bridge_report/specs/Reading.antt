@@ -1,8 +1,9 @@
 -- The files of a job, or the first of them that is refused.
 use Rattle.bridge_report.specs.declared.reading.Halt.TheVariants as halt
 use Rattle.bridge_report.specs.declared.refusal.Refusal.TheVariants as refusal
-use Rattle.std.specs.Prelude.{ℕ, List, Option, Some, None, Result, IsErrOf}
-use Rattle.bridge_io.specs.{Answer.and_then, Outside.Files, Slurped.whole_file}
+use Rattle.std.specs.{Prelude.{◌≡◌, ℕ, List, Option, Some, None, Result, IsErrOf}, Option.ForSome}
+use Rattle.bridge_io.specs.{Answer.{Gives, and_then}, Fault.HasCause, Outside.Files, Slurped.whole_file}
+use Rattle.bridge_io.specs.declared.outside.Store.{Ghosts as Store}
 use Rattle.hls_media.specs.{declared.media.Media.Media, Media.media_of}
 use Rattle.presentation.specs.Told.{told_as}
 use Rattle.bridge_report.specs.{declared.reading.Halt.Halt, declared.refusal.Refusal.Refusal, Refusals.refusal_of_file}
@@ -38,3 +39,12 @@ halted halt.Memory = None
 -- no read failed
 abbrev pub IsNoReadFault : {X : Type 0} → Result X Halt → Type 0
 IsNoReadFault read = IsErrOf read halt.ReadFault → ⊥
+
+-- What is read of a store's files: where they are told, what is given for them; a fault comes only where the count of failed reads
+-- rose; and nothing is written.
+pub record ReadsAs {F X Y : Type 0} (store : Store F) (old new : F) (shown : X → Y) (given : Files → Result Y Named)
+    (result : Result X Halt) : Type 0 where
+  pub read : ForSome (store.files old) (λ files. Gives shown halted result (given files))
+  pub cause : HasCause halt.ReadFault (store.read_faults old) (store.read_faults new) result
+  pub files : store.files new ≡ store.files old
+  pub writes : store.write_faults new ≡ store.write_faults old

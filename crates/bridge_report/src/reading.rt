@@ -1,8 +1,6 @@
 // The files of a job.
 ghost use Rattle.std.specs.Prelude.{◌≡◌, ◌≢◌, IfOk, IfSome};
-ghost use Rattle.std.specs.Option.{ForSome};
 ghost use Rattle.bridge_io.specs.Answer.{Gives};
-ghost use Rattle.bridge_io.specs.Fault.{HasCause};
 ghost use Rattle.hls_media.specs.Laws.{IsBounded};
 ghost use Rattle.bridge_report.specs.declared.reading.Halt.TheVariants.{ReadFault};
 ghost use Rattle.bridge_report.specs.Reading as spec;
@@ -54,10 +52,7 @@ impl From<NoMemory> for Halt {
 /// The whole content of a file of at most 8,388,608 bytes. [`Halt::ReadFault`] comes only where the store's count of failed
 /// reads rose.
 pub fn content_of<F: Store>(alloc: Global, store: &mut F, file: &Name) -> Result<Bytes, Halt>
-    ensures content { ForSome (F.files store.old) (λ files. Gives (λ bytes. bytes) spec.halted result (spec.content_of file.now files)) }
-    ensures cause { HasCause ReadFault (F.read_faults store.old) (F.read_faults store.new) result }
-    ensures files { F.files store.new ≡ F.files store.old }
-    ensures writes { F.write_faults store.new ≡ F.write_faults store.old }
+    ensures { spec.ReadsAs F.Store store.old store.new (λ bytes. bytes) (spec.content_of file.now) result }
 {
     match slurp(alloc, store, file, MANIFEST_LIMIT) {
         Ok(bytes) => Ok(bytes),
@@ -77,12 +72,8 @@ pub fn media_at<F: Store>(
     file: &Name,
     url: &Base,
 ) -> Result<Media, Halt>
-    ensures media { ForSome (F.files store.old) (λ files. Gives (λ media. media) spec.halted result
-        (spec.media_at file.now url.now files)) }
+    ensures reads { spec.ReadsAs F.Store store.old store.new (λ media. media) (spec.media_at file.now url.now) result }
     ensures bounded { IfOk result IsBounded }
-    ensures cause { HasCause ReadFault (F.read_faults store.old) (F.read_faults store.new) result }
-    ensures files { F.files store.new ≡ F.files store.old }
-    ensures writes { F.write_faults store.new ≡ F.write_faults store.old }
 {
     let bytes = content_of(alloc, store, file)?;
     media_in(alloc, file, url, bytes.as_slice())

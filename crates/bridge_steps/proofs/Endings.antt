@@ -13,7 +13,7 @@ use Rattle.bridge_io.specs.declared.out_fault.OutFault.{OutFault}
 use Rattle.bridge_courses.specs.{declared.ending.Ending.Ending, declared.status.Verdict.Verdict, Executions.{status_by, status_of}}
 use Rattle.bridge_report.specs.{declared.reading.Halt.Halt, Outcomes.{Outcome, Ends, Writes, IsEnding, IsHalt, IsRefusal, Reads}}
 use Rattle.bridge_report.specs.{Outcomes.{base_refused, course_by, outcome_told}, Reading.{Named, halted}, Refusals.refusal_line}
-use Rattle.bridge_steps.specs.Endings.{IsTold, IsUnplaced, IsWritten, JobEndsAs, NeverReads, NeverWrites, Surroundings, around}
+use Rattle.bridge_steps.specs.Endings.{IsTold, IsUnplaced, IsWritten, JobEndsAs, NeverReads, NeverWrites, Surroundings}
 use Rattle.bridge_steps.specs.Endings.{outcome_written, placed}
 
 -- what holds of each value holds of what it is mapped to
@@ -271,12 +271,15 @@ written_never_reads line (Err out.Memory) told before after is same =
 
 -- ---- a command that reads nothing
 
+abbrev seen : (files : Option Files) (read_faults write_faults made : ℕ) → Surroundings
+seen files read_faults write_faults made = record { files = files; read_faults = read_faults; write_faults = write_faults; made = made }
+
 module _ (files : Option Files) (read_faults write_faults made made' : ℕ) where
   -- what it makes is refused, or memory is wanting
   pub is_refused : (why : Halt) (told : Ending) (outcome : Outcome) → IsHalt why told → (why ≡ halt.ReadFault → ⊥)
       → IfSome (halted why) (λ named. outcome ≡ Ends verdict.Refused (refusal_line named.0 named.1) false false)
       → (IsTrue (course_by outcome).counts → ⊥)
-      → JobEndsAs (Some outcome) told (around files read_faults write_faults made) (around files read_faults write_faults made')
+      → JobEndsAs (Some outcome) told (seen files read_faults write_faults made) (seen files read_faults write_faults made')
   is_refused (halt.Refused name refusal) told outcome is no_fault refuses uncounts =
       quiet (Some outcome) told _ _ (refusal_status (refusal_line name refusal) told is)
       (λ o e. (let this : Ends verdict.Refused (refusal_line name refusal) false false ≡ o = cc in

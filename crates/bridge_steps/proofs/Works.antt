@@ -12,7 +12,7 @@ use Rattle.bridge_courses.specs.{Executions.{Works, Finishes, TellsAs, status_of
 use Rattle.bridge_courses.specs.Courses.{World, Whole, Step, Reaches, last_step}
 use Rattle.bridge_courses.proofs.Stepping.{none_put, none_told}
 use Rattle.bridge_report.specs.Outcomes.{Outcome, Ends, Writes, course_by, IsSaid, IsEnding}
-use Rattle.bridge_steps.specs.Endings.{EndsAs, Surroundings, around}
+use Rattle.bridge_steps.specs.Endings.{EndsAs, Surroundings}
 use Rattle.bridge_steps.proofs.Endings.{over}
 
 -- as many segments are made as there were
@@ -136,7 +136,8 @@ works outcome (ending.Cut fail) before after is read write report made = absurd 
 
 -- what a command meets of what a run meets
 abbrev pub met : World → Surroundings
-met world = around world.files world.read_faults world.write_faults world.made
+met world =
+    record { files = world.files; read_faults = world.read_faults; write_faults = world.write_faults; made = world.made }
 
 -- the work of a command that leaves the input and the report, of the course that its outcome is
 pub work_of : (o : Option Outcome) (told : Ending) (before after : World) → EndsAs o told (met before) (met after)

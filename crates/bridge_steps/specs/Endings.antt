@@ -5,7 +5,7 @@ use Rattle.bridge_courses.specs.declared.status.Verdict.TheVariants as verdict
 use Rattle.bridge_io.specs.declared.out_fault.OutFault.TheVariants as out
 use Rattle.bridge_report.specs.declared.refusal.Refusal.TheVariants as refusal
 use Rattle.std.specs.{Prelude.{◌≡◌, ◌⊎◌, ◌≤◌, ℕ, true, false, codes, IsTrue, List, Option, Some, None, Result, Ok, Err}, Option.ForSome}
-use Rattle.bridge_io.specs.{Fault.Rose, Outside.Files, declared.out_fault.OutFault.OutFault}
+use Rattle.bridge_io.specs.{Fault.Rose, Outside.Files, declared.out_fault.OutFault.OutFault, declared.outside.Store.Ghosts as Store}
 use Rattle.bridge_courses.specs.{declared.ending.Ending.Ending, declared.status.Verdict.Verdict, Executions.status_of}
 use Rattle.bridge_report.specs.{declared.reading.Halt.Halt, Outcomes.{Outcome, Ends, Writes, IsEnding, IsHalt, IsRefusal, base_refused}}
 use Rattle.bridge_report.specs.{Outcomes.course_by, Reading.Named, Refusals.refusal_line}
@@ -19,8 +19,9 @@ pub record Surroundings : Type 0 where
   pub write_faults : ℕ
   pub made : ℕ
 
-abbrev pub around : (files : Option Files) (read_faults write_faults made : ℕ) → Surroundings
-around files read_faults write_faults made = record { files = files; read_faults = read_faults; write_faults = write_faults; made = made }
+abbrev pub around : {F : Type 0} → Store F → F → (made : ℕ) → Surroundings
+around store at made =
+    record { files = store.files at; read_faults = store.read_faults at; write_faults = store.write_faults at; made = made }
 
 -- The work of a run ends as its outcome says, where that is known: with its verdict and its files, and no segment made where it
 -- counts them. A fault has its cause, whatever is known, and no count of faults falls.

@@ -3,9 +3,12 @@ use Rattle.bridge_jobs.specs.declared.frame.FrameFault.TheVariants as fault
 use Rattle.bridge_courses.specs.declared.ending.Ending.TheVariants as ending
 use Rattle.bridge_report.specs.declared.refusal.Refusal.TheVariants as refusal
 use Rattle.std.specs.Prelude.{◌≡◌, ℕ, ◌+◌, ◌≤◌, List, codes, Option, Some, None, option_map}
-use Rattle.bridge_io.specs.Outside.{Files, Appends}
+use Rattle.std.specs.Option.{ForSome}
+use Rattle.bridge_io.specs.{Outside.Appends, declared.outside.Source.Ghosts as Source, declared.outside.Store.Ghosts as Store}
+use Rattle.bridge_io.specs.{declared.outside.Sink.Ghosts as Sink}
 use Rattle.bridge_jobs.specs.{Frames.{IsFramePos, start}, declared.frame.FramePos.FramePos, declared.frame.FrameFault.FrameFault}
-use Rattle.bridge_courses.specs.{declared.ending.Ending.Ending, Courses.{Course, World}}
+use Rattle.bridge_courses.specs.{declared.ending.Ending.Ending, Courses.{Course, World}, Executions.NeverFalls}
+use Rattle.bridge_courses.specs.Steps.{Outside, Work, outside_of}
 use Rattle.bridge_report.specs.{Following.{Followed, course_from}, Outcomes.{IsRefusal, base_refused, course_by}, Refusals.refusal_line}
 use Rattle.bridge_steps.specs.{declared.run.Following.Following, Streams.Stream}
 
@@ -57,15 +60,38 @@ IsBroken f told = IsRefusal (fault_line f) told
 abbrev pub Grows : (before after : Option (List ℕ)) → Type 0
 Grows before after = (lines : List ℕ) × Appends lines before after
 
--- what a run meets, in the order of its record
-abbrev pub world_of : (files : Option Files) (report : Option (List ℕ)) (input_faults read_faults write_faults report_faults made : ℕ)
-    → World
-world_of files report input_faults read_faults write_faults report_faults made = record {
-  files = files;
-  report = report;
-  input_faults = input_faults;
-  read_faults = read_faults;
-  write_faults = write_faults;
-  report_faults = report_faults;
+-- ---- what is met
+
+-- what a run meets: of the input, the store and the report, and how many segments were made
+abbrev pub world_of : {I F P : Type 0} → Source I → Store F → Sink P → I → F → P → (made : ℕ) → World
+world_of source store sink input files report made = record {
+  files = store.files files;
+  report = sink.written report;
+  input_faults = source.faults input;
+  read_faults = store.read_faults files;
+  write_faults = store.write_faults files;
+  report_faults = sink.faults report;
   made = made;
 }
+
+-- the same of a frame that is read, since the input is left then
+abbrev pub beside_input : {F P : Type 0} → Store F → Sink P → F → P → (made : ℕ) → World
+beside_input store sink files report made = record {
+  files = store.files files;
+  report = sink.written report;
+  input_faults = 0;
+  read_faults = store.read_faults files;
+  write_faults = store.write_faults files;
+  report_faults = sink.faults report;
+  made = made;
+}
+
+-- and where no segment is made
+abbrev pub outside_at : {F P : Type 0} → Store F → Sink P → F → P → Outside
+outside_at store sink files report = outside_of (beside_input store sink files report 0)
+
+-- A run of what the input tells ends so: as its course, where that is known. It tells lines, and no count of faults falls.
+pub record RunsAs (course : Option Course) (end : Ending) (before after : World) : Type 0 where
+  pub work : ForSome course (λ course. Work course end before after)
+  pub never_falls : NeverFalls before after
+  pub told : Grows before.report after.report

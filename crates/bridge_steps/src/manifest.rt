@@ -1,8 +1,6 @@
 // From the bytes of an MPD to a presentation whose segments all have addresses.
 ghost use Rattle.std.specs.Prelude.{◌≡◌, ◌^◌, Ok, Some, IfOk, IsTrue, is_some, true};
-ghost use Rattle.std.specs.Option.{ForSome};
 ghost use Rattle.bridge_io.specs.Answer.{Gives};
-ghost use Rattle.bridge_io.specs.Fault.{HasCause};
 ghost use Rattle.live_meaning.specs.Laws.{IsTyped};
 ghost use Rattle.mpd_text.specs.Meaning.{reading_of};
 ghost use Rattle.mpd_text.specs.Nodes.{root_of};
@@ -13,8 +11,7 @@ ghost use Rattle.presentation.specs.Listable.{AreListable};
 ghost use Rattle.presentation.specs.Presented.{is_finished};
 ghost use Rattle.presentation.specs.Told.{told_as};
 ghost use Rattle.presentation.specs.Verifying.{verified};
-ghost use Rattle.bridge_report.specs.declared.reading.Halt.TheVariants.{ReadFault};
-ghost use Rattle.bridge_report.specs.Reading.{halted, IsNoReadFault};
+ghost use Rattle.bridge_report.specs.Reading.{IsNoReadFault, ReadsAs, halted};
 ghost use Rattle.bridge_report.specs.Refusals.{refused_in};
 ghost use Rattle.bridge_steps.specs.Manifests as spec;
 
@@ -55,14 +52,11 @@ pub fn mpd_at<F: Store, L: Ledger>(
     store: &mut F,
     steps: &mut Steps<L>,
 ) -> Result<Ready, Halt>
-    ensures mpd { ForSome (F.files store.old) (λ files.
-        Gives (λ ready. ready.presentation) halted result (spec.mpd_at live (10 ^ digits) now place.now files)) }
+    ensures reads { ReadsAs F.Store store.old store.new (λ ready. ready.presentation)
+        (spec.mpd_at live (10 ^ digits) now place.now) result }
     ensures digits { IfOk result (λ ready. ready.digits ≡ digits) }
     ensures finished { IfOk result (λ ready. IsTrue (is_some live) → is_finished ready.presentation ≡ true) }
     ensures listable { IfOk result (λ ready. IsTrue (is_some live) → AreListable ready.presentation) }
-    ensures cause { HasCause ReadFault (F.read_faults store.old) (F.read_faults store.new) result }
-    ensures files { F.files store.new ≡ F.files store.old }
-    ensures writes { F.write_faults store.new ≡ F.write_faults store.old }
 {
     let bytes = content_of(alloc, store, &place.file)?;
     mpd_in(alloc, place, bytes, now, live, digits, steps)

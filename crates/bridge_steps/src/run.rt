@@ -1,6 +1,5 @@
 // The run of what is followed.
-ghost use Rattle.std.specs.Prelude.{◌≡◌, ◌⊎◌, ◌+◌, ◌<◌, ◌≤◌, List, ℕ, Some, MatchResult, OnOk, IfOk, IfErr};
-ghost use Rattle.std.specs.Option.{ForSome};
+ghost use Rattle.std.specs.Prelude.{◌≡◌, ◌⊎◌, ◌+◌, ◌<◌, ◌≤◌, List, ℕ, Some, MatchResult, OnOk, IfOk, IfErr, option_map};
 ghost use Rattle.bridge_io.specs.InOrder.{put_all};
 ghost use Rattle.bridge_io.specs.Outside.{Changes, Appends};
 ghost use Rattle.bridge_jobs.specs.Frames.{most_frames};
@@ -9,7 +8,8 @@ ghost use Rattle.bridge_courses.specs.Steps.{Work, Leads, IsCaused, StepIsDone, 
 ghost use Rattle.bridge_courses.specs.declared.ending.Ending.TheVariants as ending;
 ghost use Rattle.bridge_report.specs.Following.{step_of, next_of, accepted_with, accepted_line, refused_frame};
 ghost use Rattle.bridge_report.specs.Refusals as refusals;
-ghost use Rattle.bridge_steps.specs.Follow.{follow_course, rest_course, IsGoing, IsBroken, Grows, world_of};
+ghost use Rattle.bridge_steps.specs.Follow.{beside_input, follow_course, outside_at, rest_course, world_of, Grows, IsBroken, IsGoing};
+ghost use Rattle.bridge_steps.specs.Follow.{RunsAs};
 
 use crate::frames::Follow;
 use bridge_courses::Ending;
@@ -46,23 +46,12 @@ pub fn follow<T: Follow, I: Source, F: Store, P: Sink, L: Ledger>(
 ) -> Ending
     requires none { T.accepted followed.now live ≡ 0 }
     requires kept { T.is_kept followed.now live }
-    ensures work { ForSome (I.remaining input.old)
-        (λ bytes. Work (follow_course (T.told followed.now) (T.stream followed.now) live bytes) result
-        (world_of (F.files store.old) (P.written report.old) (I.faults input.old) (F.read_faults store.old) (F.write_faults store.old)
-        (P.faults report.old) steps.old)
-        (world_of (F.files store.new) (P.written report.new) (I.faults input.new) (F.read_faults store.new) (F.write_faults store.new)
-        (P.faults report.new) steps.new)) }
+    ensures runs { RunsAs (option_map (follow_course (T.told followed.now) (T.stream followed.now) live) (I.remaining input.old)) result
+        (world_of I.Source F.Store P.Sink input.old store.old report.old steps.old)
+        (world_of I.Source F.Store P.Sink input.new store.new report.new steps.new) }
     ensures caused { IsCaused result
-        (world_of (F.files store.old) (P.written report.old) (I.faults input.old) (F.read_faults store.old) (F.write_faults store.old)
-        (P.faults report.old) steps.old)
-        (world_of (F.files store.new) (P.written report.new) (I.faults input.new) (F.read_faults store.new) (F.write_faults store.new)
-        (P.faults report.new) steps.new) }
-    ensures never_falls { NeverFalls
-        (world_of (F.files store.old) (P.written report.old) (I.faults input.old) (F.read_faults store.old) (F.write_faults store.old)
-        (P.faults report.old) steps.old)
-        (world_of (F.files store.new) (P.written report.new) (I.faults input.new) (F.read_faults store.new) (F.write_faults store.new)
-        (P.faults report.new) steps.new) }
-    ensures told { Grows (P.written report.old) (P.written report.new) }
+        (world_of I.Source F.Store P.Sink input.old store.old report.old steps.old)
+        (world_of I.Source F.Store P.Sink input.new store.new report.new steps.new) }
     ensures reads { F.read_faults store.new ≡ F.read_faults store.old }
 {
     let mut run = Following {
@@ -91,25 +80,19 @@ fn follow_next<T: Follow, I: Source, F: Store, P: Sink, L: Ledger>(
     requires { IsGoing (T.accepted followed.now) (T.is_kept followed.now) run.old }
     ensures next { (bytes : List ℕ) → I.remaining input.old ≡ Some bytes →
         let course = rest_course (T.told followed.now) (T.stream followed.now) in
-        let before = world_of (F.files store.old) (P.written report.old) (I.faults input.old) (F.read_faults store.old)
-        (F.write_faults store.old) (P.faults report.old) steps.old in
-        let after = world_of (F.files store.new) (P.written report.new) (I.faults input.new) (F.read_faults store.new)
-        (F.write_faults store.new) (P.faults report.new) steps.new in
+        let before = world_of I.Source F.Store P.Sink input.old store.old report.old steps.old in
+        let after = world_of I.Source F.Store P.Sink input.new store.new report.new steps.new in
         MatchResult result
         (λ _. (rest : List ℕ) × (I.remaining input.new ≡ Some rest) × Leads (course run.old bytes) (course run.new rest) before after)
         (λ told. Work (course run.old bytes) told before after) }
     ensures going { OnOk result (IsGoing (T.accepted followed.now) (T.is_kept followed.now) run.new) }
     ensures counts { OnOk result (run.new.at.frames ≡ run.old.at.frames + 1) }
     ensures caused { IfErr result (λ told. IsCaused told
-        (world_of (F.files store.old) (P.written report.old) (I.faults input.old) (F.read_faults store.old) (F.write_faults store.old)
-        (P.faults report.old) steps.old)
-        (world_of (F.files store.new) (P.written report.new) (I.faults input.new) (F.read_faults store.new) (F.write_faults store.new)
-        (P.faults report.new) steps.new)) }
+        (world_of I.Source F.Store P.Sink input.old store.old report.old steps.old)
+        (world_of I.Source F.Store P.Sink input.new store.new report.new steps.new)) }
     ensures never_falls { NeverFalls
-        (world_of (F.files store.old) (P.written report.old) (I.faults input.old) (F.read_faults store.old) (F.write_faults store.old)
-        (P.faults report.old) steps.old)
-        (world_of (F.files store.new) (P.written report.new) (I.faults input.new) (F.read_faults store.new) (F.write_faults store.new)
-        (P.faults report.new) steps.new) }
+        (world_of I.Source F.Store P.Sink input.old store.old report.old steps.old)
+        (world_of I.Source F.Store P.Sink input.new store.new report.new steps.new) }
     ensures told { Grows (P.written report.old) (P.written report.new) }
     ensures reads { F.read_faults store.new ≡ F.read_faults store.old }
 {
@@ -162,19 +145,13 @@ fn follow_frame<T: Follow, F: Store, P: Sink, L: Ledger>(
     requires kept { T.is_kept followed.now live.old }
     requires read { T.is_read followed.now frame.now }
     ensures done { IfOk result (λ n. StepIsDone (step_of (T.told followed.now) live.old index frame.now)
-        (world_of (F.files store.old) (P.written report.old) 0 (F.read_faults store.old) (F.write_faults store.old)
-        (P.faults report.old) steps.old)
-        (world_of (F.files store.new) (P.written report.new) 0 (F.read_faults store.new) (F.write_faults store.new)
-        (P.faults report.new) steps.new)) }
+        (beside_input F.Store P.Sink store.old report.old steps.old) (beside_input F.Store P.Sink store.new report.new steps.new)) }
     ensures next { IfOk result (λ n. (live.new ≡ next_of (T.told followed.now) live.old frame.now)
         × (n ≡ accepted_with (T.told followed.now) live.old frame.now accepted)) }
     ensures count { IfOk result (λ n. (T.accepted followed.now live.new ≡ n) × (n ≤ accepted + 1)) }
     ensures kept { T.is_kept followed.now live.new }
     ensures stops { IfErr result (λ told. Stops (step_of (T.told followed.now) live.old index frame.now) told
-        (world_of (F.files store.old) (P.written report.old) 0 (F.read_faults store.old) (F.write_faults store.old)
-        (P.faults report.old) steps.old)
-        (world_of (F.files store.new) (P.written report.new) 0 (F.read_faults store.new) (F.write_faults store.new)
-        (P.faults report.new) steps.new)) }
+        (beside_input F.Store P.Sink store.old report.old steps.old) (beside_input F.Store P.Sink store.new report.new steps.new)) }
     ensures counts { (F.write_faults store.old ≤ F.write_faults store.new) × (P.faults report.old ≤ P.faults report.new) }
     ensures reads { F.read_faults store.new ≡ F.read_faults store.old }
 {
@@ -206,18 +183,7 @@ fn publish<T: Follow, F: Store, P: Sink>(
     ensures files { OnOk result (Changes (put_all ((T.told followed.now).files live.now)) (F.files store.old) (F.files store.new)) }
     ensures line { OnOk result (Appends (accepted_line index appended) (P.written report.old) (P.written report.new)) }
     ensures err { IfErr result (λ told. Halts ((T.told followed.now).files live.now) (accepted_line index appended) told
-        (record {
-          files = F.files store.old;
-          report = P.written report.old;
-          write_faults = F.write_faults store.old;
-          report_faults = P.faults report.old;
-        })
-        (record {
-          files = F.files store.new;
-          report = P.written report.new;
-          write_faults = F.write_faults store.new;
-          report_faults = P.faults report.new;
-        })) }
+        (outside_at F.Store P.Sink store.old report.old) (outside_at F.Store P.Sink store.new report.new)) }
     ensures counts { (F.write_faults store.old ≤ F.write_faults store.new) × (P.faults report.old ≤ P.faults report.new) }
     ensures reads { F.read_faults store.new ≡ F.read_faults store.old }
 {

@@ -1,11 +1,12 @@
 -- The course of a run that follows an MPD.
 use Rattle.std.proofs.{Common.{◌≡◌, ℕ, List, Option, None, Some, option_map, Ok, sym, ap, ◌∙◌, subst}, lemmas.Option.same_Some}
+use Rattle.bridge_jobs.specs.declared.jobs.FollowJob.{FollowJob}
 use Rattle.bridge_courses.specs.Courses.{Course}
 use Rattle.url_parts.specs.Addresses.{absolute}
 use Rattle.bridge_playlists.specs.{declared.place.StorePlace.StorePlace, Places.store_place_of}
 use Rattle.bridge_jobs.specs.Frames.{frames_of}
 use Rattle.bridge_steps.specs.{Follow.{course_placed, fault_line, follow_course}, LiveMpds.frame_stream}
-use Rattle.bridge_core.specs.{Courses.{course_of, course_of_job}, Follow.{follow_at, followed_course}, declared.follow.Follow.Follow}
+use Rattle.bridge_core.specs.{Courses.{course_of, course_of_job}, Follow.{follow_at, followed_course}}
 use Rattle.bridge_core.proofs.Lies.{lies_of}
 use Rattle.laws_of_jobs.specs.Histories.{IsFollowing, followed_at}
 
@@ -13,11 +14,11 @@ use Rattle.laws_of_jobs.specs.Histories.{IsFollowing, followed_at}
 abbrev pub line_at_end : (input : List ℕ) → Option (List ℕ)
 line_at_end input = option_map fault_line (frames_of input).fault
 
-pub record IsCourse (job : Follow) (place : StorePlace) (input : List ℕ) (course : Course) : Type 0 where
+pub record IsCourse (job : FollowJob) (place : StorePlace) (input : List ℕ) (course : Course) : Type 0 where
   pub own : absolute place.url ≡ Ok place.url
   pub is : course ≡ follow_course (followed_at job place) frame_stream None input
 
-pub course_is : (words : List (List ℕ)) (job : Follow) (place : StorePlace) (input : List ℕ) (course : Course)
+pub course_is : (words : List (List ℕ)) (job : FollowJob) (place : StorePlace) (input : List ℕ) (course : Course)
     → IsFollowing words job place input course → IsCourse job place input course
 unfolding course_of followed_course
 course_is words job place input course is =

@@ -5,6 +5,7 @@ use Rattle.std.proofs.lemmas.Option.{none-some, same_Some}
 use Rattle.std.specs.{Prelude.slice_get, Result.result_err}
 use Rattle.bridge_io.specs.{InOrder.put_all, Outside.Files}
 use Rattle.bridge_jobs.specs.declared.frame.Frame.{Frame}
+use Rattle.bridge_jobs.specs.declared.jobs.FollowJob.{FollowJob}
 use Rattle.bridge_courses.specs.Courses.{files_to}
 use Rattle.presentation.specs.PresentedLaws.{PresentedAreFew}
 use Rattle.laws_of_playlists.specs.Origins.{OwnTextsAreAddresses}
@@ -15,7 +16,7 @@ use Rattle.laws_of_reloads.specs.{First.HoldState, Laws.{AreRead, FollowedTextsR
 use Rattle.bridge_report.specs.{Refusals.refusal_text, declared.refusal.Refusal.Refusal}
 use Rattle.bridge_playlists.specs.declared.place.StorePlace.{StorePlace}
 use Rattle.bridge_steps.specs.LiveMpds.{next_state}
-use Rattle.bridge_core.specs.{Follow.terms_at, declared.follow.Follow.Follow}
+use Rattle.bridge_core.specs.Follow.{terms_at}
 use Rattle.laws_of_jobs.specs.{Histories.{frames_in, history_to, state_to, updates_to}, Files.FollowedFilesAreOfTheHistory}
 use Rattle.laws_of_jobs.specs.Files.{FollowedFilesReload, HoldsHistory, prefix_of}
 use Rattle.laws_of_jobs.proofs.{Courses.{course_is, line_at_end}, FewDigits.few_digits, FewFrames.few_frames, FollowedFiles.HoldsIfAny}
@@ -24,7 +25,7 @@ use Rattle.laws_of_jobs.proofs.Readings.{are_read, no_more, one_more}
 
 -- ---- the files of the history
 
-module _ (job : Follow) (place : StorePlace) (files : Files) where
+module _ (job : FollowJob) (place : StorePlace) (files : Files) where
   held_by : (history : List Update) (state : Option State) → IsLeft (terms_at job place) history state → HoldsIfAny job.out state files
       → (history ≡ []) ⊎ ((s : State) × (state_of (terms_at job place) history ≡ Some s) × HoldState files (prefix_of job) s)
   held_by history None left holds = inl left

@@ -4,12 +4,12 @@ use Rattle.bridge_courses.specs.declared.ending.Ending.TheVariants as ending
 use Rattle.std.specs.Prelude.{◌⊎◌, ◌≤◌, ℕ, suc, ◌+◌, List, [], ◌∷◌, length, take, Option, None}
 use Rattle.std.proofs.Common.{inl, inr}
 use Rattle.bridge_jobs.specs.declared.frame.Frame.{Frame}
+use Rattle.bridge_jobs.specs.declared.jobs.FollowJob.{FollowJob}
 use Rattle.bridge_courses.specs.{Courses.{Course, World}, Executions.{IsExecution, Works}, declared.ending.Ending.Ending}
 use Rattle.bridge_courses.specs.declared.status.Status.{Status}
 use Rattle.bridge_report.specs.Following.{Followed, next_of, unless_refused}
 use Rattle.bridge_playlists.specs.declared.place.StorePlace.{StorePlace}
 use Rattle.live_meaning.specs.States.{State}
-use Rattle.bridge_core.specs.declared.follow.Follow.{Follow}
 use Rattle.laws_of_jobs.specs.Histories.{IsFollowing, followed_at, frames_in}
 
 -- ---- of some frames
@@ -62,6 +62,6 @@ MadeBy f input course (ending.Cut fail.Memory) before mid works made = MadeOf f 
 
 -- however a run ends
 abbrev pub FollowCountsSegments : Type 0
-FollowCountsSegments = (words : List (List ℕ)) (job : Follow) (place : StorePlace) (input : List ℕ) (course : Course) (end : Status)
+FollowCountsSegments = (words : List (List ℕ)) (job : FollowJob) (place : StorePlace) (input : List ℕ) (course : Course) (end : Status)
     (before after : World) → IsFollowing words job place input course → (run : IsExecution course end before after)
     → MadeBy (followed_at job place) input course run.how before run.mid run.works after.made

@@ -2,22 +2,23 @@
 use Rattle.std.specs.Prelude.{◌≡◌, ◌⊎◌, ℕ, suc, List, [], ◌∷◌, ◌++◌, slice_get, Some, None}
 use Rattle.bridge_io.specs.{InOrder.put_all, Outside.{Files, Changes}}
 use Rattle.bridge_jobs.specs.declared.frame.Frame.{Frame}
+use Rattle.bridge_jobs.specs.declared.jobs.FollowJob.{FollowJob}
 use Rattle.bridge_courses.specs.Courses.{Course, files_to}
 use Rattle.hls_writer.specs.Attributes.{playlist_name}
 use Rattle.live_meaning.specs.{States.State, Playlists.{FollowedPlaylist, playlist_of}}
 use Rattle.laws_of_reloads.specs.{First.HoldState, Laws.Reloads}
 use Rattle.bridge_playlists.specs.declared.place.StorePlace.{StorePlace}
-use Rattle.bridge_core.specs.{Follow.terms_at, declared.follow.Follow.Follow}
+use Rattle.bridge_core.specs.Follow.{terms_at}
 use Rattle.laws_of_jobs.specs.Histories.{IsFollowing, followed_at, frames_in, history_to, state_to}
 
 -- ---- after some frames
 
 -- what the names of the files begin with
-abbrev pub prefix_of : Follow → List ℕ
+abbrev pub prefix_of : FollowJob → List ℕ
 prefix_of job = job.out ++ 47 ∷ []
 
 -- none of the first n frames is accepted, or the files are those of what the whole accepted history leaves
-abbrev pub HoldsHistory : Follow → StorePlace → (n : ℕ) (input : List ℕ) → Files → Type 0
+abbrev pub HoldsHistory : FollowJob → StorePlace → (n : ℕ) (input : List ℕ) → Files → Type 0
 HoldsHistory job place n input files =
     (history_to (terms_at job place) n input ≡ [])
     ⊎ ((s : State) × (state_to (terms_at job place) n input ≡ Some s) × HoldState files (prefix_of job) s)
@@ -25,7 +26,7 @@ HoldsHistory job place n input files =
 -- After the files of any number of frames each track's file is the playlist of the whole accepted history.
 abbrev pub FollowedFilesAreOfTheHistory : Type 0
 FollowedFilesAreOfTheHistory =
-    (words : List (List ℕ)) (job : Follow) (place : StorePlace) (input : List ℕ) (course : Course) (n : ℕ) (first last : Files)
+    (words : List (List ℕ)) (job : FollowJob) (place : StorePlace) (input : List ℕ) (course : Course) (n : ℕ) (first last : Files)
     → IsFollowing words job place input course
     → Changes (put_all (files_to n course)) (Some first) (Some last) → HoldsHistory job place n input last
 
@@ -40,7 +41,7 @@ pub record FileReloads (name url : List ℕ) (before after : Files) : Type 0 whe
   pub reloads : Reloads old new url
 
 -- some of the first n frames was accepted, and the one behind them is too
-pub record IsAnother (job : Follow) (place : StorePlace) (n : ℕ) (input : List ℕ) (s : State) : Type 0 where
+pub record IsAnother (job : FollowJob) (place : StorePlace) (n : ℕ) (input : List ℕ) (s : State) : Type 0 where
   pub leaves : state_to (terms_at job place) n input ≡ Some s
   pub frame : Frame
   pub next : slice_get (frames_in input) n ≡ Some frame
@@ -49,7 +50,7 @@ pub record IsAnother (job : Follow) (place : StorePlace) (n : ℕ) (input : List
 -- From the second accepted frame on each track's file lawfully reloads the one before, wherever they are got from.
 abbrev pub FollowedFilesReload : Type 0
 FollowedFilesReload =
-    (words : List (List ℕ)) (job : Follow) (place : StorePlace) (input : List ℕ) (course : Course) (n : ℕ) (first before after : Files)
+    (words : List (List ℕ)) (job : FollowJob) (place : StorePlace) (input : List ℕ) (course : Course) (n : ℕ) (first before after : Files)
     (s : State) (t : ℕ) (playlist : FollowedPlaylist) (from : List ℕ)
     → IsFollowing words job place input course → IsAnother job place n input s → playlist_of s t ≡ Some playlist
     → Changes (put_all (files_to n course)) (Some first) (Some before)

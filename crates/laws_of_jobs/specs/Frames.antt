@@ -1,15 +1,17 @@
 -- The frames of a followed MPD, each behind the whole history.
 use Rattle.std.specs.Prelude.{◌≡◌, ℕ, List, slice_get, Some}
 use Rattle.bridge_jobs.specs.declared.frame.Frame.{Frame}
+use Rattle.bridge_jobs.specs.declared.jobs.FollowJob.{FollowJob}
 use Rattle.bridge_courses.specs.Courses.{Course}
 use Rattle.bridge_report.specs.Following.{step_of}
 use Rattle.bridge_playlists.specs.declared.place.StorePlace.{StorePlace}
-use Rattle.bridge_core.specs.{Follow.terms_at, declared.follow.Follow.Follow}
+use Rattle.bridge_core.specs.Follow.{terms_at}
 use Rattle.laws_of_jobs.specs.Histories.{IsFollowing, followed_at, frames_in, state_to}
 
 -- The step of each frame is that of what the whole accepted history before it left: by that the frame is refused, written, told and
 -- counted.
 abbrev pub FramesAreOfTheHistory : Type 0
-FramesAreOfTheHistory = (words : List (List ℕ)) (job : Follow) (place : StorePlace) (input : List ℕ) (course : Course) (n : ℕ) (x : Frame)
+FramesAreOfTheHistory = (words : List (List ℕ)) (job : FollowJob) (place : StorePlace) (input : List ℕ) (course : Course) (n : ℕ)
+    (x : Frame)
     → IsFollowing words job place input course → slice_get (frames_in input) n ≡ Some x
     → slice_get course.steps n ≡ Some (step_of (followed_at job place) (state_to (terms_at job place) n input) n x)

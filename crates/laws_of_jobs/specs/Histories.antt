@@ -2,28 +2,25 @@
 use Rattle.bridge_jobs.specs.declared.jobs.Job.TheVariants as jobs
 use Rattle.std.specs.{Prelude.{◌≡◌, ℕ, List, flat_map, take, Option, Some, option_to_list}, Result.result_ok}
 use Rattle.bridge_io.specs.Outside.{Files}
-use Rattle.bridge_jobs.specs.{Frames.frames_of, Jobs.job_of, declared.frame.Frame.Frame, declared.jobs.Job.Job}
+use Rattle.bridge_jobs.specs.{Frames.frames_of, Jobs.job_of, declared.frame.Frame.Frame}
+use Rattle.bridge_jobs.specs.declared.jobs.FollowJob.{FollowJob}
 use Rattle.bridge_courses.specs.Courses.{Course}
 use Rattle.live_meaning.specs.{Updates.{Terms, Update}, States.{State, state_of}, Laws.{NeverDrifts, accepted_of}}
 use Rattle.bridge_report.specs.Following.{Followed}
 use Rattle.bridge_playlists.specs.{Places.store_place_of, declared.place.StorePlace.StorePlace}
 use Rattle.bridge_steps.specs.LiveMpds.{followed_mpd, update_of}
-use Rattle.bridge_core.specs.{Courses.course_of, Follow.terms_at, declared.follow.Follow.Follow}
+use Rattle.bridge_core.specs.{Courses.course_of, Follow.terms_at}
 
 -- ---- what is followed
 
--- the words ask to follow an MPD
-abbrev pub follow_asked : Follow → Job
-follow_asked job = jobs.Follow job.name job.base job.out job.digits
-
 -- These words ask to follow the MPD at this place, and over this input that is this course.
-pub record IsFollowing (words : List (List ℕ)) (job : Follow) (place : StorePlace) (input : List ℕ) (course : Course) : Type 0 where
-  pub asks : job_of words ≡ Some (follow_asked job)
+pub record IsFollowing (words : List (List ℕ)) (job : FollowJob) (place : StorePlace) (input : List ℕ) (course : Course) : Type 0 where
+  pub asks : job_of words ≡ Some (jobs.Follow job)
   pub at : store_place_of job.base job.name ≡ Some place
   pub files : Option Files
   pub goes : course_of words files (Some input) ≡ Some course
 
-abbrev pub followed_at : Follow → StorePlace → Followed (Option State) Frame
+abbrev pub followed_at : FollowJob → StorePlace → Followed (Option State) Frame
 followed_at job place = followed_mpd (terms_at job place) job.out
 
 -- ---- what is accepted

@@ -5,13 +5,14 @@ use Rattle.bridge_core.proofs.check.run.Goals as goal
 pub returns-in-Ok-clause-ends : goal.returns-in-Ok-clause-ends
 unfolding check_outcome
 returns-in-Ok-clause-ends g c =
-    let job = c.args.job.now in let mpd = c.in-Ok.mpd in let master = c.in-Ok.master in let read = c.judged.ensures in
+    let job = c.args.job.now in let mpd = c.in-Ok.mpd in let master = c.in-Ok.master in let told = c.judged.ensures in
+    let read = told.reads in
     at_place (places_of job) (mpd, master) (check_at job (g.F.Store.files c.args.store.now)) c.told.result _ _ c.in-Ok.ensures
-    (tells (judged job mpd master) c.judged.result c.told.result _ _ read.told read.verdict read.cause read.files read.writes
+    (tells (judged job mpd master) c.judged.result c.told.result _ _ read.read told.verdict read.cause read.files read.writes
     c.told.ensures)
 
 pub returns-in-Ok-clause-never_writes : goal.returns-in-Ok-clause-never_writes
-returns-in-Ok-clause-never_writes g c = told_never_writes c.judged.result c.told.result _ _ c.told.ensures c.judged.ensures.writes
+returns-in-Ok-clause-never_writes g c = told_never_writes c.judged.result c.told.result _ _ c.told.ensures c.judged.ensures.reads.writes
 
 pub returns-in-Err-clause-ends : goal.returns-in-Err-clause-ends
 unfolding check_outcome

@@ -10,7 +10,7 @@ returns-in-Ok-translation_at g c =
     let job = c.args.job.now in let place = c.in-Ok.place in let read = c.in-Ok-translation_at.ensures in
     at_place (store_place_of job.base job.mpd) place (hls_at job (g.F.Store.files c.args.store.now)) c.write.result _ _ c.in-Ok.ensures
     (then_ends (outcome_of job) (writing (files_of job.out) line_of) (translation_at job place) c.write.result _ _
-    (translated c.in-Ok-translation_at.translation) _ read.translation read.cause.never_falls read.files read.writes c.write.ensures)
+    (translated c.in-Ok-translation_at.translation) _ read.read read.cause.never_falls read.files read.writes c.write.ensures)
 
 pub returns-in-Ok : goal.returns-in-Ok
 unfolding hls_outcome
@@ -18,5 +18,5 @@ returns-in-Ok g c =
     let job = c.args.job.now in let place = c.in-Ok.place in let read = c.in-Err-translation_at.ensures in
     at_place (store_place_of job.base job.mpd) place (hls_at job (g.F.Store.files c.args.store.now)) c.halted.result _ _ c.in-Ok.ensures
     (halts (outcome_of job) (writing (files_of job.out) line_of) (translation_at job place) c.halted.result _ _
-    c.in-Err-translation_at.halt c.halted.ensures read.translation (λ e. read.cause.rose (ap Err e)) read.cause.never_falls read.files
+    c.in-Err-translation_at.halt c.halted.ensures read.read (λ e. read.cause.rose (ap Err e)) read.cause.never_falls read.files
     read.writes)

@@ -3,17 +3,18 @@ use Rattle.bridge_report.specs.declared.reading.Halt.TheVariants as halt
 use Rattle.bridge_core.proofs.make.run.Goals as goal
 use Rattle.std.proofs.Common.{◌≡◌, ◌∙◌, ◌^◌, IsTrue, None, Some, IfSome, Result, Ok, Err, ap, false, subst}
 use Rattle.presentation.specs.Presented.{Presented}
+use Rattle.bridge_jobs.specs.declared.jobs.MakeJob.{MakeJob}
 use Rattle.bridge_report.specs.{declared.reading.Halt.Halt, declared.refusal.Refusal.TheVariants.NotStatic, Outcomes.{Ends, course_by}}
 use Rattle.bridge_report.specs.{Reading.{Named, halted}, Refusals.refusal_line}
 use Rattle.bridge_steps.specs.Manifests.{mpd_in}
 use Rattle.bridge_steps.proofs.Endings.{at_place, is_refused}
-use Rattle.bridge_core.specs.{Make.{make_at, make_outcome, made_presentation, outcome_of, source_place}, declared.make.Make.Make}
+use Rattle.bridge_core.specs.{Make.{make_at, make_outcome, made_presentation, outcome_of, source_place}}
 
-uncounted : (job : Make) (r : Result Presented Named) → IsTrue (course_by (outcome_of job r)).counts → ⊥
+uncounted : (job : MakeJob) (r : Result Presented Named) → IsTrue (course_by (outcome_of job r)).counts → ⊥
 uncounted job (Ok p) is = absurd (let e = is in cc)
 uncounted job (Err named) is = absurd (let e = is in cc)
 
-refused : (job : Make) (r : Result Presented Named) (why : Halt) → IfSome (halted why) (λ named. r ≡ Err named)
+refused : (job : MakeJob) (r : Result Presented Named) (why : Halt) → IfSome (halted why) (λ named. r ≡ Err named)
     → IfSome (halted why) (λ named. outcome_of job r ≡ Ends verdict.Refused (refusal_line named.0 named.1) false false)
 refused job r (halt.Refused file refusal) is = ap (outcome_of job) is
 refused job r halt.ReadFault is = tt

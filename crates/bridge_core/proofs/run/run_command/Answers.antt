@@ -1,6 +1,17 @@
-use Rattle.bridge_core.proofs.Blamed.{left_mpd}
+use Rattle.std.proofs.Common.{refl, arith}
 use Rattle.bridge_core.proofs.run.run_command.Goals as goal
 
-pub run_mpd_command-requires-clause-mpd : goal.run_mpd_command-requires-clause-mpd
-run_mpd_command-requires-clause-mpd g c =
-    let not = c.in_default in left_mpd c.args.job not.not-Hls not.not-HlsIndex not.not-Make c.requires.other
+pub returns-in-Reload : goal.returns-in-Reload
+returns-in-Reload g c = let told = c.run_reload.ensures in
+    rw c.in-Reload.is
+    (record {
+      ends = record {
+        ending = told.ending;
+        made = λ o e counts. refl;
+        read_fault = told.read_fault;
+        write_fault = λ e. absurd (told.write_fault e);
+        reads = told.reads;
+        writes = omega (arith, told.writes);
+      };
+      job = told.job;
+    })

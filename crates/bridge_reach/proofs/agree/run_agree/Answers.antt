@@ -6,12 +6,12 @@ use Rattle.bridge_reach.proofs.agree.run_agree.Goals as goal
 pub returns-in-Ok-clause-ends : goal.returns-in-Ok-clause-ends
 unfolding agree_outcome
 returns-in-Ok-clause-ends g c =
-    let job = c.args.job.now in let place = c.in-Ok.place in let read = c.judged.ensures in
+    let job = c.args.job.now in let place = c.in-Ok.place in let told = c.judged.ensures in let read = told.reads in
     at_place (store_place_of job.base job.mpd) place (agree_at (g.F.Store.files c.args.store.now)) c.told.result _ _ c.in-Ok.ensures
-    (tells (judged place) c.judged.result c.told.result _ _ read.told read.verdict read.cause read.files read.writes c.told.ensures)
+    (tells (judged place) c.judged.result c.told.result _ _ read.read told.verdict read.cause read.files read.writes c.told.ensures)
 
 pub returns-in-Ok-clause-never_writes : goal.returns-in-Ok-clause-never_writes
-returns-in-Ok-clause-never_writes g c = told_never_writes c.judged.result c.told.result _ _ c.told.ensures c.judged.ensures.writes
+returns-in-Ok-clause-never_writes g c = told_never_writes c.judged.result c.told.result _ _ c.told.ensures c.judged.ensures.reads.writes
 
 pub returns-in-Err-clause-ends : goal.returns-in-Err-clause-ends
 unfolding agree_outcome

@@ -1,16 +1,22 @@
 use Rattle.std.proofs.Common.{Err, ap, refl, arith}
+use Rattle.bridge_courses.specs.Executions.{NeverFalls}
 use Rattle.bridge_courses.proofs.Stepping.{falls_then}
 use Rattle.bridge_steps.proofs.Grown.{none_grown}
 use Rattle.bridge_reach.proofs.Working.{either_later, halt_caused, halt_worked, read_worked}
 use Rattle.bridge_reach.proofs.follow_hls.follow_at.Goals as goal
 
-pub returns-in-Ok-clause-work : goal.returns-in-Ok-clause-work
-returns-in-Ok-clause-work g c =
-    let read = c.in-Ok.ensures in
-    read_worked c.args.out.now (g.F.Store.files c.args.store.now) (g.I.Source.remaining c.args.input.now) c.args.place.now
-    c.follow_master.result c.in-Ok.master _ _ _ read.master (record { files = read.files; report = refl; made = refl })
-    (record { input = omega arith; reads = read.cause.never_falls; writes = omega (arith, read.writes); report = omega arith })
-    c.follow_master.ensures.work
+pub returns-in-Ok-clause-runs : goal.returns-in-Ok-clause-runs
+returns-in-Ok-clause-runs g c =
+    let read = c.in-Ok.ensures in let ends = c.follow_master.ensures.runs in
+    let falls : NeverFalls _ _ =
+    record { input = omega arith; reads = read.cause.never_falls; writes = omega (arith, read.writes); report = omega arith } in
+    record {
+      work = read_worked c.args.out.now (g.F.Store.files c.args.store.now) (g.I.Source.remaining c.args.input.now) c.args.place.now
+          c.follow_master.result c.in-Ok.master _ _ _ read.read (record { files = read.files; report = refl; made = refl }) falls
+          ends.work;
+      never_falls = falls_then _ _ _ falls ends.never_falls;
+      told = ends.told;
+    }
 
 pub returns-in-Ok-clause-caused : goal.returns-in-Ok-clause-caused
 returns-in-Ok-clause-caused g c = let read = c.in-Ok.ensures in
@@ -18,24 +24,19 @@ returns-in-Ok-clause-caused g c = let read = c.in-Ok.ensures in
     (record { input = omega arith; reads = read.cause.never_falls; writes = omega (arith, read.writes); report = omega arith })
     c.follow_master.ensures.caused
 
-pub returns-in-Ok-clause-never_falls : goal.returns-in-Ok-clause-never_falls
-returns-in-Ok-clause-never_falls g c = let read = c.in-Ok.ensures in
-    falls_then _ _ _
-    (record { input = omega arith; reads = read.cause.never_falls; writes = omega (arith, read.writes); report = omega arith })
-    c.follow_master.ensures.never_falls
-
-pub returns-in-Err-clause-work : goal.returns-in-Err-clause-work
-returns-in-Err-clause-work g c =
+pub returns-in-Err-clause-runs : goal.returns-in-Err-clause-runs
+returns-in-Err-clause-runs g c =
     let read = c.in-Err.ensures in
-    halt_worked c.args.out.now (g.F.Store.files c.args.store.now)
-    (g.I.Source.remaining c.args.input.now) c.args.place.now c.halted.result _ _
-    (record { files = read.files; report = refl; made = refl })
-    (record { input = omega arith; reads = read.cause.never_falls; writes = omega (arith, read.writes); report = omega arith })
-    c.in-Err.halt c.halted.ensures (λ e. read.cause.rose (ap Err e)) read.master
+    let falls : NeverFalls _ _ =
+    record { input = omega arith; reads = read.cause.never_falls; writes = omega (arith, read.writes); report = omega arith } in
+    record {
+      work = halt_worked c.args.out.now (g.F.Store.files c.args.store.now) (g.I.Source.remaining c.args.input.now) c.args.place.now
+          c.halted.result _ _ (record { files = read.files; report = refl; made = refl }) falls
+          c.in-Err.halt c.halted.ensures (λ e. read.cause.rose (ap Err e)) read.read;
+      never_falls = falls;
+      told = none_grown _ _ refl;
+    }
 
 pub returns-in-Err-clause-caused : goal.returns-in-Err-clause-caused
 returns-in-Err-clause-caused g c =
     halt_caused c.in-Err.halt c.halted.result _ _ c.halted.ensures (λ e. c.in-Err.ensures.cause.rose (ap Err e))
-
-pub returns-in-Err-clause-told : goal.returns-in-Err-clause-told
-returns-in-Err-clause-told g c = none_grown _ _ refl

@@ -1,5 +1,7 @@
-use Rattle.bridge_steps.proofs.Unplaced.{memory_worked}
+use Rattle.std.proofs.Common.{refl}
+use Rattle.bridge_steps.proofs.{Grown.none_grown, Unplaced.{memory_worked, stays}}
 use Rattle.bridge_reach.proofs.follow_hls.follow_master.Goals as goal
 
-pub returns-in-Err-clause-work : goal.returns-in-Err-clause-work
-returns-in-Err-clause-work g c = λ bytes told. memory_worked _ _
+pub returns-in-Err-clause-runs : goal.returns-in-Err-clause-runs
+returns-in-Err-clause-runs g c =
+    record { work = λ course is. memory_worked course _; never_falls = stays _; told = none_grown _ _ refl }

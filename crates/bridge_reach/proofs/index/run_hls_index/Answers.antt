@@ -8,15 +8,15 @@ use Rattle.bridge_reach.specs.Index.{index_at, index_outcome, outcome_of, presen
 pub returns-in-Ok-indexed_at : goal.returns-in-Ok-indexed_at
 unfolding index_outcome
 returns-in-Ok-indexed_at g c =
-    let job = c.args.job.now in let place = c.in-Ok.place in let read = c.in-Ok-indexed_at.ensures in
+    let job = c.args.job.now in let place = c.in-Ok.place in let read = c.in-Ok-indexed_at.ensures.reads in
     at_place (store_place_of job.base job.mpd) place (index_at job (g.F.Store.files c.args.store.now)) c.write.result _ _ c.in-Ok.ensures
     (then_ends (outcome_of job) (writing (playlists job.out job.digits) done_line) (presented job place) c.write.result _ _
-    c.in-Ok-indexed_at.ready.presentation _ read.mpd read.cause.never_falls read.files read.writes c.write.ensures)
+    c.in-Ok-indexed_at.ready.presentation _ read.read read.cause.never_falls read.files read.writes c.write.ensures)
 
 pub returns-in-Ok : goal.returns-in-Ok
 unfolding index_outcome
 returns-in-Ok g c =
-    let job = c.args.job.now in let place = c.in-Ok.place in let read = c.in-Err-indexed_at.ensures in
+    let job = c.args.job.now in let place = c.in-Ok.place in let read = c.in-Err-indexed_at.ensures.reads in
     at_place (store_place_of job.base job.mpd) place (index_at job (g.F.Store.files c.args.store.now)) c.halted.result _ _ c.in-Ok.ensures
     (halts (outcome_of job) (writing (playlists job.out job.digits) done_line) (presented job place) c.halted.result _ _
-    c.in-Err-indexed_at.halt c.halted.ensures read.mpd (λ e. read.cause.rose (ap Err e)) read.cause.never_falls read.files read.writes)
+    c.in-Err-indexed_at.halt c.halted.ensures read.read (λ e. read.cause.rose (ap Err e)) read.cause.never_falls read.files read.writes)

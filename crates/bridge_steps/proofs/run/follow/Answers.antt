@@ -1,6 +1,6 @@
 use Rattle.std.proofs.Common.{◌∙◌}
 use Rattle.bridge_courses.proofs.Stepping.{falls_then, caused_later}
-use Rattle.bridge_steps.proofs.Grown.{grown_then}
+use Rattle.bridge_steps.proofs.{Endings.over, Grown.grown_then}
 use Rattle.bridge_steps.proofs.run.follow.Goals as goal
 
 pub loop-told-preserved : goal.loop-told-preserved
@@ -15,16 +15,12 @@ loop-told-preserved g c = let so_far = c.loop-told.invariant in let next = c.in-
   reads = next.reads ∙ so_far.reads;
 }
 
-pub returns-in-Err-clause-work : goal.returns-in-Err-clause-work
-returns-in-Err-clause-work g c = λ bytes told.
-    let led = c.loop-told.invariant.leads bytes told in
-    led.2 c.in-Err.told _ (c.in-Err.ensures.next led.0 led.1)
+pub returns-in-Err-clause-runs : goal.returns-in-Err-clause-runs
+returns-in-Err-clause-runs g c = let so_far = c.loop-told.invariant in let ends = c.in-Err.ensures in record {
+  work = over _ _ _ (λ bytes told. let led = so_far.leads bytes told in led.2 c.in-Err.told _ (ends.next led.0 led.1));
+  never_falls = falls_then _ _ _ so_far.never_falls ends.never_falls;
+  told = grown_then _ _ _ so_far.told ends.told;
+}
 
 pub returns-in-Err-clause-caused : goal.returns-in-Err-clause-caused
 returns-in-Err-clause-caused g c = caused_later c.in-Err.told _ _ _ c.loop-told.invariant.never_falls c.in-Err.ensures.caused
-
-pub returns-in-Err-clause-never_falls : goal.returns-in-Err-clause-never_falls
-returns-in-Err-clause-never_falls g c = falls_then _ _ _ c.loop-told.invariant.never_falls c.in-Err.ensures.never_falls
-
-pub returns-in-Err-clause-told : goal.returns-in-Err-clause-told
-returns-in-Err-clause-told g c = grown_then _ _ _ c.loop-told.invariant.told c.in-Err.ensures.told

@@ -8,10 +8,8 @@ use Rattle.bridge_steps.specs.Follow.{follow_course, rest_course, IsGoing, Grows
 abbrev pub invariant-loop-told : goal.invariant-loop-told
 invariant-loop-told g l =
     let store = g.F.Store in let sink = g.P.Sink in let source = g.I.Source in let t = g.T.Follow in
-    let before = world_of (store.files l.fn.store) (sink.written l.fn.report) (source.faults l.fn.input) (store.read_faults l.fn.store)
-    (store.write_faults l.fn.store) (sink.faults l.fn.report) l.fn.steps in
-    let now = world_of (store.files l.store) (sink.written l.report) (source.faults l.input) (store.read_faults l.store)
-    (store.write_faults l.store) (sink.faults l.report) l.steps in
+    let before = world_of source store sink l.fn.input l.fn.store l.fn.report l.fn.steps in
+    let now = world_of source store sink l.input l.store l.report l.steps in
     record {
       going : IsGoing (t.accepted l.followed) (t.is_kept l.followed) l.run;
       leads : (bytes : List ℕ) → source.remaining l.fn.input ≡ Some bytes → (rest : List ℕ) × (source.remaining l.input ≡ Some rest)

@@ -1,5 +1,5 @@
 use Rattle.std.proofs.Common.{◌≡◌, Some, refl}
-use Rattle.bridge_steps.specs.Follow.{world_of}
+use Rattle.bridge_steps.specs.Follow.{beside_input}
 use Rattle.bridge_report.specs.Refusals.{refusal_text}
 use Rattle.bridge_steps.proofs.FrameSteps.{accepted_done, accepted_stops, refused_done, refused_stops, left_accepted, left_refused}
 use Rattle.bridge_steps.proofs.FrameSteps.{one_more, no_more}
@@ -7,11 +7,9 @@ use Rattle.bridge_steps.proofs.run.follow_frame.Goals as goal
 
 pub returns-in-Ok-publish-clause-done : goal.returns-in-Ok-publish-clause-done
 returns-in-Ok-publish-clause-done g c =
-    let f = g.F.Store in let p = g.P.Sink in let told = g.T.Follow.told c.args.followed.now in let s = c.args.live.now in
-    let before = world_of (f.files c.args.store.now) (p.written c.args.report.now) 0 (f.read_faults c.args.store.now) (f.write_faults
-    c.args.store.now) (p.faults c.args.report.now) c.args.steps.now in
-    let after = world_of (f.files c.publish.new.store) (p.written c.publish.new.report) 0 (f.read_faults c.publish.new.store)
-    (f.write_faults c.publish.new.store) (p.faults c.publish.new.report) c.accept.new.steps in
+    let told = g.T.Follow.told c.args.followed.now in let s = c.args.live.now in
+    let before = beside_input g.F.Store g.P.Sink c.args.store.now c.args.report.now c.args.steps.now in
+    let after = beside_input g.F.Store g.P.Sink c.publish.new.store c.publish.new.report c.accept.new.steps in
     accepted_done told s c.args.index c.args.frame.now before after c.accept.new.live c.in-Ok.appended c.in-Ok.ensures.accepted
     c.in-Ok-publish.ensures.files c.in-Ok-publish.ensures.line
 
@@ -24,23 +22,19 @@ returns-in-Ok-publish-clause-next g c =
 
 pub returns-in-Err-clause-stops : goal.returns-in-Err-clause-stops
 returns-in-Err-clause-stops g c =
-    let f = g.F.Store in let p = g.P.Sink in let told = g.T.Follow.told c.args.followed.now in let s = c.args.live.now in
-    let before = world_of (f.files c.args.store.now) (p.written c.args.report.now) 0 (f.read_faults c.args.store.now) (f.write_faults
-    c.args.store.now) (p.faults c.args.report.now) c.args.steps.now in
-    let after = world_of (f.files c.publish.new.store) (p.written c.publish.new.report) 0 (f.read_faults c.publish.new.store)
-    (f.write_faults c.publish.new.store) (p.faults c.publish.new.report) c.accept.new.steps in
+    let told = g.T.Follow.told c.args.followed.now in let s = c.args.live.now in
+    let before = beside_input g.F.Store g.P.Sink c.args.store.now c.args.report.now c.args.steps.now in
+    let after = beside_input g.F.Store g.P.Sink c.publish.new.store c.publish.new.report c.accept.new.steps in
     accepted_stops told s c.args.index c.args.frame.now before after c.in-Err.told c.accept.new.live c.in-Ok.appended
     c.in-Ok.ensures.accepted c.in-Err.ensures.err
 
 pub returns-in-Ok-tell_refusal-clause-done : goal.returns-in-Ok-tell_refusal-clause-done
 returns-in-Ok-tell_refusal-clause-done g c =
-    let f = g.F.Store in let p = g.P.Sink in let told = g.T.Follow.told c.args.followed.now in let s = c.args.live.now in
+    let told = g.T.Follow.told c.args.followed.now in let s = c.args.live.now in
     let why = refusal_text c.in-Err-Refused.refusal in let made = c.in-Err-Refused.ensures.made in
     let is : told.refusal s c.args.frame.now ≡ Some why = rw c.in-Err-Refused.field-0-is at c.in-Err-Refused.ensures.refused in
-    let before = world_of (f.files c.args.store.now) (p.written c.args.report.now) 0 (f.read_faults c.args.store.now) (f.write_faults
-    c.args.store.now) (p.faults c.args.report.now) c.args.steps.now in
-    let after = world_of (f.files c.args.store.now) (p.written c.tell_refusal.new.report) 0 (f.read_faults c.args.store.now)
-    (f.write_faults c.args.store.now) (p.faults c.tell_refusal.new.report) c.accept.new.steps in
+    let before = beside_input g.F.Store g.P.Sink c.args.store.now c.args.report.now c.args.steps.now in
+    let after = beside_input g.F.Store g.P.Sink c.args.store.now c.tell_refusal.new.report c.accept.new.steps in
     refused_done told s c.args.index c.args.frame.now before after why is refl made.0 made.1 c.in-Ok-tell_refusal.ensures.line
 
 pub returns-in-Ok-tell_refusal-clause-next : goal.returns-in-Ok-tell_refusal-clause-next
@@ -53,12 +47,10 @@ returns-in-Ok-tell_refusal-clause-next g c =
 
 pub returns-in-Err-tell_refusal-clause-stops : goal.returns-in-Err-tell_refusal-clause-stops
 returns-in-Err-tell_refusal-clause-stops g c =
-    let f = g.F.Store in let p = g.P.Sink in let told = g.T.Follow.told c.args.followed.now in let s = c.args.live.now in
+    let told = g.T.Follow.told c.args.followed.now in let s = c.args.live.now in
     let why = refusal_text c.in-Err-Refused.refusal in let made = c.in-Err-Refused.ensures.made in
     let is : told.refusal s c.args.frame.now ≡ Some why = rw c.in-Err-Refused.field-0-is at c.in-Err-Refused.ensures.refused in
-    let before = world_of (f.files c.args.store.now) (p.written c.args.report.now) 0 (f.read_faults c.args.store.now) (f.write_faults
-    c.args.store.now) (p.faults c.args.report.now) c.args.steps.now in
-    let after = world_of (f.files c.args.store.now) (p.written c.tell_refusal.new.report) 0 (f.read_faults c.args.store.now)
-    (f.write_faults c.args.store.now) (p.faults c.tell_refusal.new.report) c.accept.new.steps in
+    let before = beside_input g.F.Store g.P.Sink c.args.store.now c.args.report.now c.args.steps.now in
+    let after = beside_input g.F.Store g.P.Sink c.args.store.now c.tell_refusal.new.report c.accept.new.steps in
     refused_stops told s c.args.index c.args.frame.now before after why is refl made.0 made.1 c.in-Err-tell_refusal.told
     c.in-Err-tell_refusal.ensures.err

@@ -1,12 +1,12 @@
 use Rattle.bridge_steps.proofs.run.follow_next.Goals as goal
 use Rattle.std.proofs.Common.{◌≡◌, Err, Some, None, refl, ap, ◌∙◌, arith}
-use Rattle.bridge_steps.specs.{Follow.world_of, Streams.with_first}
+use Rattle.bridge_steps.specs.{Follow.{beside_input, world_of}, Streams.with_first}
 use Rattle.bridge_report.specs.Following.{step_of}
 use Rattle.bridge_steps.proofs.{Grown.{none_grown, stops_grown}, Rest.{ended, broken, stopped, next_leads}}
 
 pub returns-in-Ok-clause-next : goal.returns-in-Ok-clause-next
 returns-in-Ok-clause-next g c = λ bytes told.
-    let files = g.F.Store.files in let written = g.P.Sink.written in let run = c.args.run.now in let x = c.in-Ok-Some.frame in let at =
+    let run = c.args.run.now in let x = c.in-Ok-Some.frame in let at =
     c.next.new.at in
     let f = g.T.Follow.told c.args.followed.now in let stream = g.T.Follow.stream c.args.followed.now in
     let read = c.in-Ok-Some.ensures.frame bytes told in
@@ -17,11 +17,9 @@ returns-in-Ok-clause-next g c = λ bytes told.
       read.0,
       read.1,
       next_leads f stream run (record { at = at; live = c.follow_frame.new.live; accepted = c.in-Ok.accepted }) bytes read.0 x
-          (world_of (files c.args.store.now) (written c.args.report.now) (g.I.Source.faults c.args.input.now) (g.F.Store.read_faults
-          c.args.store.now) (g.F.Store.write_faults c.args.store.now) (g.P.Sink.faults c.args.report.now) c.args.steps.now)
-          (world_of (files c.follow_frame.new.store) (written c.follow_frame.new.report) (g.I.Source.faults c.next.new.input)
-          (g.F.Store.read_faults c.follow_frame.new.store) (g.F.Store.write_faults c.follow_frame.new.store) (g.P.Sink.faults
-          c.follow_frame.new.report) c.follow_frame.new.steps)
+          (world_of g.I.Source g.F.Store g.P.Sink c.args.input.now c.args.store.now c.args.report.now c.args.steps.now)
+          (world_of g.I.Source g.F.Store g.P.Sink c.next.new.input c.follow_frame.new.store c.follow_frame.new.report
+          c.follow_frame.new.steps)
           is counts c.in-Ok.ensures.next.0 c.in-Ok.ensures.next.1
           (record { files = step.files; report = step.report; least = step.least; most = step.most })
           (record {
@@ -35,7 +33,7 @@ returns-in-Ok-clause-next g c = λ bytes told.
 
 pub returns-in-Ok-Some-clause-next : goal.returns-in-Ok-Some-clause-next
 returns-in-Ok-Some-clause-next g c = λ bytes told.
-    let files = g.F.Store.files in let written = g.P.Sink.written in let run = c.args.run.now in let x = c.in-Ok-Some.frame in let at =
+    let run = c.args.run.now in let x = c.in-Ok-Some.frame in let at =
     c.next.new.at in
     let f = g.T.Follow.told c.args.followed.now in let stream = g.T.Follow.stream c.args.followed.now in
     let read = c.in-Ok-Some.ensures.frame bytes told in
@@ -43,11 +41,9 @@ returns-in-Ok-Some-clause-next g c = λ bytes told.
     c.in-Ok-Some.field-0-is in
     record {
       works = stopped f run.live run.at.frames run.accepted x (stream run.at bytes) (stream at read.0)
-          (world_of (files c.args.store.now) (written c.args.report.now) (g.I.Source.faults c.args.input.now) (g.F.Store.read_faults
-          c.args.store.now) (g.F.Store.write_faults c.args.store.now) (g.P.Sink.faults c.args.report.now) c.args.steps.now)
-          (world_of (files c.follow_frame.new.store) (written c.follow_frame.new.report) (g.I.Source.faults c.next.new.input)
-          (g.F.Store.read_faults c.follow_frame.new.store) (g.F.Store.write_faults c.follow_frame.new.store) (g.P.Sink.faults
-          c.follow_frame.new.report) c.follow_frame.new.steps)
+          (world_of g.I.Source g.F.Store g.P.Sink c.args.input.now c.args.store.now c.args.report.now c.args.steps.now)
+          (world_of g.I.Source g.F.Store g.P.Sink c.next.new.input c.follow_frame.new.store c.follow_frame.new.report
+          c.follow_frame.new.steps)
           is c.in-Err-follow_frame.told c.in-Err-follow_frame.ensures.stops;
       never_falls = record {
         input = c.in-Ok-Some.ensures.cause.never_falls;
@@ -91,11 +87,9 @@ returns-in-Ok-clause-told g c = (_, c.in-Ok.ensures.done.report)
 
 pub returns-in-Ok-Some-clause-told : goal.returns-in-Ok-Some-clause-told
 returns-in-Ok-Some-clause-told g c =
-    let f = g.F.Store in let p = g.P.Sink in let told = g.T.Follow.told c.args.followed.now in let run = c.args.run.now in
-    let before = world_of (f.files c.args.store.now) (p.written c.args.report.now) 0 (f.read_faults c.args.store.now) (f.write_faults
-    c.args.store.now) (p.faults c.args.report.now) c.args.steps.now in
-    let after = world_of (f.files c.follow_frame.new.store) (p.written c.follow_frame.new.report) 0 (f.read_faults
-    c.follow_frame.new.store) (f.write_faults c.follow_frame.new.store) (p.faults c.follow_frame.new.report) c.follow_frame.new.steps in
+    let told = g.T.Follow.told c.args.followed.now in let run = c.args.run.now in
+    let before = beside_input g.F.Store g.P.Sink c.args.store.now c.args.report.now c.args.steps.now in
+    let after = beside_input g.F.Store g.P.Sink c.follow_frame.new.store c.follow_frame.new.report c.follow_frame.new.steps in
     stops_grown (step_of told run.live run.at.frames c.in-Ok-Some.frame) c.in-Err-follow_frame.told before after
     c.in-Err-follow_frame.ensures.stops
 

@@ -1,0 +1,22 @@
+-- What words give, or why they give no job.
+use Rattle.bridge_jobs.specs.declared.given.WordsFault.TheVariants as fault
+use Rattle.bridge_io.specs.declared.name.NameFault.TheVariants as name
+use Rattle.std.specs.Prelude.{◌≡◌, Result, Ok, Err, Option, Some, None, IfOk}
+use Rattle.bridge_io.specs.declared.name.NameFault.{NameFault}
+use Rattle.bridge_jobs.specs.{declared.given.WordsFault.WordsFault, declared.jobs.Job.Job, Jobs.{HasFolder, HasReadableNow}}
+
+abbrev pub fault_of_name : NameFault → WordsFault
+fault_of_name name.Shape = fault.NoJob
+fault_of_name name.Memory = fault.Memory
+
+-- what is given, or no job exactly where nothing is; want of memory says nothing of the words
+abbrev pub IsGiven : {A : Type 0} → Option A → Result A WordsFault → Type 0
+IsGiven given (Ok it) = given ≡ Some it
+IsGiven given (Err fault.NoJob) = given ≡ None
+IsGiven given (Err fault.Memory) = Unit {0}
+
+-- The same of a job, in whose folder there is room for its files, and at whose instant a live MPD can be read.
+pub record IsJob (given : Option Job) (result : Result Job WordsFault) : Type 0 where
+  pub job : IsGiven given result
+  pub folder : IfOk result HasFolder
+  pub readable : IfOk result HasReadableNow

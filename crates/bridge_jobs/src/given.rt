@@ -1,0 +1,47 @@
+// Why words give no job.
+ghost use Rattle.std.specs.Prelude.{◌≡◌};
+
+use bridge_io::{NameFault, NoMemory};
+use std::alloc::AllocError;
+
+/// Why words give no job.
+#[derive(Clone, Copy, Debug)]
+pub(crate) enum WordsFault {
+    /// They are none.
+    NoJob,
+    /// Memory is wanting.
+    Memory,
+}
+
+impl From<NameFault> for WordsFault {
+    ghost use Rattle.bridge_jobs.specs.Given.{fault_of_name};
+
+    ghost from_gives = { λ name fault. fault ≡ fault_of_name name };
+
+    fn from(fault: NameFault) -> WordsFault {
+        match fault {
+            NameFault::Shape => WordsFault::NoJob,
+            NameFault::Memory => WordsFault::Memory,
+        }
+    }
+}
+
+impl From<NoMemory> for WordsFault {
+    ghost use Rattle.bridge_jobs.specs.declared.given.WordsFault.TheVariants.{Memory};
+
+    ghost from_gives = { λ _ fault. fault ≡ Memory };
+
+    fn from(_: NoMemory) -> WordsFault {
+        WordsFault::Memory
+    }
+}
+
+impl From<AllocError> for WordsFault {
+    ghost use Rattle.bridge_jobs.specs.declared.given.WordsFault.TheVariants.{Memory};
+
+    ghost from_gives = { λ _ fault. fault ≡ Memory };
+
+    fn from(_: AllocError) -> WordsFault {
+        WordsFault::Memory
+    }
+}
