@@ -125,7 +125,7 @@ fn run<L: Ledger>(rt: HostRuntime, blank: Blank) -> Option<()>
     let prepares = env::args(&rt).ok()?.len() > 1;
     let mut store = FolderStore::new(rt, alloc, ".").ok()?;
     let content = slurp(alloc, &mut store, &Name::read(alloc, "m.mpd").ok()?, 8_388_608).ok()?;
-    let Ok(mpd) = values_of(alloc, content.as_slice()) else {
+    let Ok(mpd) = values_of(alloc, content) else {
         return None;
     };
     let base = Base::of(alloc, "https://h.example/m.mpd").ok()?;

@@ -16,15 +16,17 @@ for crate in $(sed 's/:.*//' "$work/ours/crates.txt"); do
     cp -r "$here/crates/$crate" "$work/ours/crates/"
     rm -rf "$work/ours/crates/$crate/out"
 done
-echo 'sessions: bridge_io bridge_steps exact_time iso_time live_session mpd_rules presentation url_parts' >> "$work/ours/crates.txt"
+echo 'sessions: bridge_io bridge_steps exact_time iso_time live_meaning live_session mpd_rules presentation url_parts' >> "$work/ours/crates.txt"
 sessions=$work/ours/crates/sessions
 mkdir -p "$sessions/src" "$sessions/proofs/main"
 cat > "$sessions/src/main.rt" <<'RS'
 //! Follows an MPD of six tracks as its word says.
 #![tactic(auto)]
 
-ghost use Rattle.std.specs.Prelude.{◌≡◌, ◌<◌};
+ghost use Rattle.std.specs.Prelude.{◌≡◌, ◌<◌, IfSome, Some};
 ghost use Rattle.iso_time.specs.Instant.{IsReadable};
+ghost use Rattle.live_meaning.specs.Laws.{IsTyped};
+ghost use Rattle.mpd_rules.specs.Views.{segments_mpd};
 
 use bridge_io::{Bytes, FolderStore, Ledger, Name, Steps, slurp};
 use bridge_steps::values_of;
@@ -47,6 +49,14 @@ fn instant(count: u32) -> Instant
     Instant(1_704_067_200_000_000_000 + i128::from(count) * 2_000_000_000)
 }
 
+/// The values of an MPD, of a copy of its bytes.
+fn values(alloc: Global, bytes: &[u8]) -> Option<Mpd>
+    ensures { IfSome result (λ mpd. IsTyped (Some (segments_mpd mpd))) }
+{
+    let copy = Vec::from_slice(alloc, bytes).ok()?;
+    values_of(alloc, Bytes::from(copy)).ok()
+}
+
 #[derive(Drop)]
 struct Followed {
     alloc: Global,
@@ -57,9 +67,7 @@ struct Followed {
 impl Followed {
     fn begin<L: Ledger>(alloc: Global, bytes: &[u8], steps: &mut Steps<L>) -> Option<Followed> {
         let base = Base::of(alloc, "https://h.example/videos/main/live.mpd").ok()?;
-        let Ok(mpd) = values_of(alloc, bytes) else {
-            return None;
-        };
+        let mpd = values(alloc, bytes)?;
         let session = Session::begin(alloc, &mpd, &base, instant(0), Digits::of(6)?, steps).ok()?;
         Some(Followed {
             alloc,
@@ -110,9 +118,7 @@ impl Followed {
         steps: &mut Steps<L>,
     ) -> Option<()> {
         for count in 0..times {
-            let Ok(mpd) = values_of(self.alloc, bytes) else {
-                return None;
-            };
+            let mpd = values(self.alloc, bytes)?;
             self.go_on(Some(&mpd), count.saturating_add(1), 6, steps)?;
         }
         Some(())
@@ -121,9 +127,7 @@ impl Followed {
     /// Reads the MPD so many times.
     fn read(&self, bytes: &[u8], times: u32) -> Option<()> {
         for count in 0..times {
-            let Ok(mpd) = values_of(self.alloc, bytes) else {
-                return None;
-            };
+            let mpd = values(self.alloc, bytes)?;
             let now = instant(count.saturating_add(1));
             Presentation::from_mpd(self.alloc, &mpd, &self.base, Some(now)).ok()?;
         }
