@@ -9,11 +9,9 @@ use Rattle.std.proofs.{lemmas.List.Folds.list_all-append, lemmas.List.FromFn.len
 use Rattle.std.specs.{Prelude.{nat_le, nat_lt, ◌==◌, slice_index}, List.{list_all, list_any}, Str.is_utf8}
 use Rattle.bridge_io.proofs.AndThen.{steps_of}
 use Rattle.bridge_io.specs.{InOrder.put_all, Names.is_name, Outside.Files}
-use Rattle.bridge_jobs.specs.{Jobs.is_folder, Laws.FoldersHoldTheirFiles}
+use Rattle.bridge_jobs.specs.{Jobs.is_folder, Laws.FoldersHoldTheirFiles, declared.jobs.HlsJob.HlsJob}
 use Rattle.bridge_courses.specs.{Courses.{Course, World, files_of as course_files}, Laws.{DoneIsWhole, VerdictKeepsSteps}}
-use Rattle.bridge_jobs.specs.declared.jobs.HlsJob.{HlsJob}
 use Rattle.bridge_courses.specs.Executions.{IsExecution}
-use Rattle.mpd_text.proofs.NameLemmas.{not_true}
 use Rattle.mpd_text.specs.{Meaning.reading_of, Trees.Element, declared.fault.TextFault.TextFault}
 use Rattle.laws_of_mpds.proofs.Bytes.{all_bytes, utf8_bytes}
 use Rattle.presentation.proofs.Filling.{ok_under}
@@ -37,6 +35,9 @@ use Rattle.bridge_steps.specs.{LiveMpds.{live_files, told_of}, Manifests.{ready_
 use Rattle.bridge_core.proofs.{Asked.{IsBounded, bounded}, FileNames.{are_written, first_written}, DoneAt.{IsDoneAt, done_at}, Lies.Lies}
 use Rattle.bridge_core.proofs.Lies.{content_read, lies_of}
 use Rattle.bridge_steps.proofs.Static.{IsSpelled, IsStatic, spelled_of, static_ready}
+
+not_true : (b : Bool) → IsTrue (not b) → b ≡ false
+not_true b e = grind arith
 
 -- ---- what is written
 

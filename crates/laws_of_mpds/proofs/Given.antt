@@ -1,10 +1,9 @@
 -- What the tracks of a finished presentation have in its sections.
 use Rattle.std.proofs.Common.{◌≡◌, ℕ, ◌+◌, ◌*◌, ◌^◌, ◌<◌, ◌&&◌, nat_lt, true, List, [], ◌∷◌, length, map, Option, Some, None, option_map}
-use Rattle.std.proofs.{Common.{refl, sym, ◌∙◌, ap, ap₂, arith, inl, inr}, Math.Nat.mul-le-mul_left, lemmas.Bool.Decides.nat_tests}
-use Rattle.std.proofs.lemmas.Option.{slice_get_cases}
-use Rattle.std.specs.{Prelude.option_to_list, List.AllByRecursion, Option.option_map_or}
+use Rattle.std.proofs.{Common.{refl, sym, ◌∙◌, ap, ap₂, arith, inl, inr, slice_get, subst}, Math.Nat.mul-le-mul_left}
+use Rattle.std.proofs.{lemmas.Bool.Decides.nat_tests, lemmas.Option.{slice_get_cases, get_or_from_slice_get, slice_get_within}}
+use Rattle.std.specs.{List.{All, AllByRecursion}, Prelude.option_to_list, Option.option_map_or}
 use Rattle.url_parts.specs.declared.address.Part.{Part}
-use Rattle.mpd_text.proofs.HoldingLemmas.{All-at}
 use Rattle.mpd_levels.specs.Segments.{Segments}
 use Rattle.presentation.specs.{declared.parts.Content.Content, Presented.{Presented, content_at, listed_in, start_of, window_at, window_of}}
 use Rattle.presentation.specs.{Presented.whole_window, Meanings.{entry_at, entry_of}}
@@ -12,6 +11,10 @@ use Rattle.dash_writer.specs.{Lists.list_with, Segments.{duration_of, segment_li
 use Rattle.laws_of_mpds.specs.{Contents.{IsOwnPart, IsPlain}, Meant.{IsWritable, TreesMean}, Told.{IsReadable, told_of}}
 use Rattle.laws_of_mpds.proofs.{Contents.{contents_are_meant, listed_is, parts_are, told_is}, Lists.list_is, Periods.{Means, outline_means}}
 use Rattle.laws_of_mpds.proofs.{Representations.Has, Times.durations_are}
+
+-- what holds of each member of a list
+All-at : {X : Type 0} (P : X → Type 0) (xs : List X) (k : ℕ) (x : X) → All P xs → slice_get xs k ≡ Some x → P x
+All-at P xs k x all is = subst P (get_or_from_slice_get xs k x x is) (all k x (slice_get_within xs k x is))
 
 -- the track at a place has a plain content
 abbrev pub HasPlain : Presented → (section place : ℕ) → Type 0

@@ -6,11 +6,11 @@ use Rattle.std.proofs.{Common.arith, lemmas.List.length-map, lemmas.Simd.map-map
 use Rattle.std.specs.{Prelude.decimal, List.AllByRecursion}
 use Rattle.bridge_io.specs.declared.place.Place.{Place}
 use Rattle.url_parts.specs.{declared.address.Part.Part, declared.range.Range.Range}
-use Rattle.mpd_text.specs.{Trees.Element, Grammar.past, Views.side_by_side}
+use Rattle.mpd_text.specs.{Trees.Element, Views.side_by_side}
+use Rattle.mpd_markup.specs.{Placed.{past, placed}, Markup.opening}
 use Rattle.mpd_profile.specs.Heads.{is_named, or_else}
 use Rattle.mpd_values.specs.Numbers.{signed_of}
 use Rattle.mpd_levels.specs.{Segments.segments_of, declared.initialization.Initialization.Initialization}
-use Rattle.mpd_markup.specs.{Markup.opening, Placed.placed}
 use Rattle.dash_writer.specs.{Elements.{Element as Written, in_order, leaf, node}, Lists.list_with, Runs.{longest_runs, with_first}}
 use Rattle.dash_writer.specs.Segments.{s_element, s_elements, same_duration, duration_of, part_or_none, segment_url, segment_list}
 use Rattle.dash_writer.specs.Segments.{initialization, list_attributes, timeline_elements}

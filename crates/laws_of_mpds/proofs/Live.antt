@@ -5,10 +5,10 @@ use Rattle.std.proofs.{lemmas.List.length-map, lemmas.Option.{get_or_from_slice_
 use Rattle.std.specs.{Prelude.ℤ, List.AllByRecursion, Result.result_ok}
 use Rattle.iso_time.specs.{Civil.instant_text, Duration.duration_text, Instant.IsReadable as IsReadableInstant, Laws.DurationsAreReadAgain}
 use Rattle.iso_time.specs.Laws.{InstantsAreReadAgain, floor_millis}
-use Rattle.mpd_text.specs.{Characters.{starts_name, goes_on_name}, Grammar.past}
+use Rattle.mpd_text.specs.Characters.{starts_name, goes_on_name}
+use Rattle.mpd_markup.specs.Placed.{past, IsLegalTag, PrintedAreRead, root_place}
 use Rattle.mpd_profile.specs.Heads.{is_word}
 use Rattle.mpd_rules.specs.{Readings.instant_in, Rules.dash_values}
-use Rattle.mpd_markup.specs.Placed.{IsLegalTag, PrintedAreRead, root_place}
 use Rattle.dash_writer.specs.{Elements.{Attribute, tag_of}, Live.{first_time, growing_root, last_live_end, live_list, live_lists}}
 use Rattle.dash_writer.specs.{Live.{live_outline, live_period, live_root, live_text, part_of}, Manifest.finished_root, Outline.heads_from}
 use Rattle.dash_writer.specs.{Outline.root_element, Values.seconds_text, declared.live.LiveMpd.LiveMpd, declared.live.LivePeriod.LivePeriod}

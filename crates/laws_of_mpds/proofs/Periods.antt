@@ -6,7 +6,8 @@ use Rattle.std.proofs.{Common.{◌&&◌, Bool, unwrap_or, refl, sym, ◌∙◌, 
 use Rattle.std.specs.{List.{list_all, range_with_len}, Option.option_map_or}
 use Rattle.bridge_io.specs.declared.place.Place.{Place}
 use Rattle.timeline.specs.{declared.entry.End.End, declared.entry.End.TheVariants.Unbounded}
-use Rattle.mpd_text.specs.{Trees.Element, Grammar.past, Views.side_by_side}
+use Rattle.mpd_text.specs.{Trees.Element, Views.side_by_side}
+use Rattle.mpd_markup.specs.{Placed.{past, placed, root_place}, Markup.opening}
 use Rattle.mpd_profile.specs.Heads.{is_word}
 use Rattle.mpd_levels.specs.Segments.{Segments, segments_of}
 use Rattle.mpd_rules.specs.{declared.facts.Facts.Facts, declared.periods.Bounds.Bounds, declared.rows.Description.Description, Kept.is_kept}
@@ -16,7 +17,6 @@ use Rattle.presentation.specs.{declared.track.Track.Track, declared.track.Sectio
 use Rattle.presentation.specs.{Rows.{Row, first_rows}, Told.{end_of, following_of, untold}, Meanings.{content_meant, content_of_row}}
 use Rattle.presentation.specs.Meanings.{entry_at, entry_of, head_of, head_of_row, head_with, meaning_of, meaning_with, mpd_meaning, row_at}
 use Rattle.presentation.specs.Meanings.{are_counted, is_counted, meaning_if_counted, period_counted, row_counted, row_meant}
-use Rattle.mpd_markup.specs.{Markup.opening, Placed.{placed, root_place}}
 use Rattle.dash_writer.specs.{Elements.{Element as Written, in_order, tag_of}, Manifest.{all_period_attributes, period_attributes}}
 use Rattle.dash_writer.specs.{Manifest.root_attributes, Outline.{Outline, period_element, period_elements, root_element}}
 use Rattle.laws_of_mpds.specs.{Told.read_at, Meant.{are_in_order, Seen, seen_of, seen_from}, Shown.{ShownTrack, shown_row, shown_tracks}}

@@ -4,10 +4,10 @@ use Rattle.std.proofs.{Common.{Option, Some, None, option_map, refl, sym, ◌∙
 use Rattle.std.specs.{Prelude.{decimal, sum, option_and_then, option_to_list}, List.AllByRecursion, Result.result_ok}
 use Rattle.iso_time.specs.Laws.{DurationsAreReadAgain}
 use Rattle.timeline.specs.declared.window.Window.{Window}
-use Rattle.mpd_text.specs.{Grammar.past, Meaning.reading_of}
+use Rattle.mpd_text.specs.Meaning.{reading_of}
+use Rattle.mpd_markup.specs.Placed.{past, PrintedAreRead, root_place}
 use Rattle.mpd_profile.specs.Heads.{is_word}
 use Rattle.mpd_rules.specs.{Readings.instant_in, Rules.dash_values}
-use Rattle.mpd_markup.specs.Placed.{PrintedAreRead, root_place}
 use Rattle.presentation.specs.{declared.parts.Content.Content, declared.track.Section.Section, Presented.{Presented, content_at}}
 use Rattle.presentation.specs.{Presented.{whole_window, window_of}, Meanings.{content_meant, dash_meaning, entry_at, entry_of}}
 use Rattle.presentation.specs.Meanings.{meaning_if_counted}

@@ -5,10 +5,10 @@ use Rattle.std.proofs.{Common.{if◌then◌else◌, refl, ◌∙◌, ap}, lemmas
 use Rattle.std.specs.List.{list_all}
 use Rattle.bridge_io.proofs.Texts.{same_bytes}
 use Rattle.bridge_io.specs.declared.place.Place.{Place}
-use Rattle.mpd_text.specs.{Grammar.past, Views.side_by_side}
+use Rattle.mpd_text.specs.Views.{side_by_side}
+use Rattle.mpd_markup.specs.{Placed.{past, attributes_at, placed}, Markup.{Tag, opening, enclosed, printed, attribute_text}}
 use Rattle.mpd_profile.specs.Heads.{is_named, or_else, has_child}
 use Rattle.mpd_rules.specs.Readings.{base_reference}
-use Rattle.mpd_markup.specs.{Markup.{Tag, opening, enclosed, printed, attribute_text}, Placed.{attributes_at, placed}}
 use Rattle.dash_writer.specs.Elements.{Attribute, Element as Written, in_order, attributes_of}
 use Rattle.laws_of_mpds.specs.Told.{AreNamed, is_named as named_so, read_at}
 

@@ -5,9 +5,9 @@ use Rattle.bridge_io.specs.declared.place.Place.{Place}
 use Rattle.url_parts.specs.{declared.address.Part.Part, declared.range.Range.Range}
 use Rattle.timeline.specs.{declared.entry.SEntry.SEntry, declared.names.RefPart.RefPart, Expansions.{SegmentTimeline, Timing}}
 use Rattle.timeline.specs.Listed.{part_of_timing}
-use Rattle.mpd_text.specs.{Trees.Element, Grammar.past}
+use Rattle.mpd_text.specs.Trees.{Element}
+use Rattle.mpd_markup.specs.{Placed.{past, head_at, placed}, Markup.{Tag, opening}}
 use Rattle.mpd_levels.specs.Segments.{Segments, if_any, segments_of}
-use Rattle.mpd_markup.specs.{Markup.{Tag, opening}, Placed.{head_at, placed}}
 use Rattle.dash_writer.specs.{Elements.{Element as Written, in_order}, Lists.list_with, Runs.longest_runs, Segments.duration_of}
 use Rattle.dash_writer.specs.Segments.{part_or_none, same_duration, segment_list}
 

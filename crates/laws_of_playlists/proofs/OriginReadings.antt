@@ -1,222 +1,363 @@
 -- What is read of bytes is of bytes.
-use Rattle.std.proofs.Common.{◌≡◌, ℕ, ◌+◌, ◌<◌, ◌/◌, ◌%◌, ◌==◌, ◌&&◌, Bool, true, false, List, [], ◌∷◌, ◌++◌, All, map, nat_lt, Option}
-use Rattle.std.proofs.{Common.{Some, None, IfSome, sym, subst, inl, inr, arith}, lemmas.Bool.{and_parts, cases_Bool, cond_both}}
-use Rattle.std.proofs.{lemmas.Bool.Decides.nat_tests, lemmas.List.Elements.{All-append, All-cons, All-head, All-map, All-nil, All-tail}}
-use Rattle.std.specs.{Prelude.{codes, option_map, if◌then◌else◌, bytes_eq}, Char.encode_utf8, List.list_all}
-use Rattle.bridge_io.specs.declared.place.Place.{Place}
-use Rattle.mpd_text.specs.{Characters.{is_digit, is_white}, Faults.ReadsAs, Grammar.{AreAttributes, AreRunsRound, IsAttribute, IsContent}}
-use Rattle.mpd_text.specs.{Grammar.{IsDataRun, IsDocument, IsElementRound, OpensTag, Spells, past}, Meaning.{IsOneReading, reading_of}}
-use Rattle.mpd_text.specs.References.{content_text, is_allowed_character, is_hex_digit, line_ends_after, named_by_digits, named_by_number}
-use Rattle.mpd_text.specs.{References.{number_of, referred_to, replaced_within, value_text, with_line_ends}, Trees.{Attribute, Element}}
-use Rattle.mpd_text.specs.Trees.{Forest, Head, element, nothing}
-use Rattle.laws_of_playlists.specs.Origins.{AreOfBytes, IsByte, IsElementOfBytes, IsOfBytes, ReadingsAreOfBytes}
-use Rattle.mpd_rules.proofs.Ranges.{below_bound, if_passes}
-use Rattle.laws_of_playlists.proofs.OriginParts.{inside, mapped}
+use Rattle.std.proofs.Common.{◌≡◌, ℕ, zero, suc, ◌<◌, Bool, true, false, List, [], ◌∷◌, ◌++◌, length, take, drop, All, Some, None, sym}
+use Rattle.std.proofs.Common.{refl, inl, inr, subst}
+use Rattle.std.proofs.{Common.{arith, nat_lt}, lemmas.Bool.{cases_Bool, cond_both, Decides.nat_tests}, lemmas.List.drop_at}
+use Rattle.std.proofs.lemmas.List.{Sums.AllPass-from_list_all, Elements.{All-append, All-cons, All-drop, All-nil, All-tail, All-take}}
+use Rattle.std.specs.{Prelude.{◌==◌, ◌&&◌, ◌||◌, codes, if◌then◌else◌, bytes_eq, nat_eq}, Char.encode_utf8, List.{list_all, starts_with}}
+use Rattle.byte_scan.specs.ByteSet.{is_member}
+use Rattle.bridge_io.specs.Texts.{is_among}
+use Rattle.mpd_text.specs.{Characters.{is_white, is_digit, starts_name}, Faults.ReadsAs, Meaning.{IsOneReading, reading_of}}
+use Rattle.mpd_text.specs.References.{is_hex_digit, named_by_digits, named_by_number, referred_to}
+use Rattle.mpd_text.specs.Runs.{up_to, is_black, ends_name, name_at, after_white, after_line_feed, after_mark, mark, common, begins}
+use Rattle.mpd_text.specs.{Marked.{marked_in_content, marked_in_value}, Trees.{names_of, Attribute, Head, Forest, nothing, element}}
+use Rattle.mpd_text.specs.Productions.{Kind, Position, Production, none, just, from, first, behind_run, choose, ◌>>◌, as_read, further}
+use Rattle.mpd_text.specs.Productions.{times, many}
+use Rattle.mpd_text.specs.Grammar.{behind_dashes, comment_end, comment, declaration_end, behind_word, declaration, beginning, comments}
+use Rattle.mpd_text.specs.Grammar.{misc, marked}
+use Rattle.mpd_text.specs.Grammar.{reference, part, text, value, closed, attribute, behind_white, greater_than, tag_end, tag, end_tag}
+use Rattle.mpd_text.specs.Grammar.{piece}
+use Rattle.mpd_text.specs.Grammar.{added, next_inside, inside, root, document, Spells}
+use Rattle.mpd_text.specs.Reading.{line_end, word, Piece, tag_piece, Inside, nothing_inside, followed_by, with_child}
+use Rattle.mpd_text.specs.Reading as reading
+use Rattle.mpd_text.specs.Grammar as grammar
+use Rattle.laws_of_playlists.specs.Origins.{AreOfBytes, IsByte, IsElementOfBytes, IsHeadOfBytes, IsOfBytes, ReadingsAreOfBytes}
+use Rattle.mpd_rules.proofs.Ranges.{below_bound}
 
 -- ---- characters
 
 abbrev IsCharacter : ℕ → Type 0
 IsCharacter c = c < 1114112
 
-encode_bytes : (c : ℕ) → IsCharacter c → IsOfBytes (encode_utf8 c)
+encode_pass : (c : ℕ) → IsCharacter c → list_all (λ b. nat_lt b 256) (encode_utf8 c) ≡ true
 unfolding encode_utf8
-encode_bytes c small =
-    let last = All-cons IsByte (128 + c % 64) [] (omega arith) (All-nil IsByte) in
-    let third = All-cons IsByte (128 + (c / 64) % 64) ((128 + c % 64) ∷ []) (omega arith) last in
-    let second = All-cons IsByte (128 + (c / 4096) % 64) ((128 + (c / 64) % 64) ∷ (128 + c % 64) ∷ []) (omega arith) third in
-    let four = (240 + c / 262144) ∷ (128 + (c / 4096) % 64) ∷ (128 + (c / 64) % 64) ∷ (128 + c % 64) ∷ [] in
-    let three = (224 + c / 4096) ∷ (128 + (c / 64) % 64) ∷ (128 + c % 64) ∷ [] in
-    let two = (192 + c / 64) ∷ (128 + c % 64) ∷ [] in
-    cond_both (nat_lt c 128) (c ∷ []) (if nat_lt c 2048 then two else if nat_lt c 65536 then three else four) IsOfBytes
-    (λ is. let less = below_bound c 128 is in All-cons IsByte c [] (omega arith) (All-nil IsByte))
-    (λ _. cond_both (nat_lt c 2048) two (if nat_lt c 65536 then three else four) IsOfBytes
-    (λ is. let less = below_bound c 2048 is in All-cons IsByte (192 + c / 64) ((128 + c % 64) ∷ []) (omega arith) last)
-    (λ _. cond_both (nat_lt c 65536) three four IsOfBytes
-    (λ is. let less = below_bound c 65536 is in
-    All-cons IsByte (224 + c / 4096) ((128 + (c / 64) % 64) ∷ (128 + c % 64) ∷ []) (omega arith) third)
-    (λ _. All-cons IsByte (240 + c / 262144) ((128 + (c / 4096) % 64) ∷ (128 + (c / 64) % 64) ∷ (128 + c % 64) ∷ []) (omega arith) second)))
+encode_pass c small = grind (arith, nat_tests)
 
-allowed : (c : ℕ) → is_allowed_character c ≡ true → IsCharacter c
-allowed c is = grind (arith, nat_tests)
+encode_bytes : (c : ℕ) → IsCharacter c → IsOfBytes (encode_utf8 c)
+encode_bytes c small k d less =
+    below_bound _ 256 (AllPass-from_list_all (λ b. nat_lt b 256) (encode_utf8 c) (encode_pass c small) k d less)
 
-by_number : (base : ℕ) (test : ℕ → Bool) (digits : List ℕ) → IfSome (named_by_number base test digits) IsCharacter
-by_number base test [] = tt
-by_number base test (d ∷ ds) =
-    let c = number_of base (d ∷ ds) in
-    if_passes (list_all test (d ∷ ds) && is_allowed_character c) c IsCharacter
-    (λ is. allowed c (and_parts (list_all test (d ∷ ds)) (is_allowed_character c) is).1)
+by_number : (base : ℕ) (test : ℕ → Bool) (digits : List ℕ) (c : ℕ) → named_by_number base test digits ≡ Some c → IsCharacter c
+by_number base test [] c is = absurd cc
+by_number base test (d ∷ ds) c is = grind (arith, nat_tests)
 
-if_either : (b : Bool) (x y : Option ℕ) → IfSome x IsCharacter → IfSome y IsCharacter → IfSome (if b then x else y) IsCharacter
-if_either true x y one two = one
-if_either false x y one two = two
+by_digits : (digits : List ℕ) (c : ℕ) → named_by_digits digits ≡ Some c → IsCharacter c
+by_digits [] c is = absurd cc
+by_digits (b ∷ bs) c is = grind (arith, nat_tests, by_number 16 is_hex_digit bs c, by_number 10 is_digit (b ∷ bs) c)
 
-by_digits : (digits : List ℕ) → IfSome (named_by_digits digits) IsCharacter
-by_digits [] = tt
-by_digits (b ∷ bs) = if_either (b == 120) (named_by_number 16 is_hex_digit bs) (named_by_number 10 is_digit (b ∷ bs))
-    (by_number 16 is_hex_digit bs) (by_number 10 is_digit (b ∷ bs))
+by_name : (p q r s t : Bool) (c : ℕ)
+    → (if p then Some 38 else if q then Some 60 else if r then Some 62 else if s then Some 34 else if t then Some 39 else None) ≡ Some c
+    → IsCharacter c
+by_name p q r s t c is = grind (arith, nat_tests)
 
-one_or : (b : Bool) (c : ℕ) (y : Option ℕ) → IsCharacter c → IfSome y IsCharacter → IfSome (if b then Some c else y) IsCharacter
-one_or b c y small rest = if_either b (Some c) y small rest
+referred_is : (name : List ℕ) (c : ℕ) → referred_to name ≡ Some c → IsCharacter c
+referred_is [] c is = absurd cc
+referred_is (b ∷ bs) c is = elim (cases_Bool (b == 35)) [ inl t ↦ by_digits bs c (rw t at is) | inr f ↦ by_name _ _ _ _ _ c (rw f at is) ]
 
-referred_is : (name : List ℕ) → IfSome (referred_to name) IsCharacter
-referred_is [] = tt
-referred_is (b ∷ bs) =
-    if_either (b == 35) (named_by_digits bs) _ (by_digits bs)
-    (one_or (bytes_eq (b ∷ bs) (codes "amp")) 38 _ (omega arith)
-    (one_or (bytes_eq (b ∷ bs) (codes "lt")) 60 _ (omega arith)
-    (one_or (bytes_eq (b ∷ bs) (codes "gt")) 62 _ (omega arith)
-    (one_or (bytes_eq (b ∷ bs) (codes "quot")) 34 _ (omega arith)
-    (one_or (bytes_eq (b ∷ bs) (codes "apos")) 39 None (omega arith) tt)))))
+-- ---- productions
+
+-- all that is read so is so
+record Holds {A : Type 0} (c : Production A) (IsSo : A → Type 0) : Type 0 where
+  all : (x : A) → c.spells x → IsSo x
+
+nothing_holds : {A : Type 0} {IsSo : A → Type 0} → Holds none IsSo
+nothing_holds = record { all = λ x never. absurd never }
+
+just_holds : {A : Type 0} {IsSo : A → Type 0} {x : A} → IsSo x → Holds (just x) IsSo
+just_holds {IsSo = IsSo} is = record { all = λ y e. subst IsSo (sym e) is }
+
+chosen : {A : Type 0} {IsSo : A → Type 0} (t : Bool) {c d : Production A} → Holds c IsSo → Holds d IsSo → Holds (choose t c d) IsSo
+chosen true on off = on
+chosen false on off = off
+
+next_holds : {A B : Type 0} {IsSo : A → Type 0} {IsThen : B → Type 0} {c : Production A} {d : A → Production B} → Holds c IsSo
+    → ((x : A) → IsSo x → Holds (d x) IsThen) → Holds (c >> d) IsThen
+next_holds h on = record { all = λ y s. (on s.0 (h.all s.0 s.1)).all y s.2 }
+
+shown_holds : {A B : Type 0} {IsSo : A → Type 0} {IsThen : B → Type 0} {c : Production A} {f : A → B} → Holds c IsSo
+    → ((x : A) → IsSo x → IsThen (f x)) → Holds (as_read c f) IsThen
+shown_holds {IsThen = IsThen} h on = record { all = λ y s. subst IsThen (sym s.2) (on s.0 (h.all s.0 s.1)) }
+
+abbrev Both : {A : Type 0} → (A → Type 0) → A × List ℕ → Type 0
+Both IsSo x = IsSo x.0 × IsOfBytes x.1
+
+abbrev Third : {A : Type 0} → (A → Type 0) → A × Bool × List ℕ → Type 0
+Third IsSo x = IsSo x.0 × IsOfBytes x.2
+
+abbrev Any : {A : Type 0} → A → Type 0
+Any x = Unit {0}
+
+many_hold : {A : Type 0} {IsSo : A → Type 0} {one : A → List ℕ → Production (A × Bool × List ℕ)}
+    → ((a : A) (bytes : List ℕ) → IsSo a → IsOfBytes bytes → Holds (one a bytes) (Third IsSo))
+    → (a : A) (bytes : List ℕ) → IsSo a → IsOfBytes bytes → Holds (many one a bytes) (Both IsSo)
+many_hold {A = A} {IsSo = IsSo} {one = one} each a bytes is all = record { all = λ y s. (repeated s.0 a bytes is all).all y s.1 }
+  where
+    onward : (more : A → List ℕ → Production (A × List ℕ))
+        → ((read : A) (rest : List ℕ) → IsSo read → IsOfBytes rest → Holds (more read rest) (Both IsSo))
+        → (x : A × Bool × List ℕ) → Third IsSo x → Holds (further more x) (Both IsSo)
+    onward more h (read, true, rest) so = just_holds so
+    onward more h (read, false, rest) so = h read rest so.0 so.1
+
+    repeated : (n : ℕ) (a : A) (bytes : List ℕ) → IsSo a → IsOfBytes bytes → Holds (times one n a bytes) (Both IsSo)
+    repeated zero a bytes is all = nothing_holds
+    repeated (suc n) a bytes is all = next_holds (each a bytes is all) (onward (times one n) (repeated n))
+
+tail : (b : ℕ) (bs : List ℕ) → IsOfBytes (b ∷ bs) → IsOfBytes bs
+tail b bs all = All-tail IsByte b bs all
+
+dropped : (n : ℕ) (bytes : List ℕ) → IsOfBytes bytes → IsOfBytes (drop n bytes)
+dropped n bytes all = All-drop IsByte n bytes all
+
+from_holds : {A : Type 0} {IsSo : A → Type 0} {q : Position} {c : Production A} → Holds c IsSo → Holds (from q c) IsSo
+from_holds h = record { all = h.all }
+
+run_holds : {A : Type 0} {IsSo : A → Type 0} {bytes rest : List ℕ} {c : Production A} → Holds c IsSo → Holds (behind_run bytes rest c) IsSo
+run_holds h = record { all = h.all }
+
+-- by the first byte
+first_holds : {A : Type 0} {IsSo : A → Type 0} (kind : Kind) (start : ℕ) (bytes : List ℕ) {c : ℕ → List ℕ → Production A} → IsOfBytes bytes
+    → ((b : ℕ) (bs : List ℕ) → IsOfBytes (b ∷ bs) → Holds (c b bs) IsSo) → Holds (first kind start bytes c) IsSo
+first_holds kind start [] all on = from_holds nothing_holds
+first_holds kind start (b ∷ bs) all on = from_holds (on b bs all)
+
+-- ---- comments and declarations
+
+dashes_hold : (may_follow : Bool) (bytes : List ℕ) → IsOfBytes bytes → Holds (behind_dashes may_follow bytes) IsOfBytes
+dashes_hold may [] all = from_holds nothing_holds
+dashes_hold may (b ∷ bs) all =
+    let rest = tail b bs all in
+    from_holds (chosen (b == 62) (just_holds rest) (chosen (b == 45 && may) (dashes_hold false bs rest) nothing_holds))
+
+comment_end_holds : (bytes : List ℕ) → IsOfBytes bytes → Holds (comment_end bytes) IsOfBytes
+comment_end_holds [] all = from_holds nothing_holds
+comment_end_holds (b ∷ bs) all =
+    let rest = tail b bs all in
+    from_holds (chosen (b == 45 && begins 45 bs) (from_holds (dashes_hold true (drop 1 bs) (dropped 1 bs rest)))
+    (comment_end_holds bs rest))
+
+comment_holds : (left : ℕ) (bytes : List ℕ) → IsOfBytes bytes → Holds (comment left bytes) IsOfBytes
+comment_holds left bytes all = first_holds _ _ bytes all (λ b bs of. chosen (b == 45) (first_holds _ _ bs (tail b bs of) (λ c cs inner.
+    chosen (c == 45) (comment_end_holds cs (tail c cs inner)) nothing_holds)) nothing_holds)
+
+declaration_end_holds : (bytes : List ℕ) → IsOfBytes bytes → Holds (declaration_end bytes) IsOfBytes
+declaration_end_holds [] all = from_holds nothing_holds
+declaration_end_holds (b ∷ bs) all =
+    let rest = tail b bs all in
+    from_holds (chosen (b == 63 && begins 62 bs) (from_holds (just_holds (dropped 1 bs rest))) (declaration_end_holds bs rest))
+
+declaration_holds : (left : ℕ) (bytes : List ℕ) → IsOfBytes bytes → Holds (declaration left bytes) IsOfBytes
+declaration_holds left bytes all =
+    let word_holds : Holds (behind_word left bytes) IsOfBytes = chosen (common word bytes == 3)
+    (first_holds _ _ (drop 3 bytes) (dropped 3 bytes all)
+    (λ b bs of. chosen (is_white b) (declaration_end_holds bs (tail b bs of)) nothing_holds))
+    (from_holds nothing_holds) in
+    record { all = word_holds.all }
+
+beginning_holds : (bytes : List ℕ) → IsOfBytes bytes → Holds (beginning bytes) IsOfBytes
+beginning_holds bytes all =
+    let behind : IsOfBytes (after_mark bytes) = cond_both (starts_with nat_eq bytes mark) (drop 3 bytes) bytes IsOfBytes
+    (λ _. dropped 3 bytes all) (λ _. all) in
+    chosen (starts_with nat_eq (after_mark bytes) (codes "<?"))
+    (declaration_holds (length (after_mark bytes)) (drop 2 (after_mark bytes)) (dropped 2 (after_mark bytes) behind)) (just_holds behind)
+
+white : (bytes : List ℕ) → IsOfBytes bytes → IsOfBytes (after_white bytes)
+white bytes all = dropped (up_to is_black bytes) bytes all
+
+comments_hold : (n : ℕ) (bytes : List ℕ) → IsOfBytes bytes → Holds (comments n bytes) IsOfBytes
+comments_hold zero bytes all = chosen (starts_with nat_eq bytes (codes "<!")) nothing_holds (just_holds all)
+comments_hold (suc n) bytes all = chosen (starts_with nat_eq bytes (codes "<!"))
+    (next_holds (comment_holds (length bytes) (drop 2 bytes) (dropped 2 bytes all))
+    (λ rest of. run_holds (comments_hold n (after_white rest) (white rest of))))
+    nothing_holds
+
+misc_holds : (bytes : List ℕ) → IsOfBytes bytes → Holds (misc bytes) IsOfBytes
+misc_holds bytes all = record { all = λ x s. (comments_hold s.0 (after_white bytes) (white bytes all)).all x s.1 }
 
 -- ---- texts
 
-replaced_is : (o : Option (List ℕ)) (bytes : List ℕ) → IsOfBytes bytes → IfSome (replaced_within o bytes) IsOfBytes
-replaced_is None [] all = All-nil IsByte
-replaced_is (Some name) [] all = tt
-replaced_is None (b ∷ bs) all =
-    let rest = All-tail IsByte b bs all in
-    elim (cases_Bool (b == 38)) [
-      | inl is ↦ rw is (replaced_is (Some []) bs rest)
-      | inr other ↦ rw other (mapped (λ text. b ∷ text) IsOfBytes IsOfBytes
-          (λ text of. All-cons IsByte b text (All-head IsByte b bs all) of) (replaced_within None bs) (replaced_is None bs rest))
-    ]
-replaced_is (Some name) (b ∷ bs) all =
-    let rest = All-tail IsByte b bs all in
-    elim (cases_Bool (b == 59)) [
-      | inl is ↦ rw is (
-          inside (λ c. option_map (λ text. encode_utf8 c ++ text) (replaced_within None bs)) IsCharacter IsOfBytes
-          (λ c small. mapped (λ text. encode_utf8 c ++ text) IsOfBytes IsOfBytes
-          (λ text of. All-append IsByte (encode_utf8 c) text (encode_bytes c small) of) (replaced_within None bs)
-          (replaced_is None bs rest))
-          (referred_to name) (referred_is name)
-          )
-      | inr other ↦ rw other (replaced_is (Some (name ++ b ∷ [])) bs rest)
-    ]
+fed : (bytes : List ℕ) → IsOfBytes bytes → IsOfBytes (after_line_feed bytes)
+fed [] all = all
+fed (b ∷ bs) all = cond_both (b == 10) bs (b ∷ bs) IsOfBytes (λ _. tail b bs all) (λ _. all)
 
-line_ends_are : (behind : Bool) (bytes : List ℕ) → IsOfBytes bytes → IsOfBytes (line_ends_after behind bytes)
-line_ends_are behind [] all = All-nil IsByte
-line_ends_are behind (b ∷ bs) all =
-    let rest = All-tail IsByte b bs all in
-    elim (cases_Bool (b == 13)) [
-      | inl is ↦ rw is (All-cons IsByte 10 (line_ends_after true bs) (omega arith) (line_ends_are true bs rest))
-      | inr other ↦ elim (cases_Bool (behind && b == 10)) [
-        | inl second ↦ rw (other, second) (line_ends_are false bs rest)
-        | inr plain ↦ rw (other, plain) (All-cons IsByte b (line_ends_after false bs) (All-head IsByte b bs all)
-            (line_ends_are false bs rest))
-      ]
-    ]
+one_more : (read : List ℕ) (b : ℕ) → IsOfBytes read → b < 256 → IsOfBytes (read ++ b ∷ [])
+one_more read b of small = All-append IsByte read (b ∷ []) of (All-cons IsByte b [] small (All-nil IsByte))
 
-content_bytes : (bytes text : List ℕ) → IsOfBytes bytes → content_text bytes ≡ Some text → IsOfBytes text
-content_bytes bytes text all is = subst (λ o. IfSome o IsOfBytes) is
-    (replaced_is None (with_line_ends bytes) (line_ends_are false bytes all))
+line_end_small : (stop : ℕ) → line_end stop < 256
+line_end_small stop = cond_both (stop == 60) 10 32 (λ n. n < 256) (λ _. omega arith) (λ _. omega arith)
 
-spaced : (white : Bool) (b : ℕ) → IsByte b → IsByte (if white then 32 else b)
-spaced true b is = omega arith
-spaced false b is = is
+reference_holds : (left : ℕ) (bytes : List ℕ) → IsOfBytes bytes → Holds (reference left bytes) (λ x. IsCharacter x.0 × IsOfBytes x.1)
+reference_holds left bytes all = record {
+  all = λ x is. (
+    referred_is is.name x.0 is.refers,
+    tail 59 x.1 (subst IsOfBytes (drop_at is.name (59 ∷ x.1) (length is.name) refl)
+        (dropped (length is.name) (is.name ++ 59 ∷ x.1) (subst IsOfBytes is.bytes_are all))),
+  );
+}
 
-value_bytes : (bytes text : List ℕ) → IsOfBytes bytes → value_text bytes ≡ Some text → IsOfBytes text
-value_bytes bytes text all is =
-    let ends = line_ends_are false bytes all in
-    let lines = map (λ b. if is_white b then 32 else b) (with_line_ends bytes) in
-    subst (λ o. IfSome o IsOfBytes) is (replaced_is None lines (All-map IsByte (λ b. if is_white b then 32 else b) (with_line_ends bytes)
-    (λ k d within. spaced _ _ (ends k d within))))
+marked_hold : (stop : ℕ) (read bytes : List ℕ) → IsOfBytes read → IsOfBytes bytes → Holds (marked stop read bytes) (Third IsOfBytes)
+marked_hold stop read [] of all = from_holds nothing_holds
+marked_hold stop read (b ∷ bs) of all =
+    let rest = tail b bs all in
+    let end : Third IsOfBytes (read ++ line_end stop ∷ [], false, after_line_feed bs) =
+    (one_more read (line_end stop) of (line_end_small stop), fed bs rest) in
+    chosen (b == stop) (just_holds (of, all)) (from_holds
+    (chosen (b == 38) (shown_holds (reference_holds (length (b ∷ bs)) bs rest)
+    (λ x is. (All-append IsByte read (encode_utf8 x.0) of (encode_bytes x.0 is.0), is.1)))
+    (chosen (b == 13) (record { all = λ y e. subst (Third IsOfBytes) (sym e) end })
+    (chosen (b == 60) nothing_holds (just_holds (one_more read 32 of (omega arith), rest))))))
 
--- ---- the grammar
+parts_hold : (marks : List ℕ) (stop : ℕ) (read bytes : List ℕ) → IsOfBytes read → IsOfBytes bytes
+    → Holds (part marks stop read bytes) (Third IsOfBytes)
+parts_hold marks stop read bytes of all =
+    let n = up_to (is_member marks) bytes in
+    run_holds (marked_hold stop (read ++ take n bytes) (drop n bytes)
+    (All-append IsByte read (take n bytes) of (All-take IsByte n bytes all)) (dropped n bytes all))
 
-front_holds : (xs ys : List ℕ) → IsOfBytes (xs ++ ys) → IsOfBytes xs
-front_holds [] ys all = All-nil IsByte
-front_holds (x ∷ xs) ys all = All-cons IsByte x xs (All-head IsByte x (xs ++ ys) all) (front_holds xs ys (All-tail IsByte x (xs ++ ys) all))
+text_holds : (read marks : List ℕ) (stop : ℕ) (bytes : List ℕ) → IsOfBytes read → IsOfBytes bytes
+    → Holds (text read marks stop bytes) (Both IsOfBytes)
+text_holds read marks stop bytes of all = many_hold (parts_hold marks stop) read bytes of all
 
-back_holds : (xs ys : List ℕ) → IsOfBytes (xs ++ ys) → IsOfBytes ys
-back_holds [] ys all = all
-back_holds (x ∷ xs) ys all = back_holds xs ys (All-tail IsByte x (xs ++ ys) all)
+value_holds : (quote : ℕ) (bytes : List ℕ) → IsOfBytes bytes → Holds (value quote bytes) (Both IsOfBytes)
+value_holds quote bytes all = next_holds (text_holds [] (marked_in_value quote) quote bytes (All-nil IsByte) all) closed_holds
+  where
+    closed_holds : (x : List ℕ × List ℕ) → Both IsOfBytes x → Holds (closed x) (Both IsOfBytes)
+    closed_holds (found, []) is = from_holds nothing_holds
+    closed_holds (found, b ∷ bs) is = from_holds (just_holds (is.0, tail b bs is.1))
 
--- of three parts
-record AreThree (a b c : List ℕ) : Type 0 where
-  one : IsOfBytes a
-  two : IsOfBytes b
-  three : IsOfBytes c
-
-three_parts : (bytes a b c : List ℕ) → IsOfBytes bytes → bytes ≡ a ++ b ++ c → AreThree a b c
-three_parts bytes a b c all is =
-    let whole = subst IsOfBytes is all in
-    let front = front_holds (a ++ b) c whole in
-    record { one = front_holds a b front; two = back_holds a b front; three = back_holds (a ++ b) c whole }
-
-runs_bytes : (comments : List (List ℕ)) (text bytes : List ℕ) → IsOfBytes bytes → AreRunsRound IsDataRun comments text bytes
-    → IsOfBytes text
-runs_bytes [] text bytes all is = content_bytes bytes text all is.0
-runs_bytes (comment ∷ comments) text bytes all is =
-    let parts = three_parts bytes is.run comment is.rest all is.bytes_are in
-    subst IsOfBytes (sym is.text_is) (All-append IsByte is.run_text is.rest_text (content_bytes is.run is.run_text parts.one is.is_run.0)
-    (runs_bytes comments is.rest_text is.rest parts.three is.is_rest))
+-- ---- tags
 
 abbrev AreValues : List Attribute → Type 0
 AreValues attributes = All (λ (a : Attribute). IsOfBytes a.value) attributes
 
-attribute_bytes : (place : Place) (a : Attribute) (bytes : List ℕ) → IsOfBytes bytes → IsAttribute place a bytes → IsOfBytes a.value
-attribute_bytes place a bytes all is =
-    let parts = three_parts bytes (is.white ++ a.name ++ is.equals) is.value (is.quote ∷ []) all is.bytes_are in
-    value_bytes is.value a.value parts.two is.is_quoted.spells
+rest_of_name : (bytes : List ℕ) → IsOfBytes bytes → IsOfBytes (name_at bytes).1
+rest_of_name bytes all = dropped (up_to ends_name bytes) bytes all
 
-attributes_bytes : (attributes : List Attribute) (place : Place) (bytes : List ℕ) → IsOfBytes bytes → AreAttributes attributes place bytes
-    → AreValues attributes
-attributes_bytes [] place bytes all is = All-nil (λ (a : Attribute). IsOfBytes a.value)
-attributes_bytes (a ∷ attributes) place bytes all is =
-    let whole = subst IsOfBytes is.bytes_are all in
-    All-cons (λ (a : Attribute). IsOfBytes a.value) a attributes
-    (attribute_bytes place a is.front (front_holds is.front is.rest whole) is.is_first)
-    (attributes_bytes attributes (past place is.front) is.rest (back_holds is.front is.rest whole) is.are_more)
+attribute_holds : (whole : List ℕ) (before : List Attribute) (bytes : List ℕ) → AreValues before → IsOfBytes bytes
+    → Holds (attribute whole before bytes) (Both AreValues)
+attribute_holds whole before bytes are all =
+    next_holds (run_holds (chosen (is_among (name_at bytes).0 (names_of before)) (from_holds nothing_holds)
+    (just_holds {IsSo = λ x. IsOfBytes x.1} (rest_of_name bytes all)))) (λ name of.
+    next_holds (run_holds (first_holds _ _ (after_white name.1) (white name.1 of) (λ b bs all.
+    chosen (b == 61) (run_holds (just_holds (white bs (tail b bs all)))) nothing_holds))) (λ behind of.
+    next_holds (first_holds _ _ behind of (λ b bs all.
+    chosen (b == 34 || b == 39) (just_holds {IsSo = λ x. IsOfBytes x.1} (tail b bs all)) nothing_holds)) (λ quote of.
+    shown_holds (value_holds quote.0 quote.1 of) (λ x is. (
+      All-append (λ (a : Attribute). IsOfBytes a.value) before _ are
+          (All-cons (λ (a : Attribute). IsOfBytes a.value) _ [] is.0 (All-nil (λ (a : Attribute). IsOfBytes a.value))),
+      is.1,
+    )))))
 
-tag_bytes : (place : Place) (name : List ℕ) (attributes : List Attribute) (bytes : List ℕ) → IsOfBytes bytes
-    → OpensTag place name attributes bytes → AreValues attributes
-tag_bytes place name attributes bytes all is =
-    attributes_bytes attributes (past place (60 ∷ name)) is.rest
-    (back_holds (60 ∷ name) is.rest (subst IsOfBytes is.bytes_are all)) is.are_attributes
+behind_white_holds : (whole : List ℕ) (before : List Attribute) (is_white : Bool) (bytes : List ℕ) → AreValues before → IsOfBytes bytes
+    → Holds (behind_white whole before is_white bytes) (Third AreValues)
+behind_white_holds whole before white [] are all = from_holds nothing_holds
+behind_white_holds whole before white (b ∷ bs) are all = chosen (b == 62 || b == 47) (just_holds (are, all))
+    (from_holds (chosen (starts_name b && white) (shown_holds (attribute_holds whole before (b ∷ bs) are all) (λ x is. is)) nothing_holds))
 
--- an element has what its content has
-round_bytes : (IsInside : Place → List ℕ → Type 0) (Holds : Type 0)
-    → ((within : Place) (inner : List ℕ) → IsOfBytes inner → IsInside within inner → Holds)
-    → (place : Place) (head : Head) (bytes : List ℕ) → IsOfBytes bytes → IsElementRound IsInside place head bytes
-    → AreValues head.attributes × Holds
-round_bytes IsInside Holds each place head bytes all is = elim is.1 [
-  | inl pair ↦
-      let parts = three_parts bytes pair.start_tag pair.inside pair.end_tag all pair.bytes_are in
-      let tag = three_parts pair.start_tag pair.is_start_tag.front pair.is_start_tag.white
-      (codes ">") parts.one pair.is_start_tag.bytes_are in (
-        tag_bytes place head.name head.attributes pair.is_start_tag.front tag.one pair.is_start_tag.opens,
-        each (past place pair.start_tag) pair.inside parts.two pair.is_inside,
-      )
-  | inr empty ↦
-      let tag = three_parts bytes empty.is_empty_tag.front empty.is_empty_tag.white (codes "/>") all empty.is_empty_tag.bytes_are in (
-        tag_bytes place head.name head.attributes empty.is_empty_tag.front tag.one empty.is_empty_tag.opens,
-        each (past place bytes) [] (All-nil IsByte) empty.is_inside,
-      )
-]
+greater_holds : (bytes : List ℕ) → IsOfBytes bytes → Holds (greater_than bytes) IsOfBytes
+greater_holds bytes all = first_holds _ _ bytes all (λ b bs of. chosen (b == 62) (just_holds (tail b bs of)) nothing_holds)
 
-contents_bytes : (children : Forest) (place : Place) (text bytes : List ℕ) → IsOfBytes bytes → IsContent children place text bytes
-    → IsOfBytes text × AreOfBytes children
-contents_bytes nothing place text bytes all is = (runs_bytes is.0 text bytes all is.1, tt)
-contents_bytes (element head children others) place text bytes all is =
-    let parts = three_parts bytes is.front is.first is.rest all is.bytes_are in
-    let first = round_bytes (λ within. IsContent children within head.text) (IsOfBytes head.text × AreOfBytes children)
-    (λ within inner of inside_is. contents_bytes children within head.text inner of inside_is)
-    (past place is.front) head is.first parts.two is.is_first in
-    let rest = contents_bytes others (past place (is.front ++ is.first)) is.rest_text is.rest parts.three is.is_rest in (
-      subst IsOfBytes (sym is.text_is) (All-append IsByte is.front_text is.rest_text
-          (runs_bytes is.is_front.0 is.front_text is.front parts.one is.is_front.1) rest.0),
-      (record { values = first.0; text = first.1.0 }, first.1.1, rest.1),
-    )
+tag_end_holds : (bytes : List ℕ) → IsOfBytes bytes → Holds (tag_end bytes) (Both Any)
+tag_end_holds [] all = from_holds nothing_holds
+tag_end_holds (b ∷ bs) all = chosen (b == 47) (from_holds (shown_holds (greater_holds bs (tail b bs all)) (λ x is. (tt, is))))
+    (shown_holds (greater_holds (b ∷ bs) all) (λ x is. (tt, is)))
 
-document_bytes : (root : Element) (bytes : List ℕ) → IsOfBytes bytes → IsDocument root bytes → IsElementOfBytes root
-document_bytes root bytes all is =
-    let parts = three_parts bytes is.prolog is.main is.misc all is.bytes_are in
-    let main = round_bytes (λ within. IsContent root.children within root.head.text) (IsOfBytes root.head.text × AreOfBytes root.children)
-    (λ within inner of inside_is. contents_bytes root.children within root.head.text inner of inside_is)
-    _ root.head is.main parts.two is.is_main in
-    record { head = record { values = main.0; text = main.1.0 }; children = main.1.1 }
+-- what a piece says itself
+abbrev IsPieceOfBytes : Piece → Type 0
+IsPieceOfBytes reading.ended = Unit {0}
+IsPieceOfBytes reading.comment = Unit {0}
+IsPieceOfBytes (reading.empty head) = IsHeadOfBytes head
+IsPieceOfBytes (reading.begun head) = IsHeadOfBytes head
+
+tag_holds : (whole : List ℕ) (left : ℕ) (bytes : List ℕ) → IsOfBytes bytes → Holds (tag whole left bytes) (Both IsPieceOfBytes)
+tag_holds whole left bytes all =
+    run_holds (next_holds (many_hold (λ before bytes are of.
+    run_holds (behind_white_holds whole before _ (after_white bytes) are (white bytes of))) []
+    (name_at bytes).1 (All-nil (λ (a : Attribute). IsOfBytes a.value)) (rest_of_name bytes all)) (λ found is.
+    shown_holds (tag_end_holds found.1 is.1) (λ end of. (by_kind end.0 _ (record { values = is.0; text = All-nil IsByte }), of.1))))
+  where
+    by_kind : (is_empty : Bool) (head : Head) → IsHeadOfBytes head → IsPieceOfBytes (tag_piece is_empty head)
+    by_kind true head is = is
+    by_kind false head is = is
+
+end_tag_holds : (name : List ℕ) (left : ℕ) (bytes : List ℕ) → IsOfBytes bytes → Holds (end_tag name left bytes) IsOfBytes
+end_tag_holds name left bytes all = first_holds _ _ bytes all (λ b bs of. chosen (starts_name b)
+    (run_holds (chosen (bytes_eq (name_at bytes).0 name)
+    (run_holds (greater_holds (after_white (name_at bytes).1) (white (name_at bytes).1 (rest_of_name bytes all))))
+    (from_holds nothing_holds)))
+    nothing_holds)
+
+-- ---- elements
+
+piece_holds : (whole : List ℕ) (room : ℕ) (name : List ℕ) (left : ℕ) (bytes : List ℕ) → IsOfBytes bytes
+    → Holds (piece whole room name left bytes) (Both IsPieceOfBytes)
+piece_holds whole room name left bytes all = first_holds _ _ bytes all (λ b bs of.
+    chosen (b == 47) (shown_holds (end_tag_holds name left bs (tail b bs of)) (λ x is. (tt, is)))
+    (chosen (b == 33) (shown_holds (comment_holds left bs (tail b bs of)) (λ x is. (tt, is)))
+    (chosen (b == 63) nothing_holds (chosen (starts_name b)
+    (chosen (room == 0) nothing_holds (tag_holds whole left (b ∷ bs) of)) nothing_holds))))
+
+record IsInsideOfBytes (i : Inside) : Type 0 where
+  children : AreOfBytes i.children
+  text : IsOfBytes i.text
+
+followed : (before more : Forest) → AreOfBytes before → AreOfBytes more → AreOfBytes (followed_by before more)
+followed nothing more is then_is = then_is
+followed (element head children others) more is then_is = (is.0, is.1, followed others more is.2 then_is)
+
+with_one : (before : Inside) (head : Head) (i : Inside) → IsInsideOfBytes before → IsHeadOfBytes head → IsInsideOfBytes i
+    → IsInsideOfBytes (record before { children = with_child before.children head i })
+with_one before head i is of inner = record {
+  children = followed before.children _ is.children (record { values = of.values; text = inner.text }, inner.children, tt);
+  text = is.text;
+}
+
+abbrev AreInner : (List ℕ → List ℕ → Production (Inside × List ℕ)) → Type 0
+AreInner inner = (name bytes : List ℕ) → IsOfBytes bytes → Holds (inner name bytes) (Both IsInsideOfBytes)
+
+added_holds : (inner : List ℕ → List ℕ → Production (Inside × List ℕ)) → AreInner inner → (before : Inside) → IsInsideOfBytes before
+    → (x : Piece × List ℕ) → Both IsPieceOfBytes x → Holds (added inner before x) (Third IsInsideOfBytes)
+added_holds inner h before is (reading.ended, rest) of = just_holds (is, of.1)
+added_holds inner h before is (reading.comment, rest) of = just_holds (is, of.1)
+added_holds inner h before is (reading.empty head, rest) of =
+    just_holds (with_one before head nothing_inside is of.0 (record { children = tt; text = All-nil IsByte }), of.1)
+added_holds inner h before is (reading.begun head, rest) of =
+    shown_holds (h head.name rest of.1) (λ i inner_is. (with_one before head i.0 is of.0 inner_is.0, inner_is.1))
+
+next_inside_holds : (inner : List ℕ → List ℕ → Production (Inside × List ℕ)) → AreInner inner → (whole : List ℕ) (room : ℕ) (name : List ℕ)
+    (before : Inside) (bytes : List ℕ) → IsInsideOfBytes before → IsOfBytes bytes
+    → Holds (next_inside inner whole room name before bytes) (Third IsInsideOfBytes)
+next_inside_holds inner h whole room name before bytes is all =
+    next_holds (text_holds before.text marked_in_content 60 bytes is.text all) (λ found of.
+    from_holds (next_holds (piece_holds whole room name (length found.1) (drop 1 found.1) (dropped 1 found.1 of.1))
+    (added_holds inner h (record before { text = found.0 }) (record { children = is.children; text = of.0 }))))
+
+inside_holds : (room : ℕ) (whole : List ℕ) → AreInner (inside room whole)
+inside_holds zero whole name bytes all =
+    many_hold (next_inside_holds _ (λ _ _ _. from_holds nothing_holds) whole 0 name) nothing_inside bytes
+    (record { children = tt; text = All-nil IsByte }) all
+inside_holds (suc room) whole name bytes all =
+    many_hold (next_inside_holds (inside room whole) (inside_holds room whole) whole (suc room) name) nothing_inside bytes
+    (record { children = tt; text = All-nil IsByte }) all
+
+element_holds : (whole : List ℕ) (x : Piece × List ℕ) → Both IsPieceOfBytes x → Holds (grammar.element whole x) (Both IsElementOfBytes)
+element_holds whole (reading.ended, rest) is = nothing_holds
+element_holds whole (reading.comment, rest) is = nothing_holds
+element_holds whole (reading.empty head, rest) is = just_holds (record { head = is.0; children = tt }, is.1)
+element_holds whole (reading.begun head, rest) is = shown_holds (inside_holds 31 whole head.name rest is.1)
+    (λ i of. (record { head = record { values = is.0.values; text = of.0.text }; children = of.0.children }, of.1))
+
+root_holds : (whole bytes : List ℕ) → IsOfBytes bytes → Holds (root whole bytes) (Both IsElementOfBytes)
+root_holds whole bytes all = first_holds _ _ bytes all (λ b bs of. chosen (b == 60)
+    (first_holds _ _ bs (tail b bs of) (λ c cs of. chosen (c == 63) nothing_holds (chosen (starts_name c)
+    (next_holds (tag_holds whole (length (b ∷ bs)) (c ∷ cs) of) (element_holds whole)) nothing_holds))) nothing_holds)
+
+document_holds : (bytes : List ℕ) → IsOfBytes bytes → Holds (document bytes) IsElementOfBytes
+document_holds bytes all =
+    next_holds (beginning_holds bytes all) (λ behind of.
+    next_holds (misc_holds behind of) (λ front of.
+    next_holds (root_holds bytes front of) (λ found is.
+    shown_holds {IsSo = Any} (record { all = λ _ _. tt }) (λ _ _. is.0))))
 
 pub readings_are_of_bytes : ((bytes : List ℕ) → IsOneReading bytes (reading_of bytes)) → ReadingsAreOfBytes
 readings_are_of_bytes one bytes tree all is =
     let spells : Spells tree bytes = subst (ReadsAs bytes) is (one bytes).is_read in
-    document_bytes tree bytes all spells.document
+    (document_holds bytes all).all tree spells.document

@@ -1,10 +1,28 @@
 -- What is read of elements that are printed.
 use Rattle.mpd_text.specs.Trees as tree
-use Rattle.std.specs.{Prelude.{◌≡◌, ◌≤◌, ℕ, suc, max, nat_le, IsTrue, ⊤, List, [], ◌∷◌, ◌++◌, map, codes, Ok}, List.list_all}
-use Rattle.bridge_io.specs.declared.place.Place.{Place}
-use Rattle.mpd_text.specs.{Characters.is_name, Trees.{Attribute, Head, Forest, Element}, Grammar.{IsClean, AllDiffer, past, first_place}}
-use Rattle.mpd_text.specs.{Grammar.deepest, Meaning.reading_of}
+use Rattle.std.specs.Prelude.{◌≡◌, ◌≤◌, ℕ, suc, ◌+◌, ◌==◌, max, nat_le, IsTrue, not, ⊤, List, [], ◌∷◌, ◌++◌, map, length, count_by, codes}
+use Rattle.std.specs.{Prelude.Ok, List.list_all}
+use Rattle.bridge_io.specs.{declared.place.Place.Place, Texts.is_among}
+use Rattle.mpd_text.specs.{Characters.is_name, Trees.{Attribute, Head, Forest, Element}, Grammar.IsClean, Meaning.reading_of}
 use Rattle.mpd_markup.specs.Markup.{Tag, Markup, nothing, element, attribute_text, opening, enclosed, printed, declaration, document}
+
+-- ---- places, and names that differ
+
+-- the file's first byte
+abbrev pub first_place : Place
+first_place = record { at = 0; line = 1 }
+
+-- the place behind some bytes
+abbrev pub past : Place → List ℕ → Place
+past place bytes = record { at = place.at + length bytes; line = place.line + count_by (λ b. b == 10) bytes }
+
+abbrev pub AllDiffer : List (List ℕ) → Type 0
+AllDiffer [] = ⊤
+AllDiffer (name ∷ names) = IsTrue (not (is_among name names)) × AllDiffer names
+
+-- the deepest element stands inside 31 others at most
+abbrev pub deepest : ℕ
+deepest = 32
 
 -- ---- what is read
 

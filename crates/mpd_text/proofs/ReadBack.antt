@@ -1,129 +1,79 @@
 -- An escaped text reads back as a value in `"`.
-use Rattle.std.proofs.Common.{◌≡◌, ℕ, ◌≤◌, Bool, true, false, nat_le, ◌==◌, ◌&&◌, not, List, [], ◌∷◌, ◌++◌, map, Some, option_map}
-use Rattle.std.proofs.{Common.{if◌then◌else◌, refl, sym, ◌∙◌, ap, subst, arith, inl, inr}, lemmas.Bool.cases_eq}
+use Rattle.std.proofs.Common.{◌≡◌, ◌≢◌, ℕ, zero, suc, ◌≤◌, Bool, true, false, nat_le, List, [], ◌∷◌, ◌++◌, Some, codes, encode_utf8, refl}
+use Rattle.std.proofs.{Common.{sym, ◌∙◌, subst, arith, inl, inr, append_assoc, not}, lemmas.Bool.cases_eq, lemmas.List.append-nil}
 use Rattle.std.specs.List.{list_all}
-use Rattle.mpd_text.specs.{Characters.{is_white, has_byte}, References.{line_ends_after, replaced, value_text}, Escapes.escape_of}
-use Rattle.mpd_text.specs.Escapes.{escape_all, IsReadBack}
+use Rattle.byte_scan.specs.ByteSet.{is_member}
+use Rattle.mpd_text.specs.{Characters.has_byte, Marked.marked_in_value, Escapes.{escape_of, escape_all, IsReadBack}, Runs.up_to}
+use Rattle.mpd_text.specs.{Runs.plain_at, References.referred_to, Grammar.{IsReference, marked, text}}
+use Rattle.mpd_text.proofs.{Cuts.up_to_is, EscapeLemmas.byte_stays}
 use lib.Utf8.{encode}
-use Rattle.mpd_text.proofs.EscapeLemmas.{byte_stays}
 
--- every character is at or above U+0020
-abbrev pub all_high : List ℕ → Bool
-all_high bytes = list_all (λ b. nat_le 32 b) bytes
+abbrev marks : List ℕ
+marks = marked_in_value 34
 
-line_ends_stay : (bytes : List ℕ) → all_high bytes ≡ true → line_ends_after false bytes ≡ bytes
-line_ends_stay [] high = refl
-line_ends_stay (b ∷ bs) high =
-    let no_return : (b == 13) ≡ false = grind arith in
-    let rest : all_high bs ≡ true = grind arith in
-    rw no_return (ap (λ t. b ∷ t) (line_ends_stay bs rest))
+abbrev IsText : List ℕ → List ℕ → List ℕ × List ℕ → Type 0
+IsText read bytes y = (text read marks 34 bytes).spells y
 
-white_stays : (b : ℕ) → 32 ≤ b → (if is_white b then 32 else b) ≡ b
-unfolding is_white
-white_stays b high = grind arith
+-- a byte that reads as it stands
+stands : (read : List ℕ) (b : ℕ) (bytes : List ℕ) (y : List ℕ × List ℕ) → is_member marks b ≡ false
+    → IsText (read ++ b ∷ []) bytes y → IsText read (b ∷ bytes) y
+stands read b bytes y plain (zero, never) = absurd never
+stands read b bytes y plain (suc n, is) =
+    let some : up_to (is_member marks) (b ∷ bytes) ≡ suc (up_to (is_member marks) bytes) =
+    up_to_is (is_member marks) (b ∷ bytes) ∙ rw plain (omega (arith, up_to_is (is_member marks) bytes)) in (
+      suc n,
+      (
+        is.0,
+        rw some (subst (λ (l : List ℕ). (marked 34 l (plain_at marks bytes).1).spells is.0)
+            (append_assoc read (b ∷ []) _) is.1),
+        is.2,
+      ),
+    )
 
-whites_stay : (bytes : List ℕ) → all_high bytes ≡ true → map (λ b. if is_white b then 32 else b) bytes ≡ bytes
-whites_stay [] high = refl
-whites_stay (b ∷ bs) high =
-    let first : 32 ≤ b = grind arith in
-    let rest : all_high bs ≡ true = grind arith in
-    ap (λ c. c ∷ map (λ b. if is_white b then 32 else b) bs) (white_stays b first) ∙ ap (λ t. b ∷ t) (whites_stay bs rest)
+plain : (b : ℕ) → 32 ≤ b → b ≢ 38 → b ≢ 60 → b ≢ 34 → is_member marks b ≡ false
+plain b high amp less quote = grind arith
 
--- literal characters from U+0020 on read as they are
-value_is : (bytes : List ℕ) → all_high bytes ≡ true → value_text bytes ≡ replaced bytes
-value_is bytes high =
-    ap (λ t. replaced (map (λ b. if is_white b then 32 else b) t)) (line_ends_stay bytes high) ∙ ap replaced (whites_stay bytes high)
+-- a reference reads as the character that it names
+named : (c : ℕ) (name : List ℕ) → referred_to name ≡ Some c → not (has_byte 59 name) ≡ true → encode_utf8 c ≡ c ∷ []
+    → (read bytes : List ℕ) (y : List ℕ × List ℕ) → IsText (read ++ c ∷ []) bytes y → IsText read (38 ∷ name ++ 59 ∷ bytes) y
+named c name refers first one read bytes y (n, is) =
+    let none : up_to (is_member marks) (38 ∷ name ++ 59 ∷ bytes) ≡ 0 = up_to_is (is_member marks) (38 ∷ name ++ 59 ∷ bytes) in
+    let x : List ℕ × Bool × List ℕ = (read ++ c ∷ [], false, bytes) in
+    let is_reference : IsReference (name ++ 59 ∷ bytes) (c, bytes) = record {
+      name = name;
+      bytes_are = refl;
+      is_first = first;
+      refers = refers;
+    } in
+    (suc n, (x, rw (none, append-nil read) ((c, bytes), is_reference, rw one refl), is))
 
--- no escaped byte is below U+0020, a `"` or a `<`
-abbrev pub is_harmless : ℕ → Bool
-is_harmless b = nat_le 32 b && not (b == 34) && not (b == 60)
-
-all_of_both : (p : ℕ → Bool) (a b : List ℕ) → list_all p a ≡ true → list_all p b ≡ true → list_all p (a ++ b) ≡ true
-all_of_both p [] b A B = B
-all_of_both p (x ∷ a) b A B =
-    let first : p x ≡ true = grind arith in
-    let rest : list_all p a ≡ true = grind arith in
-    rw first (all_of_both p a b rest B)
-
-one_harmless : (b : ℕ) → 32 ≤ b → list_all is_harmless (escape_of b) ≡ true
-one_harmless b high = elim (cases_eq b 38) [
-  | inl is ↦ subst (λ k. list_all is_harmless (escape_of k) ≡ true) (sym is) refl
-  | inr not_amp ↦ elim (cases_eq b 60) [
-    | inl is ↦ subst (λ k. list_all is_harmless (escape_of k) ≡ true) (sym is) refl
-    | inr not_less ↦ elim (cases_eq b 62) [
-      | inl is ↦ subst (λ k. list_all is_harmless (escape_of k) ≡ true) (sym is) refl
-      | inr not_greater ↦ elim (cases_eq b 34) [
-        | inl is ↦ subst (λ k. list_all is_harmless (escape_of k) ≡ true) (sym is) refl
-        | inr not_quote ↦
-            let stays : escape_of b ≡ b ∷ [] = byte_stays b (grind arith) (grind arith) (grind arith) (grind arith) in
-            let good : is_harmless b ≡ true = grind arith in
-            ap (list_all is_harmless) stays ∙ rw good refl
+text_is : (text : List ℕ) → list_all (λ b. nat_le 32 b) text ≡ true → (read rest : List ℕ)
+    → IsText read (escape_all text ++ 34 ∷ rest) (read ++ text, 34 ∷ rest)
+unfolding escape_all encode
+text_is [] high read rest =
+    let none : up_to (is_member marks) (34 ∷ rest) ≡ 0 = up_to_is (is_member marks) (34 ∷ rest) in
+    (1, ((read ++ [], true, 34 ∷ rest), rw none refl, refl))
+text_is (b ∷ bs) high read rest =
+    let more = escape_all bs ++ 34 ∷ rest in
+    let IsSo : ℕ → Type 0 = λ k. IsText read (escape_of k ++ more) (read ++ k ∷ bs, 34 ∷ rest) in
+    let on : (k : ℕ) → IsText (read ++ k ∷ []) more (read ++ k ∷ bs, 34 ∷ rest) = λ k.
+    subst (λ (l : List ℕ). IsText (read ++ k ∷ []) more (l, 34 ∷ rest)) (append_assoc read (k ∷ []) bs)
+    (text_is bs (grind arith) (read ++ k ∷ []) rest) in
+    subst (λ (l : List ℕ). IsText read l (read ++ b ∷ bs, 34 ∷ rest)) (sym (append_assoc (escape_of b) (escape_all bs) (34 ∷ rest)))
+    (elim (cases_eq b 38) [
+      | inl is ↦ subst IsSo (sym is) (named 38 (codes "amp") refl refl refl read more _ (on 38))
+      | inr amp ↦ elim (cases_eq b 60) [
+        | inl is ↦ subst IsSo (sym is) (named 60 (codes "lt") refl refl refl read more _ (on 60))
+        | inr less ↦ elim (cases_eq b 62) [
+          | inl is ↦ subst IsSo (sym is) (named 62 (codes "gt") refl refl refl read more _ (on 62))
+          | inr greater ↦ elim (cases_eq b 34) [
+            | inl is ↦ subst IsSo (sym is) (named 34 (codes "quot") refl refl refl read more _ (on 34))
+            | inr quote ↦ rw (byte_stays b (grind arith) (grind arith) (grind arith) (grind arith))
+                (stands read b more _ (plain b (grind arith) amp less quote) (on b))
+          ]
+        ]
       ]
-    ]
-  ]
-]
-
-all_harmless : (text : List ℕ) → all_high text ≡ true → list_all is_harmless (escape_all text) ≡ true
-unfolding escape_all
-all_harmless [] high = refl
-all_harmless (b ∷ bs) high =
-    let first : 32 ≤ b = grind arith in
-    let rest : all_high bs ≡ true = grind arith in
-    all_of_both is_harmless (escape_of b) (escape_all bs) (one_harmless b first) (all_harmless bs rest)
-
-harmless_high : (bytes : List ℕ) → list_all is_harmless bytes ≡ true → all_high bytes ≡ true
-harmless_high [] h = refl
-harmless_high (b ∷ bs) h =
-    let first : nat_le 32 b ≡ true = grind arith in
-    let rest : list_all is_harmless bs ≡ true = grind arith in
-    rw first (harmless_high bs rest)
-
-harmless_lacks : (q : ℕ) → ((b : ℕ) → is_harmless b ≡ true → (b == q) ≡ false) → (bytes : List ℕ) → list_all is_harmless bytes ≡ true
-    → has_byte q bytes ≡ false
-harmless_lacks q differs [] h = refl
-harmless_lacks q differs (b ∷ bs) h =
-    let first : is_harmless b ≡ true = grind arith in
-    let rest : list_all is_harmless bs ≡ true = grind arith in
-    rw (differs b first) (harmless_lacks q differs bs rest)
-
-not_quote_of : (b : ℕ) → is_harmless b ≡ true → (b == 34) ≡ false
-not_quote_of b h = grind arith
-
-not_less_of : (b : ℕ) → is_harmless b ≡ true → (b == 60) ≡ false
-not_less_of b h = grind arith
-
--- a literal character is read as itself
-literal : (b : ℕ) (rest : List ℕ) → (b == 38) ≡ false → replaced (b ∷ rest) ≡ option_map (λ text. b ∷ text) (replaced rest)
-literal b rest other = rw other refl
-
-read_one : (b : ℕ) (text : List ℕ) → replaced (escape_all text) ≡ Some text → replaced (escape_of b ++ escape_all text) ≡ Some (b ∷ text)
-unfolding encode
-read_one b text e = elim (cases_eq b 38) [
-  | inl is ↦ subst (λ k. replaced (escape_of k ++ escape_all text) ≡ Some (k ∷ text)) (sym is) (ap (option_map (λ u. 38 ∷ u)) e)
-  | inr not_amp ↦ elim (cases_eq b 60) [
-    | inl is ↦ subst (λ k. replaced (escape_of k ++ escape_all text) ≡ Some (k ∷ text)) (sym is) (ap (option_map (λ u. 60 ∷ u)) e)
-    | inr not_less ↦ elim (cases_eq b 62) [
-      | inl is ↦ subst (λ k. replaced (escape_of k ++ escape_all text) ≡ Some (k ∷ text)) (sym is) (ap (option_map (λ u. 62 ∷ u)) e)
-      | inr not_greater ↦ elim (cases_eq b 34) [
-        | inl is ↦ subst (λ k. replaced (escape_of k ++ escape_all text) ≡ Some (k ∷ text)) (sym is) (ap (option_map (λ u. 34 ∷ u)) e)
-        | inr not_quote ↦
-            let stays : escape_of b ≡ b ∷ [] = byte_stays b (grind arith) (grind arith) (grind arith) (grind arith) in
-            ap (λ l. replaced (l ++ escape_all text)) stays ∙ literal b (escape_all text) (grind arith) ∙ ap (option_map (λ u. b ∷ u)) e
-      ]
-    ]
-  ]
-]
-
-read_all : (text : List ℕ) → replaced (escape_all text) ≡ Some text
-unfolding escape_all
-read_all [] = refl
-read_all (b ∷ bs) = read_one b bs (read_all bs)
+    ])
 
 pub reads_back : (text : List ℕ) → IsReadBack text
-reads_back text high =
-    let harmless = all_harmless text high in
-    record {
-      spells = value_is (escape_all text) (harmless_high (escape_all text) harmless) ∙ read_all text;
-      no_quote = ap not (harmless_lacks 34 not_quote_of (escape_all text) harmless);
-      no_less_than = ap not (harmless_lacks 60 not_less_of (escape_all text) harmless);
-    }
+reads_back text high rest = ((text, 34 ∷ rest), text_is text high [] rest, refl)

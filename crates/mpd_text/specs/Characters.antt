@@ -1,15 +1,12 @@
 -- The bytes of an XML text by their parts in the grammar. All bytes from 128 on stand alike in it, so a character
 -- outside of ASCII is taken as its bytes.
 use Rattle.std.specs.Prelude.{◌≡◌, ◌<◌, length, drop, ℕ, Bool, true, false, ◌==◌, ◌&&◌, ◌||◌, nat_le, List, [], ◌∷◌, if◌then◌else◌, Option}
-use Rattle.std.specs.{Prelude.{Some, None, option_map, suc, nat_eq}, List.{list_all, list_any, starts_with}}
+use Rattle.std.specs.{Prelude.{Some, None, option_map, min, suc, nat_eq}, List.{list_all, list_any, starts_with}}
 use Rattle.byte_scan.specs.Class.{is_low_control}
 
 -- space, tab, LF, CR
 unfoldable pub is_white : ℕ → Bool
 is_white b = b == 32 || b == 9 || b == 10 || b == 13
-
-abbrev pub all_white : List ℕ → Bool
-all_white bytes = list_all is_white bytes
 
 abbrev pub is_digit : ℕ → Bool
 is_digit b = nat_le 48 b && nat_le b 57
@@ -57,3 +54,9 @@ abbrev pub IsFirstNoncharacter : List ℕ → Option ℕ → Type 0
 IsFirstNoncharacter bytes None = (j : ℕ) → begins_with_noncharacter (drop j bytes) ≡ false
 IsFirstNoncharacter bytes (Some k) = (k < length bytes) × (begins_with_noncharacter (drop k bytes) ≡ true)
     × ((j : ℕ) → j < k → begins_with_noncharacter (drop j bytes) ≡ false)
+
+-- the lesser of two places that may be there
+abbrev pub lesser : Option ℕ → Option ℕ → Option ℕ
+lesser None other = other
+lesser (Some k) None = Some k
+lesser (Some k) (Some o) = Some (min k o)

@@ -1,6 +1,6 @@
 -- Texts as they are written into values and content.
-use Rattle.std.specs.{Prelude.{ℕ, ◌==◌, IsTrue, nat_le, List, [], ◌∷◌, codes, if◌then◌else◌, flat_map}, List.list_all}
-use Rattle.mpd_text.specs.Grammar.{IsQuoted}
+use Rattle.std.specs.{Prelude.{ℕ, ◌==◌, IsTrue, nat_le, List, [], ◌∷◌, ◌++◌, codes, if◌then◌else◌, flat_map}, List.list_all}
+use Rattle.mpd_text.specs.Grammar.{value}
 
 abbrev pub escape_of : ℕ → List ℕ
 escape_of b =
@@ -13,6 +13,7 @@ escape_of b =
 unfoldable pub escape_all : List ℕ → List ℕ
 escape_all text = flat_map escape_of text
 
--- a text without characters below U+0020 is what its escaped form reads as between `"`
+-- a text without characters below U+0020 is what its escaped form reads as before a `"`
 abbrev pub IsReadBack : List ℕ → Type 0
-IsReadBack text = IsTrue (list_all (λ b. nat_le 32 b) text) → IsQuoted 34 text (escape_all text)
+IsReadBack text = IsTrue (list_all (λ b. nat_le 32 b) text) → (rest : List ℕ)
+    → (value 34 (escape_all text ++ 34 ∷ rest)).spells (text, rest)

@@ -1,238 +1,261 @@
 -- The grammar of the text of an MPD: XML 1.0 in UTF-8 without document types, CDATA sections and processing
--- instructions. A place is where some bytes begin in the file, and is carried along with them.
+-- instructions. A place is told by the bytes that are left there, of the whole. A run (white space, a name, plain text) is as
+-- long as it can be, and where one of several things may stand its first byte tells which.
 --
 -- It takes some texts that XML 1.0 does not: `]]>` in content (2.4), a comment that ends in `--->` (2.5), names with any
 -- character from U+0080 on at any place (2.3), and any declaration (2.8): its content isn't read, and an encoding that is
 -- declared there changes nothing.
-use Rattle.std.specs.Prelude.{◌≡◌, ◌≤◌, ℕ, suc, ◌+◌, ◌==◌, IsTrue, not, ◌⊎◌, List, [], ◌∷◌, ◌++◌, map, length, count_by, codes, Some, None}
-use Rattle.std.specs.Prelude.{IsUtf8, ⊤}
-use Rattle.bridge_io.specs.{Texts.is_among, declared.place.Place.Place}
-use Rattle.mpd_text.specs.{Characters.{all_white, is_white, is_name, has, has_byte, first_bad_character}, References.content_text}
-use Rattle.mpd_text.specs.{References.value_text, Trees.{Attribute, Head, Forest, nothing, element, Element, depth}}
+use Rattle.mpd_text.specs.Reading as reading
+use Rattle.std.specs.Prelude.{◌≡◌, ◌<◌, ◌≤◌, ℕ, zero, suc, ◌==◌, ◌||◌, ◌&&◌, Bool, true, false, IsTrue, not, ◌⊎◌, List, [], ◌∷◌, ◌++◌}
+use Rattle.std.specs.{Prelude.{length, codes, drop, encode_utf8, Some, None, IsUtf8, nat_eq, nat_lt, bytes_eq}, List.starts_with}
+use Rattle.bridge_io.specs.Texts.{is_among}
+use Rattle.mpd_text.specs.{Characters.{is_white, starts_name, has_byte, first_bad_character}, References.referred_to, Runs.after_white}
+use Rattle.mpd_text.specs.{Runs.{name_at, plain_at, after_line_feed, after_mark, common, begins}, Marked.marked_in_content}
+use Rattle.mpd_text.specs.{Marked.marked_in_value, Trees.{names_of, Attribute, Element, nothing}, Productions.{Position, anywhere}}
+use Rattle.mpd_text.specs.Productions.{behind_less_than, behind_exclamation, in_instruction, behind_repeated, behind_other_name}
+use Rattle.mpd_text.specs.Productions.{in_reference, here, Production, none, just, from, first, behind_run, choose, ◌>>◌, as_read, any}
+use Rattle.mpd_text.specs.{Productions.many, Reading.{place_before, line_end, front_len, word, Piece, tag_piece, Inside, with_child}}
+use Rattle.mpd_text.specs.Reading.{nothing_inside}
 
--- the file's first byte
-abbrev pub first_place : Place
-first_place = record { at = 0; line = 1 }
+-- ---- comments and declarations
 
--- the place behind some bytes
-abbrev pub past : Place → List ℕ → Place
-past place bytes = record { at = place.at + length bytes; line = place.line + count_by (λ b. b == 10) bytes }
+-- behind the `--` at a comment's end: `>`, or `->`
+abbrev pub behind_dashes : Bool → List ℕ → Production (List ℕ)
+behind_dashes may_follow [] = from (here []) none
+behind_dashes may_follow (b ∷ bs) =
+    from (here (b ∷ bs)) (choose (b == 62) (just bs) (choose (b == 45 && may_follow) (behind_dashes false bs) none))
 
-abbrev pub AllDiffer : List (List ℕ) → Type 0
-AllDiffer [] = ⊤
-AllDiffer (name ∷ names) = IsTrue (not (is_among name names)) × AllDiffer names
+-- behind `<!--`: up to the first `--`, and the end
+abbrev pub comment_end : List ℕ → Production (List ℕ)
+comment_end [] = from (here []) none
+comment_end (b ∷ bs) =
+    from (here (b ∷ bs)) (choose (b == 45 && begins 45 bs) (from (here bs) (behind_dashes true (drop 1 bs))) (comment_end bs))
 
--- nothing, or the byte order mark
-abbrev pub IsMark : List ℕ → Type 0
-IsMark bytes = (bytes ≡ []) ⊎ (bytes ≡ 239 ∷ 187 ∷ 191 ∷ [])
+abbrev pub second_dash : List ℕ → Production (List ℕ)
+second_dash bytes = first anywhere 0 bytes λ b bs. choose (b == 45) (comment_end bs) none
 
--- `<?xml`, white space, and any characters without `?>`
-pub record OpensDeclaration (bytes : List ℕ) : Type 0 where
-  pub white : ℕ
-  pub inside : List ℕ
-  pub bytes_are : bytes ≡ codes "<?xml" ++ white ∷ inside
-  pub is_white : IsTrue (is_white white)
-  pub ends_later : IsTrue (not (has (codes "?>") inside))
+-- a comment behind its `<!`, from whose `<` on so many bytes are left
+abbrev pub comment : ℕ → List ℕ → Production (List ℕ)
+comment left bytes = first behind_exclamation left bytes λ b bs. choose (b == 45) (second_dash bs) none
 
 -- up to the first `?>`
-pub record IsDeclaration (bytes : List ℕ) : Type 0 where
-  pub front : List ℕ
-  pub bytes_are : bytes ≡ front ++ codes "?>"
-  pub opens : OpensDeclaration front
+abbrev pub declaration_end : List ℕ → Production (List ℕ)
+declaration_end [] = from (here []) none
+declaration_end (b ∷ bs) =
+    from (here (b ∷ bs)) (choose (b == 63 && begins 62 bs) (from (here bs) (just (drop 1 bs))) (declaration_end bs))
 
--- `<!--`, characters without `--`
-pub record OpensComment (bytes : List ℕ) : Type 0 where
-  pub inside : List ℕ
-  pub bytes_are : bytes ≡ codes "<!--" ++ inside
-  pub no_dashes : IsTrue (not (has (codes "--") inside))
+-- behind `<?xml`
+abbrev pub declared : ℕ → List ℕ → Production (List ℕ)
+declared left bytes = first in_instruction left bytes λ b bs. choose (is_white b) (declaration_end bs) none
 
--- and `-->`
-pub record IsComment (bytes : List ℕ) : Type 0 where
-  pub front : List ℕ
-  pub bytes_are : bytes ≡ front ++ codes "-->"
-  pub opens : OpensComment front
+-- within `xml`
+pub record IsInWord (left : ℕ) (bytes : List ℕ) (p : Position) : Type 0 where
+  pub count : ℕ
+  pub is_word : count < common word bytes
+  pub is_there : p ≡ record { kind = in_instruction; start = left; rest = drop count bytes }
 
--- a run, and then comments, each with a run behind it; the runs together spell the text
-pub record IsRunThen (IsRun : List ℕ → List ℕ → Type 0) (IsRest : List ℕ → List ℕ → Type 0) (comment text bytes : List ℕ) : Type 0 where
-  pub run : List ℕ
-  pub rest : List ℕ
-  pub run_text : List ℕ
-  pub rest_text : List ℕ
-  pub bytes_are : bytes ≡ run ++ comment ++ rest
-  pub text_is : text ≡ run_text ++ rest_text
-  pub is_run : IsRun run_text run
-  pub is_comment : IsComment comment
-  pub is_rest : IsRest rest_text rest
+abbrev pub behind_word : ℕ → List ℕ → Production (List ℕ)
+behind_word left bytes =
+    choose (common word bytes == 3) (declared left (drop 3 bytes))
+    (from (record { kind = in_instruction; start = left; rest = drop (common word bytes) bytes }) none)
 
-abbrev pub AreRunsRound : (List ℕ → List ℕ → Type 0) → List (List ℕ) → List ℕ → List ℕ → Type 0
-AreRunsRound IsRun [] text bytes = IsRun text bytes
-AreRunsRound IsRun (comment ∷ comments) text bytes = IsRunThen IsRun (AreRunsRound IsRun comments) comment text bytes
+-- a declaration behind its `<?`, from whose `<` on so many bytes are left
+abbrev pub declaration : ℕ → List ℕ → Production (List ℕ)
+declaration left bytes = record {
+  spells = (behind_word left bytes).spells;
+  is_open = λ p. IsInWord left bytes p ⊎ (behind_word left bytes).is_open p;
+}
 
--- white space and comments
-abbrev pub IsWhiteRun : List ℕ → List ℕ → Type 0
-IsWhiteRun text bytes = (text ≡ []) × IsTrue (all_white bytes)
+-- ---- values and character data
 
-abbrev pub IsMisc : List ℕ → Type 0
-IsMisc bytes = (comments : List (List ℕ)) × AreRunsRound IsWhiteRun comments [] bytes
+-- a reference behind its `&`: the character that its name stands for
+pub record IsReference (bytes : List ℕ) (x : ℕ × List ℕ) : Type 0 where
+  pub name : List ℕ
+  pub bytes_are : bytes ≡ name ++ 59 ∷ x.1
+  pub is_first : IsTrue (not (has_byte 59 name))
+  pub refers : referred_to name ≡ Some x.0
 
--- character data and comments: characters other than `<` and `&`, and references
-abbrev pub IsDataRun : List ℕ → List ℕ → Type 0
-IsDataRun text bytes = (content_text bytes ≡ Some text) × IsTrue (not (has_byte 60 bytes))
+-- as far as some reference goes on so
+pub record IsInReference (left : ℕ) (bytes : List ℕ) (p : Position) : Type 0 where
+  pub count : ℕ
+  pub goes_on : count ≤ front_len bytes
+  pub is_there : p ≡ record { kind = in_reference; start = left; rest = drop count bytes }
 
-abbrev pub IsData : List ℕ → List ℕ → Type 0
-IsData text bytes = (comments : List (List ℕ)) × AreRunsRound IsDataRun comments text bytes
+abbrev pub reference : ℕ → List ℕ → Production (ℕ × List ℕ)
+reference left bytes = record { spells = IsReference bytes; is_open = IsInReference left bytes }
 
--- at least one white space, and a name
-pub record OpensAttribute (name white : List ℕ) : Type 0 where
-  pub is_name : IsTrue (is_name name)
-  pub is_white : IsTrue (all_white white)
-  pub some : (byte : ℕ) × (rest : List ℕ) × (white ≡ byte ∷ rest)
+-- behind CR, and between it and an LF
+abbrev pub behind_return : List ℕ → List ℕ → Production (List ℕ × Bool × List ℕ)
+behind_return read bytes = record {
+  spells = λ y. y ≡ (read, false, after_line_feed bytes);
+  is_open = λ p. (more : List ℕ) × (bytes ≡ 10 ∷ more) × (p ≡ here bytes);
+}
 
--- `=` with white space on either side, and a quote
-pub record IsEquals (quote : ℕ) (bytes : List ℕ) : Type 0 where
-  pub before : List ℕ
-  pub behind : List ℕ
-  pub bytes_are : bytes ≡ before ++ 61 ∷ behind ++ quote ∷ []
-  pub white_before : IsTrue (all_white before)
-  pub white_behind : IsTrue (all_white behind)
-  pub is_quote : (quote ≡ 34) ⊎ (quote ≡ 39)
+-- behind plain text: its end before the stop; a reference; a line end; or the white space of a value, which reads as a space
+abbrev pub marked : ℕ → List ℕ → List ℕ → Production (List ℕ × Bool × List ℕ)
+marked stop read [] = from (here []) none
+marked stop read (b ∷ bs) =
+    choose (b == stop) (just (read, true, b ∷ bs))
+    (from (here (b ∷ bs))
+    (choose (b == 38) (as_read (reference (length (b ∷ bs)) bs) (λ x. (read ++ encode_utf8 x.0, false, x.1)))
+    (choose (b == 13) (behind_return (read ++ line_end stop ∷ []) bs) (choose (b == 60) none (just (read ++ 32 ∷ [], false, bs))))))
 
--- what stands between the quotes: neither the quote nor `<`
-pub record IsQuoted (quote : ℕ) (text bytes : List ℕ) : Type 0 where
-  pub spells : value_text bytes ≡ Some text
-  pub no_quote : IsTrue (not (has_byte quote bytes))
-  pub no_less_than : IsTrue (not (has_byte 60 bytes))
+abbrev pub part : List ℕ → ℕ → List ℕ → List ℕ → Production (List ℕ × Bool × List ℕ)
+part marks stop read bytes =
+    behind_run bytes (plain_at marks bytes).1 (marked stop (read ++ (plain_at marks bytes).0) (plain_at marks bytes).1)
 
-pub record IsAttribute (place : Place) (attribute : Attribute) (bytes : List ℕ) : Type 0 where
-  pub white : List ℕ
-  pub equals : List ℕ
-  pub quote : ℕ
-  pub value : List ℕ
-  pub bytes_are : bytes ≡ white ++ attribute.name ++ equals ++ value ++ quote ∷ []
-  pub opens : OpensAttribute attribute.name white
-  pub place_is : attribute.place ≡ past place white
-  pub is_equals : IsEquals quote equals
-  pub is_quoted : IsQuoted quote attribute.value value
+-- text up to a stop, behind what is read of it: a value's quote, or the `<` behind character data
+abbrev pub text : List ℕ → List ℕ → ℕ → List ℕ → Production (List ℕ × List ℕ)
+text read marks stop bytes = many (part marks stop) read bytes
 
--- one after another
-pub record IsFirstThen (place : Place) (first : Attribute) (AreMore : Place → List ℕ → Type 0) (bytes : List ℕ) : Type 0 where
-  pub front : List ℕ
-  pub rest : List ℕ
-  pub bytes_are : bytes ≡ front ++ rest
-  pub is_first : IsAttribute place first front
-  pub are_more : AreMore (past place front) rest
+abbrev pub closed : List ℕ × List ℕ → Production (List ℕ × List ℕ)
+closed (value, []) = from (here []) none
+closed (value, quote ∷ rest) = from (here (quote ∷ rest)) (just (value, rest))
 
-abbrev pub AreAttributes : List Attribute → Place → List ℕ → Type 0
-AreAttributes [] place bytes = bytes ≡ []
-AreAttributes (attribute ∷ attributes) place bytes = IsFirstThen place attribute (AreAttributes attributes) bytes
+-- a value, and the quote at its end
+abbrev pub value : ℕ → List ℕ → Production (List ℕ × List ℕ)
+value quote bytes = text [] (marked_in_value quote) quote bytes >> closed
 
-abbrev pub names_of : List Attribute → List (List ℕ)
-names_of attributes = map (λ attribute. attribute.name) attributes
+-- ---- tags
 
--- `<`, a name, and attributes whose names differ
-pub record OpensTag (place : Place) (name : List ℕ) (attributes : List Attribute) (bytes : List ℕ) : Type 0 where
-  pub rest : List ℕ
-  pub bytes_are : bytes ≡ 60 ∷ name ++ rest
-  pub is_name : IsTrue (is_name name)
-  pub are_attributes : AreAttributes attributes (past place (60 ∷ name)) rest
-  pub differ : AllDiffer (names_of attributes)
+-- a name that none of those before has
+abbrev pub new_name : List (List ℕ) → List ℕ → Production (List ℕ × List ℕ)
+new_name before bytes = behind_run bytes (name_at bytes).1 (choose (is_among (name_at bytes).0 before)
+    (from (record { kind = behind_repeated; start = length bytes; rest = (name_at bytes).1 }) none) (just (name_at bytes)))
 
--- and white space and `>`
-pub record IsStartTag (place : Place) (name : List ℕ) (attributes : List Attribute) (bytes : List ℕ) : Type 0 where
-  pub front : List ℕ
-  pub white : List ℕ
-  pub bytes_are : bytes ≡ front ++ white ++ codes ">"
-  pub opens : OpensTag place name attributes front
-  pub is_white : IsTrue (all_white white)
+abbrev pub equals_sign : List ℕ → Production (List ℕ)
+equals_sign bytes = first anywhere 0 bytes λ b bs. choose (b == 61) (behind_run bs (after_white bs) (just (after_white bs))) none
 
--- and white space and `/>`
-pub record IsEmptyTag (place : Place) (name : List ℕ) (attributes : List Attribute) (bytes : List ℕ) : Type 0 where
-  pub front : List ℕ
-  pub white : List ℕ
-  pub bytes_are : bytes ≡ front ++ white ++ codes "/>"
-  pub opens : OpensTag place name attributes front
-  pub is_white : IsTrue (all_white white)
+-- `=` with white space on either side
+abbrev pub equals : List ℕ → Production (List ℕ)
+equals bytes = behind_run bytes (after_white bytes) (equals_sign (after_white bytes))
 
--- `</`, the name, white space and `>`
-pub record IsEndTag (name bytes : List ℕ) : Type 0 where
-  pub white : List ℕ
-  pub bytes_are : bytes ≡ codes "</" ++ name ++ white ++ codes ">"
-  pub is_white : IsTrue (all_white white)
+abbrev pub quote_mark : List ℕ → Production (ℕ × List ℕ)
+quote_mark bytes = first anywhere 0 bytes λ b bs. choose (b == 34 || b == 39) (just (b, bs)) none
 
--- a start tag, content, and the end tag of the same name
-pub record IsPair (place : Place) (head : Head) (IsInside : Place → List ℕ → Type 0) (bytes : List ℕ) : Type 0 where
-  pub start_tag : List ℕ
-  pub inside : List ℕ
-  pub end_tag : List ℕ
-  pub bytes_are : bytes ≡ start_tag ++ inside ++ end_tag
-  pub is_start_tag : IsStartTag place head.name head.attributes start_tag
-  pub is_inside : IsInside (past place start_tag) inside
-  pub is_end_tag : IsEndTag head.name end_tag
+-- an attribute from its name on, behind those before
+abbrev pub attribute : List ℕ → List Attribute → List ℕ → Production (List Attribute × List ℕ)
+attribute whole before bytes =
+    new_name (names_of before) bytes >> λ name.
+    equals name.1 >> λ behind.
+    quote_mark behind >> λ quote.
+    as_read (value quote.0 quote.1) λ found.
+    (before ++ record { name = name.0; value = found.0; place = place_before whole (length bytes) } ∷ [], found.1)
 
--- an empty tag has the empty content
-pub record IsEmptyElement (place : Place) (head : Head) (IsInside : Place → List ℕ → Type 0) (bytes : List ℕ) : Type 0 where
-  pub is_empty_tag : IsEmptyTag place head.name head.attributes bytes
-  pub is_inside : IsInside (past place bytes) []
+-- an attribute behind white space, or the tag's end: `>` or `/`
+abbrev pub behind_white : List ℕ → List Attribute → Bool → List ℕ → Production (List Attribute × Bool × List ℕ)
+behind_white whole before white [] = from (here []) none
+behind_white whole before white (b ∷ bs) =
+    choose (b == 62 || b == 47) (just (before, true, b ∷ bs))
+    (from (here (b ∷ bs))
+    (choose (starts_name b && white) (as_read (attribute whole before (b ∷ bs)) (λ x. (x.0, false, x.1))) none))
 
-abbrev pub IsElementRound : (Place → List ℕ → Type 0) → Place → Head → List ℕ → Type 0
-IsElementRound IsInside place head bytes =
-    (head.place ≡ place) × (IsPair place head IsInside bytes ⊎ IsEmptyElement place head IsInside bytes)
+abbrev pub next_attribute : List ℕ → List Attribute → List ℕ → Production (List Attribute × Bool × List ℕ)
+next_attribute whole before bytes = behind_run bytes (after_white bytes)
+    (behind_white whole before (nat_lt (length (after_white bytes)) (length bytes)) (after_white bytes))
 
--- character data, an element, and more content
-pub record IsDataThen (place : Place) (IsFirst : Place → List ℕ → Type 0) (IsRest : Place → List ℕ → List ℕ
-    → Type 0) (text bytes : List ℕ) : Type 0 where
-  pub front : List ℕ
-  pub first : List ℕ
-  pub rest : List ℕ
-  pub front_text : List ℕ
-  pub rest_text : List ℕ
-  pub bytes_are : bytes ≡ front ++ first ++ rest
-  pub text_is : text ≡ front_text ++ rest_text
-  pub is_front : IsData front_text front
-  pub is_first : IsFirst (past place front) first
-  pub is_rest : IsRest (past place (front ++ first)) rest_text rest
+abbrev pub greater_than : List ℕ → Production (List ℕ)
+greater_than bytes = first anywhere 0 bytes λ b bs. choose (b == 62) (just bs) none
 
--- content: character data, references, comments and elements in any order
-abbrev pub IsContent : Forest → Place → List ℕ → List ℕ → Type 0
-IsContent nothing place text bytes = IsData text bytes
-IsContent (element head children others) place text bytes =
-    IsDataThen place
-    (λ from. IsElementRound (λ within. IsContent children within head.text) from head)
-    (IsContent others)
-    text bytes
+-- `>` or `/>`, and whether it is that of an empty element
+abbrev pub tag_end : List ℕ → Production (Bool × List ℕ)
+tag_end [] = from (here []) none
+tag_end (b ∷ bs) = choose (b == 47) (from (here (b ∷ bs)) (as_read (greater_than bs) (λ rest. (true, rest))))
+    (as_read (greater_than (b ∷ bs)) (λ rest. (false, rest)))
 
-abbrev pub IsElement : Place → Element → List ℕ → Type 0
-IsElement place e bytes = IsElementRound (λ within. IsContent e.children within e.head.text) place e.head bytes
+-- a start tag or an empty one from its name on; `left` is left from its `<` on
+abbrev pub tag : List ℕ → ℕ → List ℕ → Production (Piece × List ℕ)
+tag whole left bytes = behind_run bytes (name_at bytes).1 (
+    many (next_attribute whole) [] (name_at bytes).1 >> λ found.
+    as_read (tag_end found.1) λ end.
+    (tag_piece end.0 (record { name = (name_at bytes).0; place = place_before whole left; attributes = found.0; text = [] }), end.1))
+
+-- an end tag behind its `</`
+abbrev pub end_tag : List ℕ → ℕ → List ℕ → Production (List ℕ)
+end_tag name left bytes = first anywhere 0 bytes λ b bs.
+    choose (starts_name b) (behind_run bytes (name_at bytes).1 (choose (bytes_eq (name_at bytes).0 name)
+    (behind_run (name_at bytes).1 (after_white (name_at bytes).1) (greater_than (after_white (name_at bytes).1)))
+    (from (record { kind = behind_other_name; start = left; rest = (name_at bytes).1 }) none))) none
+
+-- ---- elements
+
+-- what stands behind a `<` inside an element of that name, with room for so many elements inside one another
+abbrev pub piece : List ℕ → ℕ → List ℕ → ℕ → List ℕ → Production (Piece × List ℕ)
+piece whole room name left bytes = first (behind_less_than (room == 0)) left bytes λ b bs.
+    choose (b == 47) (as_read (end_tag name left bs) (λ rest. (reading.ended, rest)))
+    (choose (b == 33) (as_read (comment left bs) (λ rest. (reading.comment, rest)))
+    (choose (b == 63) none (choose (starts_name b) (choose (room == 0) none (tag whole left (b ∷ bs))) none)))
+
+-- what a piece adds to what stands before it, and whether the element ends
+abbrev pub added : (List ℕ → List ℕ → Production (Inside × List ℕ)) → Inside → Piece × List ℕ → Production (Inside × Bool × List ℕ)
+added inner before (reading.ended, rest) = just (before, true, rest)
+added inner before (reading.comment, rest) = just (before, false, rest)
+added inner before (reading.empty head, rest) =
+    just (record before { children = with_child before.children head nothing_inside }, false, rest)
+added inner before (reading.begun head, rest) =
+    as_read (inner head.name rest) (λ i. (record before { children = with_child before.children head i.0 }, false, i.1))
+
+-- character data, a `<`, and a piece
+abbrev pub next_inside : (List ℕ → List ℕ → Production (Inside × List ℕ)) → List ℕ → ℕ → List ℕ → Inside → List ℕ
+    → Production (Inside × Bool × List ℕ)
+next_inside inner whole room name before bytes =
+    text before.text marked_in_content 60 bytes >> λ found.
+    from (here found.1) (piece whole room name (length found.1) (drop 1 found.1) >> added inner (record before { text = found.0 }))
+
+-- the content of an element of that name, and its end tag, with room for so many elements inside one another
+abbrev pub inside : ℕ → List ℕ → List ℕ → List ℕ → Production (Inside × List ℕ)
+inside zero whole name bytes = many (next_inside (λ _ _. from (here []) none) whole 0 name) nothing_inside bytes
+inside (suc room) whole name bytes = many (next_inside (inside room whole) whole (suc room) name) nothing_inside bytes
+
+-- the element of a tag
+abbrev pub element : List ℕ → Piece × List ℕ → Production (Element × List ℕ)
+element whole (reading.ended, rest) = none
+element whole (reading.comment, rest) = none
+element whole (reading.empty head, rest) = just (record { head = head; children = nothing }, rest)
+element whole (reading.begun head, rest) = as_read (inside 31 whole head.name rest)
+    (λ i. (record { head = record head { text = i.0.text }; children = i.0.children }, i.1))
+
+-- the root behind its `<`
+abbrev pub behind_root_start : List ℕ → ℕ → List ℕ → Production (Element × List ℕ)
+behind_root_start whole left bytes = first (behind_less_than false) left bytes λ b bs.
+    choose (b == 63) none (choose (starts_name b) (tag whole left (b ∷ bs) >> element whole) none)
+
+abbrev pub root : List ℕ → List ℕ → Production (Element × List ℕ)
+root whole bytes = first anywhere 0 bytes λ b bs. choose (b == 60) (behind_root_start whole (length (b ∷ bs)) bs) none
+
+-- ---- around the root
 
 -- a byte order mark, or none, and a declaration, or none
-pub record IsBeginning (bytes : List ℕ) : Type 0 where
-  pub mark : List ℕ
-  pub declaration : List ℕ
-  pub bytes_are : bytes ≡ mark ++ declaration
-  pub is_mark : IsMark mark
-  pub is_declaration : (declaration ≡ []) ⊎ IsDeclaration declaration
+abbrev pub beginning : List ℕ → Production (List ℕ)
+beginning bytes = choose (starts_with nat_eq (after_mark bytes) (codes "<?"))
+    (declaration (length (after_mark bytes)) (drop 2 (after_mark bytes))) (just (after_mark bytes))
 
--- all that may stand before the root
-pub record IsProlog (bytes : List ℕ) : Type 0 where
-  pub beginning : List ℕ
-  pub misc : List ℕ
-  pub bytes_are : bytes ≡ beginning ++ misc
-  pub is_beginning : IsBeginning beginning
-  pub is_misc : IsMisc misc
+-- so many comments, each with white space behind it, and none any more
+abbrev pub comments : ℕ → List ℕ → Production (List ℕ)
+comments zero bytes = choose (starts_with nat_eq bytes (codes "<!")) none (just bytes)
+comments (suc n) bytes = choose (starts_with nat_eq bytes (codes "<!"))
+    (comment (length bytes) (drop 2 bytes) >> λ behind. behind_run behind (after_white behind) (comments n (after_white behind))) none
 
--- the deepest element stands inside 31 others at most
-abbrev pub deepest : ℕ
-deepest = 32
+-- white space and comments
+abbrev pub misc : List ℕ → Production (List ℕ)
+misc bytes = behind_run bytes (after_white bytes) (any (λ n. comments n (after_white bytes)))
 
-pub record IsDocument (root : Element) (bytes : List ℕ) : Type 0 where
-  pub prolog : List ℕ
-  pub main : List ℕ
-  pub misc : List ℕ
-  pub bytes_are : bytes ≡ prolog ++ main ++ misc
-  pub is_prolog : IsProlog prolog
-  pub is_main : IsElement (past first_place prolog) root main
-  pub is_misc : IsMisc misc
-  pub is_shallow : suc (depth root.children) ≤ deepest
+-- nothing is left
+abbrev pub at_end : List ℕ → Production (Unit {0})
+at_end [] = from (here []) (just tt)
+at_end (b ∷ bs) = from (here (b ∷ bs))
+    (choose (b == 60) (from (record { kind = behind_less_than false; start = length (b ∷ bs); rest = bs }) none) none)
+
+-- the root, and nothing around it but white space and comments
+abbrev pub document : List ℕ → Production Element
+document whole =
+    beginning whole >> λ behind.
+    misc behind >> λ front.
+    root whole front >> λ found.
+    as_read (misc found.1 >> at_end) (λ _. found.0)
+
+abbrev pub IsDocument : Element → List ℕ → Type 0
+IsDocument tree bytes = (document bytes).spells tree
 
 -- UTF-8 without a character that no text may have
 pub record IsClean (bytes : List ℕ) : Type 0 where

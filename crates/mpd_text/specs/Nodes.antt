@@ -1,9 +1,9 @@
 -- Elements by the trees, nodes and walks that hold them.
-use Rattle.std.specs.{Prelude.{ℕ, List, ◌++◌, map}, String.string_bytes}
+use Rattle.std.specs.{Prelude.{ℕ, suc, List, ◌++◌, map}, String.string_bytes}
 use Rattle.mpd_text.specs.{declared.node.Node.Node, declared.node.AttrWalk.AttrWalk, declared.node.NodeWalk.NodeWalk}
 use Rattle.mpd_text.specs.{declared.tree.Tree.Tree, declared.tree.Rows.Rows, declared.tree.ElementRow.ElementRow}
-use Rattle.mpd_text.specs.{declared.tree.AttributeRow.AttributeRow}
-use Rattle.mpd_text.specs.{Trees.{Attribute, Head, Element}, Views.{attribute_of, element_at, forest_of, head_of, root_shown, side_by_side}}
+use Rattle.mpd_text.specs.{declared.tree.AttributeRow.AttributeRow, Trees.{Attribute, Head, Element}, Forests.Shown}
+use Rattle.mpd_text.specs.Views.{attribute_of, element_at, forest_of, head_of, root_shown, rows_shown, side_by_side}
 
 -- the root that rows show of a text, with all that is in it
 abbrev pub root_in : List ℕ → Rows → Element
@@ -27,10 +27,17 @@ attribute_in tree row = attribute_of (string_bytes tree.source) (kept_of tree) r
 abbrev pub head_in : Tree → ElementRow → Head
 head_in tree row = head_of (string_bytes tree.source) (kept_of tree) tree.attributes.items row
 
+abbrev pub shown_in : Tree → List Shown
+shown_in tree = rows_shown (string_bytes tree.source) (string_bytes tree.read) tree.elements tree.attributes.items
+
+-- the element of a row, with what is inside of it
+abbrev pub element_of_row : Tree → ℕ → ElementRow → Element
+element_of_row tree k row = record { head = head_in tree row; children = forest_of (shown_in tree) 0 (suc k) row.next }
+
 -- the attributes that a walk has before it
 abbrev pub attributes_left : AttrWalk → List Attribute
 attributes_left walk = map (attribute_in walk.tree.now) walk.rest.now
 
 -- the elements that a walk has before it
 abbrev pub elements_left : NodeWalk → List Element
-elements_left walk = side_by_side (forest_of (head_in walk.tree.now) walk.tree.now.elements 0 walk.at walk.end)
+elements_left walk = side_by_side (forest_of (shown_in walk.tree.now) 0 walk.at walk.end)

@@ -1,6 +1,5 @@
 -- Rows of elements in few bytes.
-use Rattle.std.specs.Prelude.{◌≡◌, ℕ, ◌+◌, ◌-◌, ◌<◌, ◌≤◌, ◌/◌, ◌%◌, ◌^◌, nat_lt, List, [], ◌∷◌, ◌++◌, All, length, Some, slice_get}
-use Rattle.std.specs.Prelude.{slice_index_or, if◌then◌else◌}
+use Rattle.std.specs.Prelude.{◌≡◌, ℕ, ◌+◌, ◌-◌, ◌<◌, ◌/◌, ◌%◌, ◌^◌, nat_lt, List, [], ◌∷◌, ◌++◌, All, length, slice_index_or, if◌then◌else◌}
 use Rattle.mpd_text.specs.{declared.element_table.PackedRow.PackedRow, declared.tree.ElementRow.ElementRow}
 
 -- the row of an element with nothing in it, where the code has the length of its name and the number of its attributes
@@ -32,15 +31,9 @@ pub record IsPacked (wide_count : ℕ) (packed : PackedRow) : Type 0 where
   pub within : IsWithin packed
   pub code : packed.code < 65536 + wide_count
 
--- no two have the same wide row
-abbrev pub AreApart : List PackedRow → Type 0
-AreApart rows = (i j : ℕ) (r s : PackedRow) → slice_get rows i ≡ Some r → slice_get rows j ≡ Some s → 65536 ≤ r.code
-    → r.code ≡ s.code → i ≡ j
-
 pub record ArePacked (wide : List ElementRow) (rows : List PackedRow) : Type 0 where
   pub counted : length rows < 2 ^ 32
   pub all : All (IsPacked (length wide)) rows
-  pub apart : AreApart rows
 
 -- a packed row that says all of a row
 pub record IsNarrow (next : ℕ) (row : ElementRow) (packed : PackedRow) : Type 0 where
@@ -53,4 +46,3 @@ pub record IsPackedAs (next : ℕ) (row : ElementRow) (old new : List ElementRow
   pub wide : new ≡ old ++ more
   pub row_is : row_of new next packed ≡ row
   pub is_packed : IsPacked (length new) packed
-  pub is_new : 65536 ≤ packed.code → packed.code ≡ 65536 + length old

@@ -1,19 +1,7 @@
--- What the characters of content and of values stand for: line ends, and references (XML 1.0, 2.11, 3.3.3 and 4.1).
-use Rattle.std.specs.Prelude.{ℕ, ◌+◌, ◌*◌, ◌-◌, Bool, true, false, ◌==◌, ◌&&◌, ◌||◌, nat_le, nat_lt, nat_eq, List, [], ◌∷◌, ◌++◌, map}
-use Rattle.std.specs.Prelude.{codes, if◌then◌else◌, Option, Some, None, option_map, option_and_then, encode_utf8, fold, bytes_eq}
-use Rattle.std.specs.List.{list_all, list_any, starts_with}
-use Rattle.mpd_text.specs.Characters.{is_digit, is_white}
-
--- CRLF and a lone CR are read as LF; `behind` tells whether a CR stands right before the bytes
-abbrev pub line_ends_after : Bool → List ℕ → List ℕ
-line_ends_after behind [] = []
-line_ends_after behind (b ∷ bs) =
-    if b == 13 then 10 ∷ line_ends_after true bs
-    else if behind && b == 10 then line_ends_after false bs
-    else b ∷ line_ends_after false bs
-
-abbrev pub with_line_ends : List ℕ → List ℕ
-with_line_ends bytes = line_ends_after false bytes
+-- The characters that references stand for (XML 1.0, 4.1 and 4.6).
+use Rattle.std.specs.Prelude.{ℕ, ◌+◌, ◌*◌, ◌-◌, Bool, ◌==◌, ◌&&◌, ◌||◌, nat_le, nat_lt, List, [], ◌∷◌, codes, if◌then◌else◌, Option, Some}
+use Rattle.std.specs.{Prelude.{None, fold, bytes_eq}, List.list_all}
+use Rattle.mpd_text.specs.Characters.{is_digit}
 
 abbrev pub is_hex_digit : ℕ → Bool
 is_hex_digit b = is_digit b || (nat_le 65 b && nat_le b 70) || (nat_le 97 b && nat_le b 102)
@@ -51,38 +39,3 @@ referred_to (b ∷ bs) =
     else if bytes_eq (b ∷ bs) (codes "quot") then Some 34
     else if bytes_eq (b ∷ bs) (codes "apos") then Some 39
     else None
-
--- characters with each reference replaced by the character that it names, or none where a `&` begins no reference;
--- `name` is there between a `&` and its `;`: what stands behind the `&` so far
-abbrev pub replaced_within : Option (List ℕ) → List ℕ → Option (List ℕ)
-replaced_within None [] = Some []
-replaced_within (Some name) [] = None
-replaced_within None (b ∷ bs) =
-    if b == 38 then replaced_within (Some []) bs
-    else option_map (λ text. b ∷ text) (replaced_within None bs)
-replaced_within (Some name) (b ∷ bs) =
-    if b == 59 then option_and_then (λ c. option_map (λ text. encode_utf8 c ++ text) (replaced_within None bs)) (referred_to name)
-    else replaced_within (Some (name ++ b ∷ [])) bs
-
-abbrev pub replaced : List ℕ → Option (List ℕ)
-replaced bytes = replaced_within None bytes
-
--- what character data reads as, or none where a `&` in it begins no reference
-abbrev pub content_text : List ℕ → Option (List ℕ)
-content_text bytes = replaced (with_line_ends bytes)
-
--- what a value reads as: a literal tab, LF or CR is read as a space
-abbrev pub value_text : List ℕ → Option (List ℕ)
-value_text bytes = replaced (map (λ b. if is_white b then 32 else b) (with_line_ends bytes))
-
--- the front of digits, or of `x` and hexadecimal digits
-abbrev pub is_front_of_digits : List ℕ → Bool
-is_front_of_digits [] = true
-is_front_of_digits (b ∷ bs) = if b == 120 then list_all is_hex_digit bs else list_all is_digit (b ∷ bs)
-
--- behind `&`, what some reference goes on with up to its `;`
-abbrev pub is_front_of_reference : List ℕ → Bool
-is_front_of_reference [] = true
-is_front_of_reference (b ∷ bs) =
-    if b == 35 then is_front_of_digits bs
-    else list_any (λ name. starts_with nat_eq name (b ∷ bs)) (codes "amp" ∷ codes "lt" ∷ codes "gt" ∷ codes "quot" ∷ codes "apos" ∷ [])

@@ -1,6 +1,7 @@
 -- Where the texts of rows lie, and how rows stand inside one another.
-use Rattle.std.specs.{Prelude.{◌≡◌, ℕ, ◌<◌, ◌≤◌, List, length, Some, slice_get}, Str.IsCharBoundary}
-use Rattle.mpd_text.specs.{declared.tree.KeptSpan.KeptSpan, declared.tree.ElementRow.ElementRow, declared.tree.AttributeRow.AttributeRow}
+use Rattle.std.specs.{Prelude.{ℕ, ◌<◌, ◌≤◌, List, length}, Str.IsCharBoundary}
+use Rattle.mpd_text.specs.{declared.tree.KeptSpan.KeptSpan, declared.tree.ElementRow.ElementRow}
+use Rattle.mpd_text.specs.declared.tree.AttributeRow.{AttributeRow}
 
 -- whole characters of what is kept, all in the source or all behind it
 pub record IsKept (source kept : List ℕ) (span : KeptSpan) : Type 0 where
@@ -27,17 +28,3 @@ pub record IsAttributeKept (source kept : List ℕ) (row : AttributeRow) : Type 
 pub record HasAttributesWithin (count : ℕ) (row : ElementRow) : Type 0 where
   pub ordered : row.attributes ≤ row.attributes_end
   pub within : row.attributes_end ≤ count
-
--- what is inside of an element follows it
-abbrev pub AreFollowed : List ElementRow → Type 0
-AreFollowed rows = (k : ℕ) (row : ElementRow) → slice_get rows k ≡ Some row → (k < row.next) × (row.next ≤ length rows)
-
--- an element that begins inside of another ends inside of it
-abbrev pub AreNested : List ElementRow → Type 0
-AreNested rows = (k j : ℕ) (row inner : ElementRow) → slice_get rows k ≡ Some row → slice_get rows j ≡ Some inner → k < j → j < row.next
-    → inner.next ≤ row.next
-
--- all elements are inside of the first
-pub record AreRooted (rows : List ElementRow) : Type 0 where
-  pub some : 0 < length rows
-  pub all_inside : (root : ElementRow) → slice_get rows 0 ≡ Some root → root.next ≡ length rows

@@ -1,5 +1,5 @@
 -- Elements as a caller sees them.
-use Rattle.std.specs.Prelude.{ℕ, suc, max, List}
+use Rattle.std.specs.Prelude.{ℕ, suc, max, List, map}
 use Rattle.bridge_io.specs.declared.place.Place.{Place}
 
 -- an attribute; its place is that of its name
@@ -7,6 +7,9 @@ pub record Attribute : Type 0 where
   pub name : List ℕ
   pub value : List ℕ
   pub place : Place
+
+abbrev pub names_of : List Attribute → List (List ℕ)
+names_of attributes = map (λ attribute. attribute.name) attributes
 
 -- an element but for its children; its place is that of its `<`, and its text the character data directly inside it
 pub record Head : Type 0 where

@@ -1,50 +1,9 @@
 -- The tree that rows show.
-use Rattle.std.specs.Prelude.{ℕ, ◌+◌, ◌-◌, nat_lt, List, [], ◌∷◌, ◌++◌, map, length, slice_range, slice_index_or, if◌then◌else◌, Option}
-use Rattle.std.specs.{Prelude.{bytes_eq, find}, String.string_bytes}
+pub use Rattle.mpd_text.specs.Heads.{attribute_of, bytes_of, head_of}
+pub use Rattle.mpd_text.specs.Roots.{first_of, forest_of, no_element, root_shown, rows_shown}
+use Rattle.std.specs.{Prelude.{ℕ, List, [], ◌∷◌, ◌++◌, slice_index_or, Option, bytes_eq, find}, String.string_bytes}
 use Rattle.bridge_io.specs.Places.{place_of}
-use Rattle.mpd_text.specs.{declared.tree.KeptSpan.KeptSpan, declared.tree.ElementRow.ElementRow, declared.tree.AttributeRow.AttributeRow}
-use Rattle.mpd_text.specs.{declared.attr.Attr.Attr, Trees.{Attribute, Head, Forest, nothing, element, Element}}
-
--- what is kept: the source, and behind it what was read otherwise than it stands there
-abbrev pub bytes_of : List ℕ → KeptSpan → List ℕ
-bytes_of kept span = slice_range kept span.start span.end
-
-abbrev pub attribute_of : (source kept : List ℕ) → AttributeRow → Attribute
-attribute_of source kept row = record {
-  name = bytes_of kept row.name;
-  value = bytes_of kept row.value;
-  place = place_of source row.name.start;
-}
-
-abbrev pub head_of : (source kept : List ℕ) → List AttributeRow → ElementRow → Head
-head_of source kept attributes row = record {
-  name = bytes_of kept row.name;
-  place = place_of source (row.name.start - 1);
-  attributes = map (attribute_of source kept) (slice_range attributes row.attributes row.attributes_end);
-  text = bytes_of kept row.text;
-}
-
--- The elements that stand side by side in the rows from `from` up to `end`, where the rows begin at `at`: each row
--- is followed by those inside it, up to its `next`.
-abbrev pub forest_of : (ElementRow → Head) → List ElementRow → (at from end : ℕ) → Forest
-forest_of head [] at from end = nothing
-forest_of head (row ∷ rows) at from end =
-    if nat_lt at from then forest_of head rows (at + 1) from end
-    else if nat_lt at end then element (head row) (forest_of head rows (at + 1) (at + 1) row.next)
-    (forest_of head rows (at + 1) row.next end)
-    else nothing
-
--- the first of them
-abbrev pub first_of : Forest → Element → Element
-first_of nothing otherwise = otherwise
-first_of (element head children others) otherwise = record { head = head; children = children }
-
-abbrev pub no_element : Element
-no_element = record { head = record { name = []; place = record { at = 0; line = 0 }; attributes = []; text = [] }; children = nothing }
-
-abbrev pub root_shown : (source read : List ℕ) → List ElementRow → List AttributeRow → Element
-root_shown source read elements attributes =
-    first_of (forest_of (head_of source (source ++ read) attributes) elements 0 0 (length elements)) no_element
+use Rattle.mpd_text.specs.{declared.attr.Attr.Attr, Trees.{Attribute, Forest, nothing, element, Element}}
 
 -- elements side by side, without those inside them
 abbrev pub side_by_side : Forest → List Element

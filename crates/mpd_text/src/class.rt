@@ -1,6 +1,8 @@
-// The bytes of a text by their parts in the grammar of XML 1.0.
-ghost use Rattle.std.specs.Prelude.{◌≡◌};
+// The bytes of a text by their parts in the grammar of XML 1.0, and runs of them.
+ghost use Rattle.std.specs.Prelude.{◌≡◌, position};
 ghost use Rattle.mpd_text.specs.Characters.{is_white, starts_name, goes_on_name};
+ghost use Rattle.mpd_text.specs.Reading as spec;
+ghost use Rattle.mpd_text.specs.Runs as runs;
 
 /// White space, production 3.
 #[tactic(auto, unfolding(crate::specs::Characters::is_white))]
@@ -27,4 +29,47 @@ pub(crate) fn goes_on_name(byte: u8) -> bool
     ensures { result ≡ goes_on_name byte }
 {
     starts_name(byte) || byte.is_ascii_digit() || byte == b'-' || byte == b'.'
+}
+
+#[inline(always)]
+fn is_black(byte: u8) -> bool
+    ensures { result ≡ runs.is_black byte }
+{
+    !is_white(byte)
+}
+
+#[inline(always)]
+fn ends_name(byte: u8) -> bool
+    ensures { result ≡ runs.ends_name byte }
+{
+    !goes_on_name(byte)
+}
+
+fn black_at(bytes: &[u8]) -> Option<usize>
+    ensures { result ≡ position runs.is_black bytes.now }
+{
+    bytes.iter().position(|b| is_black(*b))
+}
+
+/// What stands behind the white space at the front.
+pub(crate) fn after_white(bytes: &[u8]) -> &[u8]
+    ensures { result.now ≡ runs.after_white bytes.now }
+{
+    let len = black_at(bytes).unwrap_or(bytes.len());
+    &bytes[len..]
+}
+
+fn name_end(bytes: &[u8]) -> Option<usize>
+    ensures { result ≡ position runs.ends_name bytes.now }
+{
+    bytes.iter().position(|b| ends_name(*b))
+}
+
+/// The name at the front, and what stands behind it.
+pub(crate) fn name_of(bytes: &[u8]) -> (&[u8], &[u8])
+    ensures name { result.0.now ≡ (runs.name_at bytes.now).0 }
+    ensures rest { result.1.now ≡ (runs.name_at bytes.now).1 }
+{
+    let len = name_end(bytes).unwrap_or(bytes.len());
+    bytes.split_at(len)
 }

@@ -1,8 +1,8 @@
 // Bytes that are a text, and that have no character which no text may have.
-ghost use Rattle.std.specs.Prelude.{◌≡◌, ◌⊎◌, ◌<◌, ◌≤◌, ℕ, length, drop, position, false, IfOk, IfErr, MatchOption};
+ghost use Rattle.std.specs.Prelude.{◌≡◌, ◌⊎◌, ◌<◌, ◌≤◌, ℕ, length, drop, position, false, IfOk, IfErr, IfSome, MatchOption};
 ghost use Rattle.std.specs.String.{string_bytes};
 ghost use Rattle.byte_scan.specs.Class.{is_low_control};
-ghost use Rattle.mpd_text.specs.Characters.{IsFirstNoncharacter, begins_with_noncharacter, first_bad_character};
+ghost use Rattle.mpd_text.specs.Characters.{IsFirstNoncharacter, begins_with_noncharacter, first_bad_character, lesser};
 ghost use Rattle.mpd_text.specs.Faults.{HasBadCharacter, IsNotUtf8};
 ghost use Rattle.mpd_text.specs.Grammar.{IsClean};
 
@@ -30,7 +30,8 @@ fn next_lead(bytes: &[u8], from: usize) -> Option<usize>
         (λ at. (from ≤ at) × (at < length bytes.now) × ((j : ℕ) → from ≤ j → j < at
         → begins_with_noncharacter (drop j bytes.now) ≡ false)) }
 {
-    match memchr(LEAD, &bytes[from..]) {
+    let (_, rest) = bytes.split_at(from);
+    match memchr(LEAD, rest) {
         Some(found) => Some(from + found),
         None => None,
     }
@@ -57,14 +58,38 @@ fn first_control(bytes: &[u8]) -> Option<usize>
     first_outside(bytes, Class::Xml)
 }
 
-/// Where a character begins for the first time that no text may have.
-fn first_bad_character(bytes: &[u8]) -> Option<usize>
-    ensures { result ≡ first_bad_character bytes.now }
+/// The lesser of two places that may be there.
+fn lesser(first: Option<usize>, second: Option<usize>) -> Option<usize>
+    ensures { result ≡ lesser first second }
 {
-    match (first_control(bytes), first_noncharacter(bytes)) {
+    match (first, second) {
         (None, other) => other,
-        (Some(control), None) => Some(control),
-        (Some(control), Some(other)) => Some(control.min(other)),
+        (first, None) => first,
+        (Some(first), Some(second)) => Some(first.min(second)),
+    }
+}
+
+/// Where a character begins for the first time that no text may have.
+#[tactic(auto, using(crate::proofs::BadLemmas::bad_first, crate::proofs::BadLemmas::bad_within))]
+fn first_bad_character(bytes: &[u8]) -> Option<usize>
+    ensures first { result ≡ first_bad_character bytes.now }
+    ensures within { IfSome result (λ at. at < length bytes.now) }
+{
+    lesser(first_control(bytes), first_noncharacter(bytes))
+}
+
+/// The bytes, taken over as a text.
+#[tactic(auto, using(std::proofs::lemmas::Str::utf8_valid_len_le))]
+fn text_of(bytes: Bytes) -> Result<String, TextFault>
+    ensures text { IfOk result (λ text. string_bytes text ≡ bytes) }
+    ensures fault { IfErr result (IsNotUtf8 bytes) }
+{
+    match String::from_utf8(bytes.into_vec()) {
+        Ok(text) => Ok(text),
+        Err(error) => {
+            let valid = error.utf8_error().valid_up_to();
+            Err(TextFault::NotUtf8(place_at(error.as_bytes(), valid)))
+        }
     }
 }
 
@@ -74,16 +99,10 @@ pub(crate) fn clean(bytes: Bytes) -> Result<String, TextFault>
     ensures clean { IfOk result (λ _. IsClean bytes) }
     ensures fault { IfErr result (λ fault. IsNotUtf8 bytes fault ⊎ HasBadCharacter bytes fault) }
 {
-    let source = match String::from_utf8(bytes.into_vec()) {
-        Ok(source) => source,
-        Err(error) => {
-            let valid = error.utf8_error().valid_up_to();
-            return Err(TextFault::NotUtf8(place_at(error.as_bytes(), valid)));
-        }
-    };
-    let text = source.as_str().as_bytes();
-    match first_bad_character(text) {
-        None => Ok(source),
-        Some(bad) => Err(TextFault::BadChar(place_at(text, bad))),
+    let text = text_of(bytes)?;
+    let whole = text.as_str().as_bytes();
+    match first_bad_character(whole) {
+        None => Ok(text),
+        Some(bad) => Err(TextFault::BadChar(place_at(whole, bad))),
     }
 }

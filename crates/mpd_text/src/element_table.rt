@@ -1,9 +1,9 @@
 // The rows of a tree's elements. Most of them take 12 bytes each.
 ghost use Rattle.std.specs.Prelude.{◌≡◌, ◌+◌, ◌<◌, ◌^◌, [], ◌∷◌, ◌++◌, IfErr, IfOk, IfSome, OnErr, OnOk, Some, length, set, slice_get};
 ghost use Rattle.mpd_text.specs.Packed.{IsNarrow, IsPackedAs, IsWithin, narrow_row};
-ghost use Rattle.mpd_text.specs.declared.fault.TextFault.TheVariants.{Memory};
+ghost use Rattle.mpd_text.specs.declared.stop.Stop.TheVariants.{Memory};
 
-use crate::TextFault;
+use crate::stop::Stop;
 use crate::tree::{ElementRow, KeptSpan};
 use std::alloc::Global;
 use std::marker::Model;
@@ -45,13 +45,13 @@ impl Model for ElementTable {
 
 /// A number of rows. There is none from 2 ^ 32 on.
 #[inline(always)]
-pub(crate) fn count(rows: usize) -> Result<u32, TextFault>
+pub(crate) fn count(rows: usize) -> Result<u32, Stop>
     ensures ok { IfOk result (λ count. count ≡ rows) }
-    ensures fault { IfErr result (λ fault. fault ≡ Memory) }
+    ensures fault { IfErr result (λ e. e ≡ Memory) }
 {
     match u32::try_from(rows) {
         Ok(count) => Ok(count),
-        Err(_) => Err(TextFault::Memory),
+        Err(_) => Err(Stop::Memory),
     }
 }
 
@@ -103,10 +103,10 @@ fn widened(packed: PackedRow, next: u32) -> ElementRow
 
 /// The packed row for a row, which comes behind the wide ones where it says more.
 #[inline(always)]
-fn pack(wide: &mut Vec<ElementRow>, row: ElementRow, next: u32) -> Result<PackedRow, TextFault>
+fn pack(wide: &mut Vec<ElementRow>, row: ElementRow, next: u32) -> Result<PackedRow, Stop>
     ensures ok { IfOk result (IsPackedAs next row wide.old.items wide.new.items) }
     ensures stays { OnErr result (wide.new.items ≡ wide.old.items) }
-    ensures fault { IfErr result (λ fault. fault ≡ Memory) }
+    ensures fault { IfErr result (λ e. e ≡ Memory) }
 {
     if let Some(packed) = narrowed(row, next) {
         return Ok(packed);
@@ -131,7 +131,7 @@ impl ElementTable {
     }
 
     #[inline(always)]
-    #[tactic(auto, using(crate::proofs::PackedLemmas::rows_length))]
+    #[tactic(auto, using(crate::proofs::PackedLemmas::packed_rows))]
     pub(crate) fn len(&self) -> usize
         ensures length { result ≡ length self.now }
         ensures bound { result < 2 ^ 32 }
@@ -141,7 +141,7 @@ impl ElementTable {
 
     /// The row with that number.
     #[inline(always)]
-    #[tactic(auto, using(crate::proofs::PackedLemmas::rows_length))]
+    #[tactic(auto, using(crate::proofs::PackedLemmas::packed_rows))]
     pub(crate) fn get(&self, index: usize) -> ElementRow
         requires { index < length self.now }
         ensures { slice_get self.now index ≡ Some result }
@@ -156,10 +156,11 @@ impl ElementTable {
 
     /// Adds a row behind the others.
     #[inline(always)]
-    pub(crate) fn push(&mut self, row: ElementRow) -> Result<(), TextFault>
+    #[tactic(auto, using(crate::proofs::PackedLemmas::packed_rows))]
+    pub(crate) fn push(&mut self, row: ElementRow) -> Result<(), Stop>
         ensures ok { OnOk result (self.new ≡ self.old ++ row ∷ []) }
         ensures stays { OnErr result (self.new ≡ self.old) }
-        ensures fault { IfErr result (λ fault. fault ≡ Memory) }
+        ensures fault { IfErr result (λ e. e ≡ Memory) }
     {
         let next = count(self.rows.len() + 1)?;
         let packed = pack(&mut self.wide, row, next)?;
@@ -167,20 +168,15 @@ impl ElementTable {
         Ok(())
     }
 
-    /// Puts a row in the place of the one with that number.
+    /// Puts a row in the place of the one with that number. A wide row that was there stays behind, unread.
     #[inline(always)]
-    #[tactic(auto, using(crate::proofs::PackedLemmas::rows_length))]
-    pub(crate) fn set(&mut self, index: usize, row: ElementRow) -> Result<(), TextFault>
+    #[tactic(auto, using(crate::proofs::PackedLemmas::packed_rows))]
+    pub(crate) fn set(&mut self, index: usize, row: ElementRow) -> Result<(), Stop>
         requires { index < length self.old }
         ensures ok { OnOk result (self.new ≡ set self.old index row) }
         ensures stays { OnErr result (self.new ≡ self.old) }
-        ensures fault { IfErr result (λ fault. fault ≡ Memory) }
+        ensures fault { IfErr result (λ e. e ≡ Memory) }
     {
-        let code = self.rows[index].code;
-        if code >= FIRST_WIDE {
-            self.wide[(code - FIRST_WIDE) as usize] = row;
-            return Ok(());
-        }
         let packed = pack(&mut self.wide, row, (index + 1) as u32)?;
         self.rows[index] = packed;
         Ok(())

@@ -7,6 +7,7 @@ use bridge_io::{NoMemory, Text};
 use std::alloc::Global;
 
 /// What stands for the character, where it isn't written as it is.
+#[tactic(auto, using(crate::proofs::EscapeLemmas::escapes))]
 fn reference_to(character: char) -> Option<&'static str>
     ensures some { IfSome result (λ name. name.now ≡ escape_all (encode_utf8 character)) }
     ensures none { IfNone result (escape_all (encode_utf8 character) ≡ encode_utf8 character) }
@@ -41,6 +42,7 @@ fn push_escaped(written: &mut String, character: char) -> Result<(), NoMemory>
 /// # Errors
 ///
 /// [`NoMemory`] where memory is wanting.
+#[tactic(auto, using(crate::proofs::EscapeLemmas::escapes))]
 pub fn escaped(alloc: Global, text: &str) -> Result<Text, NoMemory>
     ensures { IfOk result (λ written. written ≡ escape_all text.now) }
 {

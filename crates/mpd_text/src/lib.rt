@@ -2,13 +2,14 @@
 #![tactic(auto)]
 
 mod attr;
+mod attributes;
 mod class;
 mod clean;
-mod decode;
+mod content;
 mod element_table;
 mod escape;
 mod fault;
-mod growing;
+mod kept;
 mod laws;
 mod lines;
 mod many_names;
@@ -16,10 +17,11 @@ mod marked;
 mod markup;
 mod node;
 mod places;
+mod prolog;
 mod read;
-mod reader;
 mod references;
-mod runs;
+mod stop;
+mod text;
 mod tree;
 
 pub use attr::Attr;

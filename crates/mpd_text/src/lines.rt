@@ -18,6 +18,7 @@ pub(crate) struct LineCounts {
 }
 
 impl LineCounts {
+    #[tactic(auto, using(crate::proofs::LineLemmas::line_counts))]
     pub(crate) fn new(alloc: Global, bytes: &[u8]) -> Result<LineCounts, TextFault>
         ensures counted { IfOk result (λ lines. AreCounted bytes.now (length bytes.now / block_size) lines.before.items) }
         ensures fault { IfErr result (λ fault. fault ≡ Memory) }
@@ -33,6 +34,7 @@ impl LineCounts {
     }
 
     /// The place of a byte, or of the end.
+    #[tactic(auto, using(crate::proofs::LineLemmas::line_counts))]
     pub(crate) fn place_of(&self, bytes: &[u8], at: usize) -> Place
         requires counted { AreCounted bytes.now (length bytes.now / block_size) self.now.before.items }
         requires within { at ≤ length bytes.now }

@@ -1,9 +1,10 @@
 // The names of one tag where there are many, so that a hostile tag takes no square of its length.
 ghost use Rattle.std.specs.Prelude.{◌≡◌, ◌≤◌, ◌++◌, ◌∷◌, [], ℕ, List, All, IfErr, IfOk, OnOk, length, not, false, slice_range};
-ghost use Rattle.mpd_text.specs.Names.{HasNameWithin, name_in};
-ghost use Rattle.mpd_text.specs.declared.fault.TextFault.TheVariants.{Memory};
+ghost use Rattle.bridge_io.specs.Texts.{is_among};
+ghost use Rattle.mpd_text.specs.Names.{HasNameWithin, name_in, names_in};
+ghost use Rattle.mpd_text.specs.declared.stop.Stop.TheVariants.{Memory};
 
-use crate::TextFault;
+use crate::stop::Stop;
 use crate::tree::AttributeRow;
 use std::alloc::Global;
 use std::collections::BTreeSet;
@@ -30,11 +31,7 @@ impl<'a> ManyNames<'a> {
     }
 
     /// Adds the names of attributes.
-    pub(crate) fn add_all(
-        &mut self,
-        bytes: &'a [u8],
-        rows: &[AttributeRow],
-    ) -> Result<(), TextFault>
+    pub(crate) fn add_all(&mut self, bytes: &'a [u8], rows: &[AttributeRow]) -> Result<(), Stop>
         requires { All (HasNameWithin (length bytes.now)) rows.now }
         ensures names { HasNames self.old [] → OnOk result (HasNames self.new (names_in bytes.now rows.now)) }
         ensures fault { IfErr result (λ fault. fault ≡ Memory) }
@@ -51,7 +48,7 @@ impl<'a> ManyNames<'a> {
         bytes: &'a [u8],
         before: &[AttributeRow],
         name: &'a [u8],
-    ) -> Result<bool, TextFault>
+    ) -> Result<bool, Stop>
         requires within { All (HasNameWithin (length bytes.now)) before.now }
         requires many { 16 ≤ length before.now }
         ensures read { IsPrepared self.old (names_in bytes.now before.now) → IfOk result (λ repeated.
@@ -66,7 +63,7 @@ impl<'a> ManyNames<'a> {
     }
 
     /// Adds a name, and answers whether it is new.
-    pub(crate) fn add(&mut self, name: &'a [u8]) -> Result<bool, TextFault>
+    pub(crate) fn add(&mut self, name: &'a [u8]) -> Result<bool, Stop>
         ensures name { (names : List (List ℕ)) → HasNames self.old names →
             IfOk result (λ is_new. (is_new ≡ not (is_among name.now names)) × HasNames self.new (names ++ name.now ∷ [])) }
         ensures fault { IfErr result (λ fault. fault ≡ Memory) }
@@ -81,4 +78,17 @@ pub(crate) fn name_of<'a>(bytes: &'a [u8], row: &AttributeRow) -> &'a [u8]
     ensures { result.now ≡ name_in bytes.now row.now }
 {
     &bytes[row.name.start()..row.name.end()]
+}
+
+/// Whether an attribute of these has that name.
+pub(crate) fn is_name_of_any(bytes: &[u8], rows: &[AttributeRow], name: &[u8]) -> bool
+    requires { All (HasNameWithin (length bytes.now)) rows.now }
+    ensures { result ≡ is_among name.now (names_in bytes.now rows.now) }
+{
+    for row in rows {
+        if name == name_of(bytes, row) {
+            return true;
+        }
+    }
+    false
 }

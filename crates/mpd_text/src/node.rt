@@ -35,7 +35,7 @@ pub struct NodeWalk<'a> {
 }
 
 impl<'a> Node<'a> {
-    ghost use Rattle.mpd_text.specs.Nodes.{attribute_in, attributes_left, element_of, elements_left};
+    ghost use Rattle.mpd_text.specs.Nodes.{attribute_in, attributes_left, element_of, element_of_row, elements_left};
     ghost use Rattle.mpd_text.specs.Trees.{Attribute};
     ghost use Rattle.mpd_text.specs.Views.{attribute_named, attribute_shown, side_by_side};
 
@@ -69,7 +69,10 @@ impl<'a> Node<'a> {
     }
 
     fn row(&self) -> ElementRow
-        ensures { slice_get self.now.tree.now.elements self.now.index ≡ Some result }
+        ensures row { slice_get self.now.tree.now.elements self.now.index ≡ Some result }
+        ensures shows { element_of self.now ≡ element_of_row self.now.tree.now self.now.index result }
+        ensures after { self.now.index < result.next }
+        ensures within { result.next ≤ length self.now.tree.now.elements }
     {
         self.tree.elements.get(self.index)
     }
@@ -130,9 +133,13 @@ impl<'a> Iterator for AttrWalk<'a> {
     ghost remaining = { item_count attributes_left };
 
     fn next(&mut self) -> Option<Attr<'a>> {
-        let (first, rest) = self.rest.split_first()?;
-        self.rest = rest;
-        Some(self.tree.attr(first))
+        match self.rest {
+            [first, rest @ ..] => {
+                self.rest = rest;
+                Some(self.tree.attr(first))
+            }
+            [] => None,
+        }
     }
 }
 
@@ -146,6 +153,7 @@ impl<'a> Iterator for NodeWalk<'a> {
 
     ghost remaining = { item_count elements_left };
 
+    #[tactic(auto, using(crate::proofs::ForestLemmas::forest_none))]
     fn next(&mut self) -> Option<Node<'a>> {
         if self.at >= self.end {
             return None;

@@ -1,21 +1,14 @@
-// Places in a text, and the faults that are told at one.
-ghost use Rattle.std.specs.Prelude.{◌≡◌, ◌≤◌, ◌<◌, IfNone, IfSome, length, slice_get};
+// Places in a text.
+ghost use Rattle.std.specs.Prelude.{◌≡◌, ◌≤◌, length};
 ghost use Rattle.bridge_io.specs.Places.{place_of};
-ghost use Rattle.mpd_text.specs.declared.fault.TextFault.TheVariants.{Cut, Syntax};
+ghost use Rattle.mpd_text.specs.Faults as faults;
+ghost use Rattle.mpd_text.specs.Faults as faults;
+ghost use Rattle.mpd_text.specs.Meaning as spec;
 
 use crate::TextFault;
+use crate::stop::{Fault, Stop, Wrong};
 use bridge_io::Place;
 use byte_scan::count_lf;
-
-/// The byte that stands there, where the text doesn't end before it.
-#[inline(always)]
-pub(crate) fn byte_at(bytes: &[u8], at: usize) -> Option<u8>
-    ensures byte { result ≡ slice_get bytes.now at }
-    ensures within { IfSome result (λ _. at < length bytes.now) }
-    ensures end { IfNone result (length bytes.now ≤ at) }
-{
-    bytes.get(at).copied()
-}
 
 /// The place of a byte, or of the end.
 pub(crate) fn place_at(bytes: &[u8], at: usize) -> Place
@@ -28,19 +21,33 @@ pub(crate) fn place_at(bytes: &[u8], at: usize) -> Place
     }
 }
 
-/// The bytes end too early.
-#[cold]
-pub(crate) fn cut(bytes: &[u8]) -> TextFault
-    ensures { result ≡ Cut (place_of bytes.now (length bytes.now)) }
+/// What a fault is called, and where it is told: places are counted from the front.
+fn placed(bytes: &[u8], fault: Fault) -> TextFault
+    ensures { result ≡ faults.placed bytes.now fault }
 {
-    TextFault::Cut(place_at(bytes, bytes.len()))
+    if fault.decided == 0 {
+        return TextFault::Cut(place_at(bytes, bytes.len()));
+    }
+    let place = place_at(bytes, bytes.len().saturating_sub(fault.told));
+    match fault.wrong {
+        Wrong::Syntax => TextFault::Syntax(place),
+        Wrong::TagMismatch => TextFault::TagMismatch(place),
+        Wrong::DoubleAttribute => TextFault::DoubleAttribute(place),
+        Wrong::Entity => TextFault::Entity(place),
+        Wrong::Doctype => TextFault::Doctype(place),
+        Wrong::Cdata => TextFault::Cdata(place),
+        Wrong::Instruction => TextFault::Instruction(place),
+        Wrong::Depth => TextFault::Depth(place),
+    }
 }
 
-/// A byte may not stand there.
+/// The fault that stopped reading, as a caller sees it.
 #[cold]
-pub(crate) fn syntax(bytes: &[u8], at: usize) -> TextFault
-    requires { at ≤ length bytes.now }
-    ensures { result ≡ Syntax (place_of bytes.now at) }
+pub(crate) fn told(bytes: &[u8], stop: Stop) -> TextFault
+    ensures { result ≡ spec.stop_told bytes.now stop }
 {
-    TextFault::Syntax(place_at(bytes, at))
+    match stop {
+        Stop::Memory => TextFault::Memory,
+        Stop::Fault(fault) => placed(bytes, fault),
+    }
 }

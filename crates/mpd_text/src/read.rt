@@ -1,18 +1,25 @@
 // From bytes to a tree.
-ghost use Rattle.std.specs.Prelude.{◌++◌, All, IfOk, IfErr, IfSome};
+ghost use Rattle.std.specs.Prelude.{◌≡◌, ◌++◌, [], All, IfOk, IfErr, IfSome, MatchResult, OnOk, Ok, Err};
 ghost use Rattle.std.specs.String.{string_bytes};
 ghost use Rattle.bridge_io.specs.Answer.{Gives};
 ghost use Rattle.mpd_text.specs.Faults.{HasFault, refusal};
 ghost use Rattle.mpd_text.specs.Grammar.{IsClean, Spells};
+ghost use Rattle.mpd_text.specs.Keeping.{ShowsRoot, shown_in};
 ghost use Rattle.mpd_text.specs.Meaning.{reading_of};
 ghost use Rattle.mpd_text.specs.Nodes.{root_in, root_of};
+ghost use Rattle.mpd_text.specs.Reading as spec;
+ghost use Rattle.mpd_text.specs.Roots.{HasOneRoot};
 ghost use Rattle.mpd_text.specs.Rows.{IsAttributeKept, IsElementKept};
+ghost use Rattle.mpd_text.specs.Trees.{Element};
 
 use crate::TextFault;
 use crate::clean::clean;
+use crate::content::root_of;
+use crate::kept::Kept;
 use crate::lines::LineCounts;
-use crate::markup::{beginning_end, expect_end, misc_end};
-use crate::reader::Reader;
+use crate::places::told;
+use crate::prolog::{after_beginning, after_misc, expect_end};
+use crate::stop::Stop;
 use crate::tree::{Rows, Tree};
 use bridge_io::Bytes;
 use std::alloc::Global;
@@ -71,15 +78,31 @@ impl Tree {
 fn read_text(alloc: Global, text: &str) -> Result<Rows, TextFault>
     requires { IsClean text.now }
     ensures reading { Gives (root_in text.now) refusal result (reading_of text.now) }
+    ensures has_one_root { IfOk result (λ rows. HasOneRoot text.now (string_bytes rows.read) rows.elements rows.attributes.items) }
     ensures elements_kept { IfOk result (λ rows. All (IsElementKept text.now (text.now ++ string_bytes rows.read)) rows.elements) }
     ensures attributes_kept { IfOk result (λ rows. All (IsAttributeKept text.now (text.now ++ string_bytes rows.read))
         rows.attributes.items) }
 {
-    let bytes = text.as_bytes();
-    let beginning = beginning_end(bytes)?;
-    let root = misc_end(bytes, beginning)?;
-    let mut reader = Reader::new(alloc, text);
-    let end = reader.read_root(root)?;
-    expect_end(bytes, end)?;
-    Ok(reader.finish())
+    let mut kept = Kept::new(alloc, text);
+    match read_document(&mut kept, text.as_bytes()) {
+        Ok(()) => Ok(kept.finish()),
+        Err(stop) => Err(told(text.as_bytes(), stop)),
+    }
+}
+
+/// Reads a whole text.
+#[tactic(auto, unfolding(crate::specs::Reading::document_at))]
+fn read_document<'a>(kept: &mut Kept<'a>, bytes: &'a [u8]) -> Result<(), Stop>
+    requires whole { kept.old.source.now ≡ bytes.now }
+    requires first { shown_in kept.old ≡ [] }
+    ensures read { MatchResult result
+        (λ _. (root : Element) × (spec.document_at bytes.now ≡ Ok root) × ShowsRoot kept.new root)
+        (λ e. IfSome (spec.fault_in e) (λ f. spec.document_at bytes.now ≡ Err f)) }
+    ensures same { OnOk result (kept.new.source.now ≡ kept.old.source.now) }
+{
+    let rest = after_beginning(bytes)?;
+    let rest = after_misc(rest)?;
+    let rest = root_of(kept, rest)?;
+    expect_end(rest)?;
+    Ok(())
 }

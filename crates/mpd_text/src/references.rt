@@ -1,146 +1,233 @@
 // References to characters, XML 1.0 4.1.
-ghost use Rattle.std.specs.Prelude.{◌≡◌, ◌≤◌, ◌<◌, ◌+◌, ◌-◌, length, take, drop, slice_get, IfOk, IfErr, MatchOption, if◌then◌else◌, Some};
-ghost use Rattle.std.specs.Prelude.{None, true, false};
-ghost use Rattle.std.specs.List.{prefix_len};
-ghost use Rattle.bridge_io.specs.Places.{place_of};
-ghost use Rattle.mpd_text.specs.Bounds.{IsBehindAscii};
-ghost use Rattle.mpd_text.specs.Decoded.{AreDigitsAt, IsNamed, base_of, begins_name, begins_with_name, capped, is_digit_of};
-ghost use Rattle.mpd_text.specs.Positions.{IsReference, IsNoReference};
-ghost use Rattle.mpd_text.specs.References.{is_allowed_character, number_of, value_of_digit};
-ghost use Rattle.mpd_text.specs.declared.fault.TextFault.TheVariants.{Entity};
+ghost use Rattle.std.specs.Prelude.{◌≡◌, ◌≤◌, length, position};
+ghost use Rattle.std.specs.List.{list_all, prefix_len};
+ghost use Rattle.bridge_io.specs.Answer.{Gives};
+ghost use Rattle.mpd_text.specs.Characters.{is_digit};
+ghost use Rattle.mpd_text.specs.References.{is_hex_digit, value_of_digit, number_of, is_allowed_character, named_by_number};
+ghost use Rattle.mpd_text.specs.References.{named_by_digits, referred_to};
+ghost use Rattle.mpd_text.specs.Reading as spec;
+ghost use Rattle.mpd_text.specs.Runs as runs;
 
-use crate::TextFault;
-use crate::places::{byte_at, cut, place_at};
+use crate::stop::{Stop, Wrong, decided};
 
 const PAST_ALL: u32 = 0x11_0000;
 
-/// The character that the reference names whose `&` stands there, and where the reference ends.
-pub(crate) fn reference(bytes: &[u8], from: usize) -> Result<(char, usize), TextFault>
-    requires { from < length bytes.now }
-    ensures bounds { IfOk result (λ found. (from < found.1) × IsBehindAscii bytes.now found.1) }
-    ensures character { IfOk result (λ found. IsReference bytes.now from found.0 found.1) }
-    ensures fault { IfErr result (IsNoReference bytes.now from) }
+fn is_digit(b: u8) -> bool
+    ensures { result ≡ is_digit b }
 {
-    if byte_at(bytes, from + 1) == Some(b'#') {
-        return by_number(bytes, from);
-    }
-    let rest = &bytes[from + 1..];
-    match named(rest) {
-        Some((named, count)) => Ok((named, from + 1 + count)),
-        None if begins_name(rest) => Err(cut(bytes)),
-        None => Err(entity(bytes, from)),
-    }
+    b.is_ascii_digit()
 }
 
-#[cold]
-fn entity(bytes: &[u8], from: usize) -> TextFault
-    requires { from ≤ length bytes.now }
-    ensures { result ≡ Entity (place_of bytes.now from) }
+fn is_hex_digit(b: u8) -> bool
+    ensures { result ≡ is_hex_digit b }
 {
-    TextFault::Entity(place_at(bytes, from))
+    is_digit(b) || (65 <= b && b <= 70) || (97 <= b && b <= 102)
 }
 
-/// The character whose name and `;` begin the bytes, and how many bytes these are.
-fn named(bytes: &[u8]) -> Option<(char, usize)>
-    ensures { MatchOption result (begins_with_name bytes.now ≡ false) (λ found. IsNamed bytes.now found.0 found.1) }
+/// What a digit is worth.
+fn value_of_digit(b: u8) -> u32
+    ensures value { result ≡ value_of_digit b }
+    ensures small { result ≤ 255 }
 {
-    if bytes.starts_with(b"amp;") {
-        return Some(('&', 4));
-    }
-    if bytes.starts_with(b"lt;") {
-        return Some(('<', 3));
-    }
-    if bytes.starts_with(b"gt;") {
-        return Some(('>', 3));
-    }
-    if bytes.starts_with(b"quot;") {
-        return Some(('"', 5));
-    }
-    if bytes.starts_with(b"apos;") {
-        return Some(('\'', 5));
-    }
-    None
-}
-
-/// Whether a name goes on where the bytes end.
-fn begins_name(bytes: &[u8]) -> bool
-    ensures { result ≡ begins_name bytes.now }
-{
-    b"amp".starts_with(bytes)
-        || b"lt".starts_with(bytes)
-        || b"gt".starts_with(bytes)
-        || b"quot".starts_with(bytes)
-        || b"apos".starts_with(bytes)
-}
-
-/// The same of a reference whose `&#` stands there.
-fn by_number(bytes: &[u8], from: usize) -> Result<(char, usize), TextFault>
-    requires { slice_get bytes.now (from + 1) ≡ Some 35 }
-    ensures bounds { IfOk result (λ found. (from < found.1) × IsBehindAscii bytes.now found.1) }
-    ensures character { IfOk result (λ found. IsReference bytes.now from found.0 found.1) }
-    ensures fault { IfErr result (IsNoReference bytes.now from) }
-{
-    let (is_hexadecimal, digits) = digits_at(bytes, from);
-    let (number, end) = number_at(bytes, digits, is_hexadecimal);
-    match byte_at(bytes, end) {
-        None => Err(cut(bytes)),
-        // Where no digits stand the number is 0, which isn't allowed.
-        Some(b';') => match allowed(number) {
-            Some(named) => Ok((named, end + 1)),
-            None => Err(entity(bytes, from)),
-        },
-        Some(_) => Err(entity(bytes, from)),
-    }
-}
-
-/// Whether the number behind the `&#` there is hexadecimal, and where its digits are to stand.
-fn digits_at(bytes: &[u8], from: usize) -> (bool, usize)
-    requires { from + 2 ≤ length bytes.now }
-    ensures digits { AreDigitsAt bytes.now from result.0 result.1 }
-    ensures within { result.1 ≤ length bytes.now }
-{
-    if byte_at(bytes, from + 2) == Some(b'x') {
-        (true, from + 3)
+    if 97 <= b {
+        u32::from(b) - 87
+    } else if 65 <= b {
+        u32::from(b) - 55
     } else {
-        (false, from + 2)
+        u32::from(b).saturating_sub(48)
     }
 }
 
-/// The number that stands there, or one past all characters where it is larger, and where its digits end.
-fn number_at(bytes: &[u8], from: usize, is_hexadecimal: bool) -> (u32, usize)
-    requires { from ≤ length bytes.now }
-    ensures end { result.1 ≡ from + prefix_len (is_digit_of is_hexadecimal) (drop from bytes.now) }
-    ensures number { result.0 ≡ capped (number_of (base_of is_hexadecimal) (take (result.1 - from) (drop from bytes.now))) }
-    ensures within { result.1 ≤ length bytes.now }
+/// The number of these digits, or one past all characters where it is larger.
+fn number_of(base: u32, digits: &[u8]) -> u32
+    requires { base ≤ 16 }
+    ensures { result ≡ spec.capped_number base digits.now }
 {
-    let base = if is_hexadecimal { 16 } else { 10 };
     let mut number = 0;
-    let mut at = from;
-    while at < bytes.len()
-        && let Some(digit) = digit(bytes[at], is_hexadecimal)
-    {
-        number = PAST_ALL.min(number * base + digit);
-        at += 1;
+    for digit in digits {
+        number = PAST_ALL.min(base * number + value_of_digit(*digit));
     }
-    (number, at)
-}
-
-/// What the byte is worth as a digit.
-#[inline(always)]
-fn digit(byte: u8, is_hexadecimal: bool) -> Option<u32>
-    ensures { result ≡ (if is_digit_of is_hexadecimal byte then Some (value_of_digit byte) else None) }
-{
-    let base = if is_hexadecimal { 16 } else { 10 };
-    char::from(byte).to_digit(base)
+    number
 }
 
 /// The character of that number, where a text may have it.
 fn allowed(number: u32) -> Option<char>
-    ensures { result ≡ (if is_allowed_character number then Some number else None) }
+    ensures { result ≡ spec.allowed number }
 {
     let is_control = number < 0x20 && number != 0x09 && number != 0x0a && number != 0x0d;
     if is_control || number == 0xfffe || number == 0xffff {
         return None;
     }
     char::from_u32(number)
+}
+
+fn are_hex_digits(digits: &[u8]) -> bool
+    ensures { result ≡ list_all is_hex_digit digits.now }
+{
+    digits.iter().all(|b| is_hex_digit(*b))
+}
+
+fn are_digits(digits: &[u8]) -> bool
+    ensures { result ≡ list_all is_digit digits.now }
+{
+    digits.iter().all(|b| is_digit(*b))
+}
+
+#[tactic(auto, using(crate::proofs::Numbers::named))]
+fn named_by_hex(digits: &[u8]) -> Option<char>
+    ensures { result ≡ named_by_number 16 is_hex_digit digits.now }
+{
+    if are_hex_digits(digits) {
+        allowed(number_of(16, digits))
+    } else {
+        None
+    }
+}
+
+#[tactic(auto, using(crate::proofs::Numbers::named))]
+fn named_by_decimal(digits: &[u8]) -> Option<char>
+    ensures { result ≡ named_by_number 10 is_digit digits.now }
+{
+    if are_digits(digits) {
+        allowed(number_of(10, digits))
+    } else {
+        None
+    }
+}
+
+fn named_by_digits(digits: &[u8]) -> Option<char>
+    ensures { result ≡ named_by_digits digits.now }
+{
+    match digits {
+        [] => None,
+        [b'x', rest @ ..] => named_by_hex(rest),
+        _ => named_by_decimal(digits),
+    }
+}
+
+/// The character that is named by what stands between `&` and `;`.
+fn referred_to(name: &[u8]) -> Option<char>
+    ensures { result ≡ referred_to name.now }
+{
+    match name {
+        [] => None,
+        [b'#', digits @ ..] => named_by_digits(digits),
+        _ => {
+            if name == b"amp".as_slice() {
+                Some('&')
+            } else if name == b"lt".as_slice() {
+                Some('<')
+            } else if name == b"gt".as_slice() {
+                Some('>')
+            } else if name == b"quot".as_slice() {
+                Some('"')
+            } else if name == b"apos".as_slice() {
+                Some('\'')
+            } else {
+                None
+            }
+        }
+    }
+}
+
+/// How many bytes are the same at the front of both.
+pub(crate) fn common(word: &[u8], bytes: &[u8]) -> usize
+    ensures same { result ≡ runs.common word.now bytes.now }
+    ensures within { result ≤ length bytes.now }
+{
+    match word {
+        [] => 0,
+        [a, more @ ..] => match bytes {
+            [] => 0,
+            [b, rest @ ..] => { if a == b { common(more, rest) + 1 } else { 0 } }
+        },
+    }
+}
+
+fn digits_len(digits: &[u8]) -> usize
+    ensures len { result ≡ prefix_len is_digit digits.now }
+    ensures within { result ≤ length digits.now }
+{
+    digits.iter().take_while(|b| is_digit(**b)).count()
+}
+
+fn hex_digits_len(digits: &[u8]) -> usize
+    ensures len { result ≡ prefix_len is_hex_digit digits.now }
+    ensures within { result ≤ length digits.now }
+{
+    digits.iter().take_while(|b| is_hex_digit(**b)).count()
+}
+
+/// The same behind `#`.
+fn front_of_digits(digits: &[u8]) -> usize
+    ensures len { result ≡ spec.front_of_digits digits.now }
+    ensures within { result ≤ length digits.now }
+{
+    match digits {
+        [b'x', rest @ ..] => hex_digits_len(rest) + 1,
+        _ => digits_len(digits),
+    }
+}
+
+/// How far some reference goes on so behind its `&`.
+#[cold]
+fn front_len(bytes: &[u8]) -> usize
+    ensures len { result ≡ spec.front_len bytes.now }
+    ensures within { result ≤ length bytes.now }
+{
+    match bytes {
+        [b'#', digits @ ..] => front_of_digits(digits) + 1,
+        _ => common(b"amp", bytes)
+            .max(common(b"lt", bytes))
+            .max(common(b"gt", bytes))
+            .max(common(b"quot", bytes))
+            .max(common(b"apos", bytes)),
+    }
+}
+
+#[cold]
+fn entity(left: usize, bytes: &[u8]) -> Stop
+    ensures { result ≡ spec.stopped (spec.entity left bytes.now) }
+{
+    decided(Wrong::Entity, left, &bytes[front_len(bytes)..])
+}
+
+fn is_semicolon(b: u8) -> bool
+    ensures { result ≡ spec.is_semicolon b }
+{
+    b == b';'
+}
+
+fn reference_end(bytes: &[u8]) -> Option<usize>
+    ensures { result ≡ position spec.is_semicolon bytes.now }
+{
+    bytes.iter().position(|b| is_semicolon(*b))
+}
+
+fn named_of<'a>(
+    left: usize,
+    bytes: &[u8],
+    name: &[u8],
+    after: &'a [u8],
+) -> Result<(char, &'a [u8]), Stop>
+    ensures { Gives (λ x. (x.0, x.1.now)) spec.fault_in result (spec.character_or (spec.entity left bytes.now) after.now
+        (referred_to name.now)) }
+{
+    match referred_to(name) {
+        Some(character) => Ok((character, after)),
+        None => Err(entity(left, bytes)),
+    }
+}
+
+/// The character of the reference behind whose `&` the bytes stand. So many are left from the `&` on.
+#[tactic(auto, unfolding(crate::specs::Reading::reference_at))]
+pub(crate) fn reference_of(left: usize, bytes: &[u8]) -> Result<(char, &[u8]), Stop>
+    ensures { Gives (λ x. (x.0, x.1.now)) spec.fault_in result (spec.reference_at left bytes.now) }
+{
+    let len = reference_end(bytes).unwrap_or(bytes.len());
+    let (name, rest) = bytes.split_at(len);
+    match rest {
+        [] => Err(entity(left, bytes)),
+        [_, after @ ..] => named_of(left, bytes, name, after),
+    }
 }

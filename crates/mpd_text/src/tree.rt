@@ -7,16 +7,14 @@ ghost use Rattle.mpd_text.specs.Rows.{
   IsElementKept,
   IsAttributeKept,
   HasAttributesWithin,
-  AreFollowed,
-  AreNested,
-  AreRooted,
 };
+ghost use Rattle.mpd_text.specs.Roots.{HasOneRoot};
 
-use crate::TextFault;
 use crate::attr::Attr;
 use crate::element_table::ElementTable;
 use crate::lines::LineCounts;
 use crate::node::Node;
+use crate::stop::Stop;
 use bridge_io::Place;
 
 /// Bytes of the kept text: of the source, or, counted on from its end, of what was read otherwise than it stands
@@ -29,18 +27,18 @@ pub(crate) struct KeptSpan {
 
 impl KeptSpan {
     ghost use Rattle.std.specs.Prelude.{IfErr, IfOk};
-    ghost use Rattle.mpd_text.specs.declared.fault.TextFault.TheVariants.{Memory};
+    ghost use Rattle.mpd_text.specs.declared.stop.Stop.TheVariants.{Memory};
 
     pub(crate) const NOTHING: KeptSpan = KeptSpan { start: 0, end: 0 };
 
     /// The bytes between two places. There is no number for a place from 4 GiB on.
-    pub(crate) fn between(start: usize, end: usize) -> Result<KeptSpan, TextFault>
+    pub(crate) fn between(start: usize, end: usize) -> Result<KeptSpan, Stop>
         ensures span { IfOk result (λ span. (span.start ≡ start) × (span.end ≡ end)) }
-        ensures fault { IfErr result (λ fault. fault ≡ Memory) }
+        ensures fault { IfErr result (λ e. e ≡ Memory) }
     {
         match (u32::try_from(start), u32::try_from(end)) {
             (Ok(start), Ok(end)) => Ok(KeptSpan { start, end }),
-            _ => Err(TextFault::Memory),
+            _ => Err(Stop::Memory),
         }
     }
 
@@ -82,9 +80,6 @@ pub(crate) struct Rows {
     pub(crate) elements: ElementTable,
     pub(crate) attributes: Vec<AttributeRow>,
     ghost attributes_within: { All (HasAttributesWithin (vec_len attributes)) elements },
-    ghost followed: { AreFollowed elements },
-    ghost nested: { AreNested elements },
-    ghost rooted: { AreRooted elements },
 }
 
 /// The elements of a text, from the root on.
@@ -100,9 +95,7 @@ pub struct Tree {
     ghost elements_kept: { All (IsElementKept (string_bytes source) (string_bytes source ++ string_bytes read)) elements },
     ghost attributes_kept: { All (IsAttributeKept (string_bytes source) (string_bytes source ++ string_bytes read)) attributes.items },
     ghost attributes_within: { All (HasAttributesWithin (vec_len attributes)) elements },
-    ghost followed: { AreFollowed elements },
-    ghost nested: { AreNested elements },
-    ghost rooted: { AreRooted elements },
+    ghost has_one_root: { HasOneRoot (string_bytes source) (string_bytes read) elements attributes.items },
 }
 
 impl Tree {
@@ -117,6 +110,7 @@ impl Tree {
         Node::at(self, 0)
     }
 
+    #[tactic(auto, using(crate::proofs::KeptLemmas::kept_texts))]
     pub(crate) fn text_of(&self, span: KeptSpan) -> &str
         requires { IsKept (string_bytes self.now.source) (kept_of self.now) span }
         ensures { result.now ≡ bytes_of (kept_of self.now) span }

@@ -1,15 +1,14 @@
-use Rattle.std.proofs.Common.{arith}
-use Rattle.mpd_text.proofs.BadLemmas.{lead_within, none_from, none_up_to}
 use Rattle.mpd_text.proofs.clean.next_lead.Goals as goal
-
-pub returns-in-None : goal.returns-in-None
-returns-in-None c j low = none_from c.args.bytes.now c.args.from j c.in-None.ensures low
+use Rattle.std.proofs.Common.{arith, ◌-◌, length-drop}
+use Rattle.mpd_text.proofs.BadLemmas.{none_here}
 
 pub returns-in-Some : goal.returns-in-Some
-returns-in-Some c =
-    let found = c.in-Some.ensures in
-    let within = lead_within c.args.bytes.now c.args.from c.in-Some.found found.0.high in (
-      omega arith,
-      within,
-      λ j low high. none_up_to c.args.bytes.now c.args.from c.in-Some.found j (omega (arith, within)) found.0.before low high,
-    )
+returns-in-Some c = (
+  omega arith,
+  grind (arith, length-drop c.args.from c.args.bytes.now, c.in-Some.ensures),
+  λ j low high. none_here _ _ c.args.from j c.split_at.ensures.back low
+      (λ within. c.in-Some.ensures.0.before (j - c.args.from) (omega arith) (omega arith)),
+)
+
+pub returns-in-None : goal.returns-in-None
+returns-in-None c j low = none_here _ _ c.args.from j c.split_at.ensures.back low (c.in-None.ensures (j - c.args.from) (omega arith))

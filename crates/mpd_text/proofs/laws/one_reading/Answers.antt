@@ -1,4 +1,4 @@
-use Rattle.mpd_text.proofs.Readings.{one_reading}
+use Rattle.mpd_text.proofs.OneReading.{one_reading}
 use Rattle.mpd_text.proofs.laws.one_reading.Goals as goal
 
 pub returns : goal.returns

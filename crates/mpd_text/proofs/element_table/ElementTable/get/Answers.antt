@@ -1,36 +1,17 @@
 use Rattle.mpd_text.proofs.element_table.ElementTable.get.Goals as goal
-use Rattle.std.proofs.Common.{◌+◌, Some, ap, ◌∙◌, sym, arith}
-use Rattle.mpd_text.specs.Packed.{IsPacked}
-use Rattle.mpd_text.proofs.{HoldingLemmas.All-at, PackedLemmas.{narrow_read, packed_read, table_get, wide_read}}
+use Rattle.std.proofs.Common.{arith}
+use Rattle.mpd_text.proofs.PackedLemmas.{packed_rows, row_at, rows_length}
 
 pub widened-requires : goal.widened-requires
-widened-requires c =
-    let t = c.self.inside in
-    let packed = c.index-packed.result.now in
-    let is = packed_read t.wide.items c.args.self.now t.rows.items c.args.index packed c.self.view_is c.requires c.index-packed.ensures in
-    (All-at (IsPacked _) t.rows.items c.args.index packed c.self.invariant.all is).within
+widened-requires c = rw c.index-packed.ensures (c.self.invariant.all c.args.index _ (grind (arith, rows_length))).within
 
 pub index-requires : goal.index-requires
-index-requires c =
-    let t = c.self.inside in
-    let packed = c.index-packed.result.now in
-    let is = packed_read t.wide.items c.args.self.now t.rows.items c.args.index packed c.self.view_is c.requires c.index-packed.ensures in
-    omega (arith, (All-at (IsPacked _) t.rows.items c.args.index packed c.self.invariant.all is).code, t.wide.ok.0)
+index-requires c = grind (arith, c.self.invariant.all c.args.index c.index-packed.result.now (grind (arith, rows_length)))
 
 pub returns-then-packed-lt-FIRST_WIDE : goal.returns-then-packed-lt-FIRST_WIDE
 returns-then-packed-lt-FIRST_WIDE c =
-    let t = c.self.inside in
-    let packed = c.index-packed.result.now in
-    let is = packed_read t.wide.items c.args.self.now t.rows.items c.args.index packed c.self.view_is c.requires c.index-packed.ensures in
-    table_get t.wide.items c.args.self.now t.rows.items c.args.index packed c.self.view_is is
-    ∙ ap Some (narrow_read t.wide.items (c.args.index + 1) packed c.if-packed-lt-FIRST_WIDE.true ∙ sym c.widened.ensures)
+    grind (arith, packed_rows, row_at c.self.inside.wide.items 1 c.self.inside.rows.items c.args.index c.index-packed.result.now)
 
 pub returns-else-packed-lt-FIRST_WIDE : goal.returns-else-packed-lt-FIRST_WIDE
 returns-else-packed-lt-FIRST_WIDE c =
-    let t = c.self.inside in
-    let packed = c.index-packed.result.now in
-    let is = packed_read t.wide.items c.args.self.now t.rows.items c.args.index packed c.self.view_is c.requires c.index-packed.ensures in
-    let code = (All-at (IsPacked _) t.rows.items c.args.index packed c.self.invariant.all is).code in
-    table_get t.wide.items c.args.self.now t.rows.items c.args.index packed c.self.view_is is
-    ∙ ap Some (wide_read t.wide.items (c.args.index + 1) packed c.index.result.now c.if-packed-lt-FIRST_WIDE.false (omega (arith, code))
-    c.index.ensures)
+    grind (arith, packed_rows, row_at c.self.inside.wide.items 1 c.self.inside.rows.items c.args.index c.index-packed.result.now)

@@ -1,7 +1,7 @@
+use Rattle.mpd_text.proofs.lines.LineCounts.new.Given as goal
 use Rattle.std.proofs.Common.{◌≡◌, ◌*◌, take, count_by}
 use Rattle.byte_scan.specs.Lines.{is_line_feed}
 use Rattle.mpd_text.specs.Lines.{AreCounted, block_size}
-use Rattle.mpd_text.proofs.lines.LineCounts.new.Given as goal
 
 abbrev pub invariant-loop-block : goal.invariant-loop-block
 invariant-loop-block l = record {

@@ -1,11 +1,14 @@
-use Rattle.std.proofs.Common.{sym, ◌∙◌, ap, take}
-use Rattle.bridge_io.specs.Texts.{is_among}
-use Rattle.mpd_text.specs.Names.{names_in}
-use Rattle.mpd_text.proofs.NameSets.{names_more}
 use Rattle.mpd_text.proofs.many_names.ManyNames.add_all.Goals as goal
+use Rattle.std.proofs.{Common.{◌≡◌, ◌+◌, ◌<◌, ℕ, List, [], ◌∷◌, ◌++◌, arith, get_or, length, take}, lemmas.List.{map-append, take_more}}
+use Rattle.mpd_text.specs.{declared.tree.AttributeRow.AttributeRow, Names.{name_in, names_in}}
+
+-- the names of one row more
+names_more : (bytes : List ℕ) (rows : List AttributeRow) (i : ℕ) (d : AttributeRow) (last : List ℕ) → i < length rows
+    → last ≡ name_in bytes (get_or rows i d) → names_in bytes (take (i + 1) rows) ≡ names_in bytes (take i rows) ++ last ∷ []
+names_more bytes rows i d last less e =
+    grind (arith, e, take_more rows i d less, map-append (name_in bytes) (take i rows) (get_or rows i d ∷ []))
 
 pub loop-row-preserved : goal.loop-row-preserved
 loop-row-preserved c = λ empty name.
-    (c.in_ok-add.ensures.name (names_in c.args.bytes.now (take c.loop-row.row-index c.args.rows.now)) (c.loop-row.invariant empty)).1 name
-    ∙ ap (is_among name) (sym (names_more c.args.bytes.now c.args.rows.now c.loop-row.row-index _ c.name_of.result.now c.loop-row-test.true
-    c.name_of.ensures))
+    rw (names_more c.args.bytes.now c.args.rows.now c.loop-row.row-index _ c.name_of.result.now c.loop-row-test.true c.name_of.ensures)
+    ((c.in_ok-add.ensures.name _ (c.loop-row.invariant empty)).1 name)

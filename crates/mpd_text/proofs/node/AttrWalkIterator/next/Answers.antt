@@ -1,14 +1,9 @@
-use Rattle.std.proofs.Common.{◌++◌}
-use Rattle.std.specs.String.{string_bytes}
-use Rattle.mpd_text.specs.Rows.{IsAttributeKept}
-use Rattle.mpd_text.proofs.RowLemmas.{All-rest}
 use Rattle.mpd_text.proofs.node.AttrWalkIterator.next.Goals as goal
+use Rattle.std.proofs.{Common.{length, drop, ◌-◌, string_bytes}, lemmas.List.Elements.{All-drop, All-take}}
+use Rattle.mpd_text.specs.{Nodes.kept_of, Rows.IsAttributeKept}
 
 pub invariant_of-self : goal.invariant_of-self
 invariant_of-self c =
-    let walk = c.args.self.now in
-    let source = string_bytes walk.tree.now.source in
-    record {
-      kept = All-rest (IsAttributeKept source (source ++ string_bytes walk.tree.now.read)) walk.rest.now c.in_ok-first.rest.now
-          c.in_ok-first.first.now c.in_ok-first.ensures.cases.0 walk.kept;
-    }
+    let w = c.args.self.now in
+    let IsHere = IsAttributeKept (string_bytes w.tree.now.source) (kept_of w.tree.now) in
+    record { kept = All-take IsHere (length w.rest.now - 1) (drop 1 w.rest.now) (All-drop IsHere 1 w.rest.now w.kept) }

@@ -1,7 +1,7 @@
+use Rattle.mpd_text.proofs.tree.Tree.from_bytes.Goals as goal
 use Rattle.std.proofs.Common.{◌≡◌, Ok, Err, IfSome, sym, ap, subst, ◌∙◌}
 use Rattle.std.specs.String.{string_bytes}
-use Rattle.mpd_text.specs.{Faults.refusal, Meaning.reading_of, Nodes.{root_in, root_of}}
-use Rattle.mpd_text.proofs.tree.Tree.from_bytes.Goals as goal
+use Rattle.mpd_text.specs.{Faults.refusal, Meaning.reading_of, Nodes.root_in}
 use Rattle.mpd_text.proofs.TreeReading.{given_fault, given_tree, passed_on, refused_before, spelled}
 
 pub returns-in_err-source : goal.returns-in_err-source
@@ -15,7 +15,7 @@ returns-in_err-source c = let given = refused_before c.args.bytes c.from_residua
 pub returns-in_err-rows : goal.returns-in_err-rows
 returns-in_err-rows c =
     let f = c.in_err-rows.field-0.0 in
-    let given = passed_on root_of c.from_residual-in_err-rows.result f (reading_of c.args.bytes) c.from_residual-in_err-rows.ensures.1
+    let given = passed_on c.from_residual-in_err-rows.result f (reading_of c.args.bytes) c.from_residual-in_err-rows.ensures.1
     (subst (λ text. IfSome (refusal f) (λ g. reading_of text ≡ Err g)) (c.as_str.ensures.value ∙ c.in_ok-source.ensures.text)
     c.in_err-rows.ensures.reading) in
     record {

@@ -1,0 +1,246 @@
+-- What it is that bytes are read as their grammar says; and how this goes on from one production to the next.
+use Rattle.mpd_text.specs.Productions as production
+use Rattle.std.proofs.Common.{◌≡◌, ℕ, zero, suc, ◌<◌, ◌≤◌, Bool, true, false, ◌⊎◌, inl, inr, List, [], ◌∷◌, length, Result, Ok, Err, refl}
+use Rattle.std.proofs.{Common.{sym, ap, ◌∙◌, subst, arith}, lemmas.Bool.Decides.nat_tests}
+use Rattle.std.specs.Prelude.{if◌then◌else◌}
+use Rattle.mpd_text.specs.{declared.stop.Wrong.Wrong, declared.stop.Fault.Fault, Faults.{fault_by, fault_at}, Reading.{◌>>=◌, fault}}
+use Rattle.mpd_text.specs.{Reading.{syntax, further}, Productions.{Kind, Position, anywhere, behind_less_than, behind_exclamation}}
+use Rattle.mpd_text.specs.Productions.{in_instruction, behind_repeated, behind_other_name, in_reference, Production, none, just, from}
+use Rattle.mpd_text.specs.Productions.{behind_run, choose, ◌>>◌, as_read, times, many}
+
+-- one more than what is left behind what is read, or from the byte on that decides a fault
+abbrev pub reached : {R : Type 0} → (R → ℕ) → Result R Fault → ℕ
+reached left (Ok x) = left x
+reached left (Err f) = suc f.decided
+
+abbrev pub Reads : {R : Type 0} → Production R → Result R Fault → Type 0
+Reads c (Ok x) = c.spells x
+Reads c (Err f) = (p : Position) × c.is_open p × (f ≡ fault_at p)
+
+-- What is read is spelled, and what is spelled is read; a fault is that of an open position, and each open position is passed
+-- or decides the fault.
+pub record IsReading {R : Type 0} (left : R → ℕ) (c : Production R) (bound : ℕ) (r : Result R Fault) : Type 0 where
+  pub reads : Reads c r
+  pub again : (x : R) → c.spells x → r ≡ Ok x
+  pub meets : (p : Position) → c.is_open p → (reached left r ≤ length p.rest) ⊎ (r ≡ Err (fault_at p))
+  pub within : reached left r ≤ bound
+
+abbrev pub rest_of : List ℕ → ℕ
+rest_of x = suc (length x)
+
+abbrev pub last_of : {A : Type 0} → A × List ℕ → ℕ
+last_of x = suc (length x.1)
+
+abbrev pub third_of : {A B : Type 0} → A × B × List ℕ → ℕ
+third_of x = suc (length x.2)
+
+-- what is read passes each open position
+pub passed : {R : Type 0} {left : R → ℕ} {c : Production R} {bound : ℕ} {r : Result R Fault}
+    → IsReading left c bound r → (x : R) → c.spells x → (p : Position) → c.is_open p → left x ≤ length p.rest
+passed {R = R} {left = left} h x is p in_it = elim (h.meets p in_it) [
+  | inl less ↦ subst (λ (s : Result R Fault). reached left s ≤ length p.rest) (h.again x is) less
+  | inr e ↦ let never : Ok x ≡ Err (fault_at p) = sym (h.again x is) ∙ e in absurd cc
+]
+
+pub bounded : {R : Type 0} {left : R → ℕ} {c : Production R} {bound : ℕ} {r : Result R Fault}
+    → IsReading left c bound r → (x : R) → c.spells x → left x ≤ bound
+bounded {R = R} {left = left} {bound = bound} h x is = subst (λ (s : Result R Fault). reached left s ≤ bound) (h.again x is) h.within
+
+-- ---- what is there at once
+
+pub done : {R : Type 0} {left : R → ℕ} {x : R} → IsReading left (just x) (left x) (Ok x)
+done = record { reads = refl; again = λ y e. ap Ok (sym e); meets = λ p never. absurd never; within = omega arith }
+
+pub decided_of : (wrong : Wrong) (told : ℕ) (bytes : List ℕ) → (fault wrong told bytes).decided ≡ length bytes
+decided_of wrong told [] = refl
+decided_of wrong told (b ∷ bs) = refl
+
+pub decided_at : (p : Position) → (fault_at p).decided ≡ length p.rest
+decided_at p = by_kind p.kind p.start p.rest
+  where
+    by_kind : (kind : Kind) (start : ℕ) (rest : List ℕ) → (fault_by kind start rest).decided ≡ length rest
+    by_kind (behind_less_than is_full) start [] = refl
+    by_kind (behind_less_than is_full) start (b ∷ bs) = grind (arith, nat_tests)
+    by_kind behind_exclamation start [] = refl
+    by_kind behind_exclamation start (b ∷ bs) = grind (arith, nat_tests)
+    by_kind kind start rest = decided_of _ _ rest
+
+-- nothing is read, with the fault of the position
+pub refused : {R : Type 0} {left : R → ℕ} {q : Position} {r : Result R Fault} → r ≡ Err (fault_at q)
+    → IsReading left (from q none) (suc (length q.rest)) r
+refused {left = left} {q = q} e = subst (IsReading left (from q none) (suc (length q.rest))) (sym e) (record {
+  reads = (q, inl refl, refl);
+  again = λ y never. absurd never;
+  meets = λ p is. elim is [ inl at ↦ inr (ap Err (ap fault_at (sym at))) | inr never ↦ absurd never ];
+  within = omega (arith, decided_at q);
+})
+
+pub weaker : {R : Type 0} {left : R → ℕ} {c : Production R} {less more : ℕ} {r : Result R Fault} → less ≤ more
+    → IsReading left c less r → IsReading left c more r
+weaker e h = record { reads = h.reads; again = h.again; meets = h.meets; within = omega (arith, e, h.within) }
+
+-- the same in other words, but for positions that are passed or decide the fault
+pub same : {R : Type 0} {left : R → ℕ} {c d : Production R} {bound : ℕ} {r : Result R Fault}
+    → ((x : R) → c.spells x → d.spells x) → ((x : R) → d.spells x → c.spells x)
+    → ((p : Position) → c.is_open p → d.is_open p)
+    → ((p : Position) → d.is_open p → c.is_open p ⊎ (reached left r ≤ length p.rest) ⊎ (r ≡ Err (fault_at p)))
+    → IsReading left c bound r → IsReading left d bound r
+same {R = R} {c = c} {d = d} {r = r} to back open_to open_back h = record {
+  reads = onward r h.reads;
+  again = λ x is. h.again x (back x is);
+  meets = λ p is. elim (open_back p is) [ inl in_it ↦ h.meets p in_it | inr (inl less) ↦ inl less | inr (inr e) ↦ inr e ];
+  within = h.within;
+}
+  where
+    onward : (s : Result R Fault) → Reads c s → Reads d s
+    onward (Ok x) is = to x is
+    onward (Err f) is = (is.0, open_to is.0 is.1, is.2)
+
+abbrev also_open : {R : Type 0} → (Position → Type 0) → Production R → Production R
+also_open InMore c = record { spells = c.spells; is_open = λ p. InMore p ⊎ c.is_open p }
+
+-- with more positions, each of which is passed or decides the fault
+pub met : {R : Type 0} {left : R → ℕ} {InMore : Position → Type 0} {c : Production R} {bound : ℕ} {r : Result R Fault}
+    → ((p : Position) → InMore p → (reached left r ≤ length p.rest) ⊎ (r ≡ Err (fault_at p)))
+    → IsReading left c bound r → IsReading left (also_open InMore c) bound r
+met more h = same (λ x is. is) (λ x is. is) (λ p is. inr is) (λ p is. elim is [
+  | inl in_more ↦ inr (more p in_more)
+  | inr in_it ↦
+      inl in_it
+]) h
+
+pub beyond : {R : Type 0} {left : R → ℕ} {InMore : Position → Type 0} {c : Production R} {bound : ℕ} {r : Result R Fault}
+    → ((p : Position) → InMore p → bound ≤ length p.rest) → IsReading left c bound r → IsReading left (also_open InMore c) bound r
+beyond long h = met (λ p more. inl (omega (arith, long p more, h.within))) h
+
+pub also : {R : Type 0} {left : R → ℕ} {q : Position} {c : Production R} {r : Result R Fault}
+    → IsReading left c (length q.rest) r → IsReading left (from q c) (suc (length q.rest)) r
+also h = weaker (omega arith) (beyond (λ p at. omega (arith, ap (λ (s : Position). length s.rest) at)) h)
+
+-- behind a run
+pub run_before : {R : Type 0} {left : R → ℕ} {bytes rest : List ℕ} {c : Production R} {bound : ℕ} {r : Result R Fault}
+    → suc (length rest) ≤ bound → IsReading left c (suc (length rest)) r → IsReading left (behind_run bytes rest c) bound r
+run_before less h = weaker less (beyond (λ p run. omega (arith, run.goes_on)) h)
+
+-- ---- one after another
+
+pub next_read : {X Y : Type 0} {left : X → ℕ} {end : Y → ℕ} {c : Production X} {d : X → Production Y} {bound : ℕ} {r : Result X Fault}
+    {k : X → Result Y Fault} → IsReading left c bound r → ((x : X) → c.spells x → IsReading end (d x) (left x) (k x))
+    → IsReading end (c >> d) bound (r >>= k)
+next_read {X = X} {Y = Y} {left = left} {end = end} {c = c} {d = d} {r = Ok x} {k = k} h on = record {
+  reads = both (k x) n.reads;
+  again = λ y s. n.again y (subst (λ (z : X). (d z).spells y) (sym (one s.0 s.1)) s.2);
+  meets = λ p is. elim is [
+    | inl in_it ↦ elim (h.meets p in_it) [ inl less ↦ inl (omega (arith, less, n.within)) | inr never ↦ absurd cc ]
+    | inr s ↦ n.meets p (subst (λ (z : X). (d z).is_open p) (sym (one s.0 s.1)) s.2)
+  ];
+  within = omega (arith, n.within, h.within);
+}
+  where
+    n : IsReading end (d x) (left x) (k x)
+    n = on x h.reads
+
+    one : (z : X) → c.spells z → x ≡ z
+    one z is = let e : Ok x ≡ Ok z = h.again z is in grind arith
+
+    both : (s : Result Y Fault) → Reads (d x) s → Reads (c >> d) s
+    both (Ok y) is = (x, h.reads, is)
+    both (Err f) is = (is.0, inr (x, h.reads, is.1), is.2)
+next_read {r = Err f} h on = record {
+  reads = (h.reads.0, inl h.reads.1, h.reads.2);
+  again = λ y s. let never : Err f ≡ Ok s.0 = h.again s.0 s.1 in absurd cc;
+  meets = λ p is. elim is [
+    | inl in_it ↦ elim (h.meets p in_it) [ inl less ↦ inl less | inr e ↦ let at : f ≡ fault_at p = grind arith in inr (ap Err at) ]
+    | inr s ↦ let never : Err f ≡ Ok s.0 = h.again s.0 s.1 in absurd cc
+  ];
+  within = h.within;
+}
+
+-- read as something else, with as much left behind it
+pub shown : {X Y : Type 0} {left : X → ℕ} {end : Y → ℕ} {c : Production X} {bound : ℕ} {r : Result X Fault} {f : X → Y}
+    → ((x : X) → left x ≡ end (f x)) → IsReading left c bound r → IsReading end (as_read c f) bound (r >>= λ x. Ok (f x))
+shown {end = end} {c = c} {f = f} e h =
+    same {c = c >> λ x. just (f x)} (λ y is. is) (λ y is. is) (λ p is. elim is [ inl in_it ↦ in_it | inr s ↦ absurd s.2 ])
+    (λ p is. inl (inl is))
+    (next_read h (λ x _. subst (λ n. IsReading end (just (f x)) n (Ok (f x))) (sym (e x)) done))
+
+-- as a test has it, alone and with one more position
+pub by_test : {R : Type 0} {left : R → ℕ} {c d : Production R} {bound : ℕ} (t : Bool) {r s : Result R Fault}
+    → (t ≡ true → IsReading left c bound r) → (t ≡ false → IsReading left d bound s)
+    → IsReading left (choose t c d) bound (if t then r else s)
+by_test true on off = on refl
+by_test false on off = off refl
+
+pub at_test : {R : Type 0} {left : R → ℕ} {q : Position} {c d : Production R} {bound : ℕ} (t : Bool) {r s : Result R Fault}
+    → (t ≡ true → IsReading left (from q c) bound r) → (t ≡ false → IsReading left (from q d) bound s)
+    → IsReading left (from q (choose t c d)) bound (if t then r else s)
+at_test true on off = on refl
+at_test false on off = off refl
+
+-- ---- many
+
+abbrev Each : Type 0 → Type 1
+Each A = A → List ℕ → Production (A × Bool × List ℕ)
+
+-- one is read, and goes on with fewer bytes; and where no byte is left nothing is there
+pub record ReadsOn {A : Type 0} (one : Each A) (step : A → List ℕ → Result (A × Bool × List ℕ) Fault) : Type 0 where
+  pub reads : (a : A) (bytes : List ℕ) → IsReading third_of (one a bytes) (suc (length bytes)) (step a bytes)
+  pub fewer : (a : A) (bytes : List ℕ) (x : A × Bool × List ℕ) → (one a bytes).spells x → x.1 ≡ false → length x.2 < length bytes
+  pub nothing : (a : A) → step a [] ≡ Err (syntax [])
+
+abbrev once : {A : Type 0} → Each A → A → List ℕ → Production (A × List ℕ)
+once one a bytes = one a bytes >> production.further (many one)
+
+once_many : {A : Type 0} (one : Each A) (a : A) (bytes : List ℕ) (y : A × List ℕ) → (once one a bytes).spells y
+    → (many one a bytes).spells y
+once_many one a bytes y ((r, true, rest), is, e) = (1, ((r, true, rest), is, e))
+once_many one a bytes y ((r, false, rest), is, m) = (suc m.0, ((r, false, rest), is, m.1))
+
+many_once : {A : Type 0} (one : Each A) (a : A) (bytes : List ℕ) (y : A × List ℕ) → (many one a bytes).spells y
+    → (once one a bytes).spells y
+many_once one a bytes y (zero, never) = absurd never
+many_once one a bytes y (suc n, ((r, true, rest), is, e)) = ((r, true, rest), is, e)
+many_once one a bytes y (suc n, ((r, false, rest), is, more)) = ((r, false, rest), is, (n, more))
+
+once_open : {A : Type 0} (one : Each A) (a : A) (bytes : List ℕ) (p : Position) → (once one a bytes).is_open p
+    → (many one a bytes).is_open p
+once_open one a bytes p (inl is) = (1, inl is)
+once_open one a bytes p (inr ((r, true, rest), is, never)) = absurd never
+once_open one a bytes p (inr ((r, false, rest), is, m)) = (suc m.0, inr ((r, false, rest), is, m.1))
+
+open_once : {A : Type 0} (one : Each A) (a : A) (bytes : List ℕ) (p : Position) → (many one a bytes).is_open p
+    → (once one a bytes).is_open p
+open_once one a bytes p (zero, never) = absurd never
+open_once one a bytes p (suc n, inl is) = inl is
+open_once one a bytes p (suc n, inr ((r, true, rest), is, never)) = absurd never
+open_once one a bytes p (suc n, inr ((r, false, rest), is, more)) = inr ((r, false, rest), is, (n, more))
+
+abbrev AreRead : {A : Type 0} → Each A → (A → List ℕ → Result (A × List ℕ) Fault) → A → List ℕ → Type 0
+AreRead one run a bytes = IsReading last_of (many one a bytes) (suc (length bytes)) (run a bytes)
+
+one_then : {A : Type 0} {one : Each A} {step : A → List ℕ → Result (A × Bool × List ℕ) Fault} (more : A → List ℕ
+    → Result (A × List ℕ) Fault)
+    → ReadsOn one step → (a : A) (bytes : List ℕ) → ((r : A) (rest : List ℕ) → length rest < length bytes → AreRead one more r rest)
+    → AreRead one (λ a bytes. step a bytes >>= further more) a bytes
+one_then {A = A} {one = one} more h a bytes on =
+    same (once_many one a bytes) (many_once one a bytes) (once_open one a bytes) (λ p is. inl (open_once one a bytes p is))
+    (next_read (h.reads a bytes) each)
+  where
+    each : (x : A × Bool × List ℕ) → (one a bytes).spells x
+        → IsReading last_of (production.further (many one) x) (third_of x) (further more x)
+    each (r, true, rest) is = done
+    each (r, false, rest) is = on r rest (h.fewer a bytes (r, false, rest) is refl)
+
+pub many_read : {A : Type 0} {one : Each A} {step : A → List ℕ → Result (A × Bool × List ℕ) Fault}
+    (run : ℕ → A → List ℕ → Result (A × List ℕ) Fault)
+    → ((n : ℕ) (a : A) (bytes : List ℕ) → run (suc n) a bytes ≡ (step a bytes >>= further (run n)))
+    → ((a : A) → run 0 a [] ≡ Err (syntax [])) → ReadsOn one step → (n : ℕ) (a : A) (bytes : List ℕ) → length bytes ≤ n
+    → AreRead one (run n) a bytes
+many_read {A = A} {one = one} run e z h zero a [] less =
+    subst (IsReading last_of (many one a []) 1) (ap (λ (r : Result (A × Bool × List ℕ) Fault). r >>= further (run 0)) (h.nothing a)
+    ∙ sym (z a))
+    (one_then (run 0) h a [] (λ r rest never. absurd (omega arith)))
+many_read run e z h zero a (b ∷ bs) less = absurd (omega arith)
+many_read {one = one} run e z h (suc n) a bytes less =
+    subst (IsReading last_of (many one a bytes) (suc (length bytes))) (sym (e n a bytes))
+    (one_then (run n) h a bytes (λ r rest fewer. many_read run e z h n r rest (omega arith)))

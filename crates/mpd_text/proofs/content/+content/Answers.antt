@@ -1,0 +1,161 @@
+use Rattle.mpd_text.proofs.content.+content.Goals as goal
+use Rattle.std.proofs.Common.{◌≡◌, ◌-◌, ◌∷◌, ◌++◌, [], length, refl, sym, ap, ◌∙◌, subst, arith, append_assoc, IfSome, Ok, Err}
+use Rattle.std.proofs.{lemmas.List.{append-nil, length-append}, lemmas.Result.err_from_is_err_and}
+use Rattle.std.specs.String.{string_bytes}
+use Rattle.mpd_text.specs.{Forests.{Shown, flat}, Keeping.{inner_of, shown_in}, Reading.{InsideReading, fault_in}, Rests.IsBehind}
+use Rattle.mpd_text.specs.Trees.{nothing}
+use Rattle.mpd_text.proofs.ContentLoop.{child_added, content_is, empty_added, filled, inside_read, piece_failed, piece_read}
+use Rattle.mpd_text.proofs.{ContentLoop.text_failed, Loop.{content_run, failed, loop_cut, loop_failed, loop_stepped}}
+
+pub content_of-loop-init : goal.content_of-loop-init
+content_of-loop-init t c =
+    let len : length c.args.bytes.now - 0 ≡ length c.args.bytes.now = omega arith in
+    record {
+      children = nothing;
+      same = refl;
+      shown_are = sym (append-nil (shown_in c.args.kept.now));
+      left = c.requires;
+      so_far = rw (c.new-text.ensures.bytes, len) (content_is c.args.room c.args.kept.now.source.now c.args.name.now c.args.bytes.now);
+    }
+
+pub content_of-next_content-requires : goal.content_of-next_content-requires
+content_of-next_content-requires t c =
+    (omega arith, subst (λ s. IsBehind s c.loop.rest.now) (sym c.loop.invariant.same) c.loop.invariant.left)
+
+pub content_of-returns-in_err-is_ended-clause-read : goal.content_of-returns-in_err-is_ended-clause-read
+content_of-returns-in_err-is_ended-clause-read t c =
+    let i = c.loop.invariant in
+    let s = c.args.kept.now.source.now in
+    let room = c.args.room in
+    let p = err_from_is_err_and c.from_residual.result c.from_residual.ensures.1 in
+    let h = c.in_err-is_ended.ensures.read (shown_in c.args.kept.now) i.children i.shown_are in
+    rw (p.1, p.2) (loop_failed (content_run (inner_of room s) s room c.args.name.now) i.so_far c.loop-test.true
+    c.in_err-is_ended.field-0.0 (simp i.same at h))
+
+pub content_of-returns-then-is_ended-clause-read : goal.content_of-returns-then-is_ended-clause-read
+content_of-returns-then-is_ended-clause-read t c =
+    let i = c.loop.invariant in
+    let s = c.args.kept.now.source.now in
+    let room = c.args.room in
+    let x = c.in_ok-is_ended.ensures.read (shown_in c.args.kept.now) i.children i.shown_are in
+    let step = simp (i.same, c.if-is_ended.true) at x.1 in
+    let adds = c.in_ok-span.ensures.adds in (
+      record { children = x.0; text = string_bytes c.next_content.new.text },
+      sym (loop_stepped (content_run (inner_of room s) s room c.args.name.now) i.so_far c.loop-test.true step),
+      record { same = adds.same ∙ c.in_ok-is_ended.ensures.same ∙ i.same; shown_are = adds.shown_are ∙ x.2 },
+      c.in_ok-span.ensures.text ∙ c.as_str.ensures.value,
+    )
+
+pub content_of-returns-then-is_ended-clause-rest : goal.content_of-returns-then-is_ended-clause-rest
+content_of-returns-then-is_ended-clause-rest t c =
+    subst (λ s. IsBehind s c.in_ok-is_ended.after.now) c.loop.invariant.same c.in_ok-is_ended.ensures.rest
+
+pub content_of-loop-preserved : goal.content_of-loop-preserved
+content_of-loop-preserved t c =
+    let i = c.loop.invariant in
+    let s = c.args.kept.now.source.now in
+    let room = c.args.room in
+    let x = c.in_ok-is_ended.ensures.read (shown_in c.args.kept.now) i.children i.shown_are in
+    let step = simp (i.same, c.if-is_ended.false) at x.1 in
+    record {
+      children = x.0;
+      same = c.in_ok-is_ended.ensures.same ∙ i.same;
+      shown_are = x.2;
+      left = subst (λ w. IsBehind w c.in_ok-is_ended.after.now) i.same c.in_ok-is_ended.ensures.rest;
+      so_far = loop_stepped (content_run (inner_of room s) s room c.args.name.now) i.so_far c.loop-test.true step;
+    }
+
+pub content_of-returns-clause-read : goal.content_of-returns-clause-read
+content_of-returns-clause-read t c =
+    let s = c.args.kept.now.source.now in
+    let room = c.args.room in
+    rw c.syntax.ensures (loop_cut (content_run (inner_of room s) s room c.args.name.now) c.loop.invariant.so_far c.loop-test.false)
+
+pub inside_of-content_of-requires : goal.inside_of-content_of-requires
+inside_of-content_of-requires t c = (omega arith, c.requires.rest)
+
+pub inside_of-returns-clause-read : goal.inside_of-returns-clause-read
+inside_of-returns-clause-read t c =
+    let k = c.args.kept.now in
+    let x = c.in_ok-text.ensures.read in
+    let mid = c.content_of.new.kept in
+    let e = c.in_ok-end_element.ensures.ended in (
+      x.0,
+      x.1,
+      record {
+        same = c.end_element.ensures.same ∙ x.2.same;
+        shown_are = λ before s is len.
+            let all = x.2.shown_are ∙ ap (λ l. l ++ flat (length (shown_in k)) x.0.children) is
+            ∙ append_assoc before (s ∷ []) (flat (length (shown_in k)) x.0.children) in
+            let h = e before (flat (length (shown_in k)) x.0.children) s all len in
+            filled (shown_in k) (shown_in mid) (shown_in c.end_element.new.self) before s c.args.begun.row x.0.children x.0.text is len
+            x.2.shown_are (rw x.3 at h);
+      },
+    )
+
+pub next_content-returns-in_err-markup-clause-read : goal.next_content-returns-in_err-markup-clause-read
+next_content-returns-in_err-markup-clause-read t c = λ front children is.
+    let p = err_from_is_err_and c.from_residual.result c.from_residual.ensures.1 in
+    rw (p.1, p.2) (text_failed _ _ _ children _ _ c.args.kept.now.marked.content_is c.in_err-markup.field-0.0 c.in_err-markup.ensures.read)
+
+pub next_content-returns-in_err-piece-clause-read : goal.next_content-returns-in_err-piece-clause-read
+next_content-returns-in_err-piece-clause-read t c = λ front children is.
+    let p = err_from_is_err_and c.from_residual-in_err-piece.result c.from_residual-in_err-piece.ensures.1 in
+    rw (p.1, p.2) (piece_failed _ _ _ children _ _ c.args.kept.now.marked.content_is c.in_ok-markup.ensures.read c.in_err-piece.field-0.0
+    c.in_err-piece.ensures.read)
+
+pub next_content-inside_of-requires : goal.next_content-inside_of-requires
+next_content-inside_of-requires t c =
+    let h = rw c.in-Begun.is at c.in_ok-piece.ensures.kept in (
+      omega (arith, h.2),
+      (
+        subst (λ s. IsBehind s c.in_ok-piece.rest.now) (sym h.3.same) c.in_ok-piece.ensures.rest,
+        omega (arith, h.0, ap length h.3.shown_are, length-append {A = Shown}),
+      ),
+    )
+
+pub next_content-returns-in_err-rest-in-Begun-clause-read : goal.next_content-returns-in_err-rest-in-Begun-clause-read
+next_content-returns-in_err-rest-in-Begun-clause-read t c = λ front children is.
+    let p = err_from_is_err_and c.from_residual-in_err-rest-in-Begun.result c.from_residual-in_err-rest-in-Begun.ensures.1 in
+    let e = c.in_err-rest-in-Begun.field-0.0 in
+    let b = c.in-Begun.begun in
+    let h = rw c.in-Begun.is at c.in_ok-piece.ensures.kept in
+    let x = rw c.in-Begun.is at c.in_ok-piece.ensures.read in
+    let f = inside_read c.args.room b.room c.args.kept.now.source.now _ _ b.name.now c.in_ok-piece.rest.now
+    (λ (r : InsideReading). IfSome (fault_in e) (λ f. r ≡ Err f)) h.2 h.3.same h.1 c.in_err-rest-in-Begun.ensures.read in
+    rw (p.1, p.2) (failed e _ _ _ f (sym (piece_read _ _ _ children _ _ c.args.kept.now.marked.content_is c.in_ok-markup.ensures.read x)))
+
+pub next_content-returns-in-Ended-clause-read : goal.next_content-returns-in-Ended-clause-read
+next_content-returns-in-Ended-clause-read t c = λ front children is.
+    let h = rw c.in-Ended.is at c.in_ok-piece.ensures.kept in
+    let x = rw c.in-Ended.is at c.in_ok-piece.ensures.read in
+    (children, piece_read _ _ _ children _ _ c.args.kept.now.marked.content_is c.in_ok-markup.ensures.read x, h.shown_are ∙ is)
+
+pub next_content-returns-in-Comment-clause-read : goal.next_content-returns-in-Comment-clause-read
+next_content-returns-in-Comment-clause-read t c = λ front children is.
+    let h = rw c.in-Comment.is at c.in_ok-piece.ensures.kept in
+    let x = rw c.in-Comment.is at c.in_ok-piece.ensures.read in
+    (children, piece_read _ _ _ children _ _ c.args.kept.now.marked.content_is c.in_ok-markup.ensures.read x, h.shown_are ∙ is)
+
+pub next_content-returns-in-Empty-clause-read : goal.next_content-returns-in-Empty-clause-read
+next_content-returns-in-Empty-clause-read t c = λ front children is.
+    let h = rw c.in-Empty.is at c.in_ok-piece.ensures.kept in
+    let x = rw c.in-Empty.is at c.in_ok-piece.ensures.read in (
+      _,
+      piece_read _ _ _ children _ _ c.args.kept.now.marked.content_is c.in_ok-markup.ensures.read x,
+      empty_added _ _ front children _ is h.shown_are,
+    )
+
+pub next_content-returns-in_ok-rest-in-Begun-clause-read : goal.next_content-returns-in_ok-rest-in-Begun-clause-read
+next_content-returns-in_ok-rest-in-Begun-clause-read t c = λ front children is.
+    let k = c.args.kept.now in
+    let b = c.in-Begun.begun in
+    let h = rw c.in-Begun.is at c.in_ok-piece.ensures.kept in
+    let x = rw c.in-Begun.is at c.in_ok-piece.ensures.read in
+    let i = c.in_ok-rest-in-Begun.ensures.read in
+    let inner = inside_read c.args.room b.room k.source.now _ _ b.name.now c.in_ok-piece.rest.now
+    (λ (r : InsideReading). r ≡ Ok (i.0, c.in_ok-rest-in-Begun.rest.now)) h.2 h.3.same h.1 i.1 in (
+      _,
+      piece_read _ _ _ children _ _ k.marked.content_is c.in_ok-markup.ensures.read x ∙ rw inner refl,
+      child_added _ _ front children i.0.children _ b.row h.0 is (i.2.shown_are (shown_in k) _ h.3.shown_are (sym h.0)),
+    )

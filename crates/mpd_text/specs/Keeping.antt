@@ -1,0 +1,98 @@
+-- What is kept while a text is read, as it is shown.
+use Rattle.mpd_text.specs.declared.content.Piece.TheVariants as pieces
+use Rattle.mpd_text.specs.Reading as spec
+use Rattle.std.specs.{Prelude.{◌≡◌, ℕ, Bool, zero, suc, List, [], ◌∷◌, ◌++◌, drop, length, map, Result, Err}, String.string_bytes}
+use Rattle.mpd_text.specs.{declared.content.Piece.Piece, declared.kept.Kept.Kept, declared.stop.Fault.Fault, Forests.{Shown, shown_of}}
+use Rattle.mpd_text.specs.{Forests.flat, Trees.{names_of, Attribute, Head, Forest, nothing, element, Element}, Views.attribute_of}
+use Rattle.mpd_text.specs.{Reading.{◌>>=◌, InsideReading, syntax, place_before}, Runs.name_at}
+
+-- the source, and behind it what was read otherwise than it stands there
+abbrev pub kept_of : Kept → List ℕ
+kept_of k = k.source.now ++ string_bytes k.read
+
+unfoldable pub shown_in : Kept → List Shown
+shown_in k = map (shown_of k.source.now (kept_of k) k.attributes.items) k.elements
+
+unfoldable pub attributes_in : Kept → List Attribute
+attributes_in k = map (attribute_of k.source.now (kept_of k)) k.attributes.items
+
+-- those from a row on
+abbrev pub attributes_from : Kept → ℕ → List Attribute
+attributes_from k from = drop from (attributes_in k)
+
+abbrev pub names_from : Kept → ℕ → List (List ℕ)
+names_from k from = names_of (attributes_from k from)
+
+-- these rows came
+pub record Grows (rows : List Shown) (old new : Kept) : Type 0 where
+  pub same : new.source.now ≡ old.source.now
+  pub shown_are : shown_in new ≡ shown_in old ++ rows
+
+-- these attributes came
+pub record Adds (attributes : List Attribute) (old new : Kept) : Type 0 where
+  pub same : new.source.now ≡ old.source.now
+  pub shown_are : shown_in new ≡ shown_in old
+  pub attributes_are : attributes_in new ≡ attributes_in old ++ attributes
+
+-- no rows came
+pub record Stays (old new : Kept) : Type 0 where
+  pub same : new.source.now ≡ old.source.now
+  pub shown_are : shown_in new ≡ shown_in old
+
+-- what a tag shows whose name is at the front of the bytes
+abbrev pub head_at : List ℕ → ℕ → List ℕ → List Attribute → Head
+head_at whole left bytes attributes = record {
+  name = (name_at bytes).0;
+  place = place_before whole left;
+  attributes = attributes;
+  text = [];
+}
+
+-- that of a tag that was read last
+abbrev pub last_head : Kept → Kept → ℕ → List ℕ → Head
+last_head old new left bytes = head_at old.source.now left bytes (attributes_from new (length (attributes_in old)))
+
+abbrev pub piece_of : Head → Piece → spec.Piece
+piece_of head pieces.Comment = spec.comment
+piece_of head pieces.Ended = spec.ended
+piece_of head pieces.Empty = spec.empty head
+piece_of head (pieces.Begun b) = spec.begun head
+
+abbrev pub IsTag : Piece → Type 0
+IsTag pieces.Comment = ⊥
+IsTag pieces.Ended = ⊥
+IsTag pieces.Empty = Unit {0}
+IsTag (pieces.Begun b) = Unit {0}
+
+-- what is kept of a piece, where there was room for so many elements inside one another
+abbrev pub IsPieceKept : ℕ → Head → Kept → Kept → Piece → Type 0
+IsPieceKept room head old new pieces.Comment = Stays old new
+IsPieceKept room head old new pieces.Ended = Stays old new
+IsPieceKept room head old new pieces.Empty = Grows (record { head = head; next = suc (length (shown_in old)) } ∷ []) old new
+IsPieceKept room head old new (pieces.Begun b) =
+    (b.row ≡ length (shown_in old)) × (b.name.now ≡ head.name) × (suc b.room ≡ room)
+    × Grows (record { head = head; next = suc (length (shown_in old)) } ∷ []) old new
+
+-- the last row has its element's content
+pub record IsFilled (at : ℕ) (i : spec.Inside) (old new : Kept) : Type 0 where
+  pub same : new.source.now ≡ old.source.now
+  pub shown_are : (before : List Shown) (s : Shown) → shown_in old ≡ before ++ s ∷ [] → length before ≡ at
+      → shown_in new ≡ before ++ flat at (element (record s.head { text = i.text }) i.children nothing)
+
+-- how content inside an element is read, where there is room for so many
+abbrev pub inner_of : ℕ → List ℕ → List ℕ → List ℕ → InsideReading
+inner_of zero whole name bytes = Err (syntax [])
+inner_of (suc room) whole name bytes = spec.content_at room whole name bytes
+
+-- character data and the piece behind it, behind what is read so far
+abbrev pub content_step : ℕ → List ℕ → List ℕ → Forest → List ℕ → List ℕ → Result (spec.Inside × Bool × List ℕ) Fault
+content_step room whole name children text bytes =
+    spec.content_next (inner_of room whole) whole room name (record { children = children; text = text }) bytes
+
+-- one element is shown, and what is in it
+abbrev pub ShowsRoot : Kept → Element → Type 0
+ShowsRoot k root = shown_in k ≡ flat 0 (element root.head root.children nothing)
+
+-- an element from its name on
+abbrev pub element_at : List ℕ → ℕ → List ℕ → Result (Element × List ℕ) Fault
+element_at whole left bytes = spec.tag_at whole left bytes >>= spec.element_in whole

@@ -1,0 +1,163 @@
+// The attributes of a tag, from left to right.
+ghost use Rattle.std.specs.Prelude.{◌≡◌, ◌≤◌, ◌++◌, ◌∷◌, ◌⊎◌, [], drop, false, length, IfOk, IfErr, OnOk};
+ghost use Rattle.bridge_io.specs.Answer.{Gives};
+ghost use Rattle.bridge_io.specs.Texts.{is_among};
+ghost use Rattle.mpd_text.specs.Attributes.{AreKnown};
+ghost use Rattle.mpd_text.specs.Keeping.{Stays, attributes_from, attributes_in, names_from};
+ghost use Rattle.mpd_text.specs.ManyNames.{IsPrepared};
+ghost use Rattle.mpd_text.specs.Names.{names_in};
+ghost use Rattle.mpd_text.specs.Reading as spec;
+ghost use Rattle.mpd_text.specs.Runs as runs;
+ghost use Rattle.mpd_text.specs.Rests.{IsBehind, IsEnd};
+ghost use Rattle.mpd_text.specs.declared.stop.Stop.TheVariants.{Memory};
+
+use crate::class::{after_white, name_of, starts_name};
+use crate::kept::Kept;
+use crate::many_names::{FEW, ManyNames, is_name_of_any};
+use crate::stop::{Stop, Wrong, decided, syntax};
+
+/// What stands behind the `=` at the front, and the white space around it.
+#[tactic(auto, unfolding(crate::specs::Reading::after_equals))]
+fn after_equals(bytes: &[u8]) -> Result<&[u8], Stop>
+    ensures { Gives (λ x. x.now) spec.fault_in result (spec.after_equals bytes.now) }
+{
+    match after_white(bytes) {
+        [b'=', rest @ ..] => Ok(after_white(rest)),
+        rest => Err(syntax(rest)),
+    }
+}
+
+/// The quote at the front, and what stands behind it.
+#[tactic(auto, unfolding(crate::specs::Reading::quote_at))]
+fn quote_of(bytes: &[u8]) -> Result<(u8, &[u8]), Stop>
+    ensures quote { IfOk result (λ x. (x.0 ≡ 34) ⊎ (x.0 ≡ 39)) }
+    ensures read { Gives (λ x. (x.0, x.1.now)) spec.fault_in result (spec.quote_at bytes.now) }
+{
+    match bytes {
+        [quote @ (b'"' | b'\''), rest @ ..] => Ok((*quote, rest)),
+        _ => Err(syntax(bytes)),
+    }
+}
+
+/// The attributes of one tag so far: those from a row on, with their names where they are many.
+#[derive(Drop)]
+struct Names<'a> {
+    from: usize,
+    many: ManyNames<'a>,
+}
+
+/// Whether an attribute before in the same tag has that name.
+#[tactic(auto, using(crate::proofs::KeptRows::lengths), unfolding(crate::specs::Keeping::attributes_in))]
+fn is_repeated<'a>(kept: &Kept<'a>, names: &mut Names<'a>, name: &'a [u8]) -> Result<bool, Stop>
+    requires from { names.old.from ≤ length (attributes_in kept.now) }
+    ensures read { IsPrepared names.old.many (names_in kept.now.source.now (drop names.old.from kept.now.attributes.items)) →
+        IfOk result (λ repeated.
+        (repeated ≡ is_among name.now (names_in kept.now.source.now (drop names.old.from kept.now.attributes.items)))
+        × (repeated ≡ false
+        → IsPrepared names.new.many (names_in kept.now.source.now (drop names.old.from kept.now.attributes.items) ++ name.now ∷ []))) }
+    ensures from { names.new.from ≡ names.old.from }
+    ensures fault { IfErr result (λ e. e ≡ Memory) }
+{
+    let source = kept.source.as_bytes();
+    let before = &kept.attributes[names.from..];
+    if before.len() < FEW {
+        return Ok(is_name_of_any(source, before, name));
+    }
+    names.many.repeats(source, before, name)
+}
+
+/// What stands behind the name at the front, which no attribute before in the same tag has.
+#[tactic(auto, using(crate::proofs::KeptRows::names_are), unfolding(crate::specs::Reading::new_name_at))]
+fn new_name_of<'a>(
+    kept: &Kept<'a>,
+    names: &mut Names<'a>,
+    bytes: &'a [u8],
+) -> Result<&'a [u8], Stop>
+    requires known { AreKnown kept.now names.old }
+    ensures read { Gives (λ rest. ((runs.name_at bytes.now).0, rest.now)) spec.fault_in result
+        (spec.new_name_at (names_from kept.now names.old.from) bytes.now) }
+    ensures rest { IfOk result (λ rest. rest.now ≡ (runs.name_at bytes.now).1) }
+    ensures from { names.new.from ≡ names.old.from }
+    ensures prepared { OnOk result (IsPrepared names.new.many (names_from kept.now names.old.from ++ (runs.name_at bytes.now).0 ∷ [])) }
+{
+    let (name, rest) = name_of(bytes);
+    if is_repeated(kept, names, name)? {
+        return Err(decided(Wrong::DoubleAttribute, bytes.len(), rest));
+    }
+    Ok(rest)
+}
+
+/// Keeps the attribute at the front.
+#[tactic(auto, unfolding(crate::specs::Reading::attribute_at))]
+fn attribute_of<'a>(
+    kept: &mut Kept<'a>,
+    names: &mut Names<'a>,
+    bytes: &'a [u8],
+) -> Result<&'a [u8], Stop>
+    requires known { AreKnown kept.old names.old }
+    requires rest { IsBehind kept.old.source.now bytes.now }
+    ensures read { Gives (λ rest. (attributes_from kept.new names.old.from, rest.now)) spec.fault_in result
+        (spec.attribute_at kept.old.source.now (attributes_from kept.old names.old.from) bytes.now) }
+    ensures stays { OnOk result (Stays kept.old kept.new) }
+    ensures from { names.new.from ≡ names.old.from }
+    ensures known { OnOk result (AreKnown kept.new names.new) }
+    ensures rest { IfOk result (λ rest. IsBehind kept.old.source.now rest.now) }
+{
+    let name_rest = new_name_of(kept, names, bytes)?;
+    let rest = after_equals(name_rest)?;
+    let (quote, rest) = quote_of(rest)?;
+    let (value, rest) = kept.value_of(quote, rest)?;
+    kept.add_attribute(bytes, name_rest, value)?;
+    Ok(rest)
+}
+
+/// Keeps the attribute behind white space at the front, or comes to the tag's end; whether that is so.
+#[tactic(auto, using(crate::proofs::Rests::white_left, crate::proofs::Rests::ends), unfolding(crate::specs::Reading::next_at))]
+fn next_of<'a>(
+    kept: &mut Kept<'a>,
+    names: &mut Names<'a>,
+    bytes: &'a [u8],
+) -> Result<(bool, &'a [u8]), Stop>
+    requires known { AreKnown kept.old names.old }
+    requires rest { IsEnd kept.old.source.now bytes.now }
+    ensures read { Gives (λ x. (attributes_from kept.new names.old.from, x.0, x.1.now)) spec.fault_in result
+        (spec.next_at kept.old.source.now (attributes_from kept.old names.old.from) bytes.now) }
+    ensures stays { OnOk result (Stays kept.old kept.new) }
+    ensures from { names.new.from ≡ names.old.from }
+    ensures known { OnOk result (AreKnown kept.new names.new) }
+    ensures rest { IfOk result (λ x. IsEnd kept.old.source.now x.1.now) }
+{
+    let rest = after_white(bytes);
+    match rest {
+        [b'>' | b'/', ..] => Ok((true, rest)),
+        [first, ..] if starts_name(*first) && rest.len() < bytes.len() => {
+            let rest = attribute_of(kept, names, rest)?;
+            Ok((false, rest))
+        }
+        _ => Err(syntax(rest)),
+    }
+}
+
+/// Keeps the attributes at the front, up to the `>` or `/` of their tag.
+pub(crate) fn attributes_of<'a>(kept: &mut Kept<'a>, bytes: &'a [u8]) -> Result<&'a [u8], Stop>
+    requires { IsEnd kept.old.source.now bytes.now }
+    ensures read { Gives (λ rest. (attributes_from kept.new (length (attributes_in kept.old)), rest.now)) spec.fault_in result
+        (spec.attributes_at kept.old.source.now bytes.now) }
+    ensures stays { OnOk result (Stays kept.old kept.new) }
+    ensures more { OnOk result (length (attributes_in kept.old) ≤ length (attributes_in kept.new)) }
+    ensures rest { IfOk result (λ rest. IsEnd kept.old.source.now rest.now) }
+{
+    let mut names = Names {
+        from: kept.attribute_count(),
+        many: ManyNames::new(kept.alloc),
+    };
+    let mut rest = bytes;
+    for _ in 0..bytes.len() {
+        let (is_ended, after) = next_of(kept, &mut names, rest)?;
+        rest = after;
+        if is_ended {
+            return Ok(rest);
+        }
+    }
+    Err(syntax(&[]))
+}

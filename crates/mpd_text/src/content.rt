@@ -1,0 +1,261 @@
+// Elements: tags, and the content between them.
+ghost use Rattle.std.specs.Prelude.{◌≡◌, ◌<◌, ◌+◌, ◌++◌, [], List, length, IfOk, IfSome, MatchResult, OnOk, Ok, Err};
+ghost use Rattle.std.specs.String.{string_bytes};
+ghost use Rattle.bridge_io.specs.Answer.{Gives};
+ghost use Rattle.mpd_text.specs.Forests.{Shown, flat};
+ghost use Rattle.mpd_text.specs.Keeping.{Grows, IsFilled, IsPieceKept, IsTag, ShowsRoot, content_step, element_at, kept_of, last_head};
+ghost use Rattle.mpd_text.specs.Keeping.{piece_of, shown_in};
+ghost use Rattle.mpd_text.specs.Reading as spec;
+ghost use Rattle.mpd_text.specs.Rests.{IsBehind, IsEnd};
+ghost use Rattle.mpd_text.specs.Rows.{IsKept};
+ghost use Rattle.mpd_text.specs.Trees.{Element, Forest};
+ghost use Rattle.mpd_text.specs.Views.{bytes_of};
+
+use crate::attributes::attributes_of;
+use crate::class::{name_of, starts_name};
+use crate::kept::Kept;
+use crate::markup::{closed_of, comment_of, end_tag_of};
+use crate::stop::{Stop, Wrong, decided, syntax};
+use crate::text::add_text;
+use crate::tree::KeptSpan;
+
+/// As many elements may stand inside one another.
+const DEEPEST: usize = 32;
+
+/// A start tag: its element's row and name, and how many elements may stand inside one another in it.
+#[derive(Drop)]
+struct Begun<'a> {
+    row: usize,
+    name: &'a [u8],
+    room: usize,
+}
+
+/// What stands behind some character data.
+#[derive(Drop)]
+enum Piece<'a> {
+    Comment,
+    Empty,
+    Begun(Begun<'a>),
+    Ended,
+}
+
+/// Whether a tag is an empty one, and what stands behind it.
+#[tactic(auto, unfolding(crate::specs::Reading::tag_end_at))]
+fn tag_end_of(bytes: &[u8]) -> Result<(bool, &[u8]), Stop>
+    ensures { Gives (λ x. (x.0, x.1.now)) spec.fault_in result (spec.tag_end_at bytes.now) }
+{
+    match bytes {
+        [b'/', rest @ ..] => {
+            let rest = closed_of(rest)?;
+            Ok((true, rest))
+        }
+        _ => {
+            let rest = closed_of(bytes)?;
+            Ok((false, rest))
+        }
+    }
+}
+
+/// Keeps the element whose tag stands there from its name on, with room for so many inside one another from it on.
+#[tactic(auto, unfolding(crate::specs::Reading::tag_at))]
+fn tag_of<'a>(
+    kept: &mut Kept<'a>,
+    room: usize,
+    left: usize,
+    bytes: &'a [u8],
+) -> Result<(Piece<'a>, &'a [u8]), Stop>
+    requires rest { IsBehind kept.old.source.now bytes.now }
+    requires left { left ≡ length bytes.now + 1 }
+    requires room { 0 < room }
+    ensures read { Gives (λ x. (piece_of (last_head kept.old kept.new left bytes.now) x.0, x.1.now)) spec.fault_in result
+        (spec.tag_at kept.old.source.now left bytes.now) }
+    ensures kept { IfOk result (λ x. IsPieceKept room (last_head kept.old kept.new left bytes.now) kept.old kept.new x.0) }
+    ensures rest { IfOk result (λ x. IsBehind kept.old.source.now x.1.now) }
+    ensures tag { IfOk result (λ x. IsTag x.0) }
+{
+    let (name, behind) = name_of(bytes);
+    let attributes = kept.attribute_count();
+    let rest = attributes_of(kept, behind)?;
+    let (is_empty, rest) = tag_end_of(rest)?;
+    let row = kept.add_element(bytes, behind, attributes)?;
+    if is_empty {
+        return Ok((Piece::Empty, rest));
+    }
+    let begun = Begun {
+        row,
+        name,
+        room: room - 1,
+    };
+    Ok((Piece::Begun(begun), rest))
+}
+
+/// Reads the comment or tag behind whose `<` the bytes stand, inside the element of that name.
+#[tactic(auto, using(crate::proofs::Rests::end_tag_left, crate::proofs::Rests::comment_left), unfolding(crate::specs::Reading::piece_at))]
+fn piece_of<'a>(
+    kept: &mut Kept<'a>,
+    room: usize,
+    name: &[u8],
+    left: usize,
+    bytes: &'a [u8],
+) -> Result<(Piece<'a>, &'a [u8]), Stop>
+    requires rest { IsBehind kept.old.source.now bytes.now }
+    requires left { left ≡ length bytes.now + 1 }
+    ensures read { Gives (λ x. (piece_of (last_head kept.old kept.new left bytes.now) x.0, x.1.now)) spec.fault_in result
+        (spec.piece_at kept.old.source.now room name.now left bytes.now) }
+    ensures kept { IfOk result (λ x. IsPieceKept room (last_head kept.old kept.new left bytes.now) kept.old kept.new x.0) }
+    ensures rest { IfOk result (λ x. IsBehind kept.old.source.now x.1.now) }
+{
+    match bytes {
+        [b'/', rest @ ..] => {
+            let rest = end_tag_of(name, left, rest)?;
+            Ok((Piece::Ended, rest))
+        }
+        [b'!', rest @ ..] => {
+            let rest = comment_of(left, rest)?;
+            Ok((Piece::Comment, rest))
+        }
+        [b'?', ..] => Err(decided(Wrong::Instruction, left, bytes)),
+        [first, ..] if starts_name(*first) => {
+            if room == 0 {
+                return Err(decided(Wrong::Depth, left, bytes));
+            }
+            tag_of(kept, room, left, bytes)
+        }
+        _ => Err(syntax(bytes)),
+    }
+}
+
+/// Reads the content of the element that was begun last.
+#[cycle(content)]
+fn inside_of<'a>(kept: &mut Kept<'a>, begun: Begun<'a>, bytes: &'a [u8]) -> Result<&'a [u8], Stop>
+    requires rest { IsBehind kept.old.source.now bytes.now }
+    requires row { begun.row < length (shown_in kept.old) }
+    ensures read { MatchResult result
+        (λ rest. (i : spec.Inside) × (spec.content_at begun.entry.room kept.old.source.now begun.entry.name.now bytes.now ≡ Ok (
+          i,
+          rest.now,
+        ))
+        × IsFilled begun.entry.row i kept.old kept.new)
+        (λ e. IfSome (spec.fault_in e) (λ f. spec.content_at begun.entry.room kept.old.source.now begun.entry.name.now bytes.now ≡ Err f)) }
+    ensures rest { IfOk result (λ rest. IsBehind kept.old.source.now rest.now) }
+{
+    let (text, rest) = content_of(kept, begun.room, begun.name, bytes)?;
+    kept.end_element(begun.row, text)?;
+    Ok(rest)
+}
+
+/// Adds the character data at the front to the text, and keeps the piece behind them; whether that ends the element.
+#[cycle(content)]
+fn next_content<'a>(
+    kept: &mut Kept<'a>,
+    room: usize,
+    name: &[u8],
+    text: &mut String,
+    bytes: &'a [u8],
+) -> Result<(bool, &'a [u8]), Stop>
+    requires { IsBehind kept.old.source.now bytes.now }
+    ensures read { (front : List Shown) (children : Forest) → shown_in kept.old ≡ front ++ flat (length front) children → MatchResult result
+        (λ x. (later : Forest) × (content_step room kept.old.source.now name.now children (string_bytes text.old) bytes.now
+        ≡ Ok (record { children = later; text = string_bytes text.new }, x.0, x.1.now))
+        × (shown_in kept.new ≡ front ++ flat (length front) later))
+        (λ e. IfSome (spec.fault_in e) (λ f.
+        content_step room kept.old.source.now name.now children (string_bytes text.old) bytes.now ≡ Err f)) }
+    ensures same { OnOk result (kept.new.source.now ≡ kept.old.source.now) }
+    ensures rest { IfOk result (λ x. IsBehind kept.old.source.now x.1.now) }
+{
+    let markup = add_text(kept.source, b'<', &kept.marked.content, bytes, text)?;
+    let (piece, rest) = piece_of(kept, room, name, markup.len(), &markup[1..])?;
+    match piece {
+        Piece::Ended => Ok((true, rest)),
+        Piece::Begun(begun) => {
+            let rest = inside_of(kept, begun, rest)?;
+            Ok((false, rest))
+        }
+        Piece::Comment => Ok((false, rest)),
+        Piece::Empty => Ok((false, rest)),
+    }
+}
+
+/// Reads the content at the front and the end tag behind it, inside the element of that name.
+#[cycle(content)]
+fn content_of<'a>(
+    kept: &mut Kept<'a>,
+    room: usize,
+    name: &[u8],
+    bytes: &'a [u8],
+) -> Result<(KeptSpan, &'a [u8]), Stop>
+    requires { IsBehind kept.old.source.now bytes.now }
+    ensures read { MatchResult result
+        (λ x. (i : spec.Inside) × (spec.content_at room kept.old.source.now name.now bytes.now ≡ Ok (i, x.1.now))
+        × Grows (flat (length (shown_in kept.old)) i.children) kept.old kept.new × (bytes_of (kept_of kept.new) x.0 ≡ i.text))
+        (λ e. IfSome (spec.fault_in e) (λ f. spec.content_at room kept.old.source.now name.now bytes.now ≡ Err f)) }
+    ensures kept { IfOk result (λ x. IsKept kept.new.source.now (kept_of kept.new) x.0) }
+    ensures rest { IfOk result (λ x. IsBehind kept.old.source.now x.1.now) }
+{
+    let mut text = String::new(kept.alloc);
+    let mut rest = bytes;
+    for _ in 0..bytes.len() {
+        let (is_ended, after) = next_content(kept, room, name, &mut text, rest)?;
+        rest = after;
+        if is_ended {
+            let span = kept.keep(text.as_str())?;
+            return Ok((span, rest));
+        }
+    }
+    Err(syntax(&[]))
+}
+
+/// Reads the element whose name stands there, and what is in it: the first that is kept.
+fn element_of<'a>(kept: &mut Kept<'a>, left: usize, bytes: &'a [u8]) -> Result<&'a [u8], Stop>
+    requires rest { IsBehind kept.old.source.now bytes.now }
+    requires left { left ≡ length bytes.now + 1 }
+    requires first { shown_in kept.old ≡ [] }
+    ensures read { MatchResult result
+        (λ rest. (root : Element) × (element_at kept.old.source.now left bytes.now ≡ Ok (root, rest.now)) × ShowsRoot kept.new root)
+        (λ e. IfSome (spec.fault_in e) (λ f. element_at kept.old.source.now left bytes.now ≡ Err f)) }
+    ensures same { OnOk result (kept.new.source.now ≡ kept.old.source.now) }
+{
+    let (piece, rest) = tag_of(kept, DEEPEST, left, bytes)?;
+    match piece {
+        Piece::Begun(begun) => {
+            let rest = inside_of(kept, begun, rest)?;
+            Ok(rest)
+        }
+        Piece::Empty => Ok(rest),
+        Piece::Comment => Ok(rest),
+        Piece::Ended => Ok(rest),
+    }
+}
+
+/// Reads the root behind whose `<` the bytes stand.
+fn root_behind<'a>(kept: &mut Kept<'a>, left: usize, bytes: &'a [u8]) -> Result<&'a [u8], Stop>
+    requires rest { IsBehind kept.old.source.now bytes.now }
+    requires left { left ≡ length bytes.now + 1 }
+    requires first { shown_in kept.old ≡ [] }
+    ensures read { MatchResult result
+        (λ rest. (root : Element) × (spec.root_in kept.old.source.now left bytes.now ≡ Ok (root, rest.now)) × ShowsRoot kept.new root)
+        (λ e. IfSome (spec.fault_in e) (λ f. spec.root_in kept.old.source.now left bytes.now ≡ Err f)) }
+    ensures same { OnOk result (kept.new.source.now ≡ kept.old.source.now) }
+{
+    match bytes {
+        [b'?', ..] => Err(decided(Wrong::Instruction, left, bytes)),
+        [first, ..] if starts_name(*first) => element_of(kept, left, bytes),
+        _ => Err(syntax(bytes)),
+    }
+}
+
+/// Reads the root at the front.
+#[tactic(auto, unfolding(crate::specs::Reading::root_at))]
+pub(crate) fn root_of<'a>(kept: &mut Kept<'a>, bytes: &'a [u8]) -> Result<&'a [u8], Stop>
+    requires rest { IsEnd kept.old.source.now bytes.now }
+    requires first { shown_in kept.old ≡ [] }
+    ensures read { MatchResult result
+        (λ rest. (root : Element) × (spec.root_at kept.old.source.now bytes.now ≡ Ok (root, rest.now)) × ShowsRoot kept.new root)
+        (λ e. IfSome (spec.fault_in e) (λ f. spec.root_at kept.old.source.now bytes.now ≡ Err f)) }
+    ensures same { OnOk result (kept.new.source.now ≡ kept.old.source.now) }
+{
+    match bytes {
+        [b'<', rest @ ..] => root_behind(kept, bytes.len(), rest),
+        _ => Err(syntax(bytes)),
+    }
+}

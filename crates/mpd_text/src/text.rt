@@ -1,0 +1,90 @@
+// Values and character data, each up to the byte that ends it.
+ghost use Rattle.std.specs.Prelude.{◌≡◌, IfOk, IsTrue};
+ghost use Rattle.std.specs.String.{string_bytes};
+ghost use Rattle.bridge_io.specs.Answer.{Gives};
+ghost use Rattle.byte_scan.specs.ByteSet.{all_ascii};
+ghost use Rattle.mpd_text.specs.Reading as spec;
+ghost use Rattle.mpd_text.specs.Runs as runs;
+ghost use Rattle.mpd_text.specs.Rests.{IsAt, IsBehind};
+
+use crate::references::reference_of;
+use crate::stop::{Stop, syntax};
+use byte_scan::{ByteSet, first_of_set};
+
+/// What stands before the first byte that needs a look, and from it on.
+pub(crate) fn plain_of<'a>(marks: &ByteSet, bytes: &'a [u8]) -> (&'a [u8], &'a [u8])
+    ensures plain { result.0.now ≡ (runs.plain_at marks.now bytes.now).0 }
+    ensures rest { result.1.now ≡ (runs.plain_at marks.now bytes.now).1 }
+{
+    let len = first_of_set(bytes, marks).unwrap_or(bytes.len());
+    bytes.split_at(len)
+}
+
+fn line_end(stop: u8) -> char
+    ensures { result ≡ spec.line_end stop }
+{
+    if stop == b'<' { '\n' } else { ' ' }
+}
+
+/// A LF behind a CR is read with it.
+fn after_line_feed(bytes: &[u8]) -> &[u8]
+    ensures { result.now ≡ runs.after_line_feed bytes.now }
+{
+    match bytes {
+        [b'\n', rest @ ..] => rest,
+        _ => bytes,
+    }
+}
+
+/// Adds what the byte at the front stands for, which needed a look; whether it ends the text.
+#[tactic(auto, unfolding(crate::specs::Reading::marked_at))]
+fn add_marked<'a>(stop: u8, bytes: &'a [u8], read: &mut String) -> Result<(bool, &'a [u8]), Stop>
+    ensures { Gives (λ x. (string_bytes read.new, x.0, x.1.now)) spec.fault_in result
+        (spec.marked_at stop (string_bytes read.old) bytes.now) }
+{
+    match bytes {
+        [end, ..] if *end == stop => Ok((true, bytes)),
+        [b'&', rest @ ..] => {
+            let (character, rest) = reference_of(bytes.len(), rest)?;
+            read.push(character)?;
+            Ok((false, rest))
+        }
+        [b'\r', rest @ ..] => {
+            read.push(line_end(stop))?;
+            Ok((false, after_line_feed(rest)))
+        }
+        [] | [b'<', ..] => Err(syntax(bytes)),
+        [_, rest @ ..] => {
+            read.push(' ')?;
+            Ok((false, rest))
+        }
+    }
+}
+
+/// Adds what the text at the front of the bytes is read as, and answers where it ends: they are the end of the source.
+pub(crate) fn add_text<'a>(
+    source: &str,
+    stop: u8,
+    marks: &ByteSet,
+    bytes: &'a [u8],
+    read: &mut String,
+) -> Result<&'a [u8], Stop>
+    requires rest { IsBehind source.now bytes.now }
+    requires ascii { IsTrue (all_ascii marks.now) }
+    ensures rest { IfOk result (λ rest. IsAt stop source.now rest.now) }
+    ensures read { Gives (λ rest. (string_bytes read.new, rest.now)) spec.fault_in result
+        (spec.text_behind (string_bytes read.old) marks.now stop bytes.now) }
+{
+    let mut rest = bytes;
+    for _ in 0..bytes.len() {
+        let (plain, marked) = plain_of(marks, rest);
+        let at = source.len() - rest.len();
+        read.push_str(&source[at..at + plain.len()])?;
+        let (is_ended, after) = add_marked(stop, marked, read)?;
+        rest = after;
+        if is_ended {
+            return Ok(rest);
+        }
+    }
+    Err(syntax(&[]))
+}
