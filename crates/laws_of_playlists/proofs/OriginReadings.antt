@@ -10,15 +10,13 @@ use Rattle.mpd_text.specs.{Characters.{is_white, is_digit, starts_name}, Faults.
 use Rattle.mpd_text.specs.References.{is_hex_digit, named_by_digits, named_by_number, referred_to}
 use Rattle.mpd_text.specs.Runs.{up_to, is_black, ends_name, name_at, after_white, after_line_feed, after_mark, mark, common, begins}
 use Rattle.mpd_text.specs.{Marked.{marked_in_content, marked_in_value}, Trees.{names_of, Attribute, Head, Forest, nothing, element}}
-use Rattle.mpd_text.specs.Productions.{Kind, Position, Production, none, just, from, first, behind_run, choose, ◌>>◌, as_read, further}
-use Rattle.mpd_text.specs.Productions.{times, many}
-use Rattle.mpd_text.specs.Grammar.{behind_dashes, comment_end, comment, declaration_end, behind_word, declaration, beginning, comments}
-use Rattle.mpd_text.specs.Grammar.{misc, marked}
-use Rattle.mpd_text.specs.Grammar.{reference, part, text, value, closed, attribute, behind_white, greater_than, tag_end, tag, end_tag}
-use Rattle.mpd_text.specs.Grammar.{piece}
-use Rattle.mpd_text.specs.Grammar.{added, next_inside, inside, root, document, Spells}
-use Rattle.mpd_text.specs.Reading.{line_end, word, Piece, tag_piece, Inside, nothing_inside, followed_by, with_child}
-use Rattle.mpd_text.specs.Reading as reading
+use Rattle.mpd_text.specs.{Positions.{Kind, Position}, Pieces.{Piece, tag_piece, Inside, nothing_inside, followed_by, with_child}}
+use Rattle.mpd_text.specs.{Productions.{Production, just, refused, first, choose, ◌>>◌, as_read, times, many}, Grammar.{greater_than, word}}
+use Rattle.mpd_text.specs.Grammar.{behind_dashes, comment_end, second_dash, comment, declaration_end, declared, declaration, reference}
+use Rattle.mpd_text.specs.Grammar.{line_end, marked, part, closed, value, new_name, equals, quote_mark, attribute, behind_white, misc}
+use Rattle.mpd_text.specs.Grammar.{next_attribute, tag_end, tag, end_name, end_tag, piece, added, next_inside, inside, root, document}
+use Rattle.mpd_text.specs.Grammar.{behind_root_start, beginning, next_comment, Spells}
+use Rattle.mpd_text.specs.Pieces as pieces
 use Rattle.mpd_text.specs.Grammar as grammar
 use Rattle.laws_of_playlists.specs.Origins.{AreOfBytes, IsByte, IsElementOfBytes, IsHeadOfBytes, IsOfBytes, ReadingsAreOfBytes}
 use Rattle.mpd_rules.proofs.Ranges.{below_bound}
@@ -59,11 +57,16 @@ referred_is (b ∷ bs) c is = elim (cases_Bool (b == 35)) [ inl t ↦ by_digits 
 record Holds {A : Type 0} (c : Production A) (IsSo : A → Type 0) : Type 0 where
   all : (x : A) → c.spells x → IsSo x
 
-nothing_holds : {A : Type 0} {IsSo : A → Type 0} → Holds none IsSo
+nothing_holds : {A : Type 0} {IsSo : A → Type 0} {q : Position} → Holds (refused q) IsSo
 nothing_holds = record { all = λ x never. absurd never }
 
 just_holds : {A : Type 0} {IsSo : A → Type 0} {x : A} → IsSo x → Holds (just x) IsSo
 just_holds {IsSo = IsSo} is = record { all = λ y e. subst IsSo (sym e) is }
+
+-- at whatever positions it is open
+also : {A : Type 0} {IsSo : A → Type 0} {IsOpen : Position → Type 0} {c : Production A} → Holds c IsSo
+    → Holds (record c { is_open = IsOpen }) IsSo
+also h = record { all = h.all }
 
 chosen : {A : Type 0} {IsSo : A → Type 0} (t : Bool) {c d : Production A} → Holds c IsSo → Holds d IsSo → Holds (choose t c d) IsSo
 chosen true on off = on
@@ -89,17 +92,15 @@ Any x = Unit {0}
 many_hold : {A : Type 0} {IsSo : A → Type 0} {one : A → List ℕ → Production (A × Bool × List ℕ)}
     → ((a : A) (bytes : List ℕ) → IsSo a → IsOfBytes bytes → Holds (one a bytes) (Third IsSo))
     → (a : A) (bytes : List ℕ) → IsSo a → IsOfBytes bytes → Holds (many one a bytes) (Both IsSo)
-many_hold {A = A} {IsSo = IsSo} {one = one} each a bytes is all = record { all = λ y s. (repeated s.0 a bytes is all).all y s.1 }
+unfolding times
+many_hold {A = A} {IsSo = IsSo} {one = one} each a bytes is all = record { all = λ y s. repeated s.0 a bytes is all y s.1 }
   where
-    onward : (more : A → List ℕ → Production (A × List ℕ))
-        → ((read : A) (rest : List ℕ) → IsSo read → IsOfBytes rest → Holds (more read rest) (Both IsSo))
-        → (x : A × Bool × List ℕ) → Third IsSo x → Holds (further more x) (Both IsSo)
-    onward more h (read, true, rest) so = just_holds so
-    onward more h (read, false, rest) so = h read rest so.0 so.1
-
-    repeated : (n : ℕ) (a : A) (bytes : List ℕ) → IsSo a → IsOfBytes bytes → Holds (times one n a bytes) (Both IsSo)
-    repeated zero a bytes is all = nothing_holds
-    repeated (suc n) a bytes is all = next_holds (each a bytes is all) (onward (times one n) (repeated n))
+    repeated : (n : ℕ) (a : A) (bytes : List ℕ) → IsSo a → IsOfBytes bytes → (y : A × List ℕ) → (times one n a bytes).spells y → Both IsSo y
+    repeated zero a bytes is all y never = absurd never
+    repeated (suc n) a bytes is all y ((read, true, rest), s, e) = subst (Both IsSo) (sym e) ((each a bytes is all).all _ s)
+    repeated (suc n) a bytes is all y ((read, false, rest), s, more) =
+        let so = (each a bytes is all).all _ s in
+        repeated n read rest so.0 so.1 y more
 
 tail : (b : ℕ) (bs : List ℕ) → IsOfBytes (b ∷ bs) → IsOfBytes bs
 tail b bs all = All-tail IsByte b bs all
@@ -107,70 +108,63 @@ tail b bs all = All-tail IsByte b bs all
 dropped : (n : ℕ) (bytes : List ℕ) → IsOfBytes bytes → IsOfBytes (drop n bytes)
 dropped n bytes all = All-drop IsByte n bytes all
 
-from_holds : {A : Type 0} {IsSo : A → Type 0} {q : Position} {c : Production A} → Holds c IsSo → Holds (from q c) IsSo
-from_holds h = record { all = h.all }
-
-run_holds : {A : Type 0} {IsSo : A → Type 0} {bytes rest : List ℕ} {c : Production A} → Holds c IsSo → Holds (behind_run bytes rest c) IsSo
-run_holds h = record { all = h.all }
-
 -- by the first byte
-first_holds : {A : Type 0} {IsSo : A → Type 0} (kind : Kind) (start : ℕ) (bytes : List ℕ) {c : ℕ → List ℕ → Production A} → IsOfBytes bytes
-    → ((b : ℕ) (bs : List ℕ) → IsOfBytes (b ∷ bs) → Holds (c b bs) IsSo) → Holds (first kind start bytes c) IsSo
-first_holds kind start [] all on = from_holds nothing_holds
-first_holds kind start (b ∷ bs) all on = from_holds (on b bs all)
+first_holds : {A : Type 0} {IsSo : A → Type 0} (kind : Kind) (start : ℕ) (bytes : List ℕ) {c : ℕ → List ℕ → Production A → Production A}
+    → IsOfBytes bytes → ((b : ℕ) (bs : List ℕ) → IsOfBytes bs → (d : Production A) → Holds d IsSo → Holds (c b bs d) IsSo)
+    → Holds (first kind start bytes c) IsSo
+first_holds kind start [] all on = nothing_holds
+first_holds kind start (b ∷ bs) all on = also (on b bs (tail b bs all) _ nothing_holds)
+
+greater_holds : (bytes : List ℕ) → IsOfBytes bytes → Holds (greater_than bytes) IsOfBytes
+unfolding greater_than
+greater_holds bytes all = first_holds _ _ bytes all (λ b bs of _ no. chosen (b == 62) (just_holds of) no)
 
 -- ---- comments and declarations
 
-dashes_hold : (may_follow : Bool) (bytes : List ℕ) → IsOfBytes bytes → Holds (behind_dashes may_follow bytes) IsOfBytes
-dashes_hold may [] all = from_holds nothing_holds
-dashes_hold may (b ∷ bs) all =
-    let rest = tail b bs all in
-    from_holds (chosen (b == 62) (just_holds rest) (chosen (b == 45 && may) (dashes_hold false bs rest) nothing_holds))
+dashes_hold : (bytes : List ℕ) → IsOfBytes bytes → Holds (behind_dashes bytes) IsOfBytes
+unfolding behind_dashes
+dashes_hold bytes all = first_holds _ _ bytes all (λ b bs of _ _. chosen (b == 45) (greater_holds bs of) (greater_holds bytes all))
 
 comment_end_holds : (bytes : List ℕ) → IsOfBytes bytes → Holds (comment_end bytes) IsOfBytes
-comment_end_holds [] all = from_holds nothing_holds
-comment_end_holds (b ∷ bs) all =
-    let rest = tail b bs all in
-    from_holds (chosen (b == 45 && begins 45 bs) (from_holds (dashes_hold true (drop 1 bs) (dropped 1 bs rest)))
-    (comment_end_holds bs rest))
+unfolding comment_end
+comment_end_holds [] all = nothing_holds
+comment_end_holds (b ∷ bs) all = also (chosen (b == 45 && begins 45 bs) (also (dashes_hold _ (dropped 2 (b ∷ bs) all)))
+    (comment_end_holds bs (tail b bs all)))
 
 comment_holds : (left : ℕ) (bytes : List ℕ) → IsOfBytes bytes → Holds (comment left bytes) IsOfBytes
-comment_holds left bytes all = first_holds _ _ bytes all (λ b bs of. chosen (b == 45) (first_holds _ _ bs (tail b bs of) (λ c cs inner.
-    chosen (c == 45) (comment_end_holds cs (tail c cs inner)) nothing_holds)) nothing_holds)
+unfolding comment second_dash
+comment_holds left bytes all = first_holds _ _ bytes all (λ b bs of _ no. chosen (b == 45)
+    (first_holds _ _ bs of (λ c cs inner _ none. chosen (c == 45) (comment_end_holds cs inner) none)) no)
 
 declaration_end_holds : (bytes : List ℕ) → IsOfBytes bytes → Holds (declaration_end bytes) IsOfBytes
-declaration_end_holds [] all = from_holds nothing_holds
-declaration_end_holds (b ∷ bs) all =
-    let rest = tail b bs all in
-    from_holds (chosen (b == 63 && begins 62 bs) (from_holds (just_holds (dropped 1 bs rest))) (declaration_end_holds bs rest))
+unfolding declaration_end
+declaration_end_holds [] all = nothing_holds
+declaration_end_holds (b ∷ bs) all = also (chosen (b == 63 && begins 62 bs) (also (just_holds (dropped 2 (b ∷ bs) all)))
+    (declaration_end_holds bs (tail b bs all)))
 
 declaration_holds : (left : ℕ) (bytes : List ℕ) → IsOfBytes bytes → Holds (declaration left bytes) IsOfBytes
-declaration_holds left bytes all =
-    let word_holds : Holds (behind_word left bytes) IsOfBytes = chosen (common word bytes == 3)
-    (first_holds _ _ (drop 3 bytes) (dropped 3 bytes all)
-    (λ b bs of. chosen (is_white b) (declaration_end_holds bs (tail b bs of)) nothing_holds))
-    (from_holds nothing_holds) in
-    record { all = word_holds.all }
+unfolding declaration declared
+declaration_holds left bytes all = also (chosen (common word bytes == 3) (first_holds _ _ (drop 3 bytes) (dropped 3 bytes all)
+    (λ b bs of _ no. chosen (is_white b) (declaration_end_holds bs of) no)) nothing_holds)
 
 beginning_holds : (bytes : List ℕ) → IsOfBytes bytes → Holds (beginning bytes) IsOfBytes
+unfolding beginning
 beginning_holds bytes all =
     let behind : IsOfBytes (after_mark bytes) = cond_both (starts_with nat_eq bytes mark) (drop 3 bytes) bytes IsOfBytes
     (λ _. dropped 3 bytes all) (λ _. all) in
-    chosen (starts_with nat_eq (after_mark bytes) (codes "<?"))
-    (declaration_holds (length (after_mark bytes)) (drop 2 (after_mark bytes)) (dropped 2 (after_mark bytes) behind)) (just_holds behind)
+    chosen (starts_with nat_eq (after_mark bytes) (codes "<?")) (declaration_holds _ _ (dropped 2 _ behind)) (just_holds behind)
 
 white : (bytes : List ℕ) → IsOfBytes bytes → IsOfBytes (after_white bytes)
 white bytes all = dropped (up_to is_black bytes) bytes all
 
-comments_hold : (n : ℕ) (bytes : List ℕ) → IsOfBytes bytes → Holds (comments n bytes) IsOfBytes
-comments_hold zero bytes all = chosen (starts_with nat_eq bytes (codes "<!")) nothing_holds (just_holds all)
-comments_hold (suc n) bytes all = chosen (starts_with nat_eq bytes (codes "<!"))
-    (next_holds (comment_holds (length bytes) (drop 2 bytes) (dropped 2 bytes all))
-    (λ rest of. run_holds (comments_hold n (after_white rest) (white rest of))))
-    nothing_holds
+comments_hold : (x : Unit {0}) (bytes : List ℕ) → Any x → IsOfBytes bytes → Holds (next_comment x bytes) (Third Any)
+unfolding next_comment
+comments_hold _ bytes _ all = chosen (starts_with nat_eq bytes (codes "<!"))
+    (next_holds (comment_holds _ _ (dropped 2 bytes all)) (λ rest of. also (just_holds (tt, white rest of)))) (just_holds (tt, all))
 
 misc_holds : (bytes : List ℕ) → IsOfBytes bytes → Holds (misc bytes) IsOfBytes
-misc_holds bytes all = record { all = λ x s. (comments_hold s.0 (after_white bytes) (white bytes all)).all x s.1 }
+unfolding misc
+misc_holds bytes all = also (shown_holds (many_hold comments_hold tt (after_white bytes) tt (white bytes all)) (λ x is. is.1))
 
 -- ---- texts
 
@@ -178,13 +172,14 @@ fed : (bytes : List ℕ) → IsOfBytes bytes → IsOfBytes (after_line_feed byte
 fed [] all = all
 fed (b ∷ bs) all = cond_both (b == 10) bs (b ∷ bs) IsOfBytes (λ _. tail b bs all) (λ _. all)
 
-one_more : (read : List ℕ) (b : ℕ) → IsOfBytes read → b < 256 → IsOfBytes (read ++ b ∷ [])
-one_more read b of small = All-append IsByte read (b ∷ []) of (All-cons IsByte b [] small (All-nil IsByte))
+one_more : {A : Type 0} (IsSo : A → Type 0) (before : List A) (x : A) → All IsSo before → IsSo x → All IsSo (before ++ x ∷ [])
+one_more IsSo before x are is = All-append IsSo before (x ∷ []) are (All-cons IsSo x [] is (All-nil IsSo))
 
 line_end_small : (stop : ℕ) → line_end stop < 256
 line_end_small stop = cond_both (stop == 60) 10 32 (λ n. n < 256) (λ _. omega arith) (λ _. omega arith)
 
 reference_holds : (left : ℕ) (bytes : List ℕ) → IsOfBytes bytes → Holds (reference left bytes) (λ x. IsCharacter x.0 × IsOfBytes x.1)
+unfolding reference
 reference_holds left bytes all = record {
   all = λ x is. (
     referred_is is.name x.0 is.refers,
@@ -194,34 +189,29 @@ reference_holds left bytes all = record {
 }
 
 marked_hold : (stop : ℕ) (read bytes : List ℕ) → IsOfBytes read → IsOfBytes bytes → Holds (marked stop read bytes) (Third IsOfBytes)
-marked_hold stop read [] of all = from_holds nothing_holds
+unfolding marked
+marked_hold stop read [] of all = nothing_holds
 marked_hold stop read (b ∷ bs) of all =
     let rest = tail b bs all in
-    let end : Third IsOfBytes (read ++ line_end stop ∷ [], false, after_line_feed bs) =
-    (one_more read (line_end stop) of (line_end_small stop), fed bs rest) in
-    chosen (b == stop) (just_holds (of, all)) (from_holds
-    (chosen (b == 38) (shown_holds (reference_holds (length (b ∷ bs)) bs rest)
+    chosen (b == stop) (just_holds (of, all))
+    (also (chosen (b == 38) (shown_holds (reference_holds (length (b ∷ bs)) bs rest)
     (λ x is. (All-append IsByte read (encode_utf8 x.0) of (encode_bytes x.0 is.0), is.1)))
-    (chosen (b == 13) (record { all = λ y e. subst (Third IsOfBytes) (sym e) end })
-    (chosen (b == 60) nothing_holds (just_holds (one_more read 32 of (omega arith), rest))))))
+    (chosen (b == 13) (also (just_holds (one_more IsByte read (line_end stop) of (line_end_small stop), fed bs rest)))
+    (chosen (b == 60) nothing_holds (just_holds (one_more IsByte read 32 of (omega arith), rest))))))
 
 parts_hold : (marks : List ℕ) (stop : ℕ) (read bytes : List ℕ) → IsOfBytes read → IsOfBytes bytes
     → Holds (part marks stop read bytes) (Third IsOfBytes)
 parts_hold marks stop read bytes of all =
     let n = up_to (is_member marks) bytes in
-    run_holds (marked_hold stop (read ++ take n bytes) (drop n bytes)
-    (All-append IsByte read (take n bytes) of (All-take IsByte n bytes all)) (dropped n bytes all))
-
-text_holds : (read marks : List ℕ) (stop : ℕ) (bytes : List ℕ) → IsOfBytes read → IsOfBytes bytes
-    → Holds (text read marks stop bytes) (Both IsOfBytes)
-text_holds read marks stop bytes of all = many_hold (parts_hold marks stop) read bytes of all
+    also (marked_hold stop _ _ (All-append IsByte read (take n bytes) of (All-take IsByte n bytes all)) (dropped n bytes all))
 
 value_holds : (quote : ℕ) (bytes : List ℕ) → IsOfBytes bytes → Holds (value quote bytes) (Both IsOfBytes)
-value_holds quote bytes all = next_holds (text_holds [] (marked_in_value quote) quote bytes (All-nil IsByte) all) closed_holds
+unfolding value
+value_holds quote bytes all = next_holds (many_hold (parts_hold (marked_in_value quote) quote) [] bytes (All-nil IsByte) all) closed_holds
   where
     closed_holds : (x : List ℕ × List ℕ) → Both IsOfBytes x → Holds (closed x) (Both IsOfBytes)
-    closed_holds (found, []) is = from_holds nothing_holds
-    closed_holds (found, b ∷ bs) is = from_holds (just_holds (is.0, tail b bs is.1))
+    closed_holds (found, []) is = nothing_holds
+    closed_holds (found, b ∷ bs) is = also (just_holds (is.0, tail b bs is.1))
 
 -- ---- tags
 
@@ -233,44 +223,39 @@ rest_of_name bytes all = dropped (up_to ends_name bytes) bytes all
 
 attribute_holds : (whole : List ℕ) (before : List Attribute) (bytes : List ℕ) → AreValues before → IsOfBytes bytes
     → Holds (attribute whole before bytes) (Both AreValues)
+unfolding attribute new_name equals quote_mark
 attribute_holds whole before bytes are all =
-    next_holds (run_holds (chosen (is_among (name_at bytes).0 (names_of before)) (from_holds nothing_holds)
+    next_holds (also (chosen (is_among (name_at bytes).0 (names_of before)) nothing_holds
     (just_holds {IsSo = λ x. IsOfBytes x.1} (rest_of_name bytes all)))) (λ name of.
-    next_holds (run_holds (first_holds _ _ (after_white name.1) (white name.1 of) (λ b bs all.
-    chosen (b == 61) (run_holds (just_holds (white bs (tail b bs all)))) nothing_holds))) (λ behind of.
-    next_holds (first_holds _ _ behind of (λ b bs all.
-    chosen (b == 34 || b == 39) (just_holds {IsSo = λ x. IsOfBytes x.1} (tail b bs all)) nothing_holds)) (λ quote of.
-    shown_holds (value_holds quote.0 quote.1 of) (λ x is. (
-      All-append (λ (a : Attribute). IsOfBytes a.value) before _ are
-          (All-cons (λ (a : Attribute). IsOfBytes a.value) _ [] is.0 (All-nil (λ (a : Attribute). IsOfBytes a.value))),
-      is.1,
-    )))))
+    next_holds (also (first_holds _ _ (after_white name.1) (white name.1 of) (λ b bs all _ no.
+    chosen (b == 61) (also (just_holds (white bs all))) no))) (λ behind of.
+    next_holds (first_holds _ _ behind of (λ b bs all _ no.
+    chosen (b == 34 || b == 39) (just_holds {IsSo = λ x. IsOfBytes x.1} all) no)) (λ quote of.
+    shown_holds (value_holds quote.0 quote.1 of) (λ x is. (one_more (λ (a : Attribute). IsOfBytes a.value) before _ are is.0, is.1)))))
 
 behind_white_holds : (whole : List ℕ) (before : List Attribute) (is_white : Bool) (bytes : List ℕ) → AreValues before → IsOfBytes bytes
     → Holds (behind_white whole before is_white bytes) (Third AreValues)
-behind_white_holds whole before white [] are all = from_holds nothing_holds
+behind_white_holds whole before white [] are all = nothing_holds
 behind_white_holds whole before white (b ∷ bs) are all = chosen (b == 62 || b == 47) (just_holds (are, all))
-    (from_holds (chosen (starts_name b && white) (shown_holds (attribute_holds whole before (b ∷ bs) are all) (λ x is. is)) nothing_holds))
-
-greater_holds : (bytes : List ℕ) → IsOfBytes bytes → Holds (greater_than bytes) IsOfBytes
-greater_holds bytes all = first_holds _ _ bytes all (λ b bs of. chosen (b == 62) (just_holds (tail b bs of)) nothing_holds)
+    (also (chosen (starts_name b && white) (shown_holds (attribute_holds whole before (b ∷ bs) are all) (λ x is. is)) nothing_holds))
 
 tag_end_holds : (bytes : List ℕ) → IsOfBytes bytes → Holds (tag_end bytes) (Both Any)
-tag_end_holds [] all = from_holds nothing_holds
-tag_end_holds (b ∷ bs) all = chosen (b == 47) (from_holds (shown_holds (greater_holds bs (tail b bs all)) (λ x is. (tt, is))))
-    (shown_holds (greater_holds (b ∷ bs) all) (λ x is. (tt, is)))
+unfolding tag_end
+tag_end_holds bytes all = first_holds _ _ bytes all (λ b bs of _ _. chosen (b == 47)
+    (shown_holds (greater_holds bs of) (λ x is. (tt, is))) (shown_holds (greater_holds bytes all) (λ x is. (tt, is))))
 
 -- what a piece says itself
 abbrev IsPieceOfBytes : Piece → Type 0
-IsPieceOfBytes reading.ended = Unit {0}
-IsPieceOfBytes reading.comment = Unit {0}
-IsPieceOfBytes (reading.empty head) = IsHeadOfBytes head
-IsPieceOfBytes (reading.begun head) = IsHeadOfBytes head
+IsPieceOfBytes pieces.ended = Unit {0}
+IsPieceOfBytes pieces.comment = Unit {0}
+IsPieceOfBytes (pieces.empty head) = IsHeadOfBytes head
+IsPieceOfBytes (pieces.begun head) = IsHeadOfBytes head
 
 tag_holds : (whole : List ℕ) (left : ℕ) (bytes : List ℕ) → IsOfBytes bytes → Holds (tag whole left bytes) (Both IsPieceOfBytes)
+unfolding tag next_attribute
 tag_holds whole left bytes all =
-    run_holds (next_holds (many_hold (λ before bytes are of.
-    run_holds (behind_white_holds whole before _ (after_white bytes) are (white bytes of))) []
+    also (next_holds (many_hold (λ before bytes are of.
+    also (behind_white_holds whole before _ (after_white bytes) are (white bytes of))) []
     (name_at bytes).1 (All-nil (λ (a : Attribute). IsOfBytes a.value)) (rest_of_name bytes all)) (λ found is.
     shown_holds (tag_end_holds found.1 is.1) (λ end of. (by_kind end.0 _ (record { values = is.0; text = All-nil IsByte }), of.1))))
   where
@@ -279,21 +264,20 @@ tag_holds whole left bytes all =
     by_kind false head is = is
 
 end_tag_holds : (name : List ℕ) (left : ℕ) (bytes : List ℕ) → IsOfBytes bytes → Holds (end_tag name left bytes) IsOfBytes
-end_tag_holds name left bytes all = first_holds _ _ bytes all (λ b bs of. chosen (starts_name b)
-    (run_holds (chosen (bytes_eq (name_at bytes).0 name)
-    (run_holds (greater_holds (after_white (name_at bytes).1) (white (name_at bytes).1 (rest_of_name bytes all))))
-    (from_holds nothing_holds)))
-    nothing_holds)
+unfolding end_tag end_name
+end_tag_holds name left bytes all = first_holds _ _ bytes all (λ b bs of _ no. chosen (starts_name b)
+    (next_holds (also (chosen (bytes_eq (name_at bytes).0 name) (just_holds (rest_of_name bytes all)) nothing_holds))
+    (λ rest of. also (greater_holds (after_white rest) (white rest of)))) no)
 
 -- ---- elements
 
 piece_holds : (whole : List ℕ) (room : ℕ) (name : List ℕ) (left : ℕ) (bytes : List ℕ) → IsOfBytes bytes
     → Holds (piece whole room name left bytes) (Both IsPieceOfBytes)
-piece_holds whole room name left bytes all = first_holds _ _ bytes all (λ b bs of.
-    chosen (b == 47) (shown_holds (end_tag_holds name left bs (tail b bs of)) (λ x is. (tt, is)))
-    (chosen (b == 33) (shown_holds (comment_holds left bs (tail b bs of)) (λ x is. (tt, is)))
-    (chosen (b == 63) nothing_holds (chosen (starts_name b)
-    (chosen (room == 0) nothing_holds (tag_holds whole left (b ∷ bs) of)) nothing_holds))))
+unfolding piece
+piece_holds whole room name left bytes all = first_holds _ _ bytes all (λ b bs of _ no.
+    chosen (b == 47) (shown_holds (end_tag_holds name left bs of) (λ x is. (tt, is)))
+    (chosen (b == 33) (shown_holds (comment_holds left bs of) (λ x is. (tt, is)))
+    (chosen (b == 63) no (chosen (starts_name b) (chosen (room == 0) no (tag_holds whole left bytes all)) no))))
 
 record IsInsideOfBytes (i : Inside) : Type 0 where
   children : AreOfBytes i.children
@@ -315,42 +299,44 @@ AreInner inner = (name bytes : List ℕ) → IsOfBytes bytes → Holds (inner na
 
 added_holds : (inner : List ℕ → List ℕ → Production (Inside × List ℕ)) → AreInner inner → (before : Inside) → IsInsideOfBytes before
     → (x : Piece × List ℕ) → Both IsPieceOfBytes x → Holds (added inner before x) (Third IsInsideOfBytes)
-added_holds inner h before is (reading.ended, rest) of = just_holds (is, of.1)
-added_holds inner h before is (reading.comment, rest) of = just_holds (is, of.1)
-added_holds inner h before is (reading.empty head, rest) of =
+added_holds inner h before is (pieces.ended, rest) of = just_holds (is, of.1)
+added_holds inner h before is (pieces.comment, rest) of = just_holds (is, of.1)
+added_holds inner h before is (pieces.empty head, rest) of =
     just_holds (with_one before head nothing_inside is of.0 (record { children = tt; text = All-nil IsByte }), of.1)
-added_holds inner h before is (reading.begun head, rest) of =
+added_holds inner h before is (pieces.begun head, rest) of =
     shown_holds (h head.name rest of.1) (λ i inner_is. (with_one before head i.0 is of.0 inner_is.0, inner_is.1))
 
 next_inside_holds : (inner : List ℕ → List ℕ → Production (Inside × List ℕ)) → AreInner inner → (whole : List ℕ) (room : ℕ) (name : List ℕ)
     (before : Inside) (bytes : List ℕ) → IsInsideOfBytes before → IsOfBytes bytes
     → Holds (next_inside inner whole room name before bytes) (Third IsInsideOfBytes)
+unfolding next_inside
 next_inside_holds inner h whole room name before bytes is all =
-    next_holds (text_holds before.text marked_in_content 60 bytes is.text all) (λ found of.
-    from_holds (next_holds (piece_holds whole room name (length found.1) (drop 1 found.1) (dropped 1 found.1 of.1))
+    next_holds (many_hold (parts_hold marked_in_content 60) before.text bytes is.text all) (λ found of.
+    also (next_holds (piece_holds whole room name (length found.1) (drop 1 found.1) (dropped 1 found.1 of.1))
     (added_holds inner h (record before { text = found.0 }) (record { children = is.children; text = of.0 }))))
 
 inside_holds : (room : ℕ) (whole : List ℕ) → AreInner (inside room whole)
-inside_holds zero whole name bytes all =
-    many_hold (next_inside_holds _ (λ _ _ _. from_holds nothing_holds) whole 0 name) nothing_inside bytes
-    (record { children = tt; text = All-nil IsByte }) all
+unfolding inside
+inside_holds zero whole name bytes all = nothing_holds
 inside_holds (suc room) whole name bytes all =
-    many_hold (next_inside_holds (inside room whole) (inside_holds room whole) whole (suc room) name) nothing_inside bytes
+    many_hold (next_inside_holds (inside room whole) (inside_holds room whole) whole room name) nothing_inside bytes
     (record { children = tt; text = All-nil IsByte }) all
 
 element_holds : (whole : List ℕ) (x : Piece × List ℕ) → Both IsPieceOfBytes x → Holds (grammar.element whole x) (Both IsElementOfBytes)
-element_holds whole (reading.ended, rest) is = nothing_holds
-element_holds whole (reading.comment, rest) is = nothing_holds
-element_holds whole (reading.empty head, rest) is = just_holds (record { head = is.0; children = tt }, is.1)
-element_holds whole (reading.begun head, rest) is = shown_holds (inside_holds 31 whole head.name rest is.1)
+element_holds whole (pieces.ended, rest) is = record { all = λ x never. absurd never }
+element_holds whole (pieces.comment, rest) is = record { all = λ x never. absurd never }
+element_holds whole (pieces.empty head, rest) is = just_holds (record { head = is.0; children = tt }, is.1)
+element_holds whole (pieces.begun head, rest) is = shown_holds (inside_holds 32 whole head.name rest is.1)
     (λ i of. (record { head = record { values = is.0.values; text = of.0.text }; children = of.0.children }, of.1))
 
 root_holds : (whole bytes : List ℕ) → IsOfBytes bytes → Holds (root whole bytes) (Both IsElementOfBytes)
-root_holds whole bytes all = first_holds _ _ bytes all (λ b bs of. chosen (b == 60)
-    (first_holds _ _ bs (tail b bs of) (λ c cs of. chosen (c == 63) nothing_holds (chosen (starts_name c)
-    (next_holds (tag_holds whole (length (b ∷ bs)) (c ∷ cs) of) (element_holds whole)) nothing_holds))) nothing_holds)
+unfolding root behind_root_start
+root_holds whole bytes all = first_holds _ _ bytes all (λ b bs of _ no. chosen (b == 60)
+    (first_holds _ _ bs of (λ c cs _ _ none. chosen (c == 63) none (chosen (starts_name c)
+    (next_holds (tag_holds whole (length bytes) bs of) (element_holds whole)) none))) no)
 
 document_holds : (bytes : List ℕ) → IsOfBytes bytes → Holds (document bytes) IsElementOfBytes
+unfolding document
 document_holds bytes all =
     next_holds (beginning_holds bytes all) (λ behind of.
     next_holds (misc_holds behind of) (λ front of.

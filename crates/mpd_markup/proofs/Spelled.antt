@@ -10,10 +10,11 @@ use Rattle.byte_scan.specs.ByteSet.{is_member}
 use Rattle.bridge_io.specs.{declared.place.Place.Place, Texts.is_among}
 use Rattle.bridge_io.proofs.Texts.{bytes_eq_sym, equals_itself}
 use Rattle.mpd_text.specs.{Characters.{is_white, starts_name, goes_on_name, is_name}, Marked.marked_in_content, Escapes.escape_all}
-use Rattle.mpd_text.specs.{Runs.{is_black, ends_name, up_to}, Trees.{names_of, Attribute, Forest, Element}, Productions.{as_read, many}}
-use Rattle.mpd_text.specs.{Productions.{times, ◌>>◌}, Reading.{place_before, Piece, ended, empty, begun, tag_piece, Inside, followed_by}}
-use Rattle.mpd_text.specs.{Reading.{nothing_inside, with_child}, Grammar.{equals, next_attribute, tag_end, end_tag, piece, added, text}}
-use Rattle.mpd_text.specs.Grammar.{next_inside, inside, misc, behind_root_start, IsDocument}
+use Rattle.mpd_text.specs.{Runs.{is_black, ends_name, up_to}, Trees.{names_of, Attribute, Forest, Element}, Positions.place_before}
+use Rattle.mpd_text.specs.Pieces.{Piece, ended, empty, begun, tag_piece, Inside, nothing_inside, followed_by, with_child}
+use Rattle.mpd_text.specs.{Productions.{as_read, many, times, ◌>>◌}, Grammar.{new_name, equals, quote_mark, attribute, next_attribute}}
+use Rattle.mpd_text.specs.Grammar.{greater_than, tag_end, end_name, end_tag, piece, added, text, marked, next_inside, inside, next_comment}
+use Rattle.mpd_text.specs.Grammar.{misc, ending, root, behind_root_start, beginning, declared, declaration_end, IsDocument}
 use Rattle.mpd_markup.specs.Markup.{Tag, Markup, nothing, element, attribute_text, opening, enclosed, printed, declaration, document}
 use Rattle.mpd_markup.specs.Placed.{AllDiffer, past, first_place, attributes_at, line_feeds, text_round, head_at, placed, root_place}
 use Rattle.mpd_markup.specs.Placed.{root_read, levels, IsLegalAttribute, AllLegal, IsLegalTag, AreLegal, IsLegal}
@@ -69,7 +70,7 @@ differ_before (b ∷ before) more name h =
 attribute_is : (whole : List ℕ) (here : Place) (before : List Attribute) (a : List ℕ × List ℕ) (rest : List ℕ) → IsLegalAttribute a
     → IsAt whole here (attribute_text a ++ rest) → is_among a.0 (names_of before) ≡ false
     → (next_attribute whole before (attribute_text a ++ rest)).spells (before ++ attributes_at here (a ∷ []), false, rest)
-unfolding is_white goes_on_name starts_name
+unfolding is_white goes_on_name starts_name next_attribute attribute new_name equals quote_mark
 attribute_is whole here before ([], value) rest legal at new = absurd (let never = legal.name.named in cc)
 attribute_is whole here before (b ∷ bs, value) rest legal at new =
     let name = b ∷ bs in
@@ -90,13 +91,11 @@ attribute_is whole here before (b ∷ bs, value) rest legal at new =
     (rw (white, found.0, found.1, new, place, (other b 62 is refl).0, (other b 47 is refl).0, is, more)
     ((y, rest), ((name, tail), refl, (34 ∷ text, equals, ((34, text), refl, ((value, rest), v, refl)))), refl))
 
-attributes_are : (whole : List ℕ) (here : Place) (before : List Attribute) (attributes : List (List ℕ × List ℕ)) (tail : List ℕ)
-    → ((all : List Attribute) → (next_attribute whole all tail).spells (all, true, tail)) → AllLegal attributes
-    → AllDiffer (names_of before ++ map (λ a. a.0) attributes) → IsAt whole here (flat_map attribute_text attributes ++ tail)
-    → (many (next_attribute whole) before (flat_map attribute_text attributes ++ tail)).spells (
-      before ++ attributes_at here attributes,
-      tail,
-    )
+attributes_are : (whole : List ℕ) (here : Place) (before : List Attribute) (named : List (List ℕ × List ℕ)) (tail : List ℕ)
+    → ((all : List Attribute) → (next_attribute whole all tail).spells (all, true, tail)) → AllLegal named
+    → AllDiffer (names_of before ++ map (λ a. a.0) named) → IsAt whole here (flat_map attribute_text named ++ tail)
+    → (many (next_attribute whole) before (flat_map attribute_text named ++ tail)).spells (before ++ attributes_at here named, tail)
+unfolding times
 attributes_are whole here before [] tail ends legal differ at = (1, ((before, true, tail), ends before, rw append-nil refl))
 attributes_are whole here before (a ∷ more) tail ends legal differ at =
     let next = attributes_at here (a ∷ []) in
@@ -105,9 +104,8 @@ attributes_are whole here before (a ∷ more) tail ends legal differ at =
     let rest = attributes_are whole (past here (attribute_text a)) (before ++ next) more tail ends legal.1
     (simp (map-append, append_assoc) differ) (further whole here (attribute_text a) behind at_a) in
     let new = differ_before (names_of before) (map (λ a. a.0) more) a.0 differ in
-    let more_are = subst (λ (l : List Attribute). (times (next_attribute whole) rest.0 (before ++ next) behind).spells (l, tail))
-    (append_assoc before next (attributes_at (past here (attribute_text a)) more)) rest.1 in
-    rw append_assoc (suc rest.0, ((before ++ next, false, behind), attribute_is whole here before a behind legal.0 at_a new, more_are))
+    let is_next = attribute_is whole here before a behind legal.0 at_a new in
+    rw (append_assoc, ← append_assoc before next) (suc rest.0, ((before ++ next, false, behind), is_next, rest.1))
 
 -- ---- tags
 
@@ -132,7 +130,7 @@ ends : (whole : List ℕ) (here : Place) (tag : Tag) (m : Markup) (rest : List �
     → ((all : List Attribute) → (next_attribute whole all (behind tag m rest)).spells (all, true, behind tag m rest))
     × (as_read {B = Piece × List ℕ} (tag_end (behind tag m rest)) (λ end. (tag_piece end.0 (head_at here tag nothing), end.1))).spells
     (piece_of here tag m rest)
-unfolding is_white
+unfolding is_white next_attribute tag_end greater_than
 ends whole here tag nothing rest =
     (λ all. rw (run_again is_black [] (47 ∷ 62 ∷ rest) refl refl).1 refl, ((true, rest), (rest, refl, refl), refl))
 ends whole here tag (element first within after) rest =
@@ -149,6 +147,7 @@ stops (a ∷ more) tag m rest = refl
 tag_is : (whole : List ℕ) (here : Place) (tag : Tag) (m : Markup) (rest : List ℕ) → IsLegalTag tag
     → IsAt whole here (60 ∷ from_name tag m rest)
     → (grammar.tag whole (length (60 ∷ from_name tag m rest)) (from_name tag m rest)).spells (piece_of here tag m rest)
+unfolding grammar.tag
 tag_is whole here tag m rest legal at =
     let tail = flat_map attribute_text tag.attributes ++ behind tag m rest in
     let found = cut tag.name tail legal.name.named (stops tag.attributes tag m rest) in
@@ -160,11 +159,12 @@ tag_is whole here tag m rest legal at =
     ((attributes_at from tag.attributes, behind tag m rest), attributes, end.1)
 
 end_tag_is : (name rest : List ℕ) (left : ℕ) → is_name name ≡ true → (end_tag name left (name ++ 62 ∷ rest)).spells rest
-unfolding is_white goes_on_name starts_name
+unfolding is_white goes_on_name starts_name end_tag end_name greater_than
 end_tag_is [] rest left is = absurd cc
 end_tag_is (b ∷ bs) rest left is =
     let found = cut (b ∷ bs) (62 ∷ rest) is refl in
-    rw (found.0, found.1, starts b bs is, equals_itself (b ∷ bs), (run_again is_black [] (62 ∷ rest) refl refl).1) refl
+    rw (found.0, found.1, starts b bs is, equals_itself (b ∷ bs))
+    (62 ∷ rest, refl, rw (run_again is_black [] (62 ∷ rest) refl refl).1 refl)
 
 -- ---- elements
 
@@ -182,16 +182,17 @@ inside_of here tag m = record { children = placed (past here (opening tag ++ cod
 
 abbrev Contains : Markup → Type 0
 Contains m = (whole : List ℕ) (here : Place) (room : ℕ) (name : List ℕ) (before : Inside) (rest : List ℕ) → is_name name ≡ true
-    → levels m ≤ suc room → IsAt whole here (content name m rest)
-    → (many (next_inside (inside room whole) whole (suc room) name) before (content name m rest)).spells
+    → levels m ≤ room → IsAt whole here (content name m rest)
+    → (many (next_inside (inside room whole) whole room name) before (content name m rest)).spells
     (record { children = followed_by before.children (placed here m); text = before.text ++ 10 ∷ line_feeds m }, rest)
 
 filled : (whole : List ℕ) (here : Place) (tag : Tag) (m : Markup) (room : ℕ) (rest : List ℕ) (Next : Inside → Piece × List ℕ → Type 0)
-    → IsLegalTag tag → levels m ≤ room → Contains m → IsAt whole here (60 ∷ from_name tag m rest)
+    → IsLegalTag tag → suc (levels m) ≤ room → Contains m → IsAt whole here (60 ∷ from_name tag m rest)
     → Next nothing_inside (empty (head_at here tag nothing), rest)
     → ((i : Inside) (within : List ℕ) → (inside room whole tag.name within).spells (i, rest)
     → Next i (begun (head_at here tag nothing), within))
     → Next (inside_of here tag m) (piece_of here tag m rest)
+unfolding inside
 filled whole here tag nothing room rest Next legal less inside at if_empty if_begun = if_empty
 filled whole here tag (element first within after) zero rest Next legal less inside at if_empty if_begun = absurd (omega arith)
 filled whole here tag (element first within after) (suc room) rest Next legal less inside at if_empty if_begun =
@@ -200,31 +201,31 @@ filled whole here tag (element first within after) (suc room) rest Next legal le
     let e = append_assoc (opening tag) (codes ">") bytes
     ∙ append_assoc (60 ∷ tag.name) (flat_map attribute_text tag.attributes) (62 ∷ bytes) in
     if_begun (inside_of here tag m) bytes (inside whole (past here (opening tag ++ codes ">")) room tag.name nothing_inside rest
-    legal.name.named less (further whole here (opening tag ++ codes ">") bytes (subst (IsAt whole here) (sym e) at)))
+    legal.name.named (omega arith) (further whole here (opening tag ++ codes ">") bytes (subst (IsAt whole here) (sym e) at)))
 
 -- ---- content
 
 text_is : (read bs : List ℕ) → (text read marked_in_content 60 (10 ∷ 60 ∷ bs)).spells (read ++ 10 ∷ [], 60 ∷ bs)
+unfolding times marked
 text_is read bs =
     let plain = run_again (is_member marked_in_content) (10 ∷ []) (60 ∷ bs) refl refl in
     (1, ((read ++ 10 ∷ [], true, 60 ∷ bs), rw (plain.0, plain.1) refl, refl))
 
 -- a tag begins a piece, the root's too, and no comment
 begins : (whole name tail : List ℕ) (left : ℕ) → is_name name ≡ true
-    → ((room : ℕ) (outer : List ℕ) (x : Piece × List ℕ) → (grammar.tag whole left (name ++ tail)).spells x
-    → (piece whole (suc room) outer left (name ++ tail)).spells x)
+    → ((room : ℕ) (outer : List ℕ) (x : Piece × List ℕ) → (room == 0) ≡ false → (grammar.tag whole left (name ++ tail)).spells x
+    → (piece whole room outer left (name ++ tail)).spells x)
     × ((y : Element × List ℕ) → (grammar.tag whole left (name ++ tail) >> grammar.element whole).spells y
     → (behind_root_start whole left (name ++ tail)).spells y)
     × (misc (10 ∷ 60 ∷ name ++ tail)).spells (60 ∷ name ++ tail)
-unfolding is_white starts_name
+unfolding is_white starts_name piece behind_root_start misc times next_comment
 begins whole [] tail left is = absurd cc
 begins whole (b ∷ bs) tail left is =
     let first = starts b bs is in
-    let white = (run_again is_black (10 ∷ []) (60 ∷ b ∷ bs ++ tail) refl refl).1 in
-    let some : (room : ℕ) → (suc room == 0) ≡ false = λ room. grind (arith, nat_tests) in (
-      λ room outer x is_tag. rw ((other b 47 first refl).0, (other b 33 first refl).0, (other b 63 first refl).0, first, some room) is_tag,
+    let white = (run_again is_black (10 ∷ []) (60 ∷ b ∷ bs ++ tail) refl refl).1 in (
+      λ room outer x some is_tag. rw ((other b 47 first refl).0, (other b 33 first refl).0, (other b 63 first refl).0, first, some) is_tag,
       λ y found. rw ((other b 63 first refl).0, first) found,
-      (0, rw (white, (other b 33 first refl).1) refl),
+      rw white ((tt, 60 ∷ b ∷ bs ++ tail), (1, ((tt, true, 60 ∷ b ∷ bs ++ tail), rw (other b 33 first refl).1 refl, refl)), refl),
     )
 
 followed_nothing : (f : Forest) → followed_by f tree.nothing ≡ f
@@ -236,13 +237,12 @@ followed_assoc tree.nothing g h = refl
 followed_assoc (tree.element head children others) g h = ap (tree.element head children) (followed_assoc others g h)
 
 contains : (m : Markup) → AreLegal m → Contains m
+unfolding times next_inside piece
 contains nothing legal whole here room name before rest is less at =
     let text = before.text ++ 10 ∷ [] in
     let tail = 47 ∷ name ++ 62 ∷ rest in
-    let read = record before { text = text } in
     let e = end_tag_is name rest _ is in
-    let t = text_is before.text tail in
-    (1, ((read, true, rest), ((text, 60 ∷ tail), t, ((ended, rest), (rest, e, refl), refl)), rw followed_nothing refl))
+    (1, (_, ((text, 60 ∷ tail), text_is before.text tail, ((ended, rest), (rest, e, refl), refl)), rw followed_nothing refl))
 contains (element tag children others) legal whole here room name before rest is less at =
     let from = past here (codes "\n") in
     let next = content name others rest in
@@ -257,23 +257,17 @@ contains (element tag children others) legal whole here room name before rest is
     (contains children legal.1) at_tag refl (λ i within is_inside. ((i, next), is_inside, refl)) in
     let tail = from_name tag children next in
     let its_tag = tag_is whole from tag children next legal.0 at_tag in
-    let piece = (begins whole tag.name _ (length (60 ∷ tail)) legal.0.name.named).0 room name _ its_tag in
+    let piece = (begins whole tag.name _ (length (60 ∷ tail)) legal.0.name.named).0 room name _ (grind (arith, nat_tests)) its_tag in
     let more = contains others legal.2 whole (past here (codes "\n" ++ bytes)) room name step rest is (omega arith)
     (further whole here (codes "\n" ++ bytes) next at_all) in
     let forest = tree.element (head_at from tag children) (placed (past from (opening tag ++ codes ">")) children) tree.nothing in
-    let times = subst (λ (i : Inside). (times (next_inside (inside room whole) whole (suc room) name) more.0 step next).spells (i, rest))
-    (λ i. record {
-      children = followed_assoc before.children forest (placed (past here (codes "\n" ++ bytes)) others) i;
-      text = append_assoc before.text (10 ∷ []) (10 ∷ line_feeds others) i;
-    }) more.1 in
-    let text = text_is before.text tail in
-    let x = piece_of from tag children next in
-    rw (e, split tag children next) (suc more.0, ((step, false, next), ((read.text, 60 ∷ tail), text, (x, piece, added)), times))
+    rw (e, split tag children next, ← followed_assoc before.children forest, ← append_assoc before.text (10 ∷ []))
+    (suc more.0, (_, ((read.text, 60 ∷ tail), text_is before.text tail, (_, piece, added)), more.1))
 
 -- ---- the whole
 
 pub document_is : (tag : Tag) (children : Markup) → IsLegal tag children → IsDocument (root_read tag children) (document tag children)
-unfolding is_white
+unfolding is_white grammar.document beginning grammar.declaration declared declaration_end root ending misc times next_comment
 document_is tag children legal =
     let whole = document tag children in
     let end : List ℕ = 10 ∷ [] in
@@ -281,11 +275,10 @@ document_is tag children legal =
     let at = subst (IsAt whole root_place) e (declaration, refl, refl) in
     let Read : Inside → Element
     = λ (i : Inside). record { head = record (head_at root_place tag nothing) { text = i.text }; children = i.children } in
-    let is_element = filled whole root_place tag children 31 end (λ i x. (grammar.element whole x).spells (Read i, end)) legal.root
-    (omega (arith, legal.shallow)) (contains children legal.inside) at refl (λ i within is. ((i, end), is, refl)) in
+    let is_element = filled whole root_place tag children 32 end (λ i x. (grammar.element whole x).spells (Read i, end)) legal.root
+    legal.shallow (contains children legal.inside) at refl (λ i within is. ((i, end), is, refl)) in
     let rest = 60 ∷ from_name tag children end in
-    let its_tag = tag_is whole root_place tag children end legal.root at in
     let first = begins whole tag.name _ (length rest) legal.root.name.named in
     let front = subst (λ (l : List ℕ). (misc (10 ∷ l)).spells rest) (sym e) first.2 in
-    let root = first.1 _ (piece_of root_place tag children end, its_tag, is_element) in
-    (_, refl, (rest, front, ((root_read tag children, end), root, (tt, ([], (0, refl), refl), refl))))
+    let root = first.1 _ (_, tag_is whole root_place tag children end legal.root at, is_element) in
+    (_, refl, (rest, front, ((root_read tag children, end), root, (tt, ([], ((tt, []), (1, (_, refl, refl)), refl), refl), refl))))

@@ -1,10 +1,13 @@
 -- How content goes on, step by step.
-use Rattle.std.proofs.Common.{◌≡◌, ℕ, zero, suc, ◌+◌, ◌-◌, List, [], ◌∷◌, ◌++◌, length, take, drop, IfSome, Ok, Err, refl, sym, ap, ◌∙◌}
+use Rattle.mpd_text.specs.Grammar as grammar
+use Rattle.std.proofs.Common.{◌≡◌, ℕ, suc, ◌+◌, ◌-◌, List, [], ◌∷◌, ◌++◌, length, take, drop, IfSome, Result, Ok, Err, refl, sym, ap, ◌∙◌}
 use Rattle.std.proofs.{Common.{arith, append_assoc}, lemmas.List.{length-append, append-nil}}
-use Rattle.mpd_text.specs.{declared.kept.Kept.Kept, declared.stop.Stop.Stop, Forests.{Shown, flat}, Keeping.{content_step, element_at}}
-use Rattle.mpd_text.specs.{Keeping.{inner_of, shown_in}, Marked.marked_in_content, Rests.IsBehind, Reading.{◌>>=◌, fault_in}}
-use Rattle.mpd_text.specs.Reading.{text_behind, piece_at, piece_added, Piece, InsideReading, nothing_inside, followed_by, content_next}
-use Rattle.mpd_text.specs.{Reading.{content_behind, content_at, tag_at, element_in}, Trees.{Forest, Head, nothing, element}}
+use Rattle.mpd_text.specs.{declared.kept.Kept.Kept, declared.stop.Stop.Stop, declared.stop.Fault.Fault, Forests.{Shown, flat}}
+use Rattle.mpd_text.specs.{Keeping.{content_step, element_at}}
+use Rattle.mpd_text.specs.{Keeping.shown_in, Marked.marked_in_content, Rests.IsBehind, Runs.plain_at, Reading.fault_in}
+use Rattle.mpd_text.specs.{Pieces.{Piece, Inside, ended}}
+use Rattle.mpd_text.specs.{Pieces.followed_by, Productions.{◌>>=◌, Production, further, times}, Trees.{Forest, Head, nothing, element}}
+use Rattle.mpd_text.specs.Grammar.{text as text_of, marked, tag, end_tag, piece, added, next_inside, inside}
 use Rattle.mpd_text.proofs.{Flat.joined, Loop.failed, Rests.tail_is}
 
 -- with so many steps left
@@ -13,49 +16,68 @@ pub record IsSoFar (room : ℕ) (name bytes : List ℕ) (old new : Kept) (text :
   pub same : new.source.now ≡ old.source.now
   pub shown_are : shown_in new ≡ shown_in old ++ flat (length (shown_in old)) children
   pub left : IsBehind old.source.now rest
-  pub so_far : content_behind (inner_of room old.source.now) old.source.now room n name (record { children = children; text = text }) rest
-      ≡ content_at room old.source.now name bytes
-
-pub content_is : (room : ℕ) (whole name bytes : List ℕ)
-    → content_behind (inner_of room whole) whole room (length bytes) name nothing_inside bytes ≡ content_at room whole name bytes
-unfolding content_at
-content_is zero whole name bytes = refl
-content_is (suc room) whole name bytes = refl
+  pub so_far : (times (next_inside (inside room old.source.now) old.source.now room name) n (record { children = children; text = text })
+      rest).read ≡ (inside (suc room) old.source.now name bytes).read
 
 -- ---- one step
 
 module _ (room : ℕ) (whole name : List ℕ) (children : Forest) (text bytes : List ℕ) {marks : List ℕ} (m : marks ≡ marked_in_content) where
-  pub text_failed : (e : Stop) → IfSome (fault_in e) (λ f. text_behind text marks 60 bytes ≡ Err f)
-      → IfSome (fault_in e) (λ f. content_step room whole name children text bytes ≡ Err f)
-  unfolding content_next
-  text_failed e h = failed e (text_behind text marked_in_content 60 bytes) _ (content_step room whole name children text bytes)
+  pub text_failed : (e : Stop) → IfSome (fault_in e) (λ f. (text_of text marks 60 bytes).read ≡ Err f)
+      → IfSome (fault_in e) (λ f. (content_step room whole name children text bytes).read ≡ Err f)
+  unfolding next_inside
+  text_failed e h = failed e (text_of text marked_in_content 60 bytes).read _ (content_step room whole name children text bytes).read
       (rw m at h) refl
 
-  module _ {t markup : List ℕ} (is : text_behind text marks 60 bytes ≡ Ok (t, markup)) where
-    step_is : (piece_at whole room name (length markup) (take (length markup - 1) (drop 1 markup))
-        >>= piece_added (inner_of room whole) (record { children = children; text = t }))
-        ≡ content_step room whole name children text bytes
-    unfolding content_next
+  module _ {t markup : List ℕ} (is : (text_of text marks 60 bytes).read ≡ Ok (t, markup)) where
+    step_is : ((piece whole room name (length markup) (take (length markup - 1) (drop 1 markup))).read
+        >>= λ x. (added (inside room whole) (record { children = children; text = t }) x).read)
+        ≡ (content_step room whole name children text bytes).read
+    unfolding next_inside
     step_is = let e = rw m at is in rw (e, tail_is markup) refl
 
-    pub piece_failed : (e : Stop) → IfSome (fault_in e) (λ f. piece_at whole room name (length markup) (take (length markup - 1)
-        (drop 1 markup)) ≡ Err f)
-        → IfSome (fault_in e) (λ f. content_step room whole name children text bytes ≡ Err f)
-    piece_failed e h = failed e (piece_at whole room name (length markup) (take (length markup - 1) (drop 1 markup))) _ _ h step_is
+    pub piece_failed : (e : Stop)
+        → IfSome (fault_in e) (λ f. (piece whole room name (length markup) (take (length markup - 1) (drop 1 markup))).read ≡ Err f)
+        → IfSome (fault_in e) (λ f. (content_step room whole name children text bytes).read ≡ Err f)
+    piece_failed e h = failed e (piece whole room name (length markup) (take (length markup - 1) (drop 1 markup))).read _ _ h step_is
 
-    pub piece_read : {p : Piece} {rest : List ℕ} → piece_at whole room name (length markup) (take (length markup - 1) (drop 1 markup))
-        ≡ Ok (p, rest)
-        → content_step room whole name children text bytes ≡ piece_added (inner_of room whole) (record { children = children; text = t })
-        (p, rest)
+    pub piece_read : {p : Piece} {rest : List ℕ}
+        → (piece whole room name (length markup) (take (length markup - 1) (drop 1 markup))).read ≡ Ok (p, rest)
+        → (content_step room whole name children text bytes).read
+        ≡ (added (inside room whole) (record { children = children; text = t }) (p, rest)).read
     piece_read h = sym step_is ∙ rw h refl
 
--- content inside is read with less room
-pub inside_read : (room inside : ℕ) (whole other name named bytes : List ℕ) (P : InsideReading → Type 0) → suc inside ≡ room → other ≡ whole
-    → named ≡ name → P (content_at inside other named bytes) → P (inner_of room whole name bytes)
-inside_read room inside whole other name named bytes P e w n h = rw (← e, ← w, ← n) h
+-- ---- text alone
 
-pub element_is : (whole : List ℕ) (left : ℕ) (bytes : List ℕ) {x : Piece × List ℕ} → tag_at whole left bytes ≡ Ok x
-    → element_in whole x ≡ element_at whole left bytes
+end_read : (r : Result (List ℕ) Fault) (inner : List ℕ → List ℕ → Production (Inside × List ℕ))
+    (more : Inside → List ℕ → Production (Inside × List ℕ)) (before : Inside) → (r >>= λ rest. Ok (before, rest))
+    ≡ (((r >>= λ rest. Ok (ended, rest)) >>= λ x. (added inner before x).read) >>= λ x. (further more x).read)
+end_read (Ok rest) inner more before = refl
+end_read (Err f) inner more before = refl
+
+pub leaf_is : (room : ℕ) (whole name bytes markup more : List ℕ) → markup ≡ (plain_at marked_in_content bytes).1 → markup ≡ 60 ∷ 47 ∷ more
+    → ((end_tag name (length markup) more).read
+    >>= λ rest. Ok (record { children = nothing; text = (plain_at marked_in_content bytes).0 }, rest))
+    ≡ (inside (suc room) whole name bytes).read
+unfolding inside times next_inside marked piece
+leaf_is room whole name bytes markup more plain is =
+    let most : length bytes + 1 ≡ suc (length bytes) = omega arith in
+    let here : (plain_at marked_in_content bytes).1 ≡ 60 ∷ 47 ∷ more = sym plain ∙ is in
+    rw (is, most, most, here) (end_read (end_tag name (length (60 ∷ 47 ∷ more)) more).read (inside room whole)
+    (times (next_inside (inside room whole) whole room name) (length bytes))
+    (record { children = nothing; text = (plain_at marked_in_content bytes).0 }))
+
+-- ---- elements inside
+
+-- content inside is read with less room
+abbrev pub InsideReading : Type 0
+InsideReading = Result (Inside × List ℕ) Fault
+
+pub inside_read : (room less : ℕ) (whole other name named bytes : List ℕ) (P : InsideReading → Type 0) → suc less ≡ room
+    → other ≡ whole → named ≡ name → P (inside (suc less) other named bytes).read → P (inside room whole name bytes).read
+inside_read room less whole other name named bytes P e w n h = rw (← e, ← w, ← n) h
+
+pub element_is : (whole : List ℕ) (left : ℕ) (bytes : List ℕ) {x : Piece × List ℕ} → (tag whole left bytes).read ≡ Ok x
+    → (grammar.element whole x).read ≡ (element_at whole left bytes).read
 element_is whole left bytes h = rw h refl
 
 -- ---- rows that came

@@ -7,12 +7,11 @@ use Rattle.std.proofs.{lemmas.List.Elements.{All-drop, All-take, All-weaker}, le
 use Rattle.std.proofs.lemmas.Str.{IsCharBoundary-start, IsUtf8-append, IsUtf8-had, IsUtf8-string_bytes}
 use Rattle.std.proofs.lemmas.Option.{get_or_from_slice_get, slice_get_within}
 use Rattle.std.specs.{List.{All, slice_get, slice_range}, String.string_bytes, Str.{IsUtf8, IsCharBoundary}}
-use Rattle.mpd_text.specs.{declared.tree.KeptSpan.KeptSpan, declared.tree.ElementRow.ElementRow}
-use Rattle.mpd_text.specs.{declared.tree.AttributeRow.AttributeRow, Forests.{Shown, shown_of}, declared.kept.Kept.Kept, Trees.names_of}
-use Rattle.mpd_text.specs.{Trees.Attribute, Keeping.{Adds, attributes_from, attributes_in, head_at, kept_of, names_from, shown_in}}
-use Rattle.mpd_text.specs.{Names.names_in, Runs.{ends_name, name_at}, Reading.place_before, Rests.{IsBehind, IsEnd}}
-use Rattle.mpd_text.specs.{Rows.{HasAttributesWithin, IsKept, IsNameKept, IsElementKept, IsAttributeKept}, Views.bytes_of}
-use Rattle.mpd_text.specs.Views.{attribute_of, head_of}
+use Rattle.mpd_text.specs.{declared.tree.KeptSpan.KeptSpan, declared.tree.ElementRow.ElementRow, declared.tree.AttributeRow.AttributeRow}
+use Rattle.mpd_text.specs.{Forests.{Shown, shown_of}, declared.kept.Kept.Kept, Trees.{names_of, Attribute}, Keeping.{Adds, attributes_from}}
+use Rattle.mpd_text.specs.{Keeping.{attributes_in, head_at, kept_of, names_from, shown_in}, Names.names_in, Runs.{ends_name, name_at}}
+use Rattle.mpd_text.specs.{Positions.place_before, Rests.{IsBehind, IsEnd}, Rows.{HasAttributesWithin, IsKept, IsNameKept, IsElementKept}}
+use Rattle.mpd_text.specs.{Rows.IsAttributeKept, Views.{bytes_of, attribute_of, head_of}}
 use Rattle.mpd_text.proofs.{Cuts.run_stops, KeptLemmas.{boundary_kept, kept_more, name_kept_more, range_left}, Rests.BeginsAscii}
 use Rattle.mpd_text.proofs.Rests.{behind_within, cut_before, cut_behind, ends, ends_drop, ends_dropped, name_ends}
 use Rattle.bridge_io.specs.Places.{place_of}

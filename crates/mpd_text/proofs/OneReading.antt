@@ -5,9 +5,8 @@ use Rattle.std.specs.{Str.is_utf8, Str.Lossy.utf8_valid_len}
 use Rattle.bridge_io.specs.{declared.place.Place.Place, Places.place_of}
 use Rattle.mpd_text.specs.{declared.fault.TextFault.TextFault, declared.fault.TextFault.TheVariants.{NotUtf8, BadChar, Memory}}
 use Rattle.mpd_text.specs.{declared.stop.Fault.Fault, declared.stop.Wrong.Wrong, declared.stop.Wrong.TheVariants.Syntax}
-use Rattle.mpd_text.specs.{Characters.first_bad_character, Trees.Element, Grammar.{IsClean, document}, Reading.document_at}
-use Rattle.mpd_text.specs.{Faults.{fault_at, named_fault, placed, IsRefused, ReadsAs}, Meaning.{told, read_unless_bad, reading_of}}
-use Rattle.mpd_text.specs.Meaning.{IsOneReading}
+use Rattle.mpd_text.specs.{Characters.first_bad_character, Trees.Element, Grammar.{IsClean, document}, Positions.fault_at}
+use Rattle.mpd_text.specs.{Faults.{named_fault, placed, IsRefused, ReadsAs}, Meaning.{told, read_unless_bad, reading_of, IsOneReading}}
 use Rattle.mpd_text.proofs.{Produced.{IsReading, decided_at}, Around.document_read}
 
 none_is_some : {A : Type 0} (x : A) → ◌≡◌ {A = Option A} None (Some x) → ⊥
@@ -51,11 +50,11 @@ refused_once bytes g (Err f) h d =
       | inr e ↦ let same : f ≡ fault_at d.at = grind arith in ap Err (d.fault_is ∙ ap (placed bytes) (sym same))
     ]
 
-clean_once : (bytes : List ℕ) (o : Result Element TextFault) → IsClean bytes → ReadsAs bytes o → o ≡ told bytes (document_at bytes)
+clean_once : (bytes : List ℕ) (o : Result Element TextFault) → IsClean bytes → ReadsAs bytes o → o ≡ told bytes (document bytes).read
 clean_once bytes (Ok root) clean s = ap (told bytes) (sym ((document_read bytes).again root s.document))
 clean_once bytes (Err g) clean (inl h) = absurd (h.not_utf8 clean.utf8)
 clean_once bytes (Err g) clean (inr (inl h)) = absurd (none_is_some h.at (sym clean.no_bad_character ∙ h.is_first))
-clean_once bytes (Err g) clean (inr (inr d)) = refused_once bytes g (document_at bytes) (document_read bytes) d.1
+clean_once bytes (Err g) clean (inr (inr d)) = refused_once bytes g (document bytes).read (document_read bytes) d.1
 
 -- ---- all texts
 
@@ -71,7 +70,10 @@ bad_once bytes at (Err g) utf8 e (inr (inr h)) = absurd (none_is_some at (sym h.
 utf8_once : (bytes : List ℕ) → IsUtf8 bytes → (o : Option ℕ) → first_bad_character bytes ≡ o → IsOneReading bytes (read_unless_bad bytes o)
 utf8_once bytes utf8 None e =
     let clean : IsClean bytes = record { utf8 = utf8; no_bad_character = e } in
-    record { is_read = clean_reads bytes clean (document_at bytes) (document_read bytes); only = λ other s. clean_once bytes other clean s }
+    record {
+      is_read = clean_reads bytes clean (document bytes).read (document_read bytes);
+      only = λ other s. clean_once bytes other clean s;
+    }
 utf8_once bytes utf8 (Some at) e = record {
   is_read = inr (inl (record { utf8 = utf8; at = at; is_first = e; fault_is = refl }));
   only = λ other s. bad_once bytes at other utf8 e s;
@@ -107,7 +109,7 @@ no_memory bytes = elim (cases_Bool (is_utf8 bytes)) [ inl t ↦ rw t (by_bad (fi
     placed_apart f = elim (cases_Bool (eqb f.decided 0)) [ inl t ↦ rw t (λ e. cc) | inr g ↦ rw g (named_apart f.wrong _) ]
 
     by_bad : (o : Option ℕ) → read_unless_bad bytes o ≢ Err Memory
-    by_bad None = by_result (document_at bytes)
+    by_bad None = by_result (document bytes).read
       where
         by_result : (r : Result Element Fault) → told bytes r ≢ Err Memory
         by_result (Ok root) e = cc

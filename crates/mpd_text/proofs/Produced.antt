@@ -1,12 +1,10 @@
--- What it is that bytes are read as their grammar says; and how this goes on from one production to the next.
-use Rattle.mpd_text.specs.Productions as production
-use Rattle.std.proofs.Common.{◌≡◌, ℕ, zero, suc, ◌<◌, ◌≤◌, Bool, true, false, ◌⊎◌, inl, inr, List, [], ◌∷◌, length, Result, Ok, Err, refl}
-use Rattle.std.proofs.{Common.{sym, ap, ◌∙◌, subst, arith}, lemmas.Bool.Decides.nat_tests}
+-- What it is that bytes are read as a production says; and how this goes on from one production to the next.
+use Rattle.std.proofs.Common.{◌≡◌, ℕ, zero, suc, ◌+◌, ◌<◌, ◌≤◌, Bool, true, false, ◌⊎◌, inl, inr, List, [], ◌∷◌, length, Result, Ok, Err}
+use Rattle.std.proofs.{Common.{refl, sym, ap, ◌∙◌, subst, arith}, lemmas.Bool.Decides.nat_tests}
 use Rattle.std.specs.Prelude.{if◌then◌else◌}
-use Rattle.mpd_text.specs.{declared.stop.Wrong.Wrong, declared.stop.Fault.Fault, Faults.{fault_by, fault_at}, Reading.{◌>>=◌, fault}}
-use Rattle.mpd_text.specs.{Reading.{syntax, further}, Productions.{Kind, Position, anywhere, behind_less_than, behind_exclamation}}
-use Rattle.mpd_text.specs.Productions.{in_instruction, behind_repeated, behind_other_name, in_reference, Production, none, just, from}
-use Rattle.mpd_text.specs.Productions.{behind_run, choose, ◌>>◌, as_read, times, many}
+use Rattle.mpd_text.specs.{declared.stop.Wrong.Wrong, declared.stop.Fault.Fault, Positions.{Kind, Position, behind_less_than}}
+use Rattle.mpd_text.specs.{Positions.{behind_exclamation, fault, fault_by, fault_at}, Productions.{◌>>=◌, Production, just, refused, from}}
+use Rattle.mpd_text.specs.Productions.{behind_run, choose, ◌>>◌, as_read, further, times, many}
 
 -- one more than what is left behind what is read, or from the byte on that decides a fault
 abbrev pub reached : {R : Type 0} → (R → ℕ) → Result R Fault → ℕ
@@ -24,6 +22,10 @@ pub record IsReading {R : Type 0} (left : R → ℕ) (c : Production R) (bound :
   pub again : (x : R) → c.spells x → r ≡ Ok x
   pub meets : (p : Position) → c.is_open p → (reached left r ≤ length p.rest) ⊎ (r ≡ Err (fault_at p))
   pub within : reached left r ≤ bound
+
+-- what a production says itself is so
+abbrev pub IsRead : {R : Type 0} → (R → ℕ) → Production R → ℕ → Type 0
+IsRead left c bound = IsReading left c bound c.read
 
 abbrev pub rest_of : List ℕ → ℕ
 rest_of x = suc (length x)
@@ -65,15 +67,13 @@ decided_at p = by_kind p.kind p.start p.rest
     by_kind behind_exclamation start (b ∷ bs) = grind (arith, nat_tests)
     by_kind kind start rest = decided_of _ _ rest
 
--- nothing is read, with the fault of the position
-pub refused : {R : Type 0} {left : R → ℕ} {q : Position} {r : Result R Fault} → r ≡ Err (fault_at q)
-    → IsReading left (from q none) (suc (length q.rest)) r
-refused {left = left} {q = q} e = subst (IsReading left (from q none) (suc (length q.rest))) (sym e) (record {
-  reads = (q, inl refl, refl);
+pub no : {R : Type 0} {left : R → ℕ} {q : Position} → IsRead left (refused {A = R} q) (suc (length q.rest))
+no {q = q} = record {
+  reads = (q, refl, refl);
   again = λ y never. absurd never;
-  meets = λ p is. elim is [ inl at ↦ inr (ap Err (ap fault_at (sym at))) | inr never ↦ absurd never ];
+  meets = λ p at. inr (ap Err (ap fault_at (sym at)));
   within = omega (arith, decided_at q);
-})
+}
 
 pub weaker : {R : Type 0} {left : R → ℕ} {c : Production R} {less more : ℕ} {r : Result R Fault} → less ≤ more
     → IsReading left c less r → IsReading left c more r
@@ -97,7 +97,7 @@ same {R = R} {c = c} {d = d} {r = r} to back open_to open_back h = record {
     onward (Err f) is = (is.0, open_to is.0 is.1, is.2)
 
 abbrev also_open : {R : Type 0} → (Position → Type 0) → Production R → Production R
-also_open InMore c = record { spells = c.spells; is_open = λ p. InMore p ⊎ c.is_open p }
+also_open InMore c = record c { is_open = λ p. InMore p ⊎ c.is_open p }
 
 -- with more positions, each of which is passed or decides the fault
 pub met : {R : Type 0} {left : R → ℕ} {InMore : Position → Type 0} {c : Production R} {bound : ℕ} {r : Result R Fault}
@@ -116,6 +116,16 @@ beyond long h = met (λ p more. inl (omega (arith, long p more, h.within))) h
 pub also : {R : Type 0} {left : R → ℕ} {q : Position} {c : Production R} {r : Result R Fault}
     → IsReading left c (length q.rest) r → IsReading left (from q c) (suc (length q.rest)) r
 also h = weaker (omega arith) (beyond (λ p at. omega (arith, ap (λ (s : Position). length s.rest) at)) h)
+
+-- open there and refused there
+pub refuses : {R : Type 0} {left : R → ℕ} {q : Position} → IsRead left (from {A = R} q (refused q)) (suc (length q.rest))
+refuses = met (λ p at. inr (ap Err (ap fault_at (sym at)))) no
+
+-- open there already
+pub open_too : {R : Type 0} {left : R → ℕ} {q : Position} {c : Production R} {bound : ℕ} {r : Result R Fault} → c.is_open q
+    → IsReading left c bound r → IsReading left (from q c) bound r
+open_too {R = R} {left = left} {q = q} {r = r} is h =
+    met (λ p at. subst (λ (s : Position). (reached left r ≤ length s.rest) ⊎ (r ≡ Err (fault_at s))) (sym at) (h.meets q is)) h
 
 -- behind a run
 pub run_before : {R : Type 0} {left : R → ℕ} {bytes rest : List ℕ} {c : Production R} {bound : ℕ} {r : Result R Fault}
@@ -182,65 +192,54 @@ at_test false on off = off refl
 abbrev Each : Type 0 → Type 1
 Each A = A → List ℕ → Production (A × Bool × List ℕ)
 
--- one is read, and goes on with fewer bytes; and where no byte is left nothing is there
-pub record ReadsOn {A : Type 0} (one : Each A) (step : A → List ℕ → Result (A × Bool × List ℕ) Fault) : Type 0 where
-  pub reads : (a : A) (bytes : List ℕ) → IsReading third_of (one a bytes) (suc (length bytes)) (step a bytes)
+-- one is read, and goes on with fewer bytes
+pub record ReadsOn {A : Type 0} (one : Each A) : Type 0 where
+  pub reads : (a : A) (bytes : List ℕ) → IsRead third_of (one a bytes) (suc (length bytes))
   pub fewer : (a : A) (bytes : List ℕ) (x : A × Bool × List ℕ) → (one a bytes).spells x → x.1 ≡ false → length x.2 < length bytes
-  pub nothing : (a : A) → step a [] ≡ Err (syntax [])
 
 abbrev once : {A : Type 0} → Each A → A → List ℕ → Production (A × List ℕ)
-once one a bytes = one a bytes >> production.further (many one)
+once one a bytes = one a bytes >> further (many one)
 
-once_many : {A : Type 0} (one : Each A) (a : A) (bytes : List ℕ) (y : A × List ℕ) → (once one a bytes).spells y
-    → (many one a bytes).spells y
-once_many one a bytes y ((r, true, rest), is, e) = (1, ((r, true, rest), is, e))
-once_many one a bytes y ((r, false, rest), is, m) = (suc m.0, ((r, false, rest), is, m.1))
+module _ {A : Type 0} (one : Each A) (a : A) (bytes : List ℕ) where
+  once_many : (y : A × List ℕ) → (once one a bytes).spells y → (many one a bytes).spells y
+  unfolding times
+  once_many y ((r, true, rest), is, e) = (1, ((r, true, rest), is, e))
+  once_many y ((r, false, rest), is, m) = (suc m.0, ((r, false, rest), is, m.1))
 
-many_once : {A : Type 0} (one : Each A) (a : A) (bytes : List ℕ) (y : A × List ℕ) → (many one a bytes).spells y
-    → (once one a bytes).spells y
-many_once one a bytes y (zero, never) = absurd never
-many_once one a bytes y (suc n, ((r, true, rest), is, e)) = ((r, true, rest), is, e)
-many_once one a bytes y (suc n, ((r, false, rest), is, more)) = ((r, false, rest), is, (n, more))
+  many_once : (y : A × List ℕ) → (many one a bytes).spells y → (once one a bytes).spells y
+  unfolding times
+  many_once y (zero, never) = absurd never
+  many_once y (suc n, ((r, true, rest), is, e)) = ((r, true, rest), is, e)
+  many_once y (suc n, ((r, false, rest), is, more)) = ((r, false, rest), is, (n, more))
 
-once_open : {A : Type 0} (one : Each A) (a : A) (bytes : List ℕ) (p : Position) → (once one a bytes).is_open p
-    → (many one a bytes).is_open p
-once_open one a bytes p (inl is) = (1, inl is)
-once_open one a bytes p (inr ((r, true, rest), is, never)) = absurd never
-once_open one a bytes p (inr ((r, false, rest), is, m)) = (suc m.0, inr ((r, false, rest), is, m.1))
+  once_open : (p : Position) → (once one a bytes).is_open p → (many one a bytes).is_open p
+  unfolding times
+  once_open p (inl is) = (1, inl is)
+  once_open p (inr ((r, true, rest), is, never)) = absurd never
+  once_open p (inr ((r, false, rest), is, m)) = (suc m.0, inr ((r, false, rest), is, m.1))
 
-open_once : {A : Type 0} (one : Each A) (a : A) (bytes : List ℕ) (p : Position) → (many one a bytes).is_open p
-    → (once one a bytes).is_open p
-open_once one a bytes p (zero, never) = absurd never
-open_once one a bytes p (suc n, inl is) = inl is
-open_once one a bytes p (suc n, inr ((r, true, rest), is, never)) = absurd never
-open_once one a bytes p (suc n, inr ((r, false, rest), is, more)) = inr ((r, false, rest), is, (n, more))
+  open_once : (p : Position) → (many one a bytes).is_open p → (once one a bytes).is_open p
+  unfolding times
+  open_once p (zero, never) = absurd never
+  open_once p (suc n, inl is) = inl is
+  open_once p (suc n, inr ((r, true, rest), is, never)) = absurd never
+  open_once p (suc n, inr ((r, false, rest), is, more)) = inr ((r, false, rest), is, (n, more))
 
-abbrev AreRead : {A : Type 0} → Each A → (A → List ℕ → Result (A × List ℕ) Fault) → A → List ℕ → Type 0
-AreRead one run a bytes = IsReading last_of (many one a bytes) (suc (length bytes)) (run a bytes)
-
-one_then : {A : Type 0} {one : Each A} {step : A → List ℕ → Result (A × Bool × List ℕ) Fault} (more : A → List ℕ
-    → Result (A × List ℕ) Fault)
-    → ReadsOn one step → (a : A) (bytes : List ℕ) → ((r : A) (rest : List ℕ) → length rest < length bytes → AreRead one more r rest)
-    → AreRead one (λ a bytes. step a bytes >>= further more) a bytes
-one_then {A = A} {one = one} more h a bytes on =
+-- so many are enough
+enough : {A : Type 0} {one : Each A} → ReadsOn one → (n : ℕ) (a : A) (bytes : List ℕ) → length bytes < n
+    → IsReading last_of (many one a bytes) (suc (length bytes)) (times one n a bytes).read
+unfolding times
+enough h zero a bytes less = absurd (omega arith)
+enough {A = A} {one = one} h (suc n) a bytes less =
     same (once_many one a bytes) (many_once one a bytes) (once_open one a bytes) (λ p is. inl (open_once one a bytes p is))
-    (next_read (h.reads a bytes) each)
+    (next_read (h.reads a bytes) (each (enough h n)))
   where
-    each : (x : A × Bool × List ℕ) → (one a bytes).spells x
-        → IsReading last_of (production.further (many one) x) (third_of x) (further more x)
-    each (r, true, rest) is = done
-    each (r, false, rest) is = on r rest (h.fewer a bytes (r, false, rest) is refl)
+    each : ((r : A) (rest : List ℕ) → length rest < n
+        → IsReading last_of (many one r rest) (suc (length rest)) (times one n r rest).read) → (x : A × Bool × List ℕ)
+        → (one a bytes).spells x → IsReading last_of (further (many one) x) (third_of x) (further (times one n) x).read
+    each on (r, true, rest) is = done
+    each on (r, false, rest) is = on r rest (omega (arith, h.fewer a bytes (r, false, rest) is refl))
 
-pub many_read : {A : Type 0} {one : Each A} {step : A → List ℕ → Result (A × Bool × List ℕ) Fault}
-    (run : ℕ → A → List ℕ → Result (A × List ℕ) Fault)
-    → ((n : ℕ) (a : A) (bytes : List ℕ) → run (suc n) a bytes ≡ (step a bytes >>= further (run n)))
-    → ((a : A) → run 0 a [] ≡ Err (syntax [])) → ReadsOn one step → (n : ℕ) (a : A) (bytes : List ℕ) → length bytes ≤ n
-    → AreRead one (run n) a bytes
-many_read {A = A} {one = one} run e z h zero a [] less =
-    subst (IsReading last_of (many one a []) 1) (ap (λ (r : Result (A × Bool × List ℕ) Fault). r >>= further (run 0)) (h.nothing a)
-    ∙ sym (z a))
-    (one_then (run 0) h a [] (λ r rest never. absurd (omega arith)))
-many_read run e z h zero a (b ∷ bs) less = absurd (omega arith)
-many_read {one = one} run e z h (suc n) a bytes less =
-    subst (IsReading last_of (many one a bytes) (suc (length bytes))) (sym (e n a bytes))
-    (one_then (run n) h a bytes (λ r rest fewer. many_read run e z h n r rest (omega arith)))
+pub many_read : {A : Type 0} {one : Each A} → ReadsOn one → (a : A) (bytes : List ℕ)
+    → IsRead last_of (many one a bytes) (suc (length bytes))
+many_read h a bytes = enough h (length bytes + 1) a bytes (omega arith)

@@ -4,7 +4,7 @@ use Rattle.std.proofs.{Common.{sym, ◌∙◌, subst, arith, inl, inr, append_as
 use Rattle.std.specs.List.{list_all}
 use Rattle.byte_scan.specs.ByteSet.{is_member}
 use Rattle.mpd_text.specs.{Characters.has_byte, Marked.marked_in_value, Escapes.{escape_of, escape_all, IsReadBack}, Runs.up_to}
-use Rattle.mpd_text.specs.{Runs.plain_at, References.referred_to, Grammar.{IsReference, marked, text}}
+use Rattle.mpd_text.specs.{Runs.plain_at, References.referred_to, Grammar.{IsReference, reference, marked, text, value}, Productions.times}
 use Rattle.mpd_text.proofs.{Cuts.up_to_is, EscapeLemmas.byte_stays}
 use lib.Utf8.{encode}
 
@@ -17,6 +17,7 @@ IsText read bytes y = (text read marks 34 bytes).spells y
 -- a byte that reads as it stands
 stands : (read : List ℕ) (b : ℕ) (bytes : List ℕ) (y : List ℕ × List ℕ) → is_member marks b ≡ false
     → IsText (read ++ b ∷ []) bytes y → IsText read (b ∷ bytes) y
+unfolding times
 stands read b bytes y plain (zero, never) = absurd never
 stands read b bytes y plain (suc n, is) =
     let some : up_to (is_member marks) (b ∷ bytes) ≡ suc (up_to (is_member marks) bytes) =
@@ -36,6 +37,7 @@ plain b high amp less quote = grind arith
 -- a reference reads as the character that it names
 named : (c : ℕ) (name : List ℕ) → referred_to name ≡ Some c → not (has_byte 59 name) ≡ true → encode_utf8 c ≡ c ∷ []
     → (read bytes : List ℕ) (y : List ℕ × List ℕ) → IsText (read ++ c ∷ []) bytes y → IsText read (38 ∷ name ++ 59 ∷ bytes) y
+unfolding times marked reference
 named c name refers first one read bytes y (n, is) =
     let none : up_to (is_member marks) (38 ∷ name ++ 59 ∷ bytes) ≡ 0 = up_to_is (is_member marks) (38 ∷ name ++ 59 ∷ bytes) in
     let x : List ℕ × Bool × List ℕ = (read ++ c ∷ [], false, bytes) in
@@ -49,7 +51,7 @@ named c name refers first one read bytes y (n, is) =
 
 text_is : (text : List ℕ) → list_all (λ b. nat_le 32 b) text ≡ true → (read rest : List ℕ)
     → IsText read (escape_all text ++ 34 ∷ rest) (read ++ text, 34 ∷ rest)
-unfolding escape_all encode
+unfolding escape_all encode times marked
 text_is [] high read rest =
     let none : up_to (is_member marks) (34 ∷ rest) ≡ 0 = up_to_is (is_member marks) (34 ∷ rest) in
     (1, ((read ++ [], true, 34 ∷ rest), rw none refl, refl))
@@ -76,4 +78,5 @@ text_is (b ∷ bs) high read rest =
     ])
 
 pub reads_back : (text : List ℕ) → IsReadBack text
+unfolding value
 reads_back text high rest = ((text, 34 ∷ rest), text_is text high [] rest, refl)

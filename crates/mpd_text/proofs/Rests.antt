@@ -1,16 +1,15 @@
 -- Where what is left of a text stands: at its end, and mostly behind a byte of ASCII.
-use Rattle.std.proofs.Common.{◌≡◌, ℕ, suc, ◌+◌, ◌-◌, ◌<◌, ◌≤◌, Bool, true, false, eqb, nat_lt, List, [], ◌∷◌, ◌++◌, length, take, drop}
-use Rattle.std.proofs.Common.{get_or, Result, Ok, Err, IfOk, ◌&&◌, ◌||◌, ◌⊎◌, bytes_eq, codes, nat_eq, zero, inl, inr, refl, sym, ap, ◌∙◌}
-use Rattle.std.proofs.{Common.{subst, arith, append_assoc, if◌then◌else◌}, lemmas.Bool.{cases_Bool, eqb-true}}
-use Rattle.std.proofs.{lemmas.Bool.Decides.nat_tests, lemmas.List.{take-append-drop, take_all, length-append, length-drop, drop_at}}
-use Rattle.std.proofs.{lemmas.List.get_or-append-add, lemmas.Str.{IsCharBoundary-after_ascii, IsCharBoundary-before_ascii}}
-use Rattle.std.proofs.lemmas.Str.{IsCharBoundary-end}
+use Rattle.std.proofs.Common.{◌≡◌, ℕ, suc, ◌+◌, ◌-◌, ◌<◌, ◌≤◌, Bool, true, false, eqb, List, [], ◌∷◌, ◌++◌, length, take, drop, get_or}
+use Rattle.std.proofs.Common.{Result, Ok, Err, IfOk, ◌&&◌, ◌||◌, ◌⊎◌, bytes_eq, codes, nat_eq, zero, inl, inr, refl, sym, ap, ◌∙◌, subst}
+use Rattle.std.proofs.{Common.{arith, append_assoc, if◌then◌else◌}, lemmas.Bool.{cases_Bool, eqb-true}, lemmas.Bool.Decides.nat_tests}
+use Rattle.std.proofs.lemmas.List.{take-append-drop, take_all, length-append, length-drop, drop_at, get_or-append-add}
+use Rattle.std.proofs.lemmas.Str.{IsCharBoundary-after_ascii, IsCharBoundary-before_ascii, IsCharBoundary-end}
 use Rattle.std.specs.{List.{position_or_len, starts_with}, Str.{IsUtf8, IsCharBoundary}}
-use Rattle.mpd_text.specs.{declared.stop.Fault.Fault, Characters.{is_white, starts_name, goes_on_name}, Reading.{◌>>=◌, closed_at}}
-use Rattle.mpd_text.specs.Reading.{tag_end_at, second_dash, comment_at, comment_behind, end_tag_at, end_name_at, equals_in}
-use Rattle.mpd_text.specs.Reading.{after_equals, quote_at, declaration_behind, declared_in, word, declaration_at, beginning_at}
-use Rattle.mpd_text.specs.{Reading.{misc_next, misc_further, misc_behind, misc_at}, Runs.{is_black, after_white, ends_name, name_at}}
-use Rattle.mpd_text.specs.{Runs.{mark, after_mark, common}, Rests.{IsBehind, IsEnd}}
+use Rattle.mpd_text.specs.{declared.stop.Fault.Fault, Characters.{is_white, starts_name, goes_on_name}, Rests.{IsBehind, IsEnd}}
+use Rattle.mpd_text.specs.{Runs.{is_black, after_white, ends_name, name_at, mark, after_mark, common, begins}, Productions.{◌>>=◌, further}}
+use Rattle.mpd_text.specs.{Productions.times, Grammar.{greater_than, behind_dashes, comment_end, second_dash, comment, declaration_end}}
+use Rattle.mpd_text.specs.Grammar.{declared, word, declaration, equals_sign, equals, quote_mark, tag_end, end_name, end_tag, beginning}
+use Rattle.mpd_text.specs.Grammar.{next_comment, misc}
 use Rattle.mpd_text.proofs.Cuts.{Stops, up_to_is}
 
 pub ends_itself : (s : List ℕ) → IsEnd s s
@@ -114,72 +113,75 @@ white_rest s (b ∷ bs) e = elim (cases_Bool (is_black b)) [
   ]))
 ]
 
-pub closed_rest : (s bytes : List ℕ) → IsEnd s bytes → IfOk (closed_at bytes) (IsBehind s)
-closed_rest s [] e = tt
-closed_rest s (b ∷ bs) e =
+greater_rest : (s bytes : List ℕ) → IsEnd s bytes → IfOk (greater_than bytes).read (IsBehind s)
+unfolding greater_than
+greater_rest s [] e = tt
+greater_rest s (b ∷ bs) e =
     either (Leaves (IsBehind s)) (eqb b 62) (λ t. behind s b bs (omega (arith, eqb-true b 62 t)) e) (λ f. tt)
 
 abbrev pub Second : {A : Type 0} → List ℕ → Result (A × List ℕ) Fault → Type 0
 Second {A} s r = IfOk r (λ (x : A × List ℕ). IsBehind s x.1)
 
-closed_so : {A : Type 0} (a : A) (s bytes : List ℕ) → IsEnd s bytes → Second s (closed_at bytes >>= λ rest. Ok (a, rest))
-closed_so a s bytes e = then_so (IsBehind s) (λ x. IsBehind s x.1) (closed_at bytes) (λ rest. Ok (a, rest)) (closed_rest s bytes e)
+closed_so : {A : Type 0} (a : A) (s bytes : List ℕ) → IsEnd s bytes → Second s ((greater_than bytes).read >>= λ rest. Ok (a, rest))
+closed_so a s bytes e = then_so (IsBehind s) (λ x. IsBehind s x.1) (greater_than bytes).read (λ rest. Ok (a, rest)) (greater_rest s bytes e)
     (λ x r. r)
 
-pub tag_end_rest : (s bytes : List ℕ) → IsEnd s bytes → Second s (tag_end_at bytes)
-unfolding tag_end_at
+pub tag_end_rest : (s bytes : List ℕ) → IsEnd s bytes → Second s (tag_end bytes).read
+unfolding tag_end
 tag_end_rest s [] e = tt
 tag_end_rest s (b ∷ bs) e =
     either (Second s) (eqb b 47) (λ t. closed_so true s bs (ends_tail s b bs e)) (λ f. closed_so false s (b ∷ bs) e)
 
-named_rest : (name : List ℕ) (left : ℕ) (s bytes : List ℕ) → IsEnd s bytes → IfOk (end_name_at name left bytes) (IsEnd s)
-unfolding end_name_at
+named_rest : (name : List ℕ) (left : ℕ) (s bytes : List ℕ) → IsEnd s bytes → IfOk (end_name name left bytes).read (IsEnd s)
+unfolding end_name
 named_rest name left s bytes e = either (Leaves (IsEnd s)) (bytes_eq (name_at bytes).0 name) (λ same. ends_drop _ s bytes e) (λ f. tt)
 
-pub end_tag_rest : (name : List ℕ) (left : ℕ) (s bytes : List ℕ) → IsEnd s bytes → IfOk (end_tag_at name left bytes) (IsBehind s)
-unfolding end_tag_at
+pub end_tag_rest : (name : List ℕ) (left : ℕ) (s bytes : List ℕ) → IsEnd s bytes → IfOk (end_tag name left bytes).read (IsBehind s)
+unfolding end_tag
 end_tag_rest name left s [] e = tt
 end_tag_rest name left s (b ∷ bs) e = either (Leaves (IsBehind s)) (starts_name b)
-    (λ t. then_so (IsEnd s) (IsBehind s) (end_name_at name left (b ∷ bs)) (λ rest. closed_at (after_white rest))
-    (named_rest name left s (b ∷ bs) e) (λ rest r. closed_rest s (after_white rest) (ends_drop _ s rest r)))
+    (λ t. then_so (IsEnd s) (IsBehind s) (end_name name left (b ∷ bs)).read (λ rest. (greater_than (after_white rest)).read)
+    (named_rest name left s (b ∷ bs) e) (λ rest r. greater_rest s (after_white rest) (ends_drop _ s rest r)))
     (λ f. tt)
 
-comment_behind_rest : (dashes : ℕ) (s bytes : List ℕ) → IsEnd s bytes → IfOk (comment_behind dashes bytes) (IsBehind s)
-comment_behind_rest dashes s [] e = tt
-comment_behind_rest dashes s (b ∷ bs) e =
-    let P = Leaves (IsBehind s) in
+dashes_rest : (s bytes : List ℕ) → IsEnd s bytes → IfOk (behind_dashes bytes).read (IsBehind s)
+unfolding behind_dashes
+dashes_rest s [] e = tt
+dashes_rest s (b ∷ bs) e =
+    either (Leaves (IsBehind s)) (eqb b 45) (λ t. greater_rest s bs (ends_tail s b bs e)) (λ f. greater_rest s (b ∷ bs) e)
+
+comment_end_rest : (s bytes : List ℕ) → IsEnd s bytes → IfOk (comment_end bytes).read (IsBehind s)
+unfolding comment_end
+comment_end_rest s [] e = tt
+comment_end_rest s (b ∷ bs) e =
     let more = ends_tail s b bs e in
-    either P (nat_lt dashes 2)
-    (λ t. either P (eqb b 45) (λ u. comment_behind_rest (dashes + 1) s bs more) (λ f. comment_behind_rest 0 s bs more))
-    (λ f. either P (eqb b 62) (λ t. behind s b bs (omega (arith, eqb-true b 62 t)) e)
-    (λ g. either P (eqb b 45 && eqb dashes 2) (λ t. comment_behind_rest 3 s bs more) (λ h. tt)))
+    either (Leaves (IsBehind s)) (eqb b 45 && begins 45 bs) (λ t. dashes_rest s (drop 1 bs) (ends_drop 1 s bs more))
+    (λ f. comment_end_rest s bs more)
 
-dash_rest : (s bytes : List ℕ) → IsEnd s bytes → IfOk (second_dash bytes) (IsBehind s)
+dash_rest : (s bytes : List ℕ) → IsEnd s bytes → IfOk (second_dash bytes).read (IsBehind s)
+unfolding second_dash
 dash_rest s [] e = tt
-dash_rest s (b ∷ bs) e = either (Leaves (IsBehind s)) (eqb b 45) (λ t. comment_behind_rest 0 s bs (ends_tail s b bs e)) (λ f. tt)
+dash_rest s (b ∷ bs) e = either (Leaves (IsBehind s)) (eqb b 45) (λ t. comment_end_rest s bs (ends_tail s b bs e)) (λ f. tt)
 
-pub comment_rest : (left : ℕ) (s bytes : List ℕ) → IsEnd s bytes → IfOk (comment_at left bytes) (IsBehind s)
-unfolding comment_at
+pub comment_rest : (left : ℕ) (s bytes : List ℕ) → IsEnd s bytes → IfOk (comment left bytes).read (IsBehind s)
+unfolding comment
 comment_rest left s [] e = tt
-comment_rest left s (b ∷ bs) e =
-    let P = Leaves (IsBehind s) in
-    either P (eqb b 45) (λ t. dash_rest s bs (ends_tail s b bs e))
-    (λ f. either P (eqb b 68) (λ t. tt) (λ g. either P (eqb b 91) (λ t. tt) (λ h. tt)))
+comment_rest left s (b ∷ bs) e = either (Leaves (IsBehind s)) (eqb b 45) (λ t. dash_rest s bs (ends_tail s b bs e)) (λ f. tt)
 
-equals_rest : (s bytes : List ℕ) → IsEnd s bytes → IfOk (equals_in bytes) (IsEnd s)
+equals_rest : (s bytes : List ℕ) → IsEnd s bytes → IfOk (equals_sign bytes).read (IsEnd s)
 equals_rest s [] e = tt
 equals_rest s (b ∷ bs) e = either (Leaves (IsEnd s)) (eqb b 61) (λ t. ends_drop _ s bs (ends_tail s b bs e)) (λ f. tt)
 
-quote_rest : (s bytes : List ℕ) → IsEnd s bytes → Second s (quote_at bytes)
-unfolding quote_at
+quote_rest : (s bytes : List ℕ) → IsEnd s bytes → Second s (quote_mark bytes).read
+unfolding quote_mark
 quote_rest s [] e = tt
 quote_rest s (b ∷ bs) e = either (Second s) (eqb b 34 || eqb b 39) (λ t. behind s b bs (grind (arith, nat_tests)) e) (λ f. tt)
 
 -- behind the quote of an attribute's value
-pub quote_behind : (s bytes rest : List ℕ) (x : ℕ × List ℕ) → IsBehind s bytes → after_equals (name_at bytes).1 ≡ Ok rest
-    → quote_at rest ≡ Ok x
+pub quote_behind : (s bytes rest : List ℕ) (x : ℕ × List ℕ) → IsBehind s bytes → (equals (name_at bytes).1).read ≡ Ok rest
+    → (quote_mark rest).read ≡ Ok x
     → IsBehind s x.1
-unfolding after_equals
+unfolding equals
 quote_behind s bytes rest x r is q =
     let e = ends_drop _ s (name_at bytes).1 (ends_drop _ s bytes (ends s bytes r)) in
     subst (Second s) q (quote_rest s rest (subst (Leaves (IsEnd s)) is (equals_rest s (after_white (name_at bytes).1) e)))
@@ -198,16 +200,16 @@ name_left s bytes rest r is = subst (IsEnd s) (sym is) (ends_drop _ s bytes (end
 pub white_left : (s bytes rest : List ℕ) → IsEnd s bytes → rest ≡ after_white bytes → IsEnd s rest
 white_left s bytes rest e is = subst (IsEnd s) (sym is) (ends_drop _ s bytes e)
 
-pub tag_end_left : (s bytes : List ℕ) (x : Bool × List ℕ) → IsEnd s bytes → tag_end_at bytes ≡ Ok x → IsBehind s x.1
+pub tag_end_left : (s bytes : List ℕ) (x : Bool × List ℕ) → IsEnd s bytes → (tag_end bytes).read ≡ Ok x → IsBehind s x.1
 tag_end_left s bytes x e is = subst (Second s) is (tag_end_rest s bytes e)
 
 pub end_tag_left : (name : List ℕ) (left : ℕ) (s bytes rest : List ℕ) → IsBehind s bytes
-    → end_tag_at name left (take (length bytes - 1) (drop 1 bytes)) ≡ Ok rest → IsBehind s rest
+    → (end_tag name left (take (length bytes - 1) (drop 1 bytes))).read ≡ Ok rest → IsBehind s rest
 end_tag_left name left s bytes rest r is = subst (Leaves (IsBehind s)) is (end_tag_rest name left s _
     (ends_behind s bytes (ends s bytes r)))
 
 pub comment_left : (left : ℕ) (s bytes rest : List ℕ) → IsBehind s bytes
-    → comment_at left (take (length bytes - 1) (drop 1 bytes)) ≡ Ok rest
+    → (comment left (take (length bytes - 1) (drop 1 bytes))).read ≡ Ok rest
     → IsBehind s rest
 comment_left left s bytes rest r is = subst (Leaves (IsBehind s)) is (comment_rest left s _ (ends_behind s bytes (ends s bytes r)))
 
@@ -216,18 +218,21 @@ comment_left left s bytes rest r is = subst (Leaves (IsBehind s)) is (comment_re
 mark_rest : (s bytes : List ℕ) → IsEnd s bytes → IsEnd s (after_mark bytes)
 mark_rest s bytes e = either (IsEnd s) (starts_with nat_eq bytes mark) (λ t. ends_drop 3 s bytes e) (λ f. e)
 
-declaration_rest : (q : Bool) (s bytes : List ℕ) → IsEnd s bytes → IfOk (declaration_behind q bytes) (IsEnd s)
-declaration_rest q s [] e = tt
-declaration_rest q s (b ∷ bs) e = either (Leaves (IsEnd s)) (q && eqb b 62) (λ t. ends_tail s b bs e)
-    (λ f. declaration_rest (eqb b 63) s bs (ends_tail s b bs e))
+declaration_rest : (s bytes : List ℕ) → IsEnd s bytes → IfOk (declaration_end bytes).read (IsEnd s)
+unfolding declaration_end
+declaration_rest s [] e = tt
+declaration_rest s (b ∷ bs) e =
+    let more = ends_tail s b bs e in
+    either (Leaves (IsEnd s)) (eqb b 63 && begins 62 bs) (λ t. ends_drop 1 s bs more) (λ f. declaration_rest s bs more)
 
-declared_rest : (left : ℕ) (s bytes : List ℕ) → IsEnd s bytes → IfOk (declared_in left bytes) (IsEnd s)
+declared_rest : (left : ℕ) (s bytes : List ℕ) → IsEnd s bytes → IfOk (declared left bytes).read (IsEnd s)
+unfolding declared
 declared_rest left s [] e = tt
 declared_rest left s (b ∷ bs) e =
-    either (Leaves (IsEnd s)) (is_white b) (λ t. declaration_rest false s bs (ends_tail s b bs e)) (λ f. tt)
+    either (Leaves (IsEnd s)) (is_white b) (λ t. declaration_rest s bs (ends_tail s b bs e)) (λ f. tt)
 
-pub beginning_rest : (s bytes : List ℕ) → IsEnd s bytes → IfOk (beginning_at bytes) (IsEnd s)
-unfolding beginning_at declaration_at
+pub beginning_rest : (s bytes : List ℕ) → IsEnd s bytes → IfOk (beginning bytes).read (IsEnd s)
+unfolding beginning declaration
 beginning_rest s bytes e =
     let marked : List ℕ = after_mark bytes in
     let m = mark_rest s bytes e in
@@ -236,27 +241,34 @@ beginning_rest s bytes e =
     (λ u. declared_rest (length marked) s (drop 3 (drop 2 marked)) (ends_drop 3 s (drop 2 marked) (ends_drop 2 s marked m))) (λ f. tt))
     (λ f. m)
 
-one_rest : (s bytes : List ℕ) → IsEnd s bytes → IfOk (misc_next bytes) (λ (x : Bool × List ℕ). IsEnd s x.1)
-unfolding misc_next
-one_rest s bytes e = either (λ (r : Result (Bool × List ℕ) Fault). IfOk r (λ x. IsEnd s x.1)) (starts_with nat_eq bytes (codes "<!"))
-    (λ t. then_so (IsBehind s) (λ x. IsEnd s x.1) (comment_at (length bytes) (drop 2 bytes)) (λ rest. Ok (false, after_white rest))
+one_rest : (s bytes : List ℕ) → IsEnd s bytes → IfOk (next_comment tt bytes).read (λ x. IsEnd s x.2)
+unfolding next_comment
+one_rest s bytes e = either (λ (r : Result (Unit {0} × Bool × List ℕ) Fault). IfOk r (λ x. IsEnd s x.2))
+    (starts_with nat_eq bytes (codes "<!"))
+    (λ t. then_so (IsBehind s) (λ x. IsEnd s x.2) (comment (length bytes) (drop 2 bytes)).read (λ rest. Ok (tt, false, after_white rest))
     (comment_rest (length bytes) s (drop 2 bytes) (ends_drop 2 s bytes e)) (λ rest r. ends_drop _ s rest (ends s rest r)))
     (λ f. e)
 
-further_rest : (n : ℕ) (s : List ℕ) → ((bytes : List ℕ) → IsEnd s bytes → IfOk (misc_behind n bytes) (IsEnd s)) → (x : Bool × List ℕ)
-    → IsEnd s x.1 → IfOk (misc_further (misc_behind n) x) (IsEnd s)
-further_rest n s more (true, rest) e = e
-further_rest n s more (false, rest) e = more rest e
+abbrev AreLeft : ℕ → List ℕ → Type 0
+AreLeft n s = (bytes : List ℕ) → IsEnd s bytes → IfOk (times next_comment n tt bytes).read (λ x. IsEnd s x.1)
 
-misc_behind_rest : (n : ℕ) (s bytes : List ℕ) → IsEnd s bytes → IfOk (misc_behind n bytes) (IsEnd s)
-unfolding misc_behind
-misc_behind_rest zero s bytes e = e
-misc_behind_rest (suc n) s bytes e = then_so (λ x. IsEnd s x.1) (IsEnd s) (misc_next bytes) (misc_further (misc_behind n))
-    (one_rest s bytes e)
-    (further_rest n s (λ rest r. misc_behind_rest n s rest r))
+further_rest : (n : ℕ) (s : List ℕ) → AreLeft n s → (x : Unit {0} × Bool × List ℕ) → IsEnd s x.2
+    → IfOk (further (times next_comment n) x).read (λ y. IsEnd s y.1)
+further_rest n s more (tt, true, rest) e = e
+further_rest n s more (tt, false, rest) e = more rest e
 
-pub misc_rest : (s bytes : List ℕ) → IsEnd s bytes → IfOk (misc_at bytes) (IsEnd s)
-misc_rest s bytes e = misc_behind_rest (length bytes) s (after_white bytes) (ends_drop _ s bytes e)
+comments_rest : (n : ℕ) (s : List ℕ) → AreLeft n s
+unfolding times
+comments_rest zero s bytes e = tt
+comments_rest (suc n) s bytes e = then_so (λ x. IsEnd s x.2) (λ x. IsEnd s x.1) (next_comment tt bytes).read
+    (λ x. (further (times next_comment n) x).read) (one_rest s bytes e) (further_rest n s (comments_rest n s))
+
+pub misc_rest : (s bytes : List ℕ) → IsEnd s bytes → IfOk (misc bytes).read (IsEnd s)
+unfolding misc
+misc_rest s bytes e =
+    let white = after_white bytes in
+    then_so (λ x. IsEnd s x.1) (IsEnd s) (times next_comment (length white + 1) tt white).read (λ x. Ok x.1)
+    (comments_rest (length white + 1) s white (ends_drop _ s bytes e)) (λ x r. r)
 
 -- ---- names
 

@@ -1,13 +1,12 @@
 -- A loop over the parts of a text stays within the source, at the bounds of characters.
-use Rattle.std.proofs.Common.{◌≡◌, ℕ, ◌+◌, ◌-◌, ◌<◌, IsTrue, Bool, true, false, eqb, List, [], ◌∷◌, ◌++◌, length, take, drop, Result, Ok}
-use Rattle.std.proofs.{Common.{IfOk, refl, Option, Some, None, sym, ap, ◌∙◌, subst, arith}, lemmas.Bool.eqb-true}
+use Rattle.std.proofs.Common.{◌≡◌, ℕ, ◌+◌, ◌-◌, ◌<◌, IsTrue, Bool, true, false, eqb, List, [], ◌∷◌, ◌++◌, length, take, drop, encode_utf8}
+use Rattle.std.proofs.{Common.{Result, Ok, IfOk, refl, Option, Some, None, sym, ap, ◌∙◌, subst, arith}, lemmas.Bool.eqb-true}
 use Rattle.std.proofs.lemmas.List.{take-append-drop, length-append, append-nil}
 use Rattle.std.specs.{List.slice_range, Str.IsCharBoundary}
-use Rattle.mpd_text.specs.{declared.stop.Fault.Fault, References.referred_to, Reading.{is_semicolon, character_or, named_in, entity}}
-use Rattle.mpd_text.specs.{Reading.{reference_at, referred, marked_at}, Runs.{up_to, plain_at, after_line_feed}, Rests.IsAt}
-use Rattle.mpd_text.specs.Rests.{IsBehind, IsEnd}
-use Rattle.mpd_text.proofs.{Cuts.{Stops, run_stops}, KeptRows.cut_shown, Rests.{BeginsAscii, behind, cut_before, either, ends}}
-use Rattle.mpd_text.proofs.Rests.{ends_drop, ends_tail, ends_within, then_so}
+use Rattle.mpd_text.specs.{declared.stop.Fault.Fault, References.{referred_to, is_semicolon, character_or, named_in, entity, reference_at}}
+use Rattle.mpd_text.specs.{Grammar.{reference, marked}, Runs.{up_to, plain_at, after_line_feed}, Rests.{IsAt, IsBehind, IsEnd}}
+use Rattle.mpd_text.proofs.{Cuts.{Stops, run_stops}, KeptRows.cut_shown, Rests.{BeginsAscii, behind, cut_before, either, ends, ends_drop}}
+use Rattle.mpd_text.proofs.Rests.{ends_tail, ends_within, then_so}
 use Rattle.byte_scan.specs.ByteSet.{is_member, all_ascii}
 
 member_ascii : (members : List ℕ) (b : ℕ) → IsTrue (all_ascii members) → is_member members b ≡ true → b < 128
@@ -41,8 +40,8 @@ named_rest otherwise name s [] h e = tt
 named_rest otherwise name s (b ∷ bs) h e =
     character_rest otherwise s bs (referred_to name) (behind s b bs (omega (arith, eqb-true b 59 h)) e)
 
-reference_rest : (left : ℕ) (s bytes : List ℕ) → IsEnd s bytes → IfOk (reference_at left bytes) (λ (x : ℕ × List ℕ). IsBehind s x.1)
-unfolding reference_at
+reference_rest : (left : ℕ) (s bytes : List ℕ) → IsEnd s bytes → IfOk (reference left bytes).read (λ (x : ℕ × List ℕ). IsBehind s x.1)
+unfolding reference reference_at
 reference_rest left s bytes e = named_rest (entity left bytes) (take (up_to is_semicolon bytes) bytes) s (drop (up_to is_semicolon bytes)
     bytes) (run_stops is_semicolon bytes)
     (ends_drop _ s bytes e)
@@ -51,8 +50,9 @@ feed_rest : (s bytes : List ℕ) → IsBehind s bytes → IsBehind s (after_line
 feed_rest s [] r = r
 feed_rest s (b ∷ bs) r = either (IsBehind s) (eqb b 10) (λ t. behind s b bs (omega (arith, eqb-true b 10 t)) (ends s (b ∷ bs) r)) (λ f. r)
 
-pub marked_rest : (stop : ℕ) (read s bytes : List ℕ) → IsEnd s bytes → BeginsAscii bytes → IfOk (marked_at stop read bytes) (Leaves stop s)
-unfolding marked_at
+pub marked_rest : (stop : ℕ) (read s bytes : List ℕ) → IsEnd s bytes → BeginsAscii bytes
+    → IfOk (marked stop read bytes).read (Leaves stop s)
+unfolding marked
 marked_rest stop read s [] e a = tt
 marked_rest stop read s (b ∷ bs) e a =
     let P = λ (r : Result (List ℕ × Bool × List ℕ) Fault). IfOk r (Leaves stop s) in
@@ -63,13 +63,14 @@ marked_rest stop read s (b ∷ bs) e a =
       whole_is = e.whole_is;
     })
     (λ f. either P (eqb b 38)
-    (λ t. then_so (λ (x : ℕ × List ℕ). IsBehind s x.1) (Leaves stop s) (reference_at (length (b ∷ bs)) bs) (referred read)
+    (λ t. then_so (λ (x : ℕ × List ℕ). IsBehind s x.1) (Leaves stop s) (reference (length (b ∷ bs)) bs).read
+    (λ x. Ok (read ++ encode_utf8 x.0, false, x.1))
     (reference_rest (length (b ∷ bs)) s bs (ends_tail s b bs e)) (λ x r. r))
     (λ g. either P (eqb b 13) (λ t. feed_rest s bs (behind s b bs a e))
     (λ h. either P (eqb b 60) (λ t. tt) (λ k. behind s b bs a e))))
 
 pub part_rest : (marks : List ℕ) (stop : ℕ) (read s bytes : List ℕ) (x : List ℕ × Bool × List ℕ) → IsEnd s bytes → IsTrue (all_ascii marks)
-    → marked_at stop read (plain_at marks bytes).1 ≡ Ok x → Leaves stop s x
+    → (marked stop read (plain_at marks bytes).1).read ≡ Ok x → Leaves stop s x
 part_rest marks stop read s bytes x e all is = subst (λ (r : Result (List ℕ × Bool × List ℕ) Fault). IfOk r (Leaves stop s)) is
     (marked_rest stop read s (plain_at marks bytes).1 (ends_drop _ s bytes e) (marked_ascii marks bytes all))
 

@@ -5,15 +5,14 @@ use Rattle.std.proofs.{lemmas.Bool.{cases_Bool, eqb-true}, lemmas.Bool.Decides.n
 use Rattle.std.proofs.lemmas.List.Sums.{prefix_len-le-length}
 use Rattle.std.specs.{Prelude.◌==◌, List.{position_or_len, prefix_len, list_all}}
 use Rattle.mpd_text.specs.{declared.stop.Fault.Fault, declared.stop.Wrong.TheVariants.Entity, Characters.{is_digit, has_byte}}
-use Rattle.mpd_text.specs.{References.{is_hex_digit, referred_to}, Runs.{up_to, plain_at, after_line_feed, common}, Faults.fault_by}
-use Rattle.mpd_text.specs.{Faults.fault_at, Reading.{front_of_digits, front_len, entity, is_semicolon, character_or, named_in}}
-use Rattle.mpd_text.specs.Reading.{reference_at, line_end, marked_at, parts_behind, text_behind, behind_quote, value_at}
-use Rattle.mpd_text.specs.{Productions.{Position, here, in_reference}, Grammar.{IsReference, reference, behind_return, marked, part}}
-use Rattle.mpd_text.specs.{Grammar.{text, closed, value}, Marked.marked_in_value}
+use Rattle.mpd_text.specs.References.{is_hex_digit, referred_to, front_of_digits, front_len, entity, is_semicolon, character_or, named_in}
+use Rattle.mpd_text.specs.{References.reference_at, Runs.{up_to, after_line_feed, common}, Marked.marked_in_value}
+use Rattle.mpd_text.specs.{Positions.{Position, here, in_reference, fault_by, fault_at}, Grammar.{IsReference, reference, line_end}}
+use Rattle.mpd_text.specs.Grammar.{behind_return, marked, part, text, closed, value}
 use Rattle.byte_scan.specs.ByteSet.{is_member}
-use Rattle.mpd_text.proofs.Produced.{IsReading, last_of, third_of, passed, done, decided_of, refused, also, same, weaker, next_read}
-use Rattle.mpd_text.proofs.{Produced.{shown, by_test, at_test, run_before, ReadsOn, many_read}, Cuts.{Stops, up_to_is, run_again}}
-use Rattle.mpd_text.proofs.Cuts.{run_passes, run_stops}
+use Rattle.mpd_text.proofs.Produced.{IsReading, IsRead, last_of, third_of, passed, done, decided_of, no, also, same, weaker, next_read}
+use Rattle.mpd_text.proofs.{Produced.{shown, by_test, at_test, refuses, run_before, ReadsOn, many_read}, Cuts.{Stops, up_to_is}}
+use Rattle.mpd_text.proofs.Cuts.{run_again, run_passes, run_stops}
 
 -- ---- no reference goes on with a `;`
 
@@ -65,6 +64,7 @@ Reference left bytes r = IsReading last_of (reference left bytes) (suc (length b
 
 no_entity : (left : ℕ) (bytes : List ℕ) → front_len bytes ≤ length bytes
     → ((x : ℕ × List ℕ) → IsReference bytes x → Err (entity left bytes) ≡ Ok x) → Reference left bytes (Err (entity left bytes))
+unfolding reference
 no_entity left bytes most never = record {
   reads = (_, record { count = front_len bytes; goes_on = omega arith; is_there = refl }, refl);
   again = never;
@@ -83,6 +83,7 @@ by_character : (left : ℕ) (bytes name rest : List ℕ) (o : Option ℕ) → by
     → front_len bytes ≤ length name → referred_to name ≡ o
     → ((x : ℕ × List ℕ) → IsReference bytes x → character_or (entity left bytes) rest o ≡ Ok x)
     → Reference left bytes (character_or (entity left bytes) rest o)
+unfolding reference
 by_character left bytes name rest None e lack goes r again =
     no_entity left bytes (omega (arith, goes, ap length e, length-append name (59 ∷ rest))) again
 by_character left bytes name rest (Some c) e lack goes r again = record {
@@ -101,8 +102,8 @@ by_name left bytes name [] e stops lack goes again = no_entity left bytes (omega
 by_name left bytes name (b ∷ bs) e stops lack goes again =
     by_character left bytes name bs (referred_to name) (e ∙ ap (λ (c : ℕ). name ++ c ∷ bs) (eqb-true b 59 stops)) lack goes refl again
 
-pub reference_read : (left : ℕ) (bytes : List ℕ) → Reference left bytes (reference_at left bytes)
-unfolding reference_at
+pub reference_read : (left : ℕ) (bytes : List ℕ) → IsRead last_of (reference left bytes) (suc (length bytes))
+unfolding reference reference_at
 reference_read left bytes =
     let n = up_to is_semicolon bytes in
     by_name left bytes (take n bytes) (drop n bytes) (sym (take-append-drop n bytes)) (run_stops is_semicolon bytes)
@@ -137,24 +138,22 @@ feed_passed (b ∷ bs) p is =
     let first : b ≡ 10 = grind arith in
     rw first (omega (arith, ap (λ (q : Position). length q.rest) is.2))
 
-line_end_read : (read bytes : List ℕ) → IsReading third_of (behind_return read bytes)
-    (suc (length bytes)) (Ok (read, false, after_line_feed bytes))
-line_end_read read bytes =
-    weaker (feed_less bytes) (same (λ x is. is) (λ x is. is) (λ p never. absurd never) (λ p is. inr (inl (feed_passed bytes p is))) done)
+line_end_read : (read bytes : List ℕ) → IsRead third_of (behind_return read bytes) (suc (length bytes))
+line_end_read read bytes = weaker (feed_less bytes)
+    (same (λ x is. is) (λ x is. is) (λ p never. absurd never) (λ p is. inr (inl (feed_passed bytes p is))) done)
 
-pub marked_read : (stop : ℕ) (read bytes : List ℕ)
-    → IsReading third_of (marked stop read bytes) (suc (length bytes)) (marked_at stop read bytes)
-unfolding marked_at
-marked_read stop read [] = refused refl
+pub marked_read : (stop : ℕ) (read bytes : List ℕ) → IsRead third_of (marked stop read bytes) (suc (length bytes))
+unfolding marked
+marked_read stop read [] = no
 marked_read stop read (b ∷ bs) =
     by_test (b == stop) (λ t. done) (λ f.
     at_test (b == 38) (λ t. also (shown (λ x. refl) (reference_read (length (b ∷ bs)) bs))) (λ g.
     at_test (b == 13) (λ t. also (line_end_read (read ++ line_end stop ∷ []) bs)) (λ h.
-    at_test (b == 60) (λ t. refused refl) (λ k. also done))))
+    at_test (b == 60) (λ t. refuses) (λ k. also done))))
 
 marked_fewer : (stop : ℕ) (read bytes : List ℕ) (x : List ℕ × Bool × List ℕ) → (marked stop read bytes).spells x → x.1 ≡ false
     → length x.2 < length bytes
-unfolding marked_at
+unfolding marked
 marked_fewer stop read [] x is e = absurd is
 marked_fewer stop read (b ∷ bs) x is e = elim (cases_Bool (b == stop)) [
   | inl t ↦
@@ -164,11 +163,7 @@ marked_fewer stop read (b ∷ bs) x is e = elim (cases_Bool (b == stop)) [
   | inr f ↦ passed (marked_read stop read (b ∷ bs)) x is (here (b ∷ bs)) (rw f (inl refl))
 ]
 
-abbrev part_at : List ℕ → ℕ → List ℕ → List ℕ → Result (List ℕ × Bool × List ℕ) Fault
-part_at marks stop read bytes = marked_at stop (read ++ (plain_at marks bytes).0) (plain_at marks bytes).1
-
-parts_read : (marks : List ℕ) (stop : ℕ) → ReadsOn (part marks stop) (part_at marks stop)
-unfolding marked_at
+parts_read : (marks : List ℕ) (stop : ℕ) → ReadsOn (part marks stop)
 parts_read marks stop = record {
   reads = λ read bytes.
       let n = up_to (is_member marks) bytes in
@@ -176,22 +171,17 @@ parts_read marks stop = record {
   fewer = λ read bytes x is e.
       let n = up_to (is_member marks) bytes in
       omega (arith, length-drop n bytes, marked_fewer stop (read ++ take n bytes) (drop n bytes) x is e);
-  nothing = λ read. refl;
 }
 
 -- ---- texts and values
 
-pub text_read : (read marks : List ℕ) (stop : ℕ) (bytes : List ℕ)
-    → IsReading last_of (text read marks stop bytes) (suc (length bytes)) (text_behind read marks stop bytes)
-unfolding parts_behind
-text_read read marks stop bytes = many_read (λ n. parts_behind n marks stop) (λ n a b. refl) (λ a. refl) (parts_read marks stop)
-    (length bytes) read bytes (omega arith)
+pub text_read : (read marks : List ℕ) (stop : ℕ) (bytes : List ℕ) → IsRead last_of (text read marks stop bytes) (suc (length bytes))
+text_read read marks stop bytes = many_read (parts_read marks stop) read bytes
 
-pub value_read : (quote : ℕ) (bytes : List ℕ)
-    → IsReading last_of (value quote bytes) (suc (length bytes)) (value_at quote bytes)
-unfolding value_at
+pub value_read : (quote : ℕ) (bytes : List ℕ) → IsRead last_of (value quote bytes) (suc (length bytes))
+unfolding value
 value_read quote bytes = next_read (text_read [] (marked_in_value quote) quote bytes) (λ x _. closed_read x)
   where
-    closed_read : (x : List ℕ × List ℕ) → IsReading last_of (closed x) (last_of x) (behind_quote x)
-    closed_read (value, []) = refused refl
+    closed_read : (x : List ℕ × List ℕ) → IsRead last_of (closed x) (last_of x)
+    closed_read (value, []) = no
     closed_read (value, b ∷ bs) = also done

@@ -6,12 +6,12 @@ use Rattle.std.specs.{Result.IsErrAnd, Str.is_utf8}
 use Rattle.mpd_text.specs.{declared.fault.TextFault.TextFault, declared.fault.TextFault.TheVariants.Memory, declared.stop.Stop.Stop}
 use Rattle.mpd_text.specs.{declared.tree.Tree.Tree, Characters.first_bad_character, Faults.{HasBadCharacter, HasFault, IsNotUtf8}}
 use Rattle.mpd_text.specs.{Faults.{ReadsAs, refusal, placed}, Grammar.{IsClean, Spells}, Meaning.{reading_of, stop_told, told}}
-use Rattle.mpd_text.specs.{Nodes.root_of, Trees.Element, Reading.{document_at, fault_in}}
+use Rattle.mpd_text.specs.{Nodes.root_of, Trees.Element, Grammar.document, Reading.fault_in}
 use Rattle.mpd_text.proofs.OneReading.{one_reading}
 use Rattle.bridge_io.specs.Answer.{Gives}
 
 -- what is read of a text without bad characters
-clean_is_read : (text : List ℕ) → IsClean text → reading_of text ≡ told text (document_at text)
+clean_is_read : (text : List ℕ) → IsClean text → reading_of text ≡ told text (document text).read
 unfolding reading_of
 clean_is_read text clean =
     let utf8 : is_utf8 text ≡ true = is_utf8-from_IsUtf8 text clean.utf8 in
@@ -24,14 +24,14 @@ told_as P Memory is = tt
 told_as P f is = is
 
 -- the reading stops
-pub stopped : (text : List ℕ) (stop : Stop) → IsClean text → IfSome (fault_in stop) (λ f. document_at text ≡ Err f)
+pub stopped : (text : List ℕ) (stop : Stop) → IsClean text → IfSome (fault_in stop) (λ f. (document text).read ≡ Err f)
     → IfSome (refusal (stop_told text stop)) (λ g. reading_of text ≡ Err g)
 stopped text stops.Memory clean h = tt
 stopped text (stops.Fault f) clean h =
     told_as (λ g. reading_of text ≡ Err g) (placed text f) (clean_is_read text clean ∙ ap (told text) h)
 
 -- the reading comes to its end
-pub finished : (text : List ℕ) (root shown : Element) → IsClean text → document_at text ≡ Ok root → shown ≡ root
+pub finished : (text : List ℕ) (root shown : Element) → IsClean text → (document text).read ≡ Ok root → shown ≡ root
     → reading_of text ≡ Ok shown
 finished text root shown clean h is = clean_is_read text clean ∙ ap (told text) h ∙ ap Ok (sym is)
 

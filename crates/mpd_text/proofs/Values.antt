@@ -1,19 +1,21 @@
 -- A value whose first marked byte is its quote reads as it stands.
-use Rattle.std.proofs.Common.{◌≡◌, ℕ, true, eqb, List, [], ◌∷◌, ◌-◌, ◌≤◌, ◌∙◌, ◌⊎◌, ap, sym, length, take, drop, get_or, Ok, refl, arith}
+use Rattle.std.proofs.Common.{◌≡◌, ℕ, suc, ◌+◌, true, eqb, List, [], ◌∷◌, ◌-◌, ◌≤◌, ◌∙◌, ◌⊎◌, ap, sym, length, take, drop, get_or, Ok, refl}
+use Rattle.std.proofs.Common.{arith}
 use Rattle.std.proofs.{lemmas.List.take_all, lemmas.Bool.Decides.nat_tests}
-use Rattle.mpd_text.specs.{Marked.marked_in_value, Runs.plain_at, Reading.{marked_at, parts_behind, value_at}, Rests.{IsBehind, IsEnd}}
+use Rattle.mpd_text.specs.{Marked.marked_in_value, Runs.plain_at, Productions.times, Grammar.{marked, value}, Rests.{IsBehind, IsEnd}}
 use Rattle.mpd_text.proofs.Rests.{behind}
 
 value_plain : (q : ℕ) (bytes more : List ℕ) → (plain_at (marked_in_value q) bytes).1 ≡ q ∷ more
-    → value_at q bytes ≡ Ok ((plain_at (marked_in_value q) bytes).0, more)
-unfolding value_at parts_behind marked_at
+    → (value q bytes).read ≡ Ok ((plain_at (marked_in_value q) bytes).0, more)
+unfolding value times marked
 value_plain q [] more e = cc
 value_plain q (b ∷ bs) more e =
     let self : eqb q q ≡ true = grind (arith, nat_tests) in
-    rw (e, self) refl
+    let most : length (b ∷ bs) + 1 ≡ suc (length (b ∷ bs)) = omega arith in
+    rw (most, e, self) refl
 
 pub value_first : (q : ℕ) (bytes rest : List ℕ) → rest ≡ (plain_at (marked_in_value q) bytes).1 → 1 ≤ length rest → get_or rest 0 0 ≡ q
-    → value_at q bytes ≡ Ok ((plain_at (marked_in_value q) bytes).0, take (length rest - 1) (drop 1 rest))
+    → (value q bytes).read ≡ Ok ((plain_at (marked_in_value q) bytes).0, take (length rest - 1) (drop 1 rest))
 value_first q bytes [] is one first = absurd (omega (arith, one))
 value_first q bytes (b ∷ more) is one first =
     let all : take (length (b ∷ more) - 1) more ≡ more = take_all (length (b ∷ more) - 1) more (omega arith) in

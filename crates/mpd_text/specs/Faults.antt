@@ -1,35 +1,12 @@
 -- The faults of a text: what it is, and where.
 use Rattle.mpd_text.specs.declared.fault.TextFault.TheVariants as faults
-use Rattle.std.specs.Prelude.{◌≡◌, ◌≤◌, ℕ, ◌==◌, ◌&&◌, ◌⊎◌, List, [], ◌∷◌, length, if◌then◌else◌, Option, Some, None, Result, Ok, Err}
+use Rattle.std.specs.Prelude.{◌≡◌, ◌≤◌, ℕ, ◌==◌, ◌⊎◌, List, length, if◌then◌else◌, Option, Some, None, Result, Ok, Err}
 use Rattle.std.specs.{Prelude.IsUtf8, Str.Lossy.utf8_valid_len}
 use Rattle.bridge_io.specs.{declared.place.Place.Place, Places.place_of}
 use Rattle.mpd_text.specs.{declared.fault.TextFault.TextFault, declared.stop.Fault.Fault, declared.stop.Wrong.Wrong}
 use Rattle.mpd_text.specs.declared.stop.Wrong.TheVariants.{Syntax, TagMismatch, DoubleAttribute, Entity, Doctype, Cdata, Instruction}
-use Rattle.mpd_text.specs.{declared.stop.Wrong.TheVariants.Depth, Characters.{starts_name, first_bad_character}, Trees.Element}
-use Rattle.mpd_text.specs.{Reading.{fault, syntax, place_before}, Grammar.{IsClean, IsDocument, Spells, document}, Productions.Kind}
-use Rattle.mpd_text.specs.Productions.{Position, anywhere, behind_less_than, behind_exclamation, in_instruction, behind_repeated}
-use Rattle.mpd_text.specs.Productions.{behind_other_name, in_reference}
-
--- the fault of a byte that cannot follow at a position, told where that began or at the byte; where no byte follows the text is cut
-abbrev pub fault_by : Kind → ℕ → List ℕ → Fault
-fault_by anywhere start bytes = syntax bytes
-fault_by (behind_less_than is_full) start [] = syntax []
-fault_by (behind_less_than is_full) start (b ∷ bs) =
-    if b == 63 then fault Instruction start (b ∷ bs)
-    else if is_full && starts_name b then fault Depth start (b ∷ bs)
-    else syntax (b ∷ bs)
-fault_by behind_exclamation start [] = syntax []
-fault_by behind_exclamation start (b ∷ bs) =
-    if b == 68 then fault Doctype start (b ∷ bs)
-    else if b == 91 then fault Cdata start (b ∷ bs)
-    else syntax (b ∷ bs)
-fault_by in_instruction start bytes = fault Instruction start bytes
-fault_by behind_repeated start bytes = fault DoubleAttribute start bytes
-fault_by behind_other_name start bytes = fault TagMismatch start bytes
-fault_by in_reference start bytes = fault Entity start bytes
-
-abbrev pub fault_at : Position → Fault
-fault_at p = fault_by p.kind p.start p.rest
+use Rattle.mpd_text.specs.{declared.stop.Wrong.TheVariants.Depth, Characters.first_bad_character, Trees.Element}
+use Rattle.mpd_text.specs.{Positions.{Position, place_before, fault_at}, Grammar.{IsClean, IsDocument, Spells, document}}
 
 -- a fault by its name
 abbrev pub named_fault : Wrong → Place → TextFault

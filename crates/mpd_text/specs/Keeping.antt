@@ -1,10 +1,11 @@
 -- What is kept while a text is read, as it is shown.
 use Rattle.mpd_text.specs.declared.content.Piece.TheVariants as pieces
-use Rattle.mpd_text.specs.Reading as spec
-use Rattle.std.specs.{Prelude.{◌≡◌, ℕ, Bool, zero, suc, List, [], ◌∷◌, ◌++◌, drop, length, map, Result, Err}, String.string_bytes}
-use Rattle.mpd_text.specs.{declared.content.Piece.Piece, declared.kept.Kept.Kept, declared.stop.Fault.Fault, Forests.{Shown, shown_of}}
+use Rattle.mpd_text.specs.Pieces as spec
+use Rattle.mpd_text.specs.Grammar as grammar
+use Rattle.std.specs.{Prelude.{◌≡◌, ℕ, suc, Bool, List, [], ◌∷◌, ◌++◌, drop, length, map}, String.string_bytes}
+use Rattle.mpd_text.specs.{declared.content.Piece.Piece, declared.kept.Kept.Kept, Forests.{Shown, shown_of}}
 use Rattle.mpd_text.specs.{Forests.flat, Trees.{names_of, Attribute, Head, Forest, nothing, element, Element}, Views.attribute_of}
-use Rattle.mpd_text.specs.{Reading.{◌>>=◌, InsideReading, syntax, place_before}, Runs.name_at}
+use Rattle.mpd_text.specs.{Positions.place_before, Productions.{Production, ◌>>◌}, Grammar.{tag, next_inside, inside}, Runs.name_at}
 
 -- the source, and behind it what was read otherwise than it stands there
 abbrev pub kept_of : Kept → List ℕ
@@ -79,20 +80,15 @@ pub record IsFilled (at : ℕ) (i : spec.Inside) (old new : Kept) : Type 0 where
   pub shown_are : (before : List Shown) (s : Shown) → shown_in old ≡ before ++ s ∷ [] → length before ≡ at
       → shown_in new ≡ before ++ flat at (element (record s.head { text = i.text }) i.children nothing)
 
--- how content inside an element is read, where there is room for so many
-abbrev pub inner_of : ℕ → List ℕ → List ℕ → List ℕ → InsideReading
-inner_of zero whole name bytes = Err (syntax [])
-inner_of (suc room) whole name bytes = spec.content_at room whole name bytes
-
--- character data and the piece behind it, behind what is read so far
-abbrev pub content_step : ℕ → List ℕ → List ℕ → Forest → List ℕ → List ℕ → Result (spec.Inside × Bool × List ℕ) Fault
-content_step room whole name children text bytes =
-    spec.content_next (inner_of room whole) whole room name (record { children = children; text = text }) bytes
-
 -- one element is shown, and what is in it
 abbrev pub ShowsRoot : Kept → Element → Type 0
 ShowsRoot k root = shown_in k ≡ flat 0 (element root.head root.children nothing)
 
+-- character data and the piece behind it, behind what is read so far
+abbrev pub content_step : ℕ → List ℕ → List ℕ → Forest → List ℕ → List ℕ → Production (spec.Inside × Bool × List ℕ)
+content_step room whole name children text bytes =
+    next_inside (inside room whole) whole room name (record { children = children; text = text }) bytes
+
 -- an element from its name on
-abbrev pub element_at : List ℕ → ℕ → List ℕ → Result (Element × List ℕ) Fault
-element_at whole left bytes = spec.tag_at whole left bytes >>= spec.element_in whole
+abbrev pub element_at : List ℕ → ℕ → List ℕ → Production (Element × List ℕ)
+element_at whole left bytes = tag whole left bytes >> grammar.element whole

@@ -13,6 +13,8 @@ pub mod Meaning
 pub mod Names
 pub mod Nodes
 pub mod Packed
+pub mod Pieces
+pub mod Positions
 pub mod Productions
 pub mod Reading
 pub mod References

@@ -4,7 +4,7 @@ use Rattle.mpd_text.specs.declared.stop.Stop.TheVariants as stops
 use Rattle.std.specs.{Prelude.{◌≡◌, ℕ, List, if◌then◌else◌, Option, Some, None, Result, Ok, Err}, Str.is_utf8, Str.Lossy.utf8_valid_len}
 use Rattle.bridge_io.specs.Places.{place_of}
 use Rattle.mpd_text.specs.{declared.fault.TextFault.TextFault, declared.stop.Fault.Fault, declared.stop.Stop.Stop}
-use Rattle.mpd_text.specs.{Characters.first_bad_character, Trees.Element, Faults.{ReadsAs, placed}, Reading.document_at}
+use Rattle.mpd_text.specs.{Characters.first_bad_character, Trees.Element, Faults.{ReadsAs, placed}, Grammar.document}
 
 abbrev pub told : List ℕ → Result Element Fault → Result Element TextFault
 told whole (Ok root) = Ok root
@@ -17,7 +17,7 @@ stop_told whole (stops.Fault f) = placed whole f
 
 -- characters that no text may have are looked for before anything is read
 abbrev pub read_unless_bad : List ℕ → Option ℕ → Result Element TextFault
-read_unless_bad bytes None = told bytes (document_at bytes)
+read_unless_bad bytes None = told bytes (document bytes).read
 read_unless_bad bytes (Some at) = Err (faults.BadChar (place_of bytes at))
 
 -- and bytes that are not UTF-8 before these

@@ -1,7 +1,8 @@
--- The characters that references stand for (XML 1.0, 4.1 and 4.6).
+-- The characters that references stand for (XML 1.0, 4.1 and 4.6), and how they are read.
 use Rattle.std.specs.Prelude.{ℕ, ◌+◌, ◌*◌, ◌-◌, Bool, ◌==◌, ◌&&◌, ◌||◌, nat_le, nat_lt, List, [], ◌∷◌, codes, if◌then◌else◌, Option, Some}
-use Rattle.std.specs.{Prelude.{None, fold, bytes_eq}, List.list_all}
-use Rattle.mpd_text.specs.Characters.{is_digit}
+use Rattle.std.specs.{Prelude.{None, Result, Ok, Err, fold, bytes_eq, min, max, take, drop}, List.{list_all, prefix_len}}
+use Rattle.mpd_text.specs.{declared.stop.Fault.Fault, declared.stop.Wrong.TheVariants.Entity, Characters.is_digit, Positions.fault}
+use Rattle.mpd_text.specs.Runs.{up_to, common}
 
 abbrev pub is_hex_digit : ℕ → Bool
 is_hex_digit b = is_digit b || (nat_le 65 b && nat_le b 70) || (nat_le 97 b && nat_le b 102)
@@ -39,3 +40,48 @@ referred_to (b ∷ bs) =
     else if bytes_eq (b ∷ bs) (codes "quot") then Some 34
     else if bytes_eq (b ∷ bs) (codes "apos") then Some 39
     else None
+
+-- ---- reading
+
+-- one past all characters stands for each larger number
+abbrev pub with_digit : ℕ → ℕ → ℕ → ℕ
+with_digit base number digit = min 1114112 (base * number + value_of_digit digit)
+
+abbrev pub capped_number : ℕ → List ℕ → ℕ
+capped_number base digits = fold (with_digit base) 0 digits
+
+abbrev pub allowed : ℕ → Option ℕ
+allowed c = if is_allowed_character c then Some c else None
+
+abbrev pub front_of_digits : List ℕ → ℕ
+front_of_digits [] = 0
+front_of_digits (b ∷ bs) = if b == 120 then prefix_len is_hex_digit bs + 1 else prefix_len is_digit (b ∷ bs)
+
+abbrev pub front_of_name : List ℕ → ℕ
+front_of_name bytes =
+    max (max (max (max (common (codes "amp") bytes) (common (codes "lt") bytes)) (common (codes "gt") bytes))
+    (common (codes "quot") bytes)) (common (codes "apos") bytes)
+
+-- how far some reference goes on so behind its `&`
+abbrev pub front_len : List ℕ → ℕ
+front_len [] = 0
+front_len (b ∷ bs) = if b == 35 then front_of_digits bs + 1 else front_of_name (b ∷ bs)
+
+-- the byte decides it behind which no reference goes on
+abbrev pub entity : ℕ → List ℕ → Fault
+entity left bytes = fault Entity left (drop (front_len bytes) bytes)
+
+abbrev pub is_semicolon : ℕ → Bool
+is_semicolon b = b == 59
+
+abbrev pub character_or : Fault → List ℕ → Option ℕ → Result (ℕ × List ℕ) Fault
+character_or otherwise rest None = Err otherwise
+character_or otherwise rest (Some c) = Ok (c, rest)
+
+abbrev pub named_in : Fault → List ℕ → List ℕ → Result (ℕ × List ℕ) Fault
+named_in otherwise name [] = Err otherwise
+named_in otherwise name (b ∷ bs) = character_or otherwise bs (referred_to name)
+
+-- behind a `&` from which on so many bytes are left: up to the first `;`
+unfoldable pub reference_at : ℕ → List ℕ → Result (ℕ × List ℕ) Fault
+reference_at left bytes = let n = up_to is_semicolon bytes in named_in (entity left bytes) (take n bytes) (drop n bytes)

@@ -6,7 +6,8 @@ ghost use Rattle.mpd_text.specs.Attributes.{AreKnown};
 ghost use Rattle.mpd_text.specs.Keeping.{Stays, attributes_from, attributes_in, names_from};
 ghost use Rattle.mpd_text.specs.ManyNames.{IsPrepared};
 ghost use Rattle.mpd_text.specs.Names.{names_in};
-ghost use Rattle.mpd_text.specs.Reading as spec;
+ghost use Rattle.mpd_text.specs.Grammar as spec;
+ghost use Rattle.mpd_text.specs.Reading.{fault_in};
 ghost use Rattle.mpd_text.specs.Runs as runs;
 ghost use Rattle.mpd_text.specs.Rests.{IsBehind, IsEnd};
 ghost use Rattle.mpd_text.specs.declared.stop.Stop.TheVariants.{Memory};
@@ -17,9 +18,9 @@ use crate::many_names::{FEW, ManyNames, is_name_of_any};
 use crate::stop::{Stop, Wrong, decided, syntax};
 
 /// What stands behind the `=` at the front, and the white space around it.
-#[tactic(auto, unfolding(crate::specs::Reading::after_equals))]
+#[tactic(auto, unfolding(crate::specs::Grammar::equals))]
 fn after_equals(bytes: &[u8]) -> Result<&[u8], Stop>
-    ensures { Gives (λ x. x.now) spec.fault_in result (spec.after_equals bytes.now) }
+    ensures { Gives (λ x. x.now) fault_in result (spec.equals bytes.now).read }
 {
     match after_white(bytes) {
         [b'=', rest @ ..] => Ok(after_white(rest)),
@@ -28,10 +29,10 @@ fn after_equals(bytes: &[u8]) -> Result<&[u8], Stop>
 }
 
 /// The quote at the front, and what stands behind it.
-#[tactic(auto, unfolding(crate::specs::Reading::quote_at))]
+#[tactic(auto, unfolding(crate::specs::Grammar::quote_mark))]
 fn quote_of(bytes: &[u8]) -> Result<(u8, &[u8]), Stop>
     ensures quote { IfOk result (λ x. (x.0 ≡ 34) ⊎ (x.0 ≡ 39)) }
-    ensures read { Gives (λ x. (x.0, x.1.now)) spec.fault_in result (spec.quote_at bytes.now) }
+    ensures read { Gives (λ x. (x.0, x.1.now)) fault_in result (spec.quote_mark bytes.now).read }
 {
     match bytes {
         [quote @ (b'"' | b'\''), rest @ ..] => Ok((*quote, rest)),
@@ -67,15 +68,15 @@ fn is_repeated<'a>(kept: &Kept<'a>, names: &mut Names<'a>, name: &'a [u8]) -> Re
 }
 
 /// What stands behind the name at the front, which no attribute before in the same tag has.
-#[tactic(auto, using(crate::proofs::KeptRows::names_are), unfolding(crate::specs::Reading::new_name_at))]
+#[tactic(auto, using(crate::proofs::KeptRows::names_are), unfolding(crate::specs::Grammar::new_name))]
 fn new_name_of<'a>(
     kept: &Kept<'a>,
     names: &mut Names<'a>,
     bytes: &'a [u8],
 ) -> Result<&'a [u8], Stop>
     requires known { AreKnown kept.now names.old }
-    ensures read { Gives (λ rest. ((runs.name_at bytes.now).0, rest.now)) spec.fault_in result
-        (spec.new_name_at (names_from kept.now names.old.from) bytes.now) }
+    ensures read { Gives (λ rest. ((runs.name_at bytes.now).0, rest.now)) fault_in result
+        (spec.new_name (names_from kept.now names.old.from) bytes.now).read }
     ensures rest { IfOk result (λ rest. rest.now ≡ (runs.name_at bytes.now).1) }
     ensures from { names.new.from ≡ names.old.from }
     ensures prepared { OnOk result (IsPrepared names.new.many (names_from kept.now names.old.from ++ (runs.name_at bytes.now).0 ∷ [])) }
@@ -88,7 +89,7 @@ fn new_name_of<'a>(
 }
 
 /// Keeps the attribute at the front.
-#[tactic(auto, unfolding(crate::specs::Reading::attribute_at))]
+#[tactic(auto, unfolding(crate::specs::Grammar::attribute))]
 fn attribute_of<'a>(
     kept: &mut Kept<'a>,
     names: &mut Names<'a>,
@@ -96,8 +97,8 @@ fn attribute_of<'a>(
 ) -> Result<&'a [u8], Stop>
     requires known { AreKnown kept.old names.old }
     requires rest { IsBehind kept.old.source.now bytes.now }
-    ensures read { Gives (λ rest. (attributes_from kept.new names.old.from, rest.now)) spec.fault_in result
-        (spec.attribute_at kept.old.source.now (attributes_from kept.old names.old.from) bytes.now) }
+    ensures read { Gives (λ rest. (attributes_from kept.new names.old.from, rest.now)) fault_in result
+        (spec.attribute kept.old.source.now (attributes_from kept.old names.old.from) bytes.now).read }
     ensures stays { OnOk result (Stays kept.old kept.new) }
     ensures from { names.new.from ≡ names.old.from }
     ensures known { OnOk result (AreKnown kept.new names.new) }
@@ -112,7 +113,7 @@ fn attribute_of<'a>(
 }
 
 /// Keeps the attribute behind white space at the front, or comes to the tag's end; whether that is so.
-#[tactic(auto, using(crate::proofs::Rests::white_left, crate::proofs::Rests::ends), unfolding(crate::specs::Reading::next_at))]
+#[tactic(auto, using(crate::proofs::Rests::white_left, crate::proofs::Rests::ends), unfolding(crate::specs::Grammar::next_attribute))]
 fn next_of<'a>(
     kept: &mut Kept<'a>,
     names: &mut Names<'a>,
@@ -120,8 +121,8 @@ fn next_of<'a>(
 ) -> Result<(bool, &'a [u8]), Stop>
     requires known { AreKnown kept.old names.old }
     requires rest { IsEnd kept.old.source.now bytes.now }
-    ensures read { Gives (λ x. (attributes_from kept.new names.old.from, x.0, x.1.now)) spec.fault_in result
-        (spec.next_at kept.old.source.now (attributes_from kept.old names.old.from) bytes.now) }
+    ensures read { Gives (λ x. (attributes_from kept.new names.old.from, x.0, x.1.now)) fault_in result
+        (spec.next_attribute kept.old.source.now (attributes_from kept.old names.old.from) bytes.now).read }
     ensures stays { OnOk result (Stays kept.old kept.new) }
     ensures from { names.new.from ≡ names.old.from }
     ensures known { OnOk result (AreKnown kept.new names.new) }
@@ -141,8 +142,8 @@ fn next_of<'a>(
 /// Keeps the attributes at the front, up to the `>` or `/` of their tag.
 pub(crate) fn attributes_of<'a>(kept: &mut Kept<'a>, bytes: &'a [u8]) -> Result<&'a [u8], Stop>
     requires { IsEnd kept.old.source.now bytes.now }
-    ensures read { Gives (λ rest. (attributes_from kept.new (length (attributes_in kept.old)), rest.now)) spec.fault_in result
-        (spec.attributes_at kept.old.source.now bytes.now) }
+    ensures read { Gives (λ rest. (attributes_from kept.new (length (attributes_in kept.old)), rest.now)) fault_in result
+        (spec.attributes kept.old.source.now bytes.now).read }
     ensures stays { OnOk result (Stays kept.old kept.new) }
     ensures more { OnOk result (length (attributes_in kept.old) ≤ length (attributes_in kept.new)) }
     ensures rest { IfOk result (λ rest. IsEnd kept.old.source.now rest.now) }
@@ -152,7 +153,7 @@ pub(crate) fn attributes_of<'a>(kept: &mut Kept<'a>, bytes: &'a [u8]) -> Result<
         many: ManyNames::new(kept.alloc),
     };
     let mut rest = bytes;
-    for _ in 0..bytes.len() {
+    for _ in 0..bytes.len() + 1 {
         let (is_ended, after) = next_of(kept, &mut names, rest)?;
         rest = after;
         if is_ended {

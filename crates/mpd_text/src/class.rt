@@ -1,7 +1,6 @@
 // The bytes of a text by their parts in the grammar of XML 1.0, and runs of them.
 ghost use Rattle.std.specs.Prelude.{◌≡◌, position};
 ghost use Rattle.mpd_text.specs.Characters.{is_white, starts_name, goes_on_name};
-ghost use Rattle.mpd_text.specs.Reading as spec;
 ghost use Rattle.mpd_text.specs.Runs as runs;
 
 /// White space, production 3.

@@ -1,11 +1,13 @@
 // Elements: tags, and the content between them.
-ghost use Rattle.std.specs.Prelude.{◌≡◌, ◌<◌, ◌+◌, ◌++◌, [], List, length, IfOk, IfSome, MatchResult, OnOk, Ok, Err};
+ghost use Rattle.std.specs.Prelude.{◌≡◌, ◌<◌, ◌+◌, ◌++◌, [], ◌∷◌, suc, List, length, IfOk, IfSome, MatchResult, OnOk, Ok, Err};
 ghost use Rattle.std.specs.String.{string_bytes};
 ghost use Rattle.bridge_io.specs.Answer.{Gives};
 ghost use Rattle.mpd_text.specs.Forests.{Shown, flat};
 ghost use Rattle.mpd_text.specs.Keeping.{Grows, IsFilled, IsPieceKept, IsTag, ShowsRoot, content_step, element_at, kept_of, last_head};
 ghost use Rattle.mpd_text.specs.Keeping.{piece_of, shown_in};
-ghost use Rattle.mpd_text.specs.Reading as spec;
+ghost use Rattle.mpd_text.specs.Grammar as spec;
+ghost use Rattle.mpd_text.specs.Reading.{fault_in};
+ghost use Rattle.mpd_text.specs.Pieces.{Inside};
 ghost use Rattle.mpd_text.specs.Rests.{IsBehind, IsEnd};
 ghost use Rattle.mpd_text.specs.Rows.{IsKept};
 ghost use Rattle.mpd_text.specs.Trees.{Element, Forest};
@@ -16,7 +18,7 @@ use crate::class::{name_of, starts_name};
 use crate::kept::Kept;
 use crate::markup::{closed_of, comment_of, end_tag_of};
 use crate::stop::{Stop, Wrong, decided, syntax};
-use crate::text::add_text;
+use crate::text::{add_text, plain_of};
 use crate::tree::KeptSpan;
 
 /// As many elements may stand inside one another.
@@ -40,9 +42,9 @@ enum Piece<'a> {
 }
 
 /// Whether a tag is an empty one, and what stands behind it.
-#[tactic(auto, unfolding(crate::specs::Reading::tag_end_at))]
+#[tactic(auto, unfolding(crate::specs::Grammar::tag_end, crate::specs::Grammar::greater_than))]
 fn tag_end_of(bytes: &[u8]) -> Result<(bool, &[u8]), Stop>
-    ensures { Gives (λ x. (x.0, x.1.now)) spec.fault_in result (spec.tag_end_at bytes.now) }
+    ensures { Gives (λ x. (x.0, x.1.now)) fault_in result (spec.tag_end bytes.now).read }
 {
     match bytes {
         [b'/', rest @ ..] => {
@@ -57,7 +59,7 @@ fn tag_end_of(bytes: &[u8]) -> Result<(bool, &[u8]), Stop>
 }
 
 /// Keeps the element whose tag stands there from its name on, with room for so many inside one another from it on.
-#[tactic(auto, unfolding(crate::specs::Reading::tag_at))]
+#[tactic(auto, unfolding(crate::specs::Grammar::tag))]
 fn tag_of<'a>(
     kept: &mut Kept<'a>,
     room: usize,
@@ -67,8 +69,8 @@ fn tag_of<'a>(
     requires rest { IsBehind kept.old.source.now bytes.now }
     requires left { left ≡ length bytes.now + 1 }
     requires room { 0 < room }
-    ensures read { Gives (λ x. (piece_of (last_head kept.old kept.new left bytes.now) x.0, x.1.now)) spec.fault_in result
-        (spec.tag_at kept.old.source.now left bytes.now) }
+    ensures read { Gives (λ x. (piece_of (last_head kept.old kept.new left bytes.now) x.0, x.1.now)) fault_in result
+        (spec.tag kept.old.source.now left bytes.now).read }
     ensures kept { IfOk result (λ x. IsPieceKept room (last_head kept.old kept.new left bytes.now) kept.old kept.new x.0) }
     ensures rest { IfOk result (λ x. IsBehind kept.old.source.now x.1.now) }
     ensures tag { IfOk result (λ x. IsTag x.0) }
@@ -90,7 +92,7 @@ fn tag_of<'a>(
 }
 
 /// Reads the comment or tag behind whose `<` the bytes stand, inside the element of that name.
-#[tactic(auto, using(crate::proofs::Rests::end_tag_left, crate::proofs::Rests::comment_left), unfolding(crate::specs::Reading::piece_at))]
+#[tactic(auto, using(crate::proofs::Rests::end_tag_left, crate::proofs::Rests::comment_left), unfolding(crate::specs::Grammar::piece))]
 fn piece_of<'a>(
     kept: &mut Kept<'a>,
     room: usize,
@@ -100,8 +102,8 @@ fn piece_of<'a>(
 ) -> Result<(Piece<'a>, &'a [u8]), Stop>
     requires rest { IsBehind kept.old.source.now bytes.now }
     requires left { left ≡ length bytes.now + 1 }
-    ensures read { Gives (λ x. (piece_of (last_head kept.old kept.new left bytes.now) x.0, x.1.now)) spec.fault_in result
-        (spec.piece_at kept.old.source.now room name.now left bytes.now) }
+    ensures read { Gives (λ x. (piece_of (last_head kept.old kept.new left bytes.now) x.0, x.1.now)) fault_in result
+        (spec.piece kept.old.source.now room name.now left bytes.now).read }
     ensures kept { IfOk result (λ x. IsPieceKept room (last_head kept.old kept.new left bytes.now) kept.old kept.new x.0) }
     ensures rest { IfOk result (λ x. IsBehind kept.old.source.now x.1.now) }
 {
@@ -131,12 +133,11 @@ fn inside_of<'a>(kept: &mut Kept<'a>, begun: Begun<'a>, bytes: &'a [u8]) -> Resu
     requires rest { IsBehind kept.old.source.now bytes.now }
     requires row { begun.row < length (shown_in kept.old) }
     ensures read { MatchResult result
-        (λ rest. (i : spec.Inside) × (spec.content_at begun.entry.room kept.old.source.now begun.entry.name.now bytes.now ≡ Ok (
-          i,
-          rest.now,
-        ))
+        (λ rest. (i : Inside) × ((spec.inside (suc begun.entry.room) kept.old.source.now begun.entry.name.now bytes.now).read
+        ≡ Ok (i, rest.now))
         × IsFilled begun.entry.row i kept.old kept.new)
-        (λ e. IfSome (spec.fault_in e) (λ f. spec.content_at begun.entry.room kept.old.source.now begun.entry.name.now bytes.now ≡ Err f)) }
+        (λ e. IfSome (fault_in e) (λ f. (spec.inside (suc begun.entry.room) kept.old.source.now begun.entry.name.now bytes.now).read
+        ≡ Err f)) }
     ensures rest { IfOk result (λ rest. IsBehind kept.old.source.now rest.now) }
 {
     let (text, rest) = content_of(kept, begun.room, begun.name, bytes)?;
@@ -155,11 +156,11 @@ fn next_content<'a>(
 ) -> Result<(bool, &'a [u8]), Stop>
     requires { IsBehind kept.old.source.now bytes.now }
     ensures read { (front : List Shown) (children : Forest) → shown_in kept.old ≡ front ++ flat (length front) children → MatchResult result
-        (λ x. (later : Forest) × (content_step room kept.old.source.now name.now children (string_bytes text.old) bytes.now
+        (λ x. (later : Forest) × ((content_step room kept.old.source.now name.now children (string_bytes text.old) bytes.now).read
         ≡ Ok (record { children = later; text = string_bytes text.new }, x.0, x.1.now))
         × (shown_in kept.new ≡ front ++ flat (length front) later))
-        (λ e. IfSome (spec.fault_in e) (λ f.
-        content_step room kept.old.source.now name.now children (string_bytes text.old) bytes.now ≡ Err f)) }
+        (λ e. IfSome (fault_in e) (λ f.
+        (content_step room kept.old.source.now name.now children (string_bytes text.old) bytes.now).read ≡ Err f)) }
     ensures same { OnOk result (kept.new.source.now ≡ kept.old.source.now) }
     ensures rest { IfOk result (λ x. IsBehind kept.old.source.now x.1.now) }
 {
@@ -176,7 +177,18 @@ fn next_content<'a>(
     }
 }
 
-/// Reads the content at the front and the end tag behind it, inside the element of that name.
+/// What stands behind the `</` at the front, if there is one.
+fn behind_end_start(bytes: &[u8]) -> Option<&[u8]>
+    ensures { IfSome result (λ rest. bytes.now ≡ 60 ∷ 47 ∷ rest.now) }
+{
+    match bytes {
+        [b'<', b'/', rest @ ..] => Some(rest),
+        _ => None,
+    }
+}
+
+/// Reads the content at the front and the end tag behind it, inside the element of that name. Text alone that reads as it
+/// stands is kept where it stands.
 #[cycle(content)]
 fn content_of<'a>(
     kept: &mut Kept<'a>,
@@ -186,15 +198,21 @@ fn content_of<'a>(
 ) -> Result<(KeptSpan, &'a [u8]), Stop>
     requires { IsBehind kept.old.source.now bytes.now }
     ensures read { MatchResult result
-        (λ x. (i : spec.Inside) × (spec.content_at room kept.old.source.now name.now bytes.now ≡ Ok (i, x.1.now))
+        (λ x. (i : Inside) × ((spec.inside (suc room) kept.old.source.now name.now bytes.now).read ≡ Ok (i, x.1.now))
         × Grows (flat (length (shown_in kept.old)) i.children) kept.old kept.new × (bytes_of (kept_of kept.new) x.0 ≡ i.text))
-        (λ e. IfSome (spec.fault_in e) (λ f. spec.content_at room kept.old.source.now name.now bytes.now ≡ Err f)) }
+        (λ e. IfSome (fault_in e) (λ f. (spec.inside (suc room) kept.old.source.now name.now bytes.now).read ≡ Err f)) }
     ensures kept { IfOk result (λ x. IsKept kept.new.source.now (kept_of kept.new) x.0) }
     ensures rest { IfOk result (λ x. IsBehind kept.old.source.now x.1.now) }
 {
+    let (_, marked) = plain_of(&kept.marked.content, bytes);
+    if let Some(end) = behind_end_start(marked) {
+        let span = kept.span(bytes, marked)?;
+        let rest = end_tag_of(name, marked.len(), end)?;
+        return Ok((span, rest));
+    }
     let mut text = String::new(kept.alloc);
     let mut rest = bytes;
-    for _ in 0..bytes.len() {
+    for _ in 0..bytes.len() + 1 {
         let (is_ended, after) = next_content(kept, room, name, &mut text, rest)?;
         rest = after;
         if is_ended {
@@ -211,8 +229,8 @@ fn element_of<'a>(kept: &mut Kept<'a>, left: usize, bytes: &'a [u8]) -> Result<&
     requires left { left ≡ length bytes.now + 1 }
     requires first { shown_in kept.old ≡ [] }
     ensures read { MatchResult result
-        (λ rest. (root : Element) × (element_at kept.old.source.now left bytes.now ≡ Ok (root, rest.now)) × ShowsRoot kept.new root)
-        (λ e. IfSome (spec.fault_in e) (λ f. element_at kept.old.source.now left bytes.now ≡ Err f)) }
+        (λ rest. (root : Element) × ((element_at kept.old.source.now left bytes.now).read ≡ Ok (root, rest.now)) × ShowsRoot kept.new root)
+        (λ e. IfSome (fault_in e) (λ f. (element_at kept.old.source.now left bytes.now).read ≡ Err f)) }
     ensures same { OnOk result (kept.new.source.now ≡ kept.old.source.now) }
 {
     let (piece, rest) = tag_of(kept, DEEPEST, left, bytes)?;
@@ -228,13 +246,15 @@ fn element_of<'a>(kept: &mut Kept<'a>, left: usize, bytes: &'a [u8]) -> Result<&
 }
 
 /// Reads the root behind whose `<` the bytes stand.
+#[tactic(auto, unfolding(crate::specs::Grammar::behind_root_start))]
 fn root_behind<'a>(kept: &mut Kept<'a>, left: usize, bytes: &'a [u8]) -> Result<&'a [u8], Stop>
     requires rest { IsBehind kept.old.source.now bytes.now }
     requires left { left ≡ length bytes.now + 1 }
     requires first { shown_in kept.old ≡ [] }
     ensures read { MatchResult result
-        (λ rest. (root : Element) × (spec.root_in kept.old.source.now left bytes.now ≡ Ok (root, rest.now)) × ShowsRoot kept.new root)
-        (λ e. IfSome (spec.fault_in e) (λ f. spec.root_in kept.old.source.now left bytes.now ≡ Err f)) }
+        (λ rest. (root : Element) × ((spec.behind_root_start kept.old.source.now left bytes.now).read ≡ Ok (root, rest.now))
+        × ShowsRoot kept.new root)
+        (λ e. IfSome (fault_in e) (λ f. (spec.behind_root_start kept.old.source.now left bytes.now).read ≡ Err f)) }
     ensures same { OnOk result (kept.new.source.now ≡ kept.old.source.now) }
 {
     match bytes {
@@ -245,13 +265,13 @@ fn root_behind<'a>(kept: &mut Kept<'a>, left: usize, bytes: &'a [u8]) -> Result<
 }
 
 /// Reads the root at the front.
-#[tactic(auto, unfolding(crate::specs::Reading::root_at))]
+#[tactic(auto, unfolding(crate::specs::Grammar::root))]
 pub(crate) fn root_of<'a>(kept: &mut Kept<'a>, bytes: &'a [u8]) -> Result<&'a [u8], Stop>
     requires rest { IsEnd kept.old.source.now bytes.now }
     requires first { shown_in kept.old ≡ [] }
     ensures read { MatchResult result
-        (λ rest. (root : Element) × (spec.root_at kept.old.source.now bytes.now ≡ Ok (root, rest.now)) × ShowsRoot kept.new root)
-        (λ e. IfSome (spec.fault_in e) (λ f. spec.root_at kept.old.source.now bytes.now ≡ Err f)) }
+        (λ rest. (root : Element) × ((spec.root kept.old.source.now bytes.now).read ≡ Ok (root, rest.now)) × ShowsRoot kept.new root)
+        (λ e. IfSome (fault_in e) (λ f. (spec.root kept.old.source.now bytes.now).read ≡ Err f)) }
     ensures same { OnOk result (kept.new.source.now ≡ kept.old.source.now) }
 {
     match bytes {

@@ -6,7 +6,9 @@ ghost use Rattle.bridge_io.specs.Answer.{Gives};
 ghost use Rattle.mpd_text.specs.Rests.{IsBehind};
 ghost use Rattle.mpd_text.specs.Rows.{HasAttributesWithin, IsAttributeKept, IsElementKept};
 ghost use Rattle.mpd_text.specs.declared.stop.Stop.TheVariants.{Memory};
-ghost use Rattle.mpd_text.specs.Reading as spec;
+ghost use Rattle.mpd_text.specs.Grammar as spec;
+ghost use Rattle.mpd_text.specs.Positions.{place_before};
+ghost use Rattle.mpd_text.specs.Reading.{fault_in};
 ghost use Rattle.mpd_text.specs.Runs as runs;
 
 use crate::element_table::{ElementTable, count};
@@ -63,7 +65,7 @@ impl<'a> Kept<'a> {
     }
 
     /// The bytes of the source from where some stand up to where the others do.
-    fn span(&self, bytes: &[u8], rest: &[u8]) -> Result<KeptSpan, Stop>
+    pub(crate) fn span(&self, bytes: &[u8], rest: &[u8]) -> Result<KeptSpan, Stop>
         requires bytes { length bytes.now ≤ length self.now.source.now }
         requires rest { length rest.now ≤ length bytes.now }
         ensures span { IfOk result (λ span. (span.start ≡ length self.now.source.now - length bytes.now)
@@ -89,7 +91,7 @@ impl<'a> Kept<'a> {
     ) -> Result<(KeptSpan, &'a [u8]), Stop>
         requires quote { (quote ≡ 34) ⊎ (quote ≡ 39) }
         requires rest { IsBehind self.old.source.now bytes.now }
-        ensures read { Gives (λ x. (bytes_of (kept_of self.new) x.0, x.1.now)) spec.fault_in result (spec.value_at quote bytes.now) }
+        ensures read { Gives (λ x. (bytes_of (kept_of self.new) x.0, x.1.now)) fault_in result (spec.value quote bytes.now).read }
         ensures kept { IfOk result (λ x. IsKept self.new.source.now (kept_of self.new) x.0) }
         ensures adds { OnOk result (Adds [] self.old self.new) }
         ensures rest { IfOk result (λ x. IsBehind self.old.source.now x.1.now) }
@@ -104,11 +106,11 @@ impl<'a> Kept<'a> {
         }
     }
 
-    #[tactic(auto, unfolding(crate::specs::Reading::value_at))]
+    #[tactic(auto, unfolding(crate::specs::Grammar::value))]
     fn read_value(&mut self, quote: u8, bytes: &'a [u8]) -> Result<(KeptSpan, &'a [u8]), Stop>
         requires quote { (quote ≡ 34) ⊎ (quote ≡ 39) }
         requires rest { IsBehind self.old.source.now bytes.now }
-        ensures read { Gives (λ x. (bytes_of (kept_of self.new) x.0, x.1.now)) spec.fault_in result (spec.value_at quote bytes.now) }
+        ensures read { Gives (λ x. (bytes_of (kept_of self.new) x.0, x.1.now)) fault_in result (spec.value quote bytes.now).read }
         ensures kept { IfOk result (λ x. IsKept self.new.source.now (kept_of self.new) x.0) }
         ensures adds { OnOk result (Adds [] self.old self.new) }
         ensures rest { IfOk result (λ x. IsBehind self.old.source.now x.1.now) }
@@ -158,7 +160,7 @@ impl<'a> Kept<'a> {
         ensures adds { OnOk result (Adds (record {
           name = (runs.name_at bytes.now).0;
           value = bytes_of (kept_of self.old) value;
-          place = spec.place_before self.old.source.now (length bytes.now);
+          place = place_before self.old.source.now (length bytes.now);
         } ∷ []) self.old self.new) }
         ensures fault { IfErr result (λ e. e ≡ Memory) }
     {

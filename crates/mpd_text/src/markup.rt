@@ -1,47 +1,64 @@
 // Comments and end tags, behind their `<`.
 ghost use Rattle.std.specs.Prelude.{◌≡◌};
 ghost use Rattle.bridge_io.specs.Answer.{Gives};
-ghost use Rattle.mpd_text.specs.Reading as spec;
+ghost use Rattle.mpd_text.specs.Grammar as spec;
+ghost use Rattle.mpd_text.specs.Reading.{fault_in};
 
 use crate::class::{after_white, name_of, starts_name};
 use crate::stop::{Stop, Wrong, decided, syntax};
 
-/// What stands behind a comment, behind its `<!--`. Nothing but a `>` may follow two dashes or three in a row.
-fn comment_behind(bytes: &[u8]) -> Result<&[u8], Stop>
-    ensures { Gives (λ x. x.now) spec.fault_in result (spec.comment_behind 0 bytes.now) }
+/// What stands behind the `>` at the front.
+#[tactic(auto, unfolding(crate::specs::Grammar::greater_than))]
+pub(crate) fn closed_of(bytes: &[u8]) -> Result<&[u8], Stop>
+    ensures { Gives (λ x. x.now) fault_in result (spec.greater_than bytes.now).read }
 {
-    let mut dashes: u8 = 0;
+    match bytes {
+        [b'>', rest @ ..] => Ok(rest),
+        _ => Err(syntax(bytes)),
+    }
+}
+
+/// What stands behind the end of a comment, behind its `--`.
+#[tactic(auto, unfolding(crate::specs::Grammar::behind_dashes, crate::specs::Grammar::greater_than))]
+fn behind_dashes(bytes: &[u8]) -> Result<&[u8], Stop>
+    ensures { Gives (λ x. x.now) fault_in result (spec.behind_dashes bytes.now).read }
+{
+    match bytes {
+        [b'-', rest @ ..] => closed_of(rest),
+        _ => closed_of(bytes),
+    }
+}
+
+/// What stands behind a comment, behind its `<!--`.
+#[tactic(auto, unfolding(crate::specs::Grammar::comment_end))]
+fn comment_end(bytes: &[u8]) -> Result<&[u8], Stop>
+    ensures { Gives (λ x. x.now) fault_in result (spec.comment_end bytes.now).read }
+{
     let mut rest = bytes;
     for _ in 0..bytes.len() {
         match rest {
-            [b'-', after @ ..] if dashes < 3 => {
-                dashes += 1;
-                rest = after;
-            }
-            [b'>', after @ ..] if dashes >= 2 => return Ok(after),
-            [_, after @ ..] if dashes < 2 => {
-                dashes = 0;
-                rest = after;
-            }
-            _ => return Err(syntax(rest)),
+            [b'-', b'-', after @ ..] => return behind_dashes(after),
+            [_, after @ ..] => rest = after,
+            [] => {}
         }
     }
     Err(syntax(&[]))
 }
 
+#[tactic(auto, unfolding(crate::specs::Grammar::second_dash))]
 fn second_dash(bytes: &[u8]) -> Result<&[u8], Stop>
-    ensures { Gives (λ x. x.now) spec.fault_in result (spec.second_dash bytes.now) }
+    ensures { Gives (λ x. x.now) fault_in result (spec.second_dash bytes.now).read }
 {
     match bytes {
-        [b'-', rest @ ..] => comment_behind(rest),
+        [b'-', rest @ ..] => comment_end(rest),
         _ => Err(syntax(bytes)),
     }
 }
 
 /// What stands behind the comment behind whose `<!` the bytes stand. So many are left from the `<` on.
-#[tactic(auto, unfolding(crate::specs::Reading::comment_at))]
+#[tactic(auto, unfolding(crate::specs::Grammar::comment))]
 pub(crate) fn comment_of(left: usize, bytes: &[u8]) -> Result<&[u8], Stop>
-    ensures { Gives (λ x. x.now) spec.fault_in result (spec.comment_at left bytes.now) }
+    ensures { Gives (λ x. x.now) fault_in result (spec.comment left bytes.now).read }
 {
     match bytes {
         [b'-', rest @ ..] => second_dash(rest),
@@ -51,18 +68,9 @@ pub(crate) fn comment_of(left: usize, bytes: &[u8]) -> Result<&[u8], Stop>
     }
 }
 
-pub(crate) fn closed_of(bytes: &[u8]) -> Result<&[u8], Stop>
-    ensures { Gives (λ x. x.now) spec.fault_in result (spec.closed_at bytes.now) }
-{
-    match bytes {
-        [b'>', rest @ ..] => Ok(rest),
-        _ => Err(syntax(bytes)),
-    }
-}
-
-#[tactic(auto, unfolding(crate::specs::Reading::end_name_at))]
+#[tactic(auto, unfolding(crate::specs::Grammar::end_name))]
 fn end_name_of<'a>(name: &[u8], left: usize, bytes: &'a [u8]) -> Result<&'a [u8], Stop>
-    ensures { Gives (λ x. x.now) spec.fault_in result (spec.end_name_at name.now left bytes.now) }
+    ensures { Gives (λ x. x.now) fault_in result (spec.end_name name.now left bytes.now).read }
 {
     let (found, rest) = name_of(bytes);
     if found == name {
@@ -72,9 +80,9 @@ fn end_name_of<'a>(name: &[u8], left: usize, bytes: &'a [u8]) -> Result<&'a [u8]
 }
 
 /// What stands behind the end tag behind whose `</` the bytes stand.
-#[tactic(auto, unfolding(crate::specs::Reading::end_tag_at))]
+#[tactic(auto, unfolding(crate::specs::Grammar::end_tag))]
 pub(crate) fn end_tag_of<'a>(name: &[u8], left: usize, bytes: &'a [u8]) -> Result<&'a [u8], Stop>
-    ensures { Gives (λ x. x.now) spec.fault_in result (spec.end_tag_at name.now left bytes.now) }
+    ensures { Gives (λ x. x.now) fault_in result (spec.end_tag name.now left bytes.now).read }
 {
     match bytes {
         [first, ..] if starts_name(*first) => {

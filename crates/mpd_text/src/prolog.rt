@@ -1,7 +1,8 @@
 // What stands around the root: the byte order mark, the declaration, white space and comments.
 ghost use Rattle.std.specs.Prelude.{◌≡◌, false};
 ghost use Rattle.bridge_io.specs.Answer.{Gives};
-ghost use Rattle.mpd_text.specs.Reading as spec;
+ghost use Rattle.mpd_text.specs.Grammar as spec;
+ghost use Rattle.mpd_text.specs.Reading.{fault_in};
 ghost use Rattle.mpd_text.specs.Runs as runs;
 
 use crate::class::{after_white, is_white};
@@ -21,18 +22,15 @@ fn after_mark(bytes: &[u8]) -> &[u8]
 }
 
 /// What stands behind the first `?>`.
-fn declaration_behind(bytes: &[u8]) -> Result<&[u8], Stop>
-    ensures { Gives (λ x. x.now) spec.fault_in result (spec.declaration_behind false bytes.now) }
+#[tactic(auto, unfolding(crate::specs::Grammar::declaration_end))]
+fn declaration_end(bytes: &[u8]) -> Result<&[u8], Stop>
+    ensures { Gives (λ x. x.now) fault_in result (spec.declaration_end bytes.now).read }
 {
-    let mut behind_question = false;
     let mut rest = bytes;
     for _ in 0..bytes.len() {
         match rest {
-            [b'>', after @ ..] if behind_question => return Ok(after),
-            [first, after @ ..] => {
-                behind_question = *first == b'?';
-                rest = after;
-            }
+            [b'?', b'>', after @ ..] => return Ok(after),
+            [_, after @ ..] => rest = after,
             [] => {}
         }
     }
@@ -40,19 +38,20 @@ fn declaration_behind(bytes: &[u8]) -> Result<&[u8], Stop>
 }
 
 /// What stands behind the declaration behind whose `<?xml` the bytes stand. So many are left from the `<` on.
+#[tactic(auto, unfolding(crate::specs::Grammar::declared))]
 fn declared_of(left: usize, bytes: &[u8]) -> Result<&[u8], Stop>
-    ensures { Gives (λ x. x.now) spec.fault_in result (spec.declared_in left bytes.now) }
+    ensures { Gives (λ x. x.now) fault_in result (spec.declared left bytes.now).read }
 {
     match bytes {
-        [white, rest @ ..] if is_white(*white) => declaration_behind(rest),
+        [white, rest @ ..] if is_white(*white) => declaration_end(rest),
         _ => Err(decided(Wrong::Instruction, left, bytes)),
     }
 }
 
 /// The same behind its `<?`.
-#[tactic(auto, unfolding(crate::specs::Reading::declaration_at))]
+#[tactic(auto, unfolding(crate::specs::Grammar::declaration))]
 fn declaration_of(left: usize, bytes: &[u8]) -> Result<&[u8], Stop>
-    ensures { Gives (λ x. x.now) spec.fault_in result (spec.declaration_at left bytes.now) }
+    ensures { Gives (λ x. x.now) fault_in result (spec.declaration left bytes.now).read }
 {
     let len = common(b"xml", bytes);
     let rest = &bytes[len..];
@@ -64,9 +63,9 @@ fn declaration_of(left: usize, bytes: &[u8]) -> Result<&[u8], Stop>
 }
 
 /// What stands behind the byte order mark and the declaration, where there are any.
-#[tactic(auto, unfolding(crate::specs::Reading::beginning_at))]
+#[tactic(auto, unfolding(crate::specs::Grammar::beginning))]
 pub(crate) fn after_beginning(bytes: &[u8]) -> Result<&[u8], Stop>
-    ensures { Gives (λ x. x.now) spec.fault_in result (spec.beginning_at bytes.now) }
+    ensures { Gives (λ x. x.now) fault_in result (spec.beginning bytes.now).read }
 {
     let marked = after_mark(bytes);
     if marked.starts_with(b"<?") {
@@ -77,9 +76,9 @@ pub(crate) fn after_beginning(bytes: &[u8]) -> Result<&[u8], Stop>
 }
 
 /// What stands behind the comment at the front and the white space behind that, or there is none; whether that is so.
-#[tactic(auto, unfolding(crate::specs::Reading::misc_next))]
-fn next_misc(bytes: &[u8]) -> Result<(bool, &[u8]), Stop>
-    ensures { Gives (λ x. (x.0, x.1.now)) spec.fault_in result (spec.misc_next bytes.now) }
+#[tactic(auto, unfolding(crate::specs::Grammar::next_comment))]
+fn next_comment(bytes: &[u8]) -> Result<(bool, &[u8]), Stop>
+    ensures { Gives (λ x. (tt, x.0, x.1.now)) fault_in result (spec.next_comment tt bytes.now).read }
 {
     if bytes.starts_with(b"<!") {
         let rest = comment_of(bytes.len(), &bytes[2..])?;
@@ -90,45 +89,35 @@ fn next_misc(bytes: &[u8]) -> Result<(bool, &[u8]), Stop>
 }
 
 /// What stands behind white space and comments.
-#[tactic(auto, using(crate::proofs::Loop::misc_end))]
 pub(crate) fn after_misc(bytes: &[u8]) -> Result<&[u8], Stop>
-    ensures { Gives (λ x. x.now) spec.fault_in result (spec.misc_at bytes.now) }
+    ensures { Gives (λ x. x.now) fault_in result (spec.misc bytes.now).read }
 {
     let mut rest = after_white(bytes);
-    for _ in 0..bytes.len() {
-        let (is_ended, after) = next_misc(rest)?;
+    for _ in 0..rest.len() + 1 {
+        let (is_ended, after) = next_comment(rest)?;
         rest = after;
         if is_ended {
             return Ok(rest);
         }
     }
-    Ok(rest)
-}
-
-/// What is wrong with a `<` behind the root that begins no comment, behind which the bytes stand.
-fn markup_behind(left: usize, bytes: &[u8]) -> Stop
-    ensures { result ≡ spec.stopped (spec.markup_behind left bytes.now) }
-{
-    match bytes {
-        [b'?', ..] => decided(Wrong::Instruction, left, bytes),
-        _ => syntax(bytes),
-    }
+    Err(syntax(&[]))
 }
 
 fn expect_nothing(bytes: &[u8]) -> Result<(), Stop>
-    ensures { Gives (λ x. x) spec.fault_in result (spec.nothing_in bytes.now) }
+    ensures { Gives (λ x. x) fault_in result (spec.at_end bytes.now).read }
 {
     match bytes {
         [] => Ok(()),
-        [b'<', more @ ..] => Err(markup_behind(bytes.len(), more)),
+        [b'<', b'?', ..] => Err(decided(Wrong::Instruction, bytes.len(), &bytes[1..])),
+        [b'<', more @ ..] => Err(syntax(more)),
         _ => Err(syntax(bytes)),
     }
 }
 
 /// Nothing may follow white space and comments behind the root.
-#[tactic(auto, unfolding(crate::specs::Reading::end_at))]
+#[tactic(auto, unfolding(crate::specs::Grammar::ending))]
 pub(crate) fn expect_end(bytes: &[u8]) -> Result<(), Stop>
-    ensures { Gives (λ x. x) spec.fault_in result (spec.end_at bytes.now) }
+    ensures { Gives (λ x. x) fault_in result (spec.ending bytes.now).read }
 {
     let rest = after_misc(bytes)?;
     expect_nothing(rest)

@@ -3,11 +3,11 @@ ghost use Rattle.std.specs.Prelude.{◌≡◌, ◌++◌, [], All, IfOk, IfErr, I
 ghost use Rattle.std.specs.String.{string_bytes};
 ghost use Rattle.bridge_io.specs.Answer.{Gives};
 ghost use Rattle.mpd_text.specs.Faults.{HasFault, refusal};
-ghost use Rattle.mpd_text.specs.Grammar.{IsClean, Spells};
+ghost use Rattle.mpd_text.specs.Grammar.{IsClean, Spells, document};
 ghost use Rattle.mpd_text.specs.Keeping.{ShowsRoot, shown_in};
 ghost use Rattle.mpd_text.specs.Meaning.{reading_of};
 ghost use Rattle.mpd_text.specs.Nodes.{root_in, root_of};
-ghost use Rattle.mpd_text.specs.Reading as spec;
+ghost use Rattle.mpd_text.specs.Reading.{fault_in};
 ghost use Rattle.mpd_text.specs.Roots.{HasOneRoot};
 ghost use Rattle.mpd_text.specs.Rows.{IsAttributeKept, IsElementKept};
 ghost use Rattle.mpd_text.specs.Trees.{Element};
@@ -91,13 +91,13 @@ fn read_text(alloc: Global, text: &str) -> Result<Rows, TextFault>
 }
 
 /// Reads a whole text.
-#[tactic(auto, unfolding(crate::specs::Reading::document_at))]
+#[tactic(auto, unfolding(crate::specs::Grammar::document))]
 fn read_document<'a>(kept: &mut Kept<'a>, bytes: &'a [u8]) -> Result<(), Stop>
     requires whole { kept.old.source.now ≡ bytes.now }
     requires first { shown_in kept.old ≡ [] }
     ensures read { MatchResult result
-        (λ _. (root : Element) × (spec.document_at bytes.now ≡ Ok root) × ShowsRoot kept.new root)
-        (λ e. IfSome (spec.fault_in e) (λ f. spec.document_at bytes.now ≡ Err f)) }
+        (λ _. (root : Element) × ((document bytes.now).read ≡ Ok root) × ShowsRoot kept.new root)
+        (λ e. IfSome (fault_in e) (λ f. (document bytes.now).read ≡ Err f)) }
     ensures same { OnOk result (kept.new.source.now ≡ kept.old.source.now) }
 {
     let rest = after_beginning(bytes)?;

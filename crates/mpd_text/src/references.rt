@@ -1,11 +1,13 @@
 // References to characters, XML 1.0 4.1.
 ghost use Rattle.std.specs.Prelude.{◌≡◌, ◌≤◌, length, position};
-ghost use Rattle.std.specs.List.{list_all, prefix_len};
+ghost use Rattle.std.specs.List.{prefix_len};
 ghost use Rattle.bridge_io.specs.Answer.{Gives};
 ghost use Rattle.mpd_text.specs.Characters.{is_digit};
 ghost use Rattle.mpd_text.specs.References.{is_hex_digit, value_of_digit, number_of, is_allowed_character, named_by_number};
 ghost use Rattle.mpd_text.specs.References.{named_by_digits, referred_to};
-ghost use Rattle.mpd_text.specs.Reading as spec;
+ghost use Rattle.mpd_text.specs.References as spec;
+ghost use Rattle.mpd_text.specs.Grammar.{reference};
+ghost use Rattle.mpd_text.specs.Reading.{fault_in, stopped};
 ghost use Rattle.mpd_text.specs.Runs as runs;
 
 use crate::stop::{Stop, Wrong, decided};
@@ -61,34 +63,22 @@ fn allowed(number: u32) -> Option<char>
     char::from_u32(number)
 }
 
-fn are_hex_digits(digits: &[u8]) -> bool
-    ensures { result ≡ list_all is_hex_digit digits.now }
-{
-    digits.iter().all(|b| is_hex_digit(*b))
-}
-
-fn are_digits(digits: &[u8]) -> bool
-    ensures { result ≡ list_all is_digit digits.now }
-{
-    digits.iter().all(|b| is_digit(*b))
-}
-
-#[tactic(auto, using(crate::proofs::Numbers::named))]
+#[tactic(auto, using(crate::proofs::Numbers::named, crate::proofs::Numbers::unnamed))]
 fn named_by_hex(digits: &[u8]) -> Option<char>
     ensures { result ≡ named_by_number 16 is_hex_digit digits.now }
 {
-    if are_hex_digits(digits) {
+    if hex_digits_len(digits) == digits.len() {
         allowed(number_of(16, digits))
     } else {
         None
     }
 }
 
-#[tactic(auto, using(crate::proofs::Numbers::named))]
+#[tactic(auto, using(crate::proofs::Numbers::named, crate::proofs::Numbers::unnamed))]
 fn named_by_decimal(digits: &[u8]) -> Option<char>
     ensures { result ≡ named_by_number 10 is_digit digits.now }
 {
-    if are_digits(digits) {
+    if digits_len(digits) == digits.len() {
         allowed(number_of(10, digits))
     } else {
         None
@@ -187,7 +177,7 @@ fn front_len(bytes: &[u8]) -> usize
 
 #[cold]
 fn entity(left: usize, bytes: &[u8]) -> Stop
-    ensures { result ≡ spec.stopped (spec.entity left bytes.now) }
+    ensures { result ≡ stopped (spec.entity left bytes.now) }
 {
     decided(Wrong::Entity, left, &bytes[front_len(bytes)..])
 }
@@ -210,7 +200,7 @@ fn named_of<'a>(
     name: &[u8],
     after: &'a [u8],
 ) -> Result<(char, &'a [u8]), Stop>
-    ensures { Gives (λ x. (x.0, x.1.now)) spec.fault_in result (spec.character_or (spec.entity left bytes.now) after.now
+    ensures { Gives (λ x. (x.0, x.1.now)) fault_in result (spec.character_or (spec.entity left bytes.now) after.now
         (referred_to name.now)) }
 {
     match referred_to(name) {
@@ -220,9 +210,9 @@ fn named_of<'a>(
 }
 
 /// The character of the reference behind whose `&` the bytes stand. So many are left from the `&` on.
-#[tactic(auto, unfolding(crate::specs::Reading::reference_at))]
+#[tactic(auto, unfolding(crate::specs::Grammar::reference, crate::specs::References::reference_at))]
 pub(crate) fn reference_of(left: usize, bytes: &[u8]) -> Result<(char, &[u8]), Stop>
-    ensures { Gives (λ x. (x.0, x.1.now)) spec.fault_in result (spec.reference_at left bytes.now) }
+    ensures { Gives (λ x. (x.0, x.1.now)) fault_in result (reference left bytes.now).read }
 {
     let len = reference_end(bytes).unwrap_or(bytes.len());
     let (name, rest) = bytes.split_at(len);

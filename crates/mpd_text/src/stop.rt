@@ -1,12 +1,13 @@
 // Why reading stops.
 ghost use Rattle.std.specs.Prelude.{◌≡◌, length};
-ghost use Rattle.mpd_text.specs.Reading as spec;
+ghost use Rattle.mpd_text.specs.Positions as spec;
+ghost use Rattle.mpd_text.specs.Reading.{stopped};
 ghost use Rattle.mpd_text.specs.declared.stop.Stop.TheVariants.{Memory};
 
 use std::alloc::{AllocError, AllocFailed};
 
 /// What is wrong with a text.
-#[derive(Clone, Copy, Debug)]
+#[derive(Clone, Copy)]
 pub(crate) enum Wrong {
     /// A byte that may not stand there.
     Syntax,
@@ -21,7 +22,7 @@ pub(crate) enum Wrong {
 
 /// What is wrong, with the bytes that are left from the place on where it is told, and from the byte on that decides it.
 /// Where none is left there the text is cut.
-#[derive(Clone, Copy, Debug)]
+#[derive(Clone, Copy)]
 pub(crate) struct Fault {
     pub(crate) wrong: Wrong,
     pub(crate) told: usize,
@@ -35,7 +36,7 @@ const CUT: Fault = Fault {
     decided: 0,
 };
 
-#[derive(Debug, Drop)]
+#[derive(Drop)]
 pub(crate) enum Stop {
     Memory,
     Fault(Fault),
@@ -44,7 +45,7 @@ pub(crate) enum Stop {
 /// The first byte may not stand there.
 #[cold]
 pub(crate) fn syntax(bytes: &[u8]) -> Stop
-    ensures { result ≡ spec.stopped (spec.syntax bytes.now) }
+    ensures { result ≡ stopped (spec.syntax bytes.now) }
 {
     decided(Wrong::Syntax, bytes.len(), bytes)
 }
@@ -52,7 +53,7 @@ pub(crate) fn syntax(bytes: &[u8]) -> Stop
 /// The first byte decides a fault that is told where so many bytes are left. Where there is none the text is cut.
 #[cold]
 pub(crate) fn decided(wrong: Wrong, told: usize, bytes: &[u8]) -> Stop
-    ensures { result ≡ spec.stopped (spec.fault wrong told bytes.now) }
+    ensures { result ≡ stopped (spec.fault wrong told bytes.now) }
 {
     if bytes.is_empty() {
         return Stop::Fault(CUT);

@@ -3,7 +3,8 @@ ghost use Rattle.std.specs.Prelude.{◌≡◌, IfOk, IsTrue};
 ghost use Rattle.std.specs.String.{string_bytes};
 ghost use Rattle.bridge_io.specs.Answer.{Gives};
 ghost use Rattle.byte_scan.specs.ByteSet.{all_ascii};
-ghost use Rattle.mpd_text.specs.Reading as spec;
+ghost use Rattle.mpd_text.specs.Grammar as spec;
+ghost use Rattle.mpd_text.specs.Reading.{fault_in};
 ghost use Rattle.mpd_text.specs.Runs as runs;
 ghost use Rattle.mpd_text.specs.Rests.{IsAt, IsBehind};
 
@@ -37,10 +38,10 @@ fn after_line_feed(bytes: &[u8]) -> &[u8]
 }
 
 /// Adds what the byte at the front stands for, which needed a look; whether it ends the text.
-#[tactic(auto, unfolding(crate::specs::Reading::marked_at))]
+#[tactic(auto, unfolding(crate::specs::Grammar::marked))]
 fn add_marked<'a>(stop: u8, bytes: &'a [u8], read: &mut String) -> Result<(bool, &'a [u8]), Stop>
-    ensures { Gives (λ x. (string_bytes read.new, x.0, x.1.now)) spec.fault_in result
-        (spec.marked_at stop (string_bytes read.old) bytes.now) }
+    ensures { Gives (λ x. (string_bytes read.new, x.0, x.1.now)) fault_in result
+        (spec.marked stop (string_bytes read.old) bytes.now).read }
 {
     match bytes {
         [end, ..] if *end == stop => Ok((true, bytes)),
@@ -72,11 +73,11 @@ pub(crate) fn add_text<'a>(
     requires rest { IsBehind source.now bytes.now }
     requires ascii { IsTrue (all_ascii marks.now) }
     ensures rest { IfOk result (λ rest. IsAt stop source.now rest.now) }
-    ensures read { Gives (λ rest. (string_bytes read.new, rest.now)) spec.fault_in result
-        (spec.text_behind (string_bytes read.old) marks.now stop bytes.now) }
+    ensures read { Gives (λ rest. (string_bytes read.new, rest.now)) fault_in result
+        (spec.text (string_bytes read.old) marks.now stop bytes.now).read }
 {
     let mut rest = bytes;
-    for _ in 0..bytes.len() {
+    for _ in 0..bytes.len() + 1 {
         let (plain, marked) = plain_of(marks, rest);
         let at = source.len() - rest.len();
         read.push_str(&source[at..at + plain.len()])?;

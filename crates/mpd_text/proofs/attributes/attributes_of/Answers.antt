@@ -1,11 +1,11 @@
 use Rattle.mpd_text.proofs.attributes.attributes_of.Goals as goal
 use Rattle.std.proofs.{Common.{sym, ◌∙◌}, lemmas.Result.err_from_is_err_and}
-use Rattle.mpd_text.proofs.Loop.{attributes_run, loop_cut, loop_failed, loop_stepped}
+use Rattle.mpd_text.proofs.Loop.{loop_cut, loop_failed, loop_stepped}
 
 pub returns-in_err-is_ended-clause-read : goal.returns-in_err-is_ended-clause-read
 returns-in_err-is_ended-clause-read c =
     let p = err_from_is_err_and c.from_residual.result c.from_residual.ensures.1 in
-    rw (p.1, p.2) (loop_failed (attributes_run c.args.kept.now.source.now) c.loop.invariant.so_far c.loop-test.true
+    rw (p.1, p.2) (loop_failed _ _ _ c.loop.invariant.so_far c.loop-test.true
     c.in_err-is_ended.field-0.0
     (simp c.loop.invariant.stays.same at c.in_err-is_ended.ensures.read))
 
@@ -13,7 +13,7 @@ pub returns-then-is_ended-clause-read : goal.returns-then-is_ended-clause-read
 returns-then-is_ended-clause-read c =
     let step = simp (c.loop.invariant.stays.same, c.if-is_ended.true) at c.in_ok-is_ended.ensures.read in
     rw (← c.loop.invariant.from)
-    (sym (loop_stepped (attributes_run c.args.kept.now.source.now) c.loop.invariant.so_far c.loop-test.true step))
+    (sym (loop_stepped _ _ _ c.loop.invariant.so_far c.loop-test.true step))
 
 pub loop-preserved : goal.loop-preserved
 loop-preserved c =
@@ -25,9 +25,9 @@ loop-preserved c =
       from = c.next_of.ensures.from ∙ i.from;
       stays = record { same = n.stays.same ∙ i.stays.same; shown_are = n.stays.shown_are ∙ i.stays.shown_are };
       left = simp i.stays.same at n.rest;
-      so_far = rw c.next_of.ensures.from (loop_stepped (attributes_run c.args.kept.now.source.now) i.so_far c.loop-test.true step);
+      so_far = rw c.next_of.ensures.from (loop_stepped _ _ _ i.so_far c.loop-test.true step);
     }
 
 pub returns-clause-read : goal.returns-clause-read
 returns-clause-read c =
-    rw c.syntax.ensures (loop_cut (attributes_run c.args.kept.now.source.now) c.loop.invariant.so_far c.loop-test.false)
+    rw c.syntax.ensures (loop_cut _ _ _ c.loop.invariant.so_far c.loop-test.false)

@@ -1,21 +1,62 @@
 use Rattle.mpd_text.proofs.content.+content.Goals as goal
-use Rattle.std.proofs.Common.{◌≡◌, ◌-◌, ◌∷◌, ◌++◌, [], length, refl, sym, ap, ◌∙◌, subst, arith, append_assoc, IfSome, Ok, Err}
+use Rattle.std.proofs.Common.{◌≡◌, suc, ◌+◌, ◌-◌, ◌∷◌, ◌++◌, [], length, refl, sym, ap, ◌∙◌, subst, arith, append_assoc, IfSome, Ok, Err}
 use Rattle.std.proofs.{lemmas.List.{append-nil, length-append}, lemmas.Result.err_from_is_err_and}
 use Rattle.std.specs.String.{string_bytes}
-use Rattle.mpd_text.specs.{Forests.{Shown, flat}, Keeping.{inner_of, shown_in}, Reading.{InsideReading, fault_in}, Rests.IsBehind}
-use Rattle.mpd_text.specs.Trees.{nothing}
-use Rattle.mpd_text.proofs.ContentLoop.{child_added, content_is, empty_added, filled, inside_read, piece_failed, piece_read}
-use Rattle.mpd_text.proofs.{ContentLoop.text_failed, Loop.{content_run, failed, loop_cut, loop_failed, loop_stepped}}
+use Rattle.mpd_text.specs.{Forests.{Shown, flat}, Keeping.shown_in, Grammar.inside, Reading.fault_in, Rests.{IsBehind, IsEnd}}
+use Rattle.mpd_text.specs.{Marked.marked_in_content, Runs.plain_at, Trees.nothing}
+use Rattle.mpd_text.proofs.{KeptRows.{cut_kept, cut_shown}, Rests.{Leaves, end_tag_rest, ends, ends_drop, ends_tail}, TextLoop.marked_ascii}
+use Rattle.mpd_text.proofs.{TextLoop.plain_parts, ContentLoop.{InsideReading, child_added, empty_added, filled, inside_read, leaf_is}}
+use Rattle.mpd_text.proofs.{ContentLoop.{piece_failed, piece_read, text_failed}, Loop.{failed, loop_cut, loop_failed, loop_stepped}}
+
+pub content_of-returns-in_err-rest-clause-read : goal.content_of-returns-in_err-rest-clause-read
+content_of-returns-in_err-rest-clause-read t c =
+    let k = c.args.kept.now in
+    let p = err_from_is_err_and c.from_residual-in_err-rest.result c.from_residual-in_err-rest.ensures.1 in
+    let plain = rw k.marked.content_is at c.plain_of.ensures.rest in
+    rw (p.1, p.2) (failed c.in_err-rest.field-0.0 _ _ _ c.in_err-rest.ensures
+    (leaf_is c.args.room k.source.now c.args.name.now c.args.bytes.now _ _ plain c.in-Some.ensures))
+
+pub content_of-returns-in-Some-clause-read : goal.content_of-returns-in-Some-clause-read
+content_of-returns-in-Some-clause-read t c =
+    let k = c.args.kept.now in
+    let bytes = c.args.bytes.now in
+    let plain = rw k.marked.content_is at c.plain_of.ensures.rest in
+    let span = rw plain at c.in_ok-span.ensures.span in (
+      record { children = nothing; text = (plain_at marked_in_content bytes).0 },
+      sym (leaf_is c.args.room k.source.now c.args.name.now bytes _ _ plain c.in-Some.ensures) ∙ rw c.in_ok-rest.ensures refl,
+      record { same = refl; shown_are = sym (append-nil (shown_in k)) },
+      cut_shown k.source.now (string_bytes k.read) bytes (plain_at marked_in_content bytes).0 (plain_at marked_in_content bytes).1 _ _
+          (ends k.source.now bytes c.requires) (plain_parts marked_in_content bytes) span.0 span.1,
+    )
+
+pub content_of-returns-in-Some-clause-kept : goal.content_of-returns-in-Some-clause-kept
+content_of-returns-in-Some-clause-kept t c =
+    let k = c.args.kept.now in
+    let bytes = c.args.bytes.now in
+    let plain = rw k.marked.content_is at c.plain_of.ensures.rest in
+    let span = rw plain at c.in_ok-span.ensures.span in
+    cut_kept k bytes (plain_at marked_in_content bytes).0 (plain_at marked_in_content bytes).1 c.in_ok-span.span c.requires
+    (ends_drop _ k.source.now bytes (ends k.source.now bytes c.requires)) (marked_ascii marked_in_content bytes refl)
+    (plain_parts marked_in_content bytes) span.0 span.1
+
+pub content_of-returns-in-Some-clause-rest : goal.content_of-returns-in-Some-clause-rest
+content_of-returns-in-Some-clause-rest t c =
+    let s = c.args.kept.now.source.now in
+    let bytes = c.args.bytes.now in
+    let e = subst (IsEnd s) (sym c.plain_of.ensures.rest ∙ c.in-Some.ensures) (ends_drop _ s bytes (ends s bytes c.requires)) in
+    subst (Leaves (IsBehind s)) c.in_ok-rest.ensures (end_tag_rest c.args.name.now _ s _ (ends_tail s 47 _ (ends_tail s 60 _ e)))
 
 pub content_of-loop-init : goal.content_of-loop-init
+unfolding inside
 content_of-loop-init t c =
-    let len : length c.args.bytes.now - 0 ≡ length c.args.bytes.now = omega arith in
+    let len : length c.args.bytes.now + 1 - 0 ≡ length c.args.bytes.now + 1 = omega arith in
     record {
       children = nothing;
       same = refl;
       shown_are = sym (append-nil (shown_in c.args.kept.now));
       left = c.requires;
-      so_far = rw (c.new-text.ensures.bytes, len) (content_is c.args.room c.args.kept.now.source.now c.args.name.now c.args.bytes.now);
+      so_far = rw (c.new-text.ensures.bytes, len)
+          (refl {a = (inside (suc c.args.room) c.args.kept.now.source.now c.args.name.now c.args.bytes.now).read});
     }
 
 pub content_of-next_content-requires : goal.content_of-next_content-requires
@@ -27,9 +68,9 @@ content_of-returns-in_err-is_ended-clause-read t c =
     let i = c.loop.invariant in
     let s = c.args.kept.now.source.now in
     let room = c.args.room in
-    let p = err_from_is_err_and c.from_residual.result c.from_residual.ensures.1 in
+    let p = err_from_is_err_and c.from_residual-in_err-is_ended.result c.from_residual-in_err-is_ended.ensures.1 in
     let h = c.in_err-is_ended.ensures.read (shown_in c.args.kept.now) i.children i.shown_are in
-    rw (p.1, p.2) (loop_failed (content_run (inner_of room s) s room c.args.name.now) i.so_far c.loop-test.true
+    rw (p.1, p.2) (loop_failed _ _ _ i.so_far c.loop-test.true
     c.in_err-is_ended.field-0.0 (simp i.same at h))
 
 pub content_of-returns-then-is_ended-clause-read : goal.content_of-returns-then-is_ended-clause-read
@@ -39,11 +80,11 @@ content_of-returns-then-is_ended-clause-read t c =
     let room = c.args.room in
     let x = c.in_ok-is_ended.ensures.read (shown_in c.args.kept.now) i.children i.shown_are in
     let step = simp (i.same, c.if-is_ended.true) at x.1 in
-    let adds = c.in_ok-span.ensures.adds in (
+    let adds = c.in_ok-span-2.ensures.adds in (
       record { children = x.0; text = string_bytes c.next_content.new.text },
-      sym (loop_stepped (content_run (inner_of room s) s room c.args.name.now) i.so_far c.loop-test.true step),
+      sym (loop_stepped _ _ _ i.so_far c.loop-test.true step),
       record { same = adds.same ∙ c.in_ok-is_ended.ensures.same ∙ i.same; shown_are = adds.shown_are ∙ x.2 },
-      c.in_ok-span.ensures.text ∙ c.as_str.ensures.value,
+      c.in_ok-span-2.ensures.text ∙ c.as_str.ensures.value,
     )
 
 pub content_of-returns-then-is_ended-clause-rest : goal.content_of-returns-then-is_ended-clause-rest
@@ -62,14 +103,14 @@ content_of-loop-preserved t c =
       same = c.in_ok-is_ended.ensures.same ∙ i.same;
       shown_are = x.2;
       left = subst (λ w. IsBehind w c.in_ok-is_ended.after.now) i.same c.in_ok-is_ended.ensures.rest;
-      so_far = loop_stepped (content_run (inner_of room s) s room c.args.name.now) i.so_far c.loop-test.true step;
+      so_far = loop_stepped _ _ _ i.so_far c.loop-test.true step;
     }
 
 pub content_of-returns-clause-read : goal.content_of-returns-clause-read
 content_of-returns-clause-read t c =
     let s = c.args.kept.now.source.now in
     let room = c.args.room in
-    rw c.syntax.ensures (loop_cut (content_run (inner_of room s) s room c.args.name.now) c.loop.invariant.so_far c.loop-test.false)
+    rw c.syntax.ensures (loop_cut _ _ _ c.loop.invariant.so_far c.loop-test.false)
 
 pub inside_of-content_of-requires : goal.inside_of-content_of-requires
 inside_of-content_of-requires t c = (omega arith, c.requires.rest)

@@ -1,7 +1,6 @@
 use Rattle.mpd_text.proofs.text.add_text.Goals as goal
 use Rattle.std.proofs.{Common.sym, lemmas.Result.err_from_is_err_and}
-use Rattle.mpd_text.proofs.{Loop.{loop_cut, loop_failed, loop_stepped, parts_run}, Rests.{cut_behind, ends}, TextLoop.part_cut}
-use Rattle.mpd_text.proofs.TextLoop.{part_rest}
+use Rattle.mpd_text.proofs.{Loop.{loop_cut, loop_failed, loop_stepped}, Rests.{cut_behind, ends}, TextLoop.{part_cut, part_rest}}
 
 pub range-requires-clause-start_boundary : goal.range-requires-clause-start_boundary
 range-requires-clause-start_boundary c = λ _. cut_behind c.args.source.now c.loop.rest.now c.utf8.source c.loop.invariant.left
@@ -15,7 +14,7 @@ returns-in_err-is_ended-clause-read c =
     let p = err_from_is_err_and c.from_residual-in_err-is_ended.result c.from_residual-in_err-is_ended.ensures.1 in
     let cut = part_cut c.args.source.now c.loop.rest.now c.plain_of.result.0.now c.args.marks.now
     (ends c.args.source.now c.loop.rest.now c.loop.invariant.left) c.requires.ascii c.plain_of.ensures.plain in
-    rw (p.1, p.2) (loop_failed (parts_run c.args.marks.now c.args.stop) c.loop.invariant.so_far c.loop-test.true c.in_err-is_ended.field-0.0
+    rw (p.1, p.2) (loop_failed _ _ _ c.loop.invariant.so_far c.loop-test.true c.in_err-is_ended.field-0.0
     (rw (c.in_ok-push_str.ensures.bytes, c.range.ensures.value, cut.1, c.plain_of.ensures.plain, c.plain_of.ensures.rest) at
     c.in_err-is_ended.ensures))
 
@@ -33,7 +32,7 @@ returns-then-is_ended c =
       c.if-is_ended.true,
     ) at c.in_ok-is_ended.ensures in
     record {
-      read = sym (loop_stepped (parts_run c.args.marks.now c.args.stop) c.loop.invariant.so_far c.loop-test.true step);
+      read = sym (loop_stepped _ _ _ c.loop.invariant.so_far c.loop-test.true step);
       rest = part_rest c.args.marks.now c.args.stop _ c.args.source.now c.loop.rest.now _ e c.requires.ascii step;
     }
 
@@ -51,10 +50,10 @@ loop-preserved c =
       c.if-is_ended.false,
     ) at c.in_ok-is_ended.ensures in
     record {
-      so_far = loop_stepped (parts_run c.args.marks.now c.args.stop) c.loop.invariant.so_far c.loop-test.true step;
+      so_far = loop_stepped _ _ _ c.loop.invariant.so_far c.loop-test.true step;
       left = part_rest c.args.marks.now c.args.stop _ c.args.source.now c.loop.rest.now _ e c.requires.ascii step;
     }
 
 pub returns-clause-read : goal.returns-clause-read
 returns-clause-read c =
-    rw c.syntax.ensures (loop_cut (parts_run c.args.marks.now c.args.stop) c.loop.invariant.so_far c.loop-test.false)
+    rw c.syntax.ensures (loop_cut _ _ _ c.loop.invariant.so_far c.loop-test.false)

@@ -1,11 +1,11 @@
 use Rattle.mpd_text.proofs.text.add_text.Given as goal
 use Rattle.std.proofs.Common.{◌≡◌, ◌-◌}
 use Rattle.std.specs.String.{string_bytes}
-use Rattle.mpd_text.specs.{Reading.{parts_behind, text_behind}, Rests.IsBehind}
+use Rattle.mpd_text.specs.{Grammar.{part, text}, Productions.times, Rests.IsBehind}
 
 abbrev pub invariant-loop : goal.invariant-loop
 invariant-loop l = record {
-  so_far : parts_behind (l.end - l.counter) l.marks l.stop (string_bytes l.read) l.rest
-      ≡ text_behind (string_bytes l.fn.read) l.marks l.stop l.bytes;
+  so_far : (times (part l.marks l.stop) (l.end - l.counter) (string_bytes l.read) l.rest).read
+      ≡ (text (string_bytes l.fn.read) l.marks l.stop l.bytes).read;
   left : IsBehind l.source l.rest;
 }

@@ -1,7 +1,7 @@
 use Rattle.mpd_text.proofs.kept.Kept.value_of.Goals as goal
 use Rattle.std.proofs.Common.{◌≡◌, ◌-◌, length, take, drop, Ok, sym, subst}
 use Rattle.std.specs.String.{string_bytes}
-use Rattle.mpd_text.specs.{Marked.marked_in_value, Runs.plain_at, Reading.value_at, Rests.IsEnd}
+use Rattle.mpd_text.specs.{Marked.marked_in_value, Runs.plain_at, Grammar.value, Rests.IsEnd}
 use Rattle.mpd_text.proofs.{KeptRows.{cut_kept, cut_shown}, Rests.{ends, ends_drop}, TextLoop.{marked_ascii, plain_parts}}
 use Rattle.mpd_text.proofs.Values.{first_behind, value_first}
 
@@ -17,7 +17,7 @@ returns-in_ok-span-in-len1-up-clause-read c =
     let shown = cut_shown k.source.now (string_bytes k.read) bytes (plain_at (marked_in_value q) bytes).0 (plain_at (marked_in_value q)
     bytes).1
     _ _ (ends k.source.now bytes c.requires.rest) (plain_parts (marked_in_value q) bytes) span.0 span.1 in
-    subst (λ l. value_at q bytes ≡ Ok (l, take (length rest - 1) (drop 1 rest))) (sym shown)
+    subst (λ l. (value q bytes).read ≡ Ok (l, take (length rest - 1) (drop 1 rest))) (sym shown)
     (value_first q bytes rest is c.in-len1-up.len_at_least c.if-first-quote.true)
 
 pub returns-in_ok-span-in-len1-up-clause-kept : goal.returns-in_ok-span-in-len1-up-clause-kept
