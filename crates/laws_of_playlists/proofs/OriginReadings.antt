@@ -12,7 +12,7 @@ use Rattle.mpd_text.specs.Runs.{up_to, is_black, ends_name, name_at, after_white
 use Rattle.mpd_text.specs.{Marked.{marked_in_content, marked_in_value}, Trees.{names_of, Attribute, Head, Forest, nothing, element}}
 use Rattle.mpd_text.specs.{Positions.{Kind, Position}, Pieces.{Piece, tag_piece, Inside, nothing_inside, followed_by, with_child}}
 use Rattle.mpd_text.specs.{Productions.{Production, just, refused, first, choose, ◌>>◌, as_read, times, many}, Grammar.{greater_than, word}}
-use Rattle.mpd_text.specs.Grammar.{behind_dashes, comment_end, second_dash, comment, declaration_end, declared, declaration, reference}
+use Rattle.mpd_text.specs.Grammar.{behind_dashes, behind_two, second_dash, comment, declared, declaration, reference}
 use Rattle.mpd_text.specs.Grammar.{line_end, marked, part, closed, value, new_name, equals, quote_mark, attribute, behind_white, misc}
 use Rattle.mpd_text.specs.Grammar.{next_attribute, tag_end, tag, end_name, end_tag, piece, added, next_inside, inside, root, document}
 use Rattle.mpd_text.specs.Grammar.{behind_root_start, beginning, next_comment, Spells}
@@ -125,27 +125,21 @@ dashes_hold : (bytes : List ℕ) → IsOfBytes bytes → Holds (behind_dashes by
 unfolding behind_dashes
 dashes_hold bytes all = first_holds _ _ bytes all (λ b bs of _ _. chosen (b == 45) (greater_holds bs of) (greater_holds bytes all))
 
-comment_end_holds : (bytes : List ℕ) → IsOfBytes bytes → Holds (comment_end bytes) IsOfBytes
-unfolding comment_end
-comment_end_holds [] all = nothing_holds
-comment_end_holds (b ∷ bs) all = also (chosen (b == 45 && begins 45 bs) (also (dashes_hold _ (dropped 2 (b ∷ bs) all)))
-    (comment_end_holds bs (tail b bs all)))
+two_hold : (one other : ℕ) (bytes : List ℕ) → IsOfBytes bytes → Holds (behind_two one other bytes) IsOfBytes
+unfolding behind_two
+two_hold one other [] all = nothing_holds
+two_hold one other (b ∷ bs) all = also (chosen (b == one && begins other bs) (also (just_holds (dropped 2 (b ∷ bs) all)))
+    (two_hold one other bs (tail b bs all)))
 
 comment_holds : (left : ℕ) (bytes : List ℕ) → IsOfBytes bytes → Holds (comment left bytes) IsOfBytes
 unfolding comment second_dash
 comment_holds left bytes all = first_holds _ _ bytes all (λ b bs of _ no. chosen (b == 45)
-    (first_holds _ _ bs of (λ c cs inner _ none. chosen (c == 45) (comment_end_holds cs inner) none)) no)
-
-declaration_end_holds : (bytes : List ℕ) → IsOfBytes bytes → Holds (declaration_end bytes) IsOfBytes
-unfolding declaration_end
-declaration_end_holds [] all = nothing_holds
-declaration_end_holds (b ∷ bs) all = also (chosen (b == 63 && begins 62 bs) (also (just_holds (dropped 2 (b ∷ bs) all)))
-    (declaration_end_holds bs (tail b bs all)))
+    (first_holds _ _ bs of (λ c cs inner _ none. chosen (c == 45) (next_holds (two_hold 45 45 cs inner) dashes_hold) none)) no)
 
 declaration_holds : (left : ℕ) (bytes : List ℕ) → IsOfBytes bytes → Holds (declaration left bytes) IsOfBytes
 unfolding declaration declared
 declaration_holds left bytes all = also (chosen (common word bytes == 3) (first_holds _ _ (drop 3 bytes) (dropped 3 bytes all)
-    (λ b bs of _ no. chosen (is_white b) (declaration_end_holds bs of) no)) nothing_holds)
+    (λ b bs of _ no. chosen (is_white b) (two_hold 63 62 bs of) no)) nothing_holds)
 
 beginning_holds : (bytes : List ℕ) → IsOfBytes bytes → Holds (beginning bytes) IsOfBytes
 unfolding beginning

@@ -14,7 +14,7 @@ use Rattle.mpd_text.specs.{Runs.{is_black, ends_name, up_to}, Trees.{names_of, A
 use Rattle.mpd_text.specs.Pieces.{Piece, ended, empty, begun, tag_piece, Inside, nothing_inside, followed_by, with_child}
 use Rattle.mpd_text.specs.{Productions.{as_read, many, times, ◌>>◌}, Grammar.{new_name, equals, quote_mark, attribute, next_attribute}}
 use Rattle.mpd_text.specs.Grammar.{greater_than, tag_end, end_name, end_tag, piece, added, text, marked, next_inside, inside, next_comment}
-use Rattle.mpd_text.specs.Grammar.{misc, ending, root, behind_root_start, beginning, declared, declaration_end, IsDocument}
+use Rattle.mpd_text.specs.Grammar.{misc, ending, root, behind_root_start, beginning, declared, behind_two, IsDocument}
 use Rattle.mpd_markup.specs.Markup.{Tag, Markup, nothing, element, attribute_text, opening, enclosed, printed, declaration, document}
 use Rattle.mpd_markup.specs.Placed.{AllDiffer, past, first_place, attributes_at, line_feeds, text_round, head_at, placed, root_place}
 use Rattle.mpd_markup.specs.Placed.{root_read, levels, IsLegalAttribute, AllLegal, IsLegalTag, AreLegal, IsLegal}
@@ -267,7 +267,7 @@ contains (element tag children others) legal whole here room name before rest is
 -- ---- the whole
 
 pub document_is : (tag : Tag) (children : Markup) → IsLegal tag children → IsDocument (root_read tag children) (document tag children)
-unfolding is_white grammar.document beginning grammar.declaration declared declaration_end root ending misc times next_comment
+unfolding is_white grammar.document beginning grammar.declaration declared behind_two root ending misc times next_comment
 document_is tag children legal =
     let whole = document tag children in
     let end : List ℕ = 10 ∷ [] in

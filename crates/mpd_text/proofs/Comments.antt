@@ -2,9 +2,9 @@
 use Rattle.std.proofs.{Common.{ℕ, suc, ◌≤◌, false, inl, List, [], ◌∷◌, length, drop, refl, ap, arith, length-drop}, lemmas.Bool.eqb-true}
 use Rattle.std.proofs.lemmas.Bool.Decides.{nat_tests}
 use Rattle.std.specs.Prelude.{◌&&◌, ◌==◌}
-use Rattle.mpd_text.specs.{Characters.is_white, Runs.common, Positions.Position, Grammar.{greater_than, behind_dashes, comment_end}}
-use Rattle.mpd_text.specs.Grammar.{second_dash, comment, declaration_end, declared, word, declaration}
-use Rattle.mpd_text.proofs.Produced.{IsRead, rest_of, done, no, refuses, also, open_too, by_test, at_test, weaker, beyond}
+use Rattle.mpd_text.specs.{Characters.is_white, Runs.common, Positions.Position, Grammar.{greater_than, behind_dashes, behind_two}}
+use Rattle.mpd_text.specs.Grammar.{second_dash, comment, declared, word, declaration}
+use Rattle.mpd_text.proofs.Produced.{IsRead, rest_of, done, no, refuses, also, open_too, by_test, at_test, next_read, weaker, beyond}
 
 pub greater_read : (bytes : List ℕ) → IsRead rest_of (greater_than bytes) (suc (length bytes))
 unfolding greater_than
@@ -18,16 +18,16 @@ unfolding behind_dashes greater_than
 dashes_read [] = no
 dashes_read (b ∷ bs) = at_test (b == 45) (λ t. also (greater_read bs)) (λ f. open_too (inl refl) (greater_read (b ∷ bs)))
 
-comment_end_read : (bytes : List ℕ) → IsRead rest_of (comment_end bytes) (suc (length bytes))
-unfolding comment_end
-comment_end_read [] = no
-comment_end_read (b ∷ []) = also (by_test (b == 45 && false) (λ t. absurd (grind arith)) (λ f. no))
-comment_end_read (b ∷ c ∷ cs) = also (by_test (b == 45 && c == 45) (λ t. also (dashes_read cs)) (λ f. comment_end_read (c ∷ cs)))
+two_read : (one other : ℕ) (bytes : List ℕ) → IsRead rest_of (behind_two one other bytes) (suc (length bytes))
+unfolding behind_two
+two_read one other [] = no
+two_read one other (b ∷ []) = also (by_test (b == one && false) (λ t. absurd (grind arith)) (λ f. no))
+two_read one other (b ∷ c ∷ cs) = also (by_test (b == one && c == other) (λ t. also done) (λ f. two_read one other (c ∷ cs)))
 
 second_dash_read : (bytes : List ℕ) → IsRead rest_of (second_dash bytes) (suc (length bytes))
 unfolding second_dash
 second_dash_read [] = no
-second_dash_read (b ∷ bs) = at_test (b == 45) (λ t. also (comment_end_read bs)) (λ f. refuses)
+second_dash_read (b ∷ bs) = at_test (b == 45) (λ t. also (next_read (two_read 45 45 bs) (λ rest is. dashes_read rest))) (λ f. refuses)
 
 pub comment_read : (left : ℕ) (bytes : List ℕ) → IsRead rest_of (comment left bytes) (suc (length bytes))
 unfolding comment
@@ -36,16 +36,10 @@ comment_read left (b ∷ bs) = at_test (b == 45) (λ t. also (second_dash_read b
 
 -- ---- declarations
 
-declaration_end_read : (bytes : List ℕ) → IsRead rest_of (declaration_end bytes) (suc (length bytes))
-unfolding declaration_end
-declaration_end_read [] = no
-declaration_end_read (b ∷ []) = also (by_test (b == 63 && false) (λ t. absurd (grind arith)) (λ f. no))
-declaration_end_read (b ∷ c ∷ cs) = also (by_test (b == 63 && c == 62) (λ t. also done) (λ f. declaration_end_read (c ∷ cs)))
-
 declared_read : (left : ℕ) (bytes : List ℕ) → IsRead rest_of (declared left bytes) (suc (length bytes))
 unfolding declared
 declared_read left [] = no
-declared_read left (b ∷ bs) = at_test (is_white b) (λ t. also (declaration_end_read bs)) (λ f. refuses)
+declared_read left (b ∷ bs) = at_test (is_white b) (λ t. also (two_read 63 62 bs)) (λ f. refuses)
 
 common_less : (word bytes : List ℕ) → common word bytes ≤ length bytes
 common_less [] bytes = omega arith

@@ -1,6 +1,6 @@
 -- How texts are escaped, character by character.
-use Rattle.std.proofs.Common.{◌≡◌, ◌≢◌, ℕ, suc, length, ◌<◌, ◌≤◌, false, ◌==◌, List, [], ◌∷◌, ◌++◌, codes, refl, sym, ◌∙◌, ap, arith, inl}
-use Rattle.std.proofs.{Common.inr, lemmas.List.{append_assoc, append-nil}, lemmas.Bool.Decides.nat_tests}
+use Rattle.std.proofs.Common.{◌≡◌, ◌≢◌, ℕ, length, ◌≤◌, false, ◌==◌, List, [], ◌∷◌, ◌++◌, codes, refl, sym, ◌∙◌, ap, arith}
+use Rattle.std.proofs.{lemmas.List.append_assoc, lemmas.Bool.Decides.nat_tests}
 use lib.Utf8.{encode}
 use Rattle.mpd_text.specs.Escapes.{escape_of, escape_all}
 
@@ -32,4 +32,4 @@ pub character_stays : (c : ℕ) → c ≢ 38 → c ≢ 60 → c ≢ 62 → c ≢
 unfolding encode escape_all
 character_stays c amp less greater quote = grind (arith, nat_tests, high_stays)
 
-pub ruleset escapes = (escape-append, nothing_left, escaped_four, character_stays, append_assoc, append-nil)
+pub ruleset escapes = (escaped_four, character_stays)

@@ -1,17 +1,18 @@
 -- Rows that are kept stay so, and show the same, where more is kept.
-use Rattle.std.proofs.Common.{◌≡◌, ℕ, ◌+◌, ◌-◌, ◌≤◌, List, [], ◌∷◌, ◌++◌, length, take, drop, map, set, refl, sym, ap, ◌∙◌, subst, arith}
-use Rattle.std.proofs.{Common.{append_assoc, if◌then◌else◌, is_ok, get_or, OnOk, OnErr, Result, Ok, Err, Some}, Math.Seq.set-append_seam}
-use Rattle.std.proofs.{Math.Seq.get_or-append_seam, lemmas.List.{append-nil, drop-append-le, length-append, length-map, drop_at, take_at}}
-use Rattle.std.proofs.lemmas.List.{take_all, take-append-drop, length-drop, map-append, map-set, drop-map, get_or-map}
+use Rattle.std.proofs.Common.{◌≡◌, ℕ, ◌+◌, ◌-◌, ◌<◌, ◌≤◌, List, [], ◌∷◌, ◌++◌, length, take, drop, map, set, refl, sym, ap, ◌∙◌}
+use Rattle.std.proofs.{Common.{subst, arith, append_assoc, if◌then◌else◌, is_ok, get_or, OnOk, OnErr, Result, Ok, Err, Some}}
+use Rattle.std.proofs.{Math.Seq.{get_or-append_seam, set-append_seam}, lemmas.List.{append-nil, drop-append-le, length-append, length-map}}
+use Rattle.std.proofs.lemmas.List.{drop_at, take_at, take_all, take-append-drop, length-drop, map-append, map-set, drop-map, get_or-map}
 use Rattle.std.proofs.{lemmas.List.Elements.{All-drop, All-take, All-weaker}, lemmas.Str.{IsCharBoundary-at_seam, IsCharBoundary-end}}
 use Rattle.std.proofs.lemmas.Str.{IsCharBoundary-start, IsUtf8-append, IsUtf8-had, IsUtf8-string_bytes}
 use Rattle.std.proofs.lemmas.Option.{get_or_from_slice_get, slice_get_within}
 use Rattle.std.specs.{List.{All, slice_get, slice_range}, String.string_bytes, Str.{IsUtf8, IsCharBoundary}}
 use Rattle.mpd_text.specs.{declared.tree.KeptSpan.KeptSpan, declared.tree.ElementRow.ElementRow, declared.tree.AttributeRow.AttributeRow}
 use Rattle.mpd_text.specs.{Forests.{Shown, shown_of}, declared.kept.Kept.Kept, Trees.{names_of, Attribute}, Keeping.{Adds, attributes_from}}
-use Rattle.mpd_text.specs.{Keeping.{attributes_in, head_at, kept_of, names_from, shown_in}, Names.names_in, Runs.{ends_name, name_at}}
+use Rattle.mpd_text.specs.{Keeping.{attributes_in, head_at, kept_of, names_from, shown_in}, Names.{name_in, names_in}, Runs.ends_name}
 use Rattle.mpd_text.specs.{Positions.place_before, Rests.{IsBehind, IsEnd}, Rows.{HasAttributesWithin, IsKept, IsNameKept, IsElementKept}}
-use Rattle.mpd_text.specs.{Rows.IsAttributeKept, Views.{bytes_of, attribute_of, head_of}}
+use Rattle.mpd_text.specs.{Rows.IsAttributeKept, Runs.name_at, Views.{bytes_of, attribute_of, head_of}, ManyNames.IsPrepared}
+use Rattle.mpd_text.specs.declared.many_names.ManyNames.{ManyNames}
 use Rattle.mpd_text.proofs.{Cuts.run_stops, KeptLemmas.{boundary_kept, kept_more, name_kept_more, range_left}, Rests.BeginsAscii}
 use Rattle.mpd_text.proofs.Rests.{behind_within, cut_before, cut_behind, ends, ends_drop, ends_dropped, name_ends}
 use Rattle.bridge_io.specs.Places.{place_of}
@@ -196,9 +197,9 @@ read_shown source read more span start end =
 pub lengths : (source kept : List ℕ) (rows : List AttributeRow) → length (map (attribute_of source kept) rows) ≡ length rows
 lengths source kept rows = length-map rows (attribute_of source kept)
 
-pub size : (source kept : List ℕ) (attributes : List AttributeRow) (rows : List ElementRow)
-    → length (map (shown_of source kept attributes) rows) ≡ length rows
-size source kept attributes rows = length-map rows (shown_of source kept attributes)
+pub size : (k : Kept) → length (shown_in k) ≡ length k.elements
+unfolding shown_in
+size k = length-map k.elements (shown_of k.source.now (kept_of k) k.attributes.items)
 
 names_same : (source read : List ℕ) (rows : List AttributeRow) → All (IsAttributeKept source (source ++ read)) rows
     → names_of (map (attribute_of source (source ++ read)) rows) ≡ names_in source rows
@@ -208,13 +209,29 @@ names_same source read (r ∷ rs) all =
     let n = range_left source read r.name.start r.name.end k.name.kept_so.ordered k.name.within in
     rw (n, names_same source read rs (All-drop (IsAttributeKept source (source ++ read)) 1 (r ∷ rs) all)) refl
 
-pub names_are : (k : Kept) (from : ℕ) → names_in k.source.now (drop from k.attributes.items) ≡ names_from k from
+names_are : (k : Kept) (from : ℕ) → names_in k.source.now (drop from k.attributes.items) ≡ names_from k from
 unfolding attributes_in
 names_are k from =
     let f = attribute_of k.source.now (kept_of k) in
     sym (names_same k.source.now (string_bytes k.read) (drop from k.attributes.items)
     (All-drop (IsAttributeKept k.source.now (kept_of k)) from k.attributes.items k.attributes_kept))
     ∙ ap names_of (sym (drop-map f from k.attributes.items))
+
+pub names_before : (k : Kept) (from : ℕ) (source : List ℕ) (rows : List AttributeRow) → source ≡ k.source.now
+    → rows ≡ k.attributes.items
+    → let before : List AttributeRow = take (length rows - from) (drop from rows) in
+    (names_in source before ≡ names_from k from) × (length before ≡ length (names_from k from))
+names_before k from source rows s r =
+    let before : List AttributeRow = take (length rows - from) (drop from rows) in
+    let all : before ≡ drop from rows = take_all (length rows - from) (drop from rows) (omega (arith, length-drop from rows)) in
+    let names : names_in source before ≡ names_from k from = rw (all, s, r) (names_are k from) in
+    (names, sym (length-map before (name_in source)) ∙ ap length names)
+
+-- behind so few names none is in the set
+pub few_prepared : (many : ManyNames) (names : List (List ℕ)) (name : List ℕ) → length names < 16 → IsPrepared many names
+    → IsPrepared many (names ++ name ∷ [])
+few_prepared many names name few p =
+    (λ _. p.0 (omega (arith, few)), λ more. absurd (omega (arith, few, more, length-append names (name ∷ []))))
 
 -- one row becomes another
 pub set_shown : (f : ElementRow → Shown) (rows : List ElementRow) (at : ℕ) (row new : ElementRow) (before inner : List Shown) (s : Shown)

@@ -1,8 +1,8 @@
 -- Numbers of characters, of which the code counts no further than one past all.
-use Rattle.std.proofs.Common.{◌≡◌, ◌≢◌, ℕ, ◌+◌, ◌*◌, Bool, List, [], ◌∷◌, ◌⊎◌, inl, inr, None, length, refl, ap, ◌∙◌, arith}
+use Rattle.std.proofs.Common.{◌≡◌, ℕ, ◌+◌, ◌*◌, Bool, List, [], ◌∷◌, ◌⊎◌, inl, inr, length, refl, ap, ◌∙◌, arith}
 use Rattle.std.proofs.{lemmas.Bool.Decides.nat_tests}
 use Rattle.std.specs.{Prelude.{min, fold, ◌==◌}, List.{list_all, prefix_len}}
-use Rattle.mpd_text.specs.References.{value_of_digit, named_by_number, with_digit, capped_number, allowed}
+use Rattle.mpd_text.specs.References.{value_of_digit, named_by_number, named_if_all, with_digit}
 
 abbrev pub IsBase : ℕ → Type 0
 IsBase base = (base ≡ 16) ⊎ (base ≡ 10)
@@ -21,11 +21,7 @@ all_prefix : (q : ℕ → Bool) (ds : List ℕ) → (prefix_len q ds == length d
 all_prefix q [] = refl
 all_prefix q (d ∷ ds) = grind (arith, nat_tests, all_prefix q ds)
 
-pub named : (base : ℕ) (q : ℕ → Bool) (ds : List ℕ) → IsBase base → prefix_len q ds ≡ length ds
-    → allowed (capped_number base ds) ≡ named_by_number base q ds
-named base q [] b all = refl
-named base q (d ∷ ds) b all = grind (arith, nat_tests, all_prefix q (d ∷ ds), capped base 0 (d ∷ ds) b)
-
-pub unnamed : (base : ℕ) (q : ℕ → Bool) (ds : List ℕ) → prefix_len q ds ≢ length ds → named_by_number base q ds ≡ None
-unnamed base q [] some = refl
-unnamed base q (d ∷ ds) some = grind (arith, nat_tests, all_prefix q (d ∷ ds))
+pub named : (base : ℕ) (q : ℕ → Bool) (ds : List ℕ) → IsBase base
+    → named_if_all base (prefix_len q ds) ds ≡ named_by_number base q ds
+named base q [] b = refl
+named base q (d ∷ ds) b = grind (arith, nat_tests, all_prefix q (d ∷ ds), capped base 0 (d ∷ ds) b)

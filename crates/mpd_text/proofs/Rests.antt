@@ -7,9 +7,8 @@ use Rattle.std.proofs.lemmas.Str.{IsCharBoundary-after_ascii, IsCharBoundary-bef
 use Rattle.std.specs.{List.{position_or_len, starts_with}, Str.{IsUtf8, IsCharBoundary}}
 use Rattle.mpd_text.specs.{declared.stop.Fault.Fault, Characters.{is_white, starts_name, goes_on_name}, Rests.{IsBehind, IsEnd}}
 use Rattle.mpd_text.specs.{Runs.{is_black, after_white, ends_name, name_at, mark, after_mark, common, begins}, Productions.{◌>>=◌, further}}
-use Rattle.mpd_text.specs.{Productions.times, Grammar.{greater_than, behind_dashes, comment_end, second_dash, comment, declaration_end}}
-use Rattle.mpd_text.specs.Grammar.{declared, word, declaration, equals_sign, equals, quote_mark, tag_end, end_name, end_tag, beginning}
-use Rattle.mpd_text.specs.Grammar.{next_comment, misc}
+use Rattle.mpd_text.specs.{Productions.times, Grammar.{greater_than, behind_dashes, behind_two, second_dash, comment, declared, word}}
+use Rattle.mpd_text.specs.Grammar.{declaration, equals_sign, equals, quote_mark, tag_end, end_name, end_tag, beginning, next_comment, misc}
 use Rattle.mpd_text.proofs.Cuts.{Stops, up_to_is}
 
 pub ends_itself : (s : List ℕ) → IsEnd s s
@@ -150,18 +149,18 @@ dashes_rest s [] e = tt
 dashes_rest s (b ∷ bs) e =
     either (Leaves (IsBehind s)) (eqb b 45) (λ t. greater_rest s bs (ends_tail s b bs e)) (λ f. greater_rest s (b ∷ bs) e)
 
-comment_end_rest : (s bytes : List ℕ) → IsEnd s bytes → IfOk (comment_end bytes).read (IsBehind s)
-unfolding comment_end
-comment_end_rest s [] e = tt
-comment_end_rest s (b ∷ bs) e =
+two_rest : (one other : ℕ) (s bytes : List ℕ) → IsEnd s bytes → IfOk (behind_two one other bytes).read (IsEnd s)
+unfolding behind_two
+two_rest one other s [] e = tt
+two_rest one other s (b ∷ bs) e =
     let more = ends_tail s b bs e in
-    either (Leaves (IsBehind s)) (eqb b 45 && begins 45 bs) (λ t. dashes_rest s (drop 1 bs) (ends_drop 1 s bs more))
-    (λ f. comment_end_rest s bs more)
+    either (Leaves (IsEnd s)) (eqb b one && begins other bs) (λ t. ends_drop 1 s bs more) (λ f. two_rest one other s bs more)
 
 dash_rest : (s bytes : List ℕ) → IsEnd s bytes → IfOk (second_dash bytes).read (IsBehind s)
 unfolding second_dash
 dash_rest s [] e = tt
-dash_rest s (b ∷ bs) e = either (Leaves (IsBehind s)) (eqb b 45) (λ t. comment_end_rest s bs (ends_tail s b bs e)) (λ f. tt)
+dash_rest s (b ∷ bs) e = either (Leaves (IsBehind s)) (eqb b 45) (λ t. then_so (IsEnd s) (IsBehind s) (behind_two 45 45 bs).read
+    (λ rest. (behind_dashes rest).read) (two_rest 45 45 s bs (ends_tail s b bs e)) (λ rest r. dashes_rest s rest r)) (λ f. tt)
 
 pub comment_rest : (left : ℕ) (s bytes : List ℕ) → IsEnd s bytes → IfOk (comment left bytes).read (IsBehind s)
 unfolding comment
@@ -194,42 +193,19 @@ white_behind s bytes rest e is less = elim (white_rest s bytes e) [
 
 -- ---- as functions have it
 
-pub name_left : (s bytes rest : List ℕ) → IsBehind s bytes → rest ≡ (name_at bytes).1 → IsEnd s rest
-name_left s bytes rest r is = subst (IsEnd s) (sym is) (ends_drop _ s bytes (ends s bytes r))
-
 pub white_left : (s bytes rest : List ℕ) → IsEnd s bytes → rest ≡ after_white bytes → IsEnd s rest
 white_left s bytes rest e is = subst (IsEnd s) (sym is) (ends_drop _ s bytes e)
-
-pub tag_end_left : (s bytes : List ℕ) (x : Bool × List ℕ) → IsEnd s bytes → (tag_end bytes).read ≡ Ok x → IsBehind s x.1
-tag_end_left s bytes x e is = subst (Second s) is (tag_end_rest s bytes e)
-
-pub end_tag_left : (name : List ℕ) (left : ℕ) (s bytes rest : List ℕ) → IsBehind s bytes
-    → (end_tag name left (take (length bytes - 1) (drop 1 bytes))).read ≡ Ok rest → IsBehind s rest
-end_tag_left name left s bytes rest r is = subst (Leaves (IsBehind s)) is (end_tag_rest name left s _
-    (ends_behind s bytes (ends s bytes r)))
-
-pub comment_left : (left : ℕ) (s bytes rest : List ℕ) → IsBehind s bytes
-    → (comment left (take (length bytes - 1) (drop 1 bytes))).read ≡ Ok rest
-    → IsBehind s rest
-comment_left left s bytes rest r is = subst (Leaves (IsBehind s)) is (comment_rest left s _ (ends_behind s bytes (ends s bytes r)))
 
 -- ---- around the root
 
 mark_rest : (s bytes : List ℕ) → IsEnd s bytes → IsEnd s (after_mark bytes)
 mark_rest s bytes e = either (IsEnd s) (starts_with nat_eq bytes mark) (λ t. ends_drop 3 s bytes e) (λ f. e)
 
-declaration_rest : (s bytes : List ℕ) → IsEnd s bytes → IfOk (declaration_end bytes).read (IsEnd s)
-unfolding declaration_end
-declaration_rest s [] e = tt
-declaration_rest s (b ∷ bs) e =
-    let more = ends_tail s b bs e in
-    either (Leaves (IsEnd s)) (eqb b 63 && begins 62 bs) (λ t. ends_drop 1 s bs more) (λ f. declaration_rest s bs more)
-
 declared_rest : (left : ℕ) (s bytes : List ℕ) → IsEnd s bytes → IfOk (declared left bytes).read (IsEnd s)
 unfolding declared
 declared_rest left s [] e = tt
 declared_rest left s (b ∷ bs) e =
-    either (Leaves (IsEnd s)) (is_white b) (λ t. declaration_rest s bs (ends_tail s b bs e)) (λ f. tt)
+    either (Leaves (IsEnd s)) (is_white b) (λ t. two_rest 63 62 s bs (ends_tail s b bs e)) (λ f. tt)
 
 pub beginning_rest : (s bytes : List ℕ) → IsEnd s bytes → IfOk (beginning bytes).read (IsEnd s)
 unfolding beginning declaration

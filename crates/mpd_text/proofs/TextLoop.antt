@@ -4,7 +4,7 @@ use Rattle.std.proofs.{Common.{Result, Ok, IfOk, refl, Option, Some, None, sym, 
 use Rattle.std.proofs.lemmas.List.{take-append-drop, length-append, append-nil}
 use Rattle.std.specs.{List.slice_range, Str.IsCharBoundary}
 use Rattle.mpd_text.specs.{declared.stop.Fault.Fault, References.{referred_to, is_semicolon, character_or, named_in, entity, reference_at}}
-use Rattle.mpd_text.specs.{Grammar.{reference, marked}, Runs.{up_to, plain_at, after_line_feed}, Rests.{IsAt, IsBehind, IsEnd}}
+use Rattle.mpd_text.specs.{Grammar.{reference, marked, part}, Runs.{up_to, plain_at, after_line_feed}, Rests.{IsAt, IsBehind, IsEnd}}
 use Rattle.mpd_text.proofs.{Cuts.{Stops, run_stops}, KeptRows.cut_shown, Rests.{BeginsAscii, behind, cut_before, either, ends, ends_drop}}
 use Rattle.mpd_text.proofs.Rests.{ends_tail, ends_within, then_so}
 use Rattle.byte_scan.specs.ByteSet.{is_member, all_ascii}
@@ -87,3 +87,11 @@ part_cut s bytes plain marks e all is =
       rw append-nil at (cut_shown s [] bytes plain rest (length s - length bytes) (length s - length bytes + length plain) e parts refl
           (omega arith)),
     )
+
+-- the part at the front, as it is read
+pub part_is : (stop : ℕ) (s bytes plain rest marks read now cut : List ℕ) → IsBehind s bytes → IsTrue (all_ascii marks)
+    → plain ≡ (plain_at marks bytes).0 → rest ≡ (plain_at marks bytes).1
+    → cut ≡ slice_range s (length s - length bytes) (length s - length bytes + length plain) → now ≡ read ++ cut
+    → (marked stop now rest).read ≡ (part marks stop read bytes).read
+part_is stop s bytes plain rest marks read now cut r all front back is so =
+    rw (so, is, (part_cut s bytes plain marks (ends s bytes r) all front).1, front, back) refl

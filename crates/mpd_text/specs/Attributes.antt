@@ -1,9 +1,22 @@
 -- The attributes of a tag that is read, by the rows that are kept.
-use Rattle.std.specs.Prelude.{◌≤◌, length}
-use Rattle.mpd_text.specs.{declared.attributes.Names.Names, declared.kept.Kept.Kept, Keeping.{attributes_in, names_from}}
-use Rattle.mpd_text.specs.ManyNames.{IsPrepared}
+use Rattle.std.specs.Prelude.{◌≡◌, ◌≤◌, ◌++◌, ◌∷◌, ℕ, List, [], length}
+use Rattle.mpd_text.specs.{declared.attributes.Names.Names, declared.kept.Kept.Kept, Keeping.{Stays, attributes_in, names_from}}
+use Rattle.mpd_text.specs.{ManyNames.IsPrepared, Rests.IsEnd, Runs.name_at}
 
 -- the names of the attributes of a tag are these
 pub record AreKnown (k : Kept) (names : Names) : Type 0 where
   pub within : names.from ≤ length (attributes_in k)
   pub prepared : IsPrepared names.many (names_from k names.from)
+
+-- the name at the front is one more
+pub record IsNew (k : Kept) (names after : Names) (bytes rest : List ℕ) : Type 0 where
+  pub rest_is : rest ≡ (name_at bytes).1
+  pub from : after.from ≡ names.from
+  pub prepared : IsPrepared after.many (names_from k names.from ++ (name_at bytes).0 ∷ [])
+
+-- the tag goes on at the rest
+pub record GoesOn (old new : Kept) (names after : Names) (rest : List ℕ) : Type 0 where
+  pub stays : Stays old new
+  pub from : after.from ≡ names.from
+  pub known : AreKnown new after
+  pub left : IsEnd old.source.now rest

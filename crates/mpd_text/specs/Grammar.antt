@@ -11,12 +11,11 @@ use Rattle.std.specs.Prelude.{length, codes, drop, encode_utf8, Some, None, IsUt
 use Rattle.std.specs.List.{starts_with}
 use Rattle.bridge_io.specs.Texts.{is_among}
 use Rattle.mpd_text.specs.{Characters.{is_white, starts_name, has_byte, first_bad_character}, Trees.{names_of, Attribute, Element, nothing}}
-use Rattle.mpd_text.specs.{References.{referred_to, front_len, reference_at}, Marked.{marked_in_content, marked_in_value}}
-use Rattle.mpd_text.specs.Runs.{after_white, name_at, plain_at, after_line_feed, after_mark, common, begins}
-use Rattle.mpd_text.specs.Positions.{Position, anywhere, behind_less_than, behind_exclamation, in_instruction, behind_repeated}
-use Rattle.mpd_text.specs.{Positions.{behind_other_name, in_reference, here, place_before}, Pieces.{Piece, tag_piece, Inside, with_child}}
-use Rattle.mpd_text.specs.{Pieces.nothing_inside, Productions.{Production, none, just, refused, from, first, behind_run, choose, ◌>>◌}}
-use Rattle.mpd_text.specs.Productions.{as_read, many}
+use Rattle.mpd_text.specs.{References.{referred_to, front_len, reference_at}, Marked.{marked_in_content, marked_in_value}, Runs.after_white}
+use Rattle.mpd_text.specs.{Runs.{name_at, plain_at, after_line_feed, after_mark, common, begins}, Positions.{Position, anywhere}}
+use Rattle.mpd_text.specs.Positions.{behind_less_than, behind_exclamation, in_instruction, behind_repeated, behind_other_name, in_reference}
+use Rattle.mpd_text.specs.{Positions.{here, place_before}, Pieces.{Piece, tag_piece, Inside, with_child, nothing_inside}}
+use Rattle.mpd_text.specs.Productions.{Production, none, just, refused, from, first, behind_run, choose, ◌>>◌, as_read, many}
 
 unfoldable pub greater_than : List ℕ → Production (List ℕ)
 greater_than bytes = first anywhere 0 bytes λ b bs otherwise. choose (b == 62) (just bs) otherwise
@@ -27,28 +26,23 @@ greater_than bytes = first anywhere 0 bytes λ b bs otherwise. choose (b == 62) 
 unfoldable pub behind_dashes : List ℕ → Production (List ℕ)
 behind_dashes bytes = first anywhere 0 bytes λ b bs otherwise. choose (b == 45) (greater_than bs) (greater_than bytes)
 
--- behind `<!--`: up to the first `--`, and the end
-unfoldable pub comment_end : List ℕ → Production (List ℕ)
-comment_end [] = refused (here [])
-comment_end (b ∷ bs) =
-    from (here (b ∷ bs)) (choose (b == 45 && begins 45 bs) (from (here bs) (behind_dashes (drop 1 bs))) (comment_end bs))
+-- up to the first place where these two bytes stand side by side
+unfoldable pub behind_two : ℕ → ℕ → List ℕ → Production (List ℕ)
+behind_two one other [] = refused (here [])
+behind_two one other (b ∷ bs) =
+    from (here (b ∷ bs)) (choose (b == one && begins other bs) (from (here bs) (just (drop 1 bs))) (behind_two one other bs))
 
+-- behind `<!-`: a comment ends at the first `--`
 unfoldable pub second_dash : List ℕ → Production (List ℕ)
-second_dash bytes = first anywhere 0 bytes λ b bs otherwise. choose (b == 45) (comment_end bs) otherwise
+second_dash bytes = first anywhere 0 bytes λ b bs otherwise. choose (b == 45) (behind_two 45 45 bs >> behind_dashes) otherwise
 
 -- a comment behind its `<!`, from whose `<` on so many bytes are left
 unfoldable pub comment : ℕ → List ℕ → Production (List ℕ)
 comment left bytes = first behind_exclamation left bytes λ b bs otherwise. choose (b == 45) (second_dash bs) otherwise
 
--- up to the first `?>`
-unfoldable pub declaration_end : List ℕ → Production (List ℕ)
-declaration_end [] = refused (here [])
-declaration_end (b ∷ bs) =
-    from (here (b ∷ bs)) (choose (b == 63 && begins 62 bs) (from (here bs) (just (drop 1 bs))) (declaration_end bs))
-
--- behind `<?xml`
+-- behind `<?xml`: up to the first `?>`
 unfoldable pub declared : ℕ → List ℕ → Production (List ℕ)
-declared left bytes = first in_instruction left bytes λ b bs otherwise. choose (is_white b) (declaration_end bs) otherwise
+declared left bytes = first in_instruction left bytes λ b bs otherwise. choose (is_white b) (behind_two 63 62 bs) otherwise
 
 abbrev pub word : List ℕ
 word = codes "xml"

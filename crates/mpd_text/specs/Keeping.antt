@@ -5,6 +5,7 @@ use Rattle.mpd_text.specs.Grammar as grammar
 use Rattle.std.specs.{Prelude.{◌≡◌, ℕ, suc, Bool, List, [], ◌∷◌, ◌++◌, drop, length, map}, String.string_bytes}
 use Rattle.mpd_text.specs.{declared.content.Piece.Piece, declared.kept.Kept.Kept, Forests.{Shown, shown_of}}
 use Rattle.mpd_text.specs.{Forests.flat, Trees.{names_of, Attribute, Head, Forest, nothing, element, Element}, Views.attribute_of}
+use Rattle.mpd_text.specs.{Rests.IsBehind, Rows.IsKept, declared.tree.KeptSpan.KeptSpan}
 use Rattle.mpd_text.specs.{Positions.place_before, Productions.{Production, ◌>>◌}, Grammar.{tag, next_inside, inside}, Runs.name_at}
 
 -- the source, and behind it what was read otherwise than it stands there
@@ -73,6 +74,21 @@ IsPieceKept room head old new pieces.Empty = Grows (record { head = head; next =
 IsPieceKept room head old new (pieces.Begun b) =
     (b.row ≡ length (shown_in old)) × (b.name.now ≡ head.name) × (suc b.room ≡ room)
     × Grows (record { head = head; next = suc (length (shown_in old)) } ∷ []) old new
+
+-- what is kept of a piece that was read up to the rest
+pub record IsPieceRead (room : ℕ) (head : Head) (old new : Kept) (piece : Piece) (rest : List ℕ) : Type 0 where
+  pub kept : IsPieceKept room head old new piece
+  pub left : IsBehind old.source.now rest
+
+-- so much is kept of the source, and is left of it
+pub record IsSpanRead (old new : Kept) (span : KeptSpan) (rest : List ℕ) : Type 0 where
+  pub kept : IsKept new.source.now (kept_of new) span
+  pub left : IsBehind old.source.now rest
+
+-- the source stays, and so much is left of it
+pub record IsLeft (old new : Kept) (rest : List ℕ) : Type 0 where
+  pub same : new.source.now ≡ old.source.now
+  pub left : IsBehind old.source.now rest
 
 -- the last row has its element's content
 pub record IsFilled (at : ℕ) (i : spec.Inside) (old new : Kept) : Type 0 where

@@ -1,6 +1,6 @@
 -- The characters that references stand for (XML 1.0, 4.1 and 4.6), and how they are read.
-use Rattle.std.specs.Prelude.{ℕ, ◌+◌, ◌*◌, ◌-◌, Bool, ◌==◌, ◌&&◌, ◌||◌, nat_le, nat_lt, List, [], ◌∷◌, codes, if◌then◌else◌, Option, Some}
-use Rattle.std.specs.{Prelude.{None, Result, Ok, Err, fold, bytes_eq, min, max, take, drop}, List.{list_all, prefix_len}}
+use Rattle.std.specs.Prelude.{ℕ, ◌+◌, ◌*◌, ◌-◌, Bool, ◌==◌, ◌&&◌, ◌||◌, nat_le, nat_lt, List, [], ◌∷◌, length, codes, if◌then◌else◌, Option}
+use Rattle.std.specs.{Prelude.{Some, None, Result, Ok, Err, fold, bytes_eq, min, max, take, drop}, List.{list_all, prefix_len}}
 use Rattle.mpd_text.specs.{declared.stop.Fault.Fault, declared.stop.Wrong.TheVariants.Entity, Characters.is_digit, Positions.fault}
 use Rattle.mpd_text.specs.Runs.{up_to, common}
 
@@ -52,6 +52,10 @@ capped_number base digits = fold (with_digit base) 0 digits
 
 abbrev pub allowed : ℕ → Option ℕ
 allowed c = if is_allowed_character c then Some c else None
+
+-- the same, where as many digits stand at the front as there are bytes
+abbrev pub named_if_all : ℕ → ℕ → List ℕ → Option ℕ
+named_if_all base len digits = if len == length digits then allowed (capped_number base digits) else None
 
 abbrev pub front_of_digits : List ℕ → ℕ
 front_of_digits [] = 0

@@ -1,7 +1,6 @@
 -- Where the texts of rows lie, and how rows stand inside one another.
 use Rattle.std.specs.{Prelude.{ℕ, ◌<◌, ◌≤◌, List, length}, Str.IsCharBoundary}
-use Rattle.mpd_text.specs.{declared.tree.KeptSpan.KeptSpan, declared.tree.ElementRow.ElementRow}
-use Rattle.mpd_text.specs.declared.tree.AttributeRow.{AttributeRow}
+use Rattle.mpd_text.specs.{declared.tree.KeptSpan.KeptSpan, declared.tree.ElementRow.ElementRow, declared.tree.AttributeRow.AttributeRow}
 
 -- whole characters of what is kept, all in the source or all behind it
 pub record IsKept (source kept : List ℕ) (span : KeptSpan) : Type 0 where

@@ -1,11 +1,10 @@
 // The attributes of a tag, from left to right.
-ghost use Rattle.std.specs.Prelude.{◌≡◌, ◌≤◌, ◌++◌, ◌∷◌, ◌⊎◌, [], drop, false, length, IfOk, IfErr, OnOk};
+ghost use Rattle.std.specs.Prelude.{◌≡◌, ◌≤◌, ◌++◌, ◌∷◌, ◌⊎◌, [], false, length, IfOk, IfErr, OnOk};
 ghost use Rattle.bridge_io.specs.Answer.{Gives};
 ghost use Rattle.bridge_io.specs.Texts.{is_among};
-ghost use Rattle.mpd_text.specs.Attributes.{AreKnown};
+ghost use Rattle.mpd_text.specs.Attributes.{AreKnown, GoesOn, IsNew};
 ghost use Rattle.mpd_text.specs.Keeping.{Stays, attributes_from, attributes_in, names_from};
 ghost use Rattle.mpd_text.specs.ManyNames.{IsPrepared};
-ghost use Rattle.mpd_text.specs.Names.{names_in};
 ghost use Rattle.mpd_text.specs.Grammar as spec;
 ghost use Rattle.mpd_text.specs.Reading.{fault_in};
 ghost use Rattle.mpd_text.specs.Runs as runs;
@@ -50,12 +49,9 @@ struct Names<'a> {
 /// Whether an attribute before in the same tag has that name.
 #[tactic(auto, using(crate::proofs::KeptRows::lengths), unfolding(crate::specs::Keeping::attributes_in))]
 fn is_repeated<'a>(kept: &Kept<'a>, names: &mut Names<'a>, name: &'a [u8]) -> Result<bool, Stop>
-    requires from { names.old.from ≤ length (attributes_in kept.now) }
-    ensures read { IsPrepared names.old.many (names_in kept.now.source.now (drop names.old.from kept.now.attributes.items)) →
-        IfOk result (λ repeated.
-        (repeated ≡ is_among name.now (names_in kept.now.source.now (drop names.old.from kept.now.attributes.items)))
-        × (repeated ≡ false
-        → IsPrepared names.new.many (names_in kept.now.source.now (drop names.old.from kept.now.attributes.items) ++ name.now ∷ []))) }
+    requires known { AreKnown kept.now names.old }
+    ensures read { IfOk result (λ repeated. (repeated ≡ is_among name.now (names_from kept.now names.old.from))
+        × (repeated ≡ false → IsPrepared names.new.many (names_from kept.now names.old.from ++ name.now ∷ []))) }
     ensures from { names.new.from ≡ names.old.from }
     ensures fault { IfErr result (λ e. e ≡ Memory) }
 {
@@ -68,7 +64,7 @@ fn is_repeated<'a>(kept: &Kept<'a>, names: &mut Names<'a>, name: &'a [u8]) -> Re
 }
 
 /// What stands behind the name at the front, which no attribute before in the same tag has.
-#[tactic(auto, using(crate::proofs::KeptRows::names_are), unfolding(crate::specs::Grammar::new_name))]
+#[tactic(auto, unfolding(crate::specs::Grammar::new_name))]
 fn new_name_of<'a>(
     kept: &Kept<'a>,
     names: &mut Names<'a>,
@@ -77,9 +73,7 @@ fn new_name_of<'a>(
     requires known { AreKnown kept.now names.old }
     ensures read { Gives (λ rest. ((runs.name_at bytes.now).0, rest.now)) fault_in result
         (spec.new_name (names_from kept.now names.old.from) bytes.now).read }
-    ensures rest { IfOk result (λ rest. rest.now ≡ (runs.name_at bytes.now).1) }
-    ensures from { names.new.from ≡ names.old.from }
-    ensures prepared { OnOk result (IsPrepared names.new.many (names_from kept.now names.old.from ++ (runs.name_at bytes.now).0 ∷ [])) }
+    ensures is_new { IfOk result (λ rest. IsNew kept.now names.old names.new bytes.now rest.now) }
 {
     let (name, rest) = name_of(bytes);
     if is_repeated(kept, names, name)? {
@@ -99,10 +93,7 @@ fn attribute_of<'a>(
     requires rest { IsBehind kept.old.source.now bytes.now }
     ensures read { Gives (λ rest. (attributes_from kept.new names.old.from, rest.now)) fault_in result
         (spec.attribute kept.old.source.now (attributes_from kept.old names.old.from) bytes.now).read }
-    ensures stays { OnOk result (Stays kept.old kept.new) }
-    ensures from { names.new.from ≡ names.old.from }
-    ensures known { OnOk result (AreKnown kept.new names.new) }
-    ensures rest { IfOk result (λ rest. IsBehind kept.old.source.now rest.now) }
+    ensures goes_on { IfOk result (λ rest. GoesOn kept.old kept.new names.old names.new rest.now) }
 {
     let name_rest = new_name_of(kept, names, bytes)?;
     let rest = after_equals(name_rest)?;
@@ -123,10 +114,7 @@ fn next_of<'a>(
     requires rest { IsEnd kept.old.source.now bytes.now }
     ensures read { Gives (λ x. (attributes_from kept.new names.old.from, x.0, x.1.now)) fault_in result
         (spec.next_attribute kept.old.source.now (attributes_from kept.old names.old.from) bytes.now).read }
-    ensures stays { OnOk result (Stays kept.old kept.new) }
-    ensures from { names.new.from ≡ names.old.from }
-    ensures known { OnOk result (AreKnown kept.new names.new) }
-    ensures rest { IfOk result (λ x. IsEnd kept.old.source.now x.1.now) }
+    ensures goes_on { IfOk result (λ x. GoesOn kept.old kept.new names.old names.new x.1.now) }
 {
     let rest = after_white(bytes);
     match rest {

@@ -3,13 +3,12 @@ ghost use Rattle.std.specs.Prelude.{◌≡◌, ◌<◌, ◌+◌, ◌++◌, [], �
 ghost use Rattle.std.specs.String.{string_bytes};
 ghost use Rattle.bridge_io.specs.Answer.{Gives};
 ghost use Rattle.mpd_text.specs.Forests.{Shown, flat};
-ghost use Rattle.mpd_text.specs.Keeping.{Grows, IsFilled, IsPieceKept, IsTag, ShowsRoot, content_step, element_at, kept_of, last_head};
-ghost use Rattle.mpd_text.specs.Keeping.{piece_of, shown_in};
+ghost use Rattle.mpd_text.specs.Keeping.{Grows, IsFilled, IsLeft, IsPieceKept, IsPieceRead, IsSpanRead, IsTag, ShowsRoot};
+ghost use Rattle.mpd_text.specs.Keeping.{content_step, element_at, kept_of, last_head, piece_of, shown_in};
 ghost use Rattle.mpd_text.specs.Grammar as spec;
 ghost use Rattle.mpd_text.specs.Reading.{fault_in};
 ghost use Rattle.mpd_text.specs.Pieces.{Inside};
 ghost use Rattle.mpd_text.specs.Rests.{IsBehind, IsEnd};
-ghost use Rattle.mpd_text.specs.Rows.{IsKept};
 ghost use Rattle.mpd_text.specs.Trees.{Element, Forest};
 ghost use Rattle.mpd_text.specs.Views.{bytes_of};
 
@@ -92,7 +91,7 @@ fn tag_of<'a>(
 }
 
 /// Reads the comment or tag behind whose `<` the bytes stand, inside the element of that name.
-#[tactic(auto, using(crate::proofs::Rests::end_tag_left, crate::proofs::Rests::comment_left), unfolding(crate::specs::Grammar::piece))]
+#[tactic(auto, unfolding(crate::specs::Grammar::piece))]
 fn piece_of<'a>(
     kept: &mut Kept<'a>,
     room: usize,
@@ -104,8 +103,7 @@ fn piece_of<'a>(
     requires left { left ≡ length bytes.now + 1 }
     ensures read { Gives (λ x. (piece_of (last_head kept.old kept.new left bytes.now) x.0, x.1.now)) fault_in result
         (spec.piece kept.old.source.now room name.now left bytes.now).read }
-    ensures kept { IfOk result (λ x. IsPieceKept room (last_head kept.old kept.new left bytes.now) kept.old kept.new x.0) }
-    ensures rest { IfOk result (λ x. IsBehind kept.old.source.now x.1.now) }
+    ensures piece { IfOk result (λ x. IsPieceRead room (last_head kept.old kept.new left bytes.now) kept.old kept.new x.0 x.1.now) }
 {
     match bytes {
         [b'/', rest @ ..] => {
@@ -161,8 +159,7 @@ fn next_content<'a>(
         × (shown_in kept.new ≡ front ++ flat (length front) later))
         (λ e. IfSome (fault_in e) (λ f.
         (content_step room kept.old.source.now name.now children (string_bytes text.old) bytes.now).read ≡ Err f)) }
-    ensures same { OnOk result (kept.new.source.now ≡ kept.old.source.now) }
-    ensures rest { IfOk result (λ x. IsBehind kept.old.source.now x.1.now) }
+    ensures left { IfOk result (λ x. IsLeft kept.old kept.new x.1.now) }
 {
     let markup = add_text(kept.source, b'<', &kept.marked.content, bytes, text)?;
     let (piece, rest) = piece_of(kept, room, name, markup.len(), &markup[1..])?;
@@ -201,8 +198,7 @@ fn content_of<'a>(
         (λ x. (i : Inside) × ((spec.inside (suc room) kept.old.source.now name.now bytes.now).read ≡ Ok (i, x.1.now))
         × Grows (flat (length (shown_in kept.old)) i.children) kept.old kept.new × (bytes_of (kept_of kept.new) x.0 ≡ i.text))
         (λ e. IfSome (fault_in e) (λ f. (spec.inside (suc room) kept.old.source.now name.now bytes.now).read ≡ Err f)) }
-    ensures kept { IfOk result (λ x. IsKept kept.new.source.now (kept_of kept.new) x.0) }
-    ensures rest { IfOk result (λ x. IsBehind kept.old.source.now x.1.now) }
+    ensures span { IfOk result (λ x. IsSpanRead kept.old kept.new x.0 x.1.now) }
 {
     let (_, marked) = plain_of(&kept.marked.content, bytes);
     if let Some(end) = behind_end_start(marked) {
@@ -210,13 +206,13 @@ fn content_of<'a>(
         let rest = end_tag_of(name, marked.len(), end)?;
         return Ok((span, rest));
     }
-    let mut text = String::new(kept.alloc);
+    let mut text = kept.new_text();
     let mut rest = bytes;
     for _ in 0..bytes.len() + 1 {
         let (is_ended, after) = next_content(kept, room, name, &mut text, rest)?;
         rest = after;
         if is_ended {
-            let span = kept.keep(text.as_str())?;
+            let span = kept.keep_text(text)?;
             return Ok((span, rest));
         }
     }

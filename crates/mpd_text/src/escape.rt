@@ -42,7 +42,6 @@ fn push_escaped(written: &mut String, character: char) -> Result<(), NoMemory>
 /// # Errors
 ///
 /// [`NoMemory`] where memory is wanting.
-#[tactic(auto, using(crate::proofs::EscapeLemmas::escapes))]
 pub fn escaped(alloc: Global, text: &str) -> Result<Text, NoMemory>
     ensures { IfOk result (λ written. written ≡ escape_all text.now) }
 {

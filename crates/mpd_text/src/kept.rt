@@ -26,6 +26,8 @@ pub(crate) struct Kept<'a> {
     pub(crate) elements: ElementTable,
     pub(crate) attributes: Vec<AttributeRow>,
     pub(crate) read: String,
+    /// Texts that are kept already, whose room serves others.
+    spare: Vec<String>,
     ghost utf8: { ∥ IsUtf8 source.now ∥₁ },
     ghost elements_kept: { All (IsElementKept source.now (source.now ++ string_bytes read)) elements },
     ghost attributes_kept: { All (IsAttributeKept source.now (source.now ++ string_bytes read)) attributes.items },
@@ -53,7 +55,18 @@ impl<'a> Kept<'a> {
             elements: ElementTable::new(alloc),
             attributes: Vec::new(alloc),
             read: String::new(alloc),
+            spare: Vec::new(alloc),
         }
+    }
+
+    /// A text with no character yet.
+    pub(crate) fn new_text(&mut self) -> String
+        ensures text { string_bytes result ≡ [] }
+        ensures adds { Adds [] self.old self.new }
+    {
+        let mut text = self.spare.pop().unwrap_or(String::new(self.alloc));
+        text.clear();
+        text
     }
 
     /// How many attributes are kept.
@@ -115,7 +128,7 @@ impl<'a> Kept<'a> {
         ensures adds { OnOk result (Adds [] self.old self.new) }
         ensures rest { IfOk result (λ x. IsBehind self.old.source.now x.1.now) }
     {
-        let mut text = String::new(self.alloc);
+        let mut text = self.new_text();
         let rest = add_text(
             self.source,
             quote,
@@ -123,7 +136,7 @@ impl<'a> Kept<'a> {
             bytes,
             &mut text,
         )?;
-        let span = self.keep(text.as_str())?;
+        let span = self.keep_text(text)?;
         match rest {
             [_, after @ ..] => Ok((span, after)),
             [] => Err(syntax(rest)),
@@ -131,8 +144,7 @@ impl<'a> Kept<'a> {
     }
 
     /// Keeps a text.
-    #[tactic(auto, using(crate::proofs::KeptRows::nothing_kept))]
-    pub(crate) fn keep(&mut self, text: &str) -> Result<KeptSpan, Stop>
+    fn keep(&mut self, text: &str) -> Result<KeptSpan, Stop>
         ensures text { IfOk result (λ span. bytes_of (kept_of self.new) span ≡ text.now) }
         ensures kept { IfOk result (λ span. IsKept self.new.source.now (kept_of self.new) span) }
         ensures adds { OnOk result (Adds [] self.old self.new) }
@@ -144,6 +156,18 @@ impl<'a> Kept<'a> {
         let start = self.end();
         self.read.push_str(text)?;
         let span = KeptSpan::between(start, self.end())?;
+        Ok(span)
+    }
+
+    /// Keeps a text, whose room then serves others.
+    pub(crate) fn keep_text(&mut self, text: String) -> Result<KeptSpan, Stop>
+        ensures text { IfOk result (λ span. bytes_of (kept_of self.new) span ≡ string_bytes text) }
+        ensures kept { IfOk result (λ span. IsKept self.new.source.now (kept_of self.new) span) }
+        ensures adds { OnOk result (Adds [] self.old self.new) }
+        ensures fault { IfErr result (λ e. e ≡ Memory) }
+    {
+        let span = self.keep(text.as_str())?;
+        self.spare.push(text)?;
         Ok(span)
     }
 
@@ -171,7 +195,7 @@ impl<'a> Kept<'a> {
 
     /// Adds an element without content, whose name is at the front of the bytes, up to the rest, and whose attributes are
     /// those from there on, and answers its row.
-    #[tactic(auto, using(crate::proofs::KeptRows::size), unfolding(crate::specs::Keeping::shown_in, crate::specs::Keeping::attributes_in))]
+    #[tactic(auto, unfolding(crate::specs::Keeping::attributes_in))]
     pub(crate) fn add_element(
         &mut self,
         bytes: &[u8],
@@ -205,7 +229,6 @@ impl<'a> Kept<'a> {
     }
 
     /// All elements behind the one in that row are inside it, and its character data are these.
-    #[tactic(auto, using(crate::proofs::KeptRows::size), unfolding(crate::specs::Keeping::shown_in))]
     pub(crate) fn end_element(&mut self, row: usize, text: KeptSpan) -> Result<(), Stop>
         requires row { row < length (shown_in self.old) }
         requires text { IsKept self.old.source.now (kept_of self.old) text }

@@ -1,5 +1,4 @@
 // Comments and end tags, behind their `<`.
-ghost use Rattle.std.specs.Prelude.{◌≡◌};
 ghost use Rattle.bridge_io.specs.Answer.{Gives};
 ghost use Rattle.mpd_text.specs.Grammar as spec;
 ghost use Rattle.mpd_text.specs.Reading.{fault_in};
@@ -29,15 +28,15 @@ fn behind_dashes(bytes: &[u8]) -> Result<&[u8], Stop>
     }
 }
 
-/// What stands behind a comment, behind its `<!--`.
-#[tactic(auto, unfolding(crate::specs::Grammar::comment_end))]
-fn comment_end(bytes: &[u8]) -> Result<&[u8], Stop>
-    ensures { Gives (λ x. x.now) fault_in result (spec.comment_end bytes.now).read }
+/// What stands behind the first place where these two bytes stand side by side.
+#[tactic(auto, unfolding(crate::specs::Grammar::behind_two))]
+pub(crate) fn behind_two(one: u8, other: u8, bytes: &[u8]) -> Result<&[u8], Stop>
+    ensures { Gives (λ x. x.now) fault_in result (spec.behind_two one other bytes.now).read }
 {
     let mut rest = bytes;
     for _ in 0..bytes.len() {
         match rest {
-            [b'-', b'-', after @ ..] => return behind_dashes(after),
+            [first, second, after @ ..] if *first == one && *second == other => return Ok(after),
             [_, after @ ..] => rest = after,
             [] => {}
         }
@@ -50,7 +49,10 @@ fn second_dash(bytes: &[u8]) -> Result<&[u8], Stop>
     ensures { Gives (λ x. x.now) fault_in result (spec.second_dash bytes.now).read }
 {
     match bytes {
-        [b'-', rest @ ..] => comment_end(rest),
+        [b'-', rest @ ..] => {
+            let rest = behind_two(b'-', b'-', rest)?;
+            behind_dashes(rest)
+        }
         _ => Err(syntax(bytes)),
     }
 }

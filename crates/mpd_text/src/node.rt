@@ -1,7 +1,7 @@
 // Elements of a tree, and the walks over what is in them.
-ghost use Rattle.std.specs.Prelude.{◌≡◌, ◌<◌, ◌≤◌, ◌++◌, All, Some, length, map, option_map, slice_get};
+ghost use Rattle.std.specs.Prelude.{◌≡◌, ◌<◌, ◌≤◌, ◌++◌, All, Some, length, map, option_map, slice_get, vec_len};
 ghost use Rattle.std.specs.String.{string_bytes};
-ghost use Rattle.mpd_text.specs.Rows.{IsAttributeKept};
+ghost use Rattle.mpd_text.specs.Rows.{HasAttributesWithin, IsAttributeKept, IsElementKept};
 
 use crate::attr::Attr;
 use crate::tree::{AttributeRow, ElementRow, Tree};
@@ -35,7 +35,7 @@ pub struct NodeWalk<'a> {
 }
 
 impl<'a> Node<'a> {
-    ghost use Rattle.mpd_text.specs.Nodes.{attribute_in, attributes_left, element_of, element_of_row, elements_left};
+    ghost use Rattle.mpd_text.specs.Nodes.{attribute_in, attributes_left, element_of, element_of_row, elements_left, kept_of};
     ghost use Rattle.mpd_text.specs.Trees.{Attribute};
     ghost use Rattle.mpd_text.specs.Views.{attribute_named, attribute_shown, side_by_side};
 
@@ -73,6 +73,8 @@ impl<'a> Node<'a> {
         ensures shows { element_of self.now ≡ element_of_row self.now.tree.now self.now.index result }
         ensures after { self.now.index < result.next }
         ensures within { result.next ≤ length self.now.tree.now.elements }
+        ensures kept { IsElementKept (string_bytes self.now.tree.now.source) (kept_of self.now.tree.now) result }
+        ensures attributes { HasAttributesWithin (vec_len self.now.tree.now.attributes) result }
     {
         self.tree.elements.get(self.index)
     }

@@ -6,7 +6,7 @@ ghost use Rattle.mpd_text.specs.Reading.{fault_in};
 ghost use Rattle.mpd_text.specs.Runs as runs;
 
 use crate::class::{after_white, is_white};
-use crate::markup::comment_of;
+use crate::markup::{behind_two, comment_of};
 use crate::references::common;
 use crate::stop::{Stop, Wrong, decided, syntax};
 
@@ -21,29 +21,13 @@ fn after_mark(bytes: &[u8]) -> &[u8]
     }
 }
 
-/// What stands behind the first `?>`.
-#[tactic(auto, unfolding(crate::specs::Grammar::declaration_end))]
-fn declaration_end(bytes: &[u8]) -> Result<&[u8], Stop>
-    ensures { Gives (λ x. x.now) fault_in result (spec.declaration_end bytes.now).read }
-{
-    let mut rest = bytes;
-    for _ in 0..bytes.len() {
-        match rest {
-            [b'?', b'>', after @ ..] => return Ok(after),
-            [_, after @ ..] => rest = after,
-            [] => {}
-        }
-    }
-    Err(syntax(&[]))
-}
-
 /// What stands behind the declaration behind whose `<?xml` the bytes stand. So many are left from the `<` on.
 #[tactic(auto, unfolding(crate::specs::Grammar::declared))]
 fn declared_of(left: usize, bytes: &[u8]) -> Result<&[u8], Stop>
     ensures { Gives (λ x. x.now) fault_in result (spec.declared left bytes.now).read }
 {
     match bytes {
-        [white, rest @ ..] if is_white(*white) => declaration_end(rest),
+        [white, rest @ ..] if is_white(*white) => behind_two(b'?', b'>', rest),
         _ => Err(decided(Wrong::Instruction, left, bytes)),
     }
 }

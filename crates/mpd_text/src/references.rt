@@ -3,7 +3,7 @@ ghost use Rattle.std.specs.Prelude.{◌≡◌, ◌≤◌, length, position};
 ghost use Rattle.std.specs.List.{prefix_len};
 ghost use Rattle.bridge_io.specs.Answer.{Gives};
 ghost use Rattle.mpd_text.specs.Characters.{is_digit};
-ghost use Rattle.mpd_text.specs.References.{is_hex_digit, value_of_digit, number_of, is_allowed_character, named_by_number};
+ghost use Rattle.mpd_text.specs.References.{is_hex_digit, value_of_digit, number_of, named_by_number};
 ghost use Rattle.mpd_text.specs.References.{named_by_digits, referred_to};
 ghost use Rattle.mpd_text.specs.References as spec;
 ghost use Rattle.mpd_text.specs.Grammar.{reference};
@@ -63,26 +63,30 @@ fn allowed(number: u32) -> Option<char>
     char::from_u32(number)
 }
 
-#[tactic(auto, using(crate::proofs::Numbers::named, crate::proofs::Numbers::unnamed))]
-fn named_by_hex(digits: &[u8]) -> Option<char>
-    ensures { result ≡ named_by_number 16 is_hex_digit digits.now }
+/// The character that these bytes name by a number, where all of them are digits: so many stand at the front.
+fn named_if_all(base: u32, len: usize, digits: &[u8]) -> Option<char>
+    requires { base ≤ 16 }
+    ensures { result ≡ spec.named_if_all base len digits.now }
 {
-    if hex_digits_len(digits) == digits.len() {
-        allowed(number_of(16, digits))
+    if len == digits.len() {
+        allowed(number_of(base, digits))
     } else {
         None
     }
 }
 
-#[tactic(auto, using(crate::proofs::Numbers::named, crate::proofs::Numbers::unnamed))]
+#[tactic(auto, using(crate::proofs::Numbers::named))]
+fn named_by_hex(digits: &[u8]) -> Option<char>
+    ensures { result ≡ named_by_number 16 is_hex_digit digits.now }
+{
+    named_if_all(16, hex_digits_len(digits), digits)
+}
+
+#[tactic(auto, using(crate::proofs::Numbers::named))]
 fn named_by_decimal(digits: &[u8]) -> Option<char>
     ensures { result ≡ named_by_number 10 is_digit digits.now }
 {
-    if digits_len(digits) == digits.len() {
-        allowed(number_of(10, digits))
-    } else {
-        None
-    }
+    named_if_all(10, digits_len(digits), digits)
 }
 
 fn named_by_digits(digits: &[u8]) -> Option<char>

@@ -19,13 +19,13 @@ pub loop-preserved : goal.loop-preserved
 loop-preserved c =
     let i = c.loop.invariant in
     let step = simp (i.stays.same, c.if-is_ended.false) at c.in_ok-is_ended.ensures.read in
-    let n = c.in_ok-is_ended.ensures in
+    let on = c.in_ok-is_ended.ensures.goes_on in
     record {
-      known = n.known;
-      from = c.next_of.ensures.from ∙ i.from;
-      stays = record { same = n.stays.same ∙ i.stays.same; shown_are = n.stays.shown_are ∙ i.stays.shown_are };
-      left = simp i.stays.same at n.rest;
-      so_far = rw c.next_of.ensures.from (loop_stepped _ _ _ i.so_far c.loop-test.true step);
+      known = on.known;
+      from = on.from ∙ i.from;
+      stays = record { same = on.stays.same ∙ i.stays.same; shown_are = on.stays.shown_are ∙ i.stays.shown_are };
+      left = simp i.stays.same at on.left;
+      so_far = rw on.from (loop_stepped _ _ _ i.so_far c.loop-test.true step);
     }
 
 pub returns-clause-read : goal.returns-clause-read

@@ -1,18 +1,16 @@
 use Rattle.mpd_text.proofs.attributes.is_repeated.Goals as goal
-use Rattle.std.proofs.{Common.{◌≡◌, ◌-◌, ◌++◌, ◌∷◌, [], List, ℕ, length, take, drop, subst, false, IfOk, arith}, lemmas.List.take_all}
-use Rattle.std.proofs.lemmas.List.{length-drop}
-use Rattle.bridge_io.specs.Texts.{is_among}
-use Rattle.mpd_text.specs.{ManyNames.IsPrepared, Names.names_in, declared.tree.AttributeRow.AttributeRow}
+use Rattle.std.proofs.Common.{◌<◌, length, arith}
+use Rattle.mpd_text.specs.Keeping.{names_from}
+use Rattle.mpd_text.proofs.KeptRows.{few_prepared, names_before}
+
+pub returns-then-before-lt-FEW-clause-read : goal.returns-then-before-lt-FEW-clause-read
+returns-then-before-lt-FEW-clause-read c =
+    let k = c.args.kept.now in
+    let names = names_before k c.args.names.now.from _ _ c.as_bytes-source.ensures.value c.deref.ensures.value in
+    let few : length (names_from k c.args.names.now.from) < 16 = omega (arith, c.if-before-lt-FEW.true, names.1) in
+    (rw names.0 at c.is_name_of_any.ensures, λ _. few_prepared _ _ _ few c.requires.known.prepared)
 
 pub returns-clause-read : goal.returns-clause-read
 returns-clause-read c =
-    let P : List ℕ → List AttributeRow → Type 0 = λ bytes rows. IsPrepared c.args.names.now.many (names_in bytes rows)
-    → IfOk c.repeats.result (λ repeated. (repeated ≡ is_among c.args.name.now (names_in bytes rows))
-    × (repeated ≡ false → IsPrepared c.repeats.new.self (names_in bytes rows ++ c.args.name.now ∷ []))) in
-    let from = c.args.names.now.from in
-    let rows = c.deref.result.now in
-    let all : take (length rows - from) (drop from rows) ≡ drop from rows =
-    take_all (length rows - from) (drop from rows) (omega (arith, length-drop from rows)) in
-    subst (λ b. P b (drop from c.args.kept.now.attributes.items)) c.as_bytes-source.ensures.value
-    (subst (λ rs. P c.as_bytes-source.result.now (drop from rs)) c.deref.ensures.value
-    (subst (λ rs. P c.as_bytes-source.result.now rs) all c.repeats.ensures.read))
+    let names = names_before c.args.kept.now c.args.names.now.from _ _ c.as_bytes-source.ensures.value c.deref.ensures.value in
+    (rw names.0 at c.repeats.ensures.read) c.requires.known.prepared

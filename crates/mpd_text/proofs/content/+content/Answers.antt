@@ -29,22 +29,21 @@ content_of-returns-in-Some-clause-read t c =
           (ends k.source.now bytes c.requires) (plain_parts marked_in_content bytes) span.0 span.1,
     )
 
-pub content_of-returns-in-Some-clause-kept : goal.content_of-returns-in-Some-clause-kept
-content_of-returns-in-Some-clause-kept t c =
+pub content_of-returns-in-Some-clause-span : goal.content_of-returns-in-Some-clause-span
+content_of-returns-in-Some-clause-span t c =
     let k = c.args.kept.now in
+    let s = k.source.now in
     let bytes = c.args.bytes.now in
     let plain = rw k.marked.content_is at c.plain_of.ensures.rest in
     let span = rw plain at c.in_ok-span.ensures.span in
-    cut_kept k bytes (plain_at marked_in_content bytes).0 (plain_at marked_in_content bytes).1 c.in_ok-span.span c.requires
-    (ends_drop _ k.source.now bytes (ends k.source.now bytes c.requires)) (marked_ascii marked_in_content bytes refl)
-    (plain_parts marked_in_content bytes) span.0 span.1
-
-pub content_of-returns-in-Some-clause-rest : goal.content_of-returns-in-Some-clause-rest
-content_of-returns-in-Some-clause-rest t c =
-    let s = c.args.kept.now.source.now in
-    let bytes = c.args.bytes.now in
-    let e = subst (IsEnd s) (sym c.plain_of.ensures.rest ∙ c.in-Some.ensures) (ends_drop _ s bytes (ends s bytes c.requires)) in
-    subst (Leaves (IsBehind s)) c.in_ok-rest.ensures (end_tag_rest c.args.name.now _ s _ (ends_tail s 47 _ (ends_tail s 60 _ e)))
+    let all = ends s bytes c.requires in
+    let e = subst (IsEnd s) (sym c.plain_of.ensures.rest ∙ c.in-Some.ensures) (ends_drop _ s bytes all) in
+    record {
+      kept = cut_kept k bytes (plain_at marked_in_content bytes).0 (plain_at marked_in_content bytes).1 c.in_ok-span.span c.requires
+          (ends_drop _ s bytes all) (marked_ascii marked_in_content bytes refl) (plain_parts marked_in_content bytes) span.0 span.1;
+      left = subst (Leaves (IsBehind s)) c.in_ok-rest.ensures
+          (end_tag_rest c.args.name.now _ s _ (ends_tail s 47 _ (ends_tail s 60 _ e)));
+    }
 
 pub content_of-loop-init : goal.content_of-loop-init
 unfolding inside
@@ -52,10 +51,10 @@ content_of-loop-init t c =
     let len : length c.args.bytes.now + 1 - 0 ≡ length c.args.bytes.now + 1 = omega arith in
     record {
       children = nothing;
-      same = refl;
-      shown_are = sym (append-nil (shown_in c.args.kept.now));
+      same = c.new_text-text.ensures.adds.same;
+      shown_are = c.new_text-text.ensures.adds.shown_are ∙ sym (append-nil (shown_in c.args.kept.now));
       left = c.requires;
-      so_far = rw (c.new-text.ensures.bytes, len)
+      so_far = rw (c.new_text-text.ensures.text, len)
           (refl {a = (inside (suc c.args.room) c.args.kept.now.source.now c.args.name.now c.args.bytes.now).read});
     }
 
@@ -66,8 +65,6 @@ content_of-next_content-requires t c =
 pub content_of-returns-in_err-is_ended-clause-read : goal.content_of-returns-in_err-is_ended-clause-read
 content_of-returns-in_err-is_ended-clause-read t c =
     let i = c.loop.invariant in
-    let s = c.args.kept.now.source.now in
-    let room = c.args.room in
     let p = err_from_is_err_and c.from_residual-in_err-is_ended.result c.from_residual-in_err-is_ended.ensures.1 in
     let h = c.in_err-is_ended.ensures.read (shown_in c.args.kept.now) i.children i.shown_are in
     rw (p.1, p.2) (loop_failed _ _ _ i.so_far c.loop-test.true
@@ -76,40 +73,36 @@ content_of-returns-in_err-is_ended-clause-read t c =
 pub content_of-returns-then-is_ended-clause-read : goal.content_of-returns-then-is_ended-clause-read
 content_of-returns-then-is_ended-clause-read t c =
     let i = c.loop.invariant in
-    let s = c.args.kept.now.source.now in
-    let room = c.args.room in
     let x = c.in_ok-is_ended.ensures.read (shown_in c.args.kept.now) i.children i.shown_are in
     let step = simp (i.same, c.if-is_ended.true) at x.1 in
     let adds = c.in_ok-span-2.ensures.adds in (
       record { children = x.0; text = string_bytes c.next_content.new.text },
       sym (loop_stepped _ _ _ i.so_far c.loop-test.true step),
-      record { same = adds.same ∙ c.in_ok-is_ended.ensures.same ∙ i.same; shown_are = adds.shown_are ∙ x.2 },
-      c.in_ok-span-2.ensures.text ∙ c.as_str.ensures.value,
+      record { same = adds.same ∙ c.in_ok-is_ended.ensures.left.same ∙ i.same; shown_are = adds.shown_are ∙ x.2 },
+      c.in_ok-span-2.ensures.text,
     )
 
-pub content_of-returns-then-is_ended-clause-rest : goal.content_of-returns-then-is_ended-clause-rest
-content_of-returns-then-is_ended-clause-rest t c =
-    subst (λ s. IsBehind s c.in_ok-is_ended.after.now) c.loop.invariant.same c.in_ok-is_ended.ensures.rest
+pub content_of-returns-then-is_ended-clause-span : goal.content_of-returns-then-is_ended-clause-span
+content_of-returns-then-is_ended-clause-span t c = record {
+  kept = c.in_ok-span-2.ensures.kept;
+  left = subst (λ s. IsBehind s c.in_ok-is_ended.after.now) c.loop.invariant.same c.in_ok-is_ended.ensures.left.left;
+}
 
 pub content_of-loop-preserved : goal.content_of-loop-preserved
 content_of-loop-preserved t c =
     let i = c.loop.invariant in
-    let s = c.args.kept.now.source.now in
-    let room = c.args.room in
     let x = c.in_ok-is_ended.ensures.read (shown_in c.args.kept.now) i.children i.shown_are in
     let step = simp (i.same, c.if-is_ended.false) at x.1 in
     record {
       children = x.0;
-      same = c.in_ok-is_ended.ensures.same ∙ i.same;
+      same = c.in_ok-is_ended.ensures.left.same ∙ i.same;
       shown_are = x.2;
-      left = subst (λ w. IsBehind w c.in_ok-is_ended.after.now) i.same c.in_ok-is_ended.ensures.rest;
+      left = subst (λ w. IsBehind w c.in_ok-is_ended.after.now) i.same c.in_ok-is_ended.ensures.left.left;
       so_far = loop_stepped _ _ _ i.so_far c.loop-test.true step;
     }
 
 pub content_of-returns-clause-read : goal.content_of-returns-clause-read
 content_of-returns-clause-read t c =
-    let s = c.args.kept.now.source.now in
-    let room = c.args.room in
     rw c.syntax.ensures (loop_cut _ _ _ c.loop.invariant.so_far c.loop-test.false)
 
 pub inside_of-content_of-requires : goal.inside_of-content_of-requires
@@ -147,10 +140,10 @@ next_content-returns-in_err-piece-clause-read t c = λ front children is.
 
 pub next_content-inside_of-requires : goal.next_content-inside_of-requires
 next_content-inside_of-requires t c =
-    let h = rw c.in-Begun.is at c.in_ok-piece.ensures.kept in (
+    let h = rw c.in-Begun.is at c.in_ok-piece.ensures.piece.kept in (
       omega (arith, h.2),
       (
-        subst (λ s. IsBehind s c.in_ok-piece.rest.now) (sym h.3.same) c.in_ok-piece.ensures.rest,
+        subst (λ s. IsBehind s c.in_ok-piece.rest.now) (sym h.3.same) c.in_ok-piece.ensures.piece.left,
         omega (arith, h.0, ap length h.3.shown_are, length-append {A = Shown}),
       ),
     )
@@ -160,7 +153,7 @@ next_content-returns-in_err-rest-in-Begun-clause-read t c = λ front children is
     let p = err_from_is_err_and c.from_residual-in_err-rest-in-Begun.result c.from_residual-in_err-rest-in-Begun.ensures.1 in
     let e = c.in_err-rest-in-Begun.field-0.0 in
     let b = c.in-Begun.begun in
-    let h = rw c.in-Begun.is at c.in_ok-piece.ensures.kept in
+    let h = rw c.in-Begun.is at c.in_ok-piece.ensures.piece.kept in
     let x = rw c.in-Begun.is at c.in_ok-piece.ensures.read in
     let f = inside_read c.args.room b.room c.args.kept.now.source.now _ _ b.name.now c.in_ok-piece.rest.now
     (λ (r : InsideReading). IfSome (fault_in e) (λ f. r ≡ Err f)) h.2 h.3.same h.1 c.in_err-rest-in-Begun.ensures.read in
@@ -168,19 +161,19 @@ next_content-returns-in_err-rest-in-Begun-clause-read t c = λ front children is
 
 pub next_content-returns-in-Ended-clause-read : goal.next_content-returns-in-Ended-clause-read
 next_content-returns-in-Ended-clause-read t c = λ front children is.
-    let h = rw c.in-Ended.is at c.in_ok-piece.ensures.kept in
+    let h = rw c.in-Ended.is at c.in_ok-piece.ensures.piece.kept in
     let x = rw c.in-Ended.is at c.in_ok-piece.ensures.read in
     (children, piece_read _ _ _ children _ _ c.args.kept.now.marked.content_is c.in_ok-markup.ensures.read x, h.shown_are ∙ is)
 
 pub next_content-returns-in-Comment-clause-read : goal.next_content-returns-in-Comment-clause-read
 next_content-returns-in-Comment-clause-read t c = λ front children is.
-    let h = rw c.in-Comment.is at c.in_ok-piece.ensures.kept in
+    let h = rw c.in-Comment.is at c.in_ok-piece.ensures.piece.kept in
     let x = rw c.in-Comment.is at c.in_ok-piece.ensures.read in
     (children, piece_read _ _ _ children _ _ c.args.kept.now.marked.content_is c.in_ok-markup.ensures.read x, h.shown_are ∙ is)
 
 pub next_content-returns-in-Empty-clause-read : goal.next_content-returns-in-Empty-clause-read
 next_content-returns-in-Empty-clause-read t c = λ front children is.
-    let h = rw c.in-Empty.is at c.in_ok-piece.ensures.kept in
+    let h = rw c.in-Empty.is at c.in_ok-piece.ensures.piece.kept in
     let x = rw c.in-Empty.is at c.in_ok-piece.ensures.read in (
       _,
       piece_read _ _ _ children _ _ c.args.kept.now.marked.content_is c.in_ok-markup.ensures.read x,
@@ -191,7 +184,7 @@ pub next_content-returns-in_ok-rest-in-Begun-clause-read : goal.next_content-ret
 next_content-returns-in_ok-rest-in-Begun-clause-read t c = λ front children is.
     let k = c.args.kept.now in
     let b = c.in-Begun.begun in
-    let h = rw c.in-Begun.is at c.in_ok-piece.ensures.kept in
+    let h = rw c.in-Begun.is at c.in_ok-piece.ensures.piece.kept in
     let x = rw c.in-Begun.is at c.in_ok-piece.ensures.read in
     let i = c.in_ok-rest-in-Begun.ensures.read in
     let inner = inside_read c.args.room b.room k.source.now _ _ b.name.now c.in_ok-piece.rest.now

@@ -1,10 +1,10 @@
 use Rattle.mpd_text.proofs.kept.Kept.add_element.Goals as goal
-use Rattle.std.proofs.{Common.{◌≡◌, [], ◌∷◌, suc, length, map, vec_len, refl, ap, ◌∙◌, arith}, lemmas.List.{length-map, map-append}}
+use Rattle.std.proofs.{Common.{◌≡◌, [], ◌∷◌, suc, length, map, vec_len, refl, sym, ap, ◌∙◌, arith}, lemmas.List.{length-map, map-append}}
 use Rattle.std.proofs.lemmas.List.Elements.{All-push}
 use Rattle.std.specs.List.{All}
 use Rattle.mpd_text.specs.{Forests.shown_of, Keeping.{attributes_in, kept_of, shown_in}, Rows.{HasAttributesWithin, IsElementKept}}
 use Rattle.mpd_text.specs.declared.tree.ElementRow.{ElementRow}
-use Rattle.mpd_text.proofs.KeptRows.{changed, head_shown, lengths, name_kept, nothing_kept}
+use Rattle.mpd_text.proofs.KeptRows.{changed, head_shown, lengths, name_kept, nothing_kept, size}
 
 pub invariant_of-self-clause-elements_kept : goal.invariant_of-self-clause-elements_kept
 invariant_of-self-clause-elements_kept c =
@@ -35,6 +35,9 @@ invariant_of-self-clause-attributes_within c =
       );
       within = omega (arith, c.in_ok-end.ensures.ok, c.len.ensures);
     }))
+
+pub returns-clause-row : goal.returns-clause-row
+returns-clause-row c = c.len-row.ensures.length ∙ sym (size c.args.self.now)
 
 pub returns-clause-grows : goal.returns-clause-grows
 unfolding shown_in attributes_in

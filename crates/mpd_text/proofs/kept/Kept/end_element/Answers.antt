@@ -1,9 +1,9 @@
 use Rattle.mpd_text.proofs.kept.Kept.end_element.Goals as goal
-use Rattle.std.proofs.{Common.{◌≡◌, length, map, vec_len, refl, ap, ◌∙◌, arith}, lemmas.List.length-map, lemmas.List.Elements.All-set}
+use Rattle.std.proofs.{Common.{◌≡◌, ◌<◌, subst, length, map, vec_len, refl, ap, ◌∙◌, arith}, lemmas.List.{length-map, Elements.All-set}}
 use Rattle.std.specs.List.{All}
 use Rattle.mpd_text.specs.{Forests.shown_of, Keeping.{kept_of, shown_in}, Rows.{HasAttributesWithin, IsElementKept}}
 use Rattle.mpd_text.specs.declared.tree.ElementRow.{ElementRow}
-use Rattle.mpd_text.proofs.KeptRows.{all_at, changed, set_shown}
+use Rattle.mpd_text.proofs.KeptRows.{all_at, changed, set_shown, size}
 
 pub invariant_of-self-clause-elements_kept : goal.invariant_of-self-clause-elements_kept
 invariant_of-self-clause-elements_kept c =
@@ -20,6 +20,12 @@ invariant_of-self-clause-attributes_within c =
     let had = all_at P k.elements c.args.row c.get-element.result k.attributes_within c.get-element.ensures in
     changed (All P) c.set.new.self k.elements _ c.set.result c.set.ensures.ok c.set.ensures.stays k.attributes_within
     (All-set P k.elements c.args.row _ (record { ordered = had.ordered; within = had.within }) k.attributes_within)
+
+pub get-element-requires : goal.get-element-requires
+get-element-requires c = subst (λ n. c.args.row < n) (size c.args.self.now) c.requires.row
+
+pub set-requires : goal.set-requires
+set-requires c = subst (λ n. c.args.row < n) (size c.args.self.now) c.requires.row
 
 pub returns-clause-ended : goal.returns-clause-ended
 unfolding shown_in

@@ -2,7 +2,7 @@ use Rattle.mpd_text.proofs.kept.Kept.keep.Goals as goal
 use Rattle.std.proofs.{Common.{[], ◌++◌, ◌∙◌, length, refl, sym, ap}, lemmas.List.append-nil}
 use Rattle.std.specs.{List.All, String.string_bytes}
 use Rattle.mpd_text.specs.Rows.{IsAttributeKept, IsElementKept}
-use Rattle.mpd_text.proofs.KeptRows.{attributes_grown, elements_grown, kept_adds, pushed, read_kept, read_shown}
+use Rattle.mpd_text.proofs.KeptRows.{attributes_grown, elements_grown, kept_adds, nothing_kept, pushed, read_kept, read_shown}
 
 pub invariant_of-self-clause-elements_kept : goal.invariant_of-self-clause-elements_kept
 invariant_of-self-clause-elements_kept c =
@@ -17,6 +17,9 @@ invariant_of-self-clause-attributes_kept c =
     pushed (λ l. All (IsAttributeKept k.source.now (k.source.now ++ l)) k.attributes.items) (string_bytes c.push_str.new.self)
     (string_bytes k.read) c.args.text.now c.push_str.result c.push_str.ensures.bytes k.attributes_kept
     (attributes_grown k.source.now (string_bytes k.read) c.args.text.now k.attributes.items c.utf8.text k.attributes_kept)
+
+pub returns-then-is_empty-clause-kept : goal.returns-then-is_empty-clause-kept
+returns-then-is_empty-clause-kept c = nothing_kept c.args.self.now
 
 pub returns-clause-text : goal.returns-clause-text
 returns-clause-text c =

@@ -4,6 +4,9 @@ use Rattle.byte_scan.specs.Lines.{is_line_feed}
 use Rattle.mpd_text.specs.Lines.{block_size}
 use Rattle.mpd_text.proofs.LineLemmas.{line_counts, one_more_block}
 
+pub overflow_add-count : goal.overflow_add-count
+overflow_add-count c = grind (arith, line_counts)
+
 pub loop-block-preserved : goal.loop-block-preserved
 loop-block-preserved c =
     let count_is : c.loop-block.count + c.count_lf-count.result
